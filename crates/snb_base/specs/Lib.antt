@@ -1,0 +1,6 @@
+pub mod Calendar
+pub mod MemoryOutbox
+pub mod MemoryShelf
+pub mod Outbox
+pub mod Shelf
+pub mod Spellings

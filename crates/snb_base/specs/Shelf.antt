@@ -1,0 +1,29 @@
+-- What a shelf holds, and what a call of `read` answers.
+use Rattle.std.specs.Prelude.{◌≡◌, ℕ, ◌+◌, ◌-◌, ◌^◌, ◌≤◌, min, List, length, take, drop, Option, Some, None}
+use Rattle.snb_base.specs.declared.shelf.Got.{Got}
+use Rattle.snb_base.specs.declared.shelf.Got.TheVariants.{Took, Absent, Failed}
+
+-- the bytes of each name that is held
+abbrev pub Files : Type 0
+Files = List ℕ → Option (List ℕ)
+
+-- a count of faults rose: it is greater by one at least, as far as 64 bits go
+abbrev pub Rose : ℕ → ℕ → Type 0
+Rose old new = min (old + 1) (2 ^ 64 - 1) ≤ new
+
+-- what was read is within the buffer
+abbrev pub FitsBuffer : ℕ → Got → Type 0
+FitsBuffer room (Took count) = count ≤ room
+FitsBuffer room Absent = Unit {0}
+FitsBuffer room Failed = Unit {0}
+
+-- the first `count` bytes of the buffer are those of the file from `at` on, and they are none only where the file ends there
+pub record IsPiece (file : List ℕ) (at count : ℕ) (buffer : List ℕ) : Type 0 where
+  pub bytes : take count buffer ≡ take count (drop at file)
+  pub ends : count ≡ 0 → length file ≤ at
+
+-- what a call of `read` may answer over these files
+abbrev pub IsReading : Files → List ℕ → ℕ → List ℕ → Got → Type 0
+IsReading files name at buffer (Took count) = (file : List ℕ) × (files name ≡ Some file) × IsPiece file at count buffer
+IsReading files name at buffer Absent = files name ≡ None
+IsReading files name at buffer Failed = Unit {0}

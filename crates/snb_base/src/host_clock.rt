@@ -1,0 +1,46 @@
+//! The clock of the system.
+
+ghost use Rattle.std.specs.Prelude.{◌≡◌, None};
+
+use crate::clock::Clock;
+use std::rt::Clock as SystemClock;
+use std::sync::Wait;
+use std::thread;
+use std::time::{Duration, Instant};
+
+/// Milliseconds since it was made, by the system's clock that never goes back. Where that clock can't
+/// be read it answers 0. It tells no moment.
+#[derive(Drop)]
+pub struct HostClock<R> {
+    rt: R,
+    start: Option<Instant>,
+}
+
+impl<R: SystemClock> HostClock<R> {
+    /// A clock that starts now.
+    pub fn new(rt: R) -> HostClock<R>
+        ensures { ⟦<HostClock<R> as Clock>⟧.fixed result ≡ None }
+    {
+        let start = Instant::now(&rt).ok();
+        HostClock { rt, start }
+    }
+
+    // The milliseconds since the start, if the system's clock could be read then and now.
+    fn elapsed(&self) -> Option<u64> {
+        let elapsed = self.start?.elapsed(&self.rt).ok()?;
+        u64::try_from(elapsed.as_millis()).ok()
+    }
+}
+
+impl<R: SystemClock> Clock for HostClock<R> {
+    ghost fixed = { λ _. None };
+
+    fn now(&self) -> u64 {
+        self.elapsed().unwrap_or(0)
+    }
+
+    fn rest<W: Wait>(&self, _rt: &W, until: u64) {
+        let left = until.saturating_sub(self.now());
+        thread::sleep(&self.rt, Duration::from_millis(left));
+    }
+}

@@ -1,0 +1,23 @@
+//! What the harness asks of the world outside it, as traits over bytes, faults and moments; small
+//! owned lists and texts; and the spelling of numbers.
+#![tactic(auto)]
+
+mod calls;
+pub mod clock;
+pub mod folder_outbox;
+pub mod folder_shelf;
+pub mod gate;
+pub mod host_clock;
+pub mod memory_outbox;
+pub mod memory_shelf;
+pub mod null_outbox;
+pub mod number;
+pub mod numbers;
+pub mod outbox;
+pub mod pairs;
+pub mod shelf;
+pub mod steady_shelf;
+#[cfg(test)]
+mod tests;
+pub mod text;
+pub mod texts;

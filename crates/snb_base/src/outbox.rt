@@ -1,0 +1,51 @@
+//! Where bytes are written.
+
+ghost use Rattle.std.specs.Prelude.{◌≡◌, ℕ, ◌<◌, ◌≤◌, length, Option};
+ghost use Rattle.snb_base.specs.Outbox.{Written, IsWriting};
+ghost use Rattle.snb_base.specs.Shelf.{Rose};
+
+/// What is written where.
+#[derive(Clone, Copy, Debug, PartialEq, Eq)]
+pub enum Channel {
+    /// Standard output.
+    Screen,
+    /// The log of a run.
+    Log,
+    /// The replies of a run's reads.
+    Answers,
+    /// The final graph of a run.
+    Final,
+    /// Validation cases.
+    Cases,
+}
+
+/// What a call of [`Outbox::write`] answers.
+#[derive(Clone, Copy, Debug, PartialEq, Eq)]
+pub enum Put {
+    /// So many bytes of the piece were written, one at least.
+    Took {
+        /// How many bytes.
+        count: usize,
+    },
+    /// The outside failed; the count of faults rose, and nothing was written.
+    Failed,
+}
+
+/// Five channels of bytes that only grow.
+///
+/// Its meanings are the bytes of each channel, where it tells them, and a count of faults that
+/// never falls. An outbox that can take nothing counts a fault.
+pub trait Outbox {
+    /// The bytes on each channel, where they are told.
+    ghost written: { Self → Option Written };
+
+    /// How many faults there have been.
+    ghost faults: { Self → ℕ };
+
+    /// Appends a prefix of the piece to the channel, and nothing to another.
+    fn write(&mut self, channel: Channel, piece: &[u8]) -> Put
+        requires { 0 < length piece.now }
+        ensures took { IsWriting channel piece.now (written self.old) (written self.new) result }
+        ensures failed { result ≡ Put.Failed → Rose (faults self.old) (faults self.new) }
+        ensures later { faults self.old ≤ faults self.new };
+}

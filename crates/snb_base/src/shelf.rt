@@ -1,0 +1,40 @@
+//! Where the bytes of files come from.
+
+ghost use Rattle.std.specs.Prelude.{◌≡◌, ℕ, ◌<◌, ◌≤◌, length, IfSome, Option};
+ghost use Rattle.snb_base.specs.Shelf.{Files, FitsBuffer, IsReading, Rose};
+
+/// What a call of [`Shelf::read`] answers.
+#[derive(Clone, Copy, Debug, PartialEq, Eq)]
+pub enum Got {
+    /// So many bytes stand at the front of the buffer. 0 says that the file ends at or before the place asked for.
+    Took {
+        /// How many bytes.
+        count: usize,
+    },
+    /// The name isn't held.
+    Absent,
+    /// The outside failed; the count of faults rose.
+    Failed,
+}
+
+/// A store of files that are read in pieces, each under a name.
+///
+/// Its meanings are the contents, where it tells them, and a count of faults that never falls. A
+/// shelf over real files tells no contents.
+pub trait Shelf {
+    /// What is held, where it is told.
+    ghost contents: { Self → Option Files };
+
+    /// How many faults there have been.
+    ghost faults: { Self → ℕ };
+
+    /// Reads bytes of the file `name` from the byte `at` on into the front of `into`, as many as the
+    /// shelf likes. The contents stay as they are.
+    fn read(&mut self, name: &str, at: u64, into: &mut [u8]) -> Got
+        requires { 0 < length into.old }
+        ensures room { FitsBuffer (length into.old) result }
+        ensures told { IfSome (contents self.old) (λ files. IsReading files name.now at into.new result) }
+        ensures failed { result ≡ Got.Failed → Rose (faults self.old) (faults self.new) }
+        ensures later { faults self.old ≤ faults self.new }
+        ensures same { contents self.new ≡ contents self.old };
+}

@@ -1,0 +1,173 @@
+-- The heads of the lanes, by the place that is kept for each.
+use Rattle.std.proofs.Common.{◌≡◌, ℕ, ◌+◌, ◌<◌, ◌≤◌, List, length, true, false, inl, inr, refl, sym, ap, ◌∙◌, subst, arith, Option, Some, None}
+use Rattle.std.specs.Prelude.{nat_lt, slice_index, ◌⊎◌, MatchOption, IfSome}
+use Rattle.std.proofs.lemmas.Bool.{cases_Bool, cases_lt}
+use Rattle.std.proofs.lemmas.Bool.Decides.{nat_tests}
+use Rattle.snb_schema.specs.declared.event.Event.{Event}
+use Rattle.snb_schema.specs.Schedule.{Schedule, step_of, IsOperation, IsBefore, IsPlanned}
+use Rattle.snb_schema.specs.History.{started}
+use Rattle.snb_schema.proofs.Planned.{planned_is_placed}
+use Rattle.snb_book.specs.Claims.{IsPlanHead, ComesFirst, IsFirst}
+use Rattle.snb_book.specs.Book.{IsNext}
+use Rattle.snb_book.specs.Heads.{IsAtPlace, IsPassed, earlier_of}
+use Rattle.snb_book.proofs.Places.{earlier_place, same_place}
+
+-- what is started stands before the place that is kept for its lane
+abbrev pub Begins : Schedule → List Event → List ℕ → Type 0
+Begins s h heads = (k : ℕ) → IsOperation s k → started h k ≡ nat_lt (step_of s k).place (slice_index heads (step_of s k).lane)
+
+pub head_from_next : (s : Schedule) (h : List Event) (heads : List ℕ) → IsPlanned s → Begins s h heads → (k : ℕ) → IsNext s heads k → IsPlanHead s h k
+head_from_next s h heads planned begins k next = (
+  next.0,
+  record {
+    fresh = (let b = begins k next.0 in let e = next.1 in grind (arith, nat_tests));
+    led = λ j before.
+        let within : IsOperation s j = (let w = next.0 in let l = before.0 in omega arith) in
+        let b = begins j within in
+        let lower = (planned_is_placed s planned).rises j k before.0 next.0 before.1 in
+        let e : (step_of s k).place ≡ slice_index heads (step_of s j).lane = next.1 ∙ ap (λ l. slice_index heads l) (sym before.1) in
+        grind (arith, nat_tests);
+  },
+)
+
+-- a fresh operation stands at its lane's place, or one before it does
+next_or_before : (s : Schedule) (h : List Event) (heads : List ℕ) → IsPlanned s → Begins s h heads → (k : ℕ) → IsOperation s k → started h k ≡ false
+    → IsNext s heads k ⊎ ((j : ℕ) × IsBefore s j k × IsNext s heads j)
+next_or_before s h heads planned begins k within fresh =
+    let p : ℕ = slice_index heads (step_of s k).lane in
+    let b = begins k within in
+    let above : p ≤ (step_of s k).place = grind (arith, nat_tests) in
+    elim (cases_lt p (step_of s k).place) [
+      | inl less ↦
+          let r = earlier_place s planned k p within less in
+          let before : IsBefore s r.0 k = r.1 in
+          inr (r.0, before, ((let l = before.0 in omega arith), r.2 ∙ ap (λ l. slice_index heads l) (sym before.1)))
+      | inr more ↦ inl (within, omega arith)
+    ]
+
+fresh_next : (s : Schedule) (h : List Event) (heads : List ℕ) → Begins s h heads → (k : ℕ) → IsNext s heads k → started h k ≡ false
+fresh_next s h heads begins k next = let b = begins k next.0 in let e = next.1 in grind (arith, nat_tests)
+
+pub next_from_head : (s : Schedule) (h : List Event) (heads : List ℕ) → IsPlanned s → Begins s h heads → (k : ℕ) → IsPlanHead s h k → IsNext s heads k
+next_from_head s h heads planned begins k head =
+    elim (next_or_before s h heads planned begins k head.0 head.1.fresh) [
+      | inl next ↦ next
+      | inr earlier ↦ absurd (let a = head.1.led earlier.0 earlier.1 in let b = fresh_next s h heads begins earlier.0 earlier.2 in cc)
+    ]
+
+-- where no lane has a head all is started
+pub all_begun : (s : Schedule) (h : List Event) (heads : List ℕ) → IsPlanned s → Begins s h heads → ((j : ℕ) → ¬ IsNext s heads j)
+    → (k : ℕ) → IsOperation s k → started h k ≡ true
+all_begun s h heads planned begins none k within =
+    elim (cases_Bool (started h k)) [
+      | inl begun ↦ begun
+      | inr fresh ↦ absurd (elim (next_or_before s h heads planned begins k within fresh) [
+        | inl next ↦ none k next
+        | inr earlier ↦ none earlier.0 earlier.2
+      ])
+    ]
+
+-- of the heads of the lanes below n, the first
+pub record IsFirstBelow (s : Schedule) (heads : List ℕ) (n op : ℕ) : Type 0 where
+  pub next : IsNext s heads op
+  pub below : (step_of s op).lane < n
+  pub first : (j : ℕ) → IsNext s heads j → (step_of s j).lane < n → ComesFirst s op j
+
+-- the lanes below n have no head
+pub record HasNoneBelow (s : Schedule) (heads : List ℕ) (n : ℕ) : Type 0 where
+  pub none : (j : ℕ) → IsNext s heads j → n ≤ (step_of s j).lane
+
+abbrev pub FirstBelow : Schedule → List ℕ → ℕ → Option ℕ → Type 0
+FirstBelow s heads n None = HasNoneBelow s heads n
+FirstBelow s heads n (Some op) = IsFirstBelow s heads n op
+
+-- no head is in a lane that is passed
+not_passed : (s : Schedule) (heads : List ℕ) (n j : ℕ) → IsPassed s n (slice_index heads n) → IsNext s heads j → (step_of s j).lane ≡ n → ⊥
+not_passed s heads n j passed next lane =
+    let b = passed.before j next.0 lane in
+    let e : (step_of s j).place ≡ slice_index heads n = next.1 ∙ ap (λ l. slice_index heads l) lane in
+    omega arith
+
+pub FirstBelow-passed : (s : Schedule) (heads : List ℕ) (n : ℕ) (first : Option ℕ) → FirstBelow s heads n first → IsPassed s n (slice_index heads n)
+    → FirstBelow s heads (n + 1) first
+FirstBelow-passed s heads n None is passed = record {
+  none = λ j next.
+      let low = is.none j next in
+      elim (cases_lt n (step_of s j).lane) [
+        | inl above ↦ omega arith
+        | inr here ↦ absurd (not_passed s heads n j passed next (omega arith))
+      ];
+}
+FirstBelow-passed s heads n (Some op) is passed = record {
+  next = is.next;
+  below = (let b = is.below in omega arith);
+  first = λ j next lt.
+      elim (cases_lt (step_of s j).lane n) [
+        | inl below ↦ is.first j next below
+        | inr here ↦ absurd (not_passed s heads n j passed next (omega arith))
+      ];
+}
+
+-- the head of a lane is one
+one_head : (s : Schedule) (heads : List ℕ) → IsPlanned s → (n op j : ℕ) → IsAtPlace s n (slice_index heads n) op → IsNext s heads j → (step_of s j).lane ≡ n → op ≡ j
+one_head s heads planned n op j at next lane =
+    same_place s planned op j at.within next.0 (at.in_lane ∙ sym lane) (at.placed ∙ ap (λ l. slice_index heads l) (sym lane) ∙ sym next.1)
+
+comes_first_same : (s : Schedule) (op j : ℕ) → op ≡ j → ComesFirst s op j
+comes_first_same s op j e = subst (λ (i : ℕ). ComesFirst s op i) e (inr (refl, omega arith))
+
+pub due_no_later : (s : Schedule) (op j : ℕ) → ComesFirst s op j → (step_of s op).due ≤ (step_of s j).due
+due_no_later s op j (inl less) = omega arith
+due_no_later s op j (inr same) = (let e = same.0 in omega arith)
+
+next_at : (s : Schedule) (heads : List ℕ) (n op : ℕ) → IsAtPlace s n (slice_index heads n) op → IsNext s heads op
+next_at s heads n op at = (at.within, at.placed ∙ ap (λ l. slice_index heads l) (sym at.in_lane))
+
+pub FirstBelow-at : (s : Schedule) (heads : List ℕ) (n : ℕ) (first : Option ℕ) (op : ℕ) → IsPlanned s → FirstBelow s heads n first
+    → IsAtPlace s n (slice_index heads n) op → FirstBelow s heads (n + 1) (Some (earlier_of s.steps first op))
+FirstBelow-at s heads n None op planned is at = record {
+  next = next_at s heads n op at;
+  below = (let e = at.in_lane in omega arith);
+  first = λ j next lt.
+      let low = is.none j next in
+      comes_first_same s op j (one_head s heads planned n op j at next (omega arith));
+}
+FirstBelow-at s heads n (Some best) op planned is at =
+    elim (cases_lt (step_of s op).due (step_of s best).due) [
+      | inl less ↦
+          let e : earlier_of s.steps (Some best) op ≡ op = grind (arith, nat_tests) in
+          subst (λ (i : ℕ). IsFirstBelow s heads (n + 1) i) (sym e) (record {
+            next = next_at s heads n op at;
+            below = (let l = at.in_lane in omega arith);
+            first = λ j next lt.
+                elim (cases_lt (step_of s j).lane n) [
+                  | inl low ↦ (let d = due_no_later s best j (is.first j next low) in inl (omega arith))
+                  | inr here ↦ comes_first_same s op j (one_head s heads planned n op j at next (omega arith))
+                ];
+          })
+      | inr more ↦
+          let e : earlier_of s.steps (Some best) op ≡ best = grind (arith, nat_tests) in
+          subst (λ (i : ℕ). IsFirstBelow s heads (n + 1) i) (sym e) (record {
+            next = is.next;
+            below = (let b = is.below in omega arith);
+            first = λ j next lt.
+                elim (cases_lt (step_of s j).lane n) [
+                  | inl low ↦ is.first j next low
+                  | inr here ↦
+                      let one = one_head s heads planned n op j at next (omega arith) in
+                      subst (λ (i : ℕ). ComesFirst s best i) one
+                      (let l = at.in_lane in
+                      let b = is.below in
+                      elim (cases_lt (step_of s best).due (step_of s op).due) [ inl earlier ↦ inl earlier | inr even ↦ inr (omega arith, omega arith) ])
+                ];
+          })
+    ]
+
+pub FirstBelow-all : (s : Schedule) (heads : List ℕ) (n : ℕ) (first : Option ℕ) → IsPlanned s → length s.kinds ≤ n → FirstBelow s heads n first
+    → MatchOption first ((j : ℕ) → ¬ IsNext s heads j) (λ op. IsFirst s (IsNext s heads) op)
+FirstBelow-all s heads n None planned all is = λ j next. let a = planned.in_lanes j next.0 in let b = is.none j next in omega arith
+FirstBelow-all s heads n (Some op) planned all is = (is.next, λ j next. is.first j next (let a = planned.in_lanes j next.0 in omega arith))
+
+pub FirstBelow-within : (s : Schedule) (heads : List ℕ) (n : ℕ) (first : Option ℕ) → FirstBelow s heads n first → IfSome first (λ k. k < length s.steps)
+FirstBelow-within s heads n None is = tt
+FirstBelow-within s heads n (Some op) is = is.next.0

@@ -1,0 +1,26 @@
+use Rattle.std.proofs.Common.{ℕ, ◌≤◌, subst, sym}
+use Rattle.snb_schema.specs.declared.event.Event.TheVariants.{Start}
+use Rattle.snb_schema.specs.History.{last}
+use Rattle.snb_schema.specs.Rules.{Fits}
+use Rattle.snb_book.specs.Kept.{Kept, IsInHand}
+use Rattle.snb_book.proofs.Claiming.{claim_fits, go_in_hand}
+use Rattle.snb_book.proofs.Telling.{moment_later}
+use Rattle.snb_book.proofs.book.Book.claim.Goals as goal
+
+pub start-requires-clause-fits : goal.start-requires-clause-fits
+start-requires-clause-fits c =
+    claim_fits c.args.self.now.schedule c.args.self.now.workers c.args.self.now.history c.args.worker c.moment-at.result c.in-Go.ticket c.requires
+    (subst (λ (m : ℕ). last c.args.self.now.history ≤ m) (sym c.moment-at.ensures.value) (moment_later c.args.self.now.history c.args.now))
+    c.in-Go.ensures
+
+pub returns-in-Go-clause-fits : goal.returns-in-Go-clause-fits
+returns-in-Go-clause-fits c =
+    subst (λ (m : ℕ). Fits c.args.self.now.schedule c.args.self.now.workers c.args.self.now.history (Start c.in-Go.ticket.op c.args.worker m)) c.moment-at.ensures.value
+    (claim_fits c.args.self.now.schedule c.args.self.now.workers c.args.self.now.history c.args.worker c.moment-at.result c.in-Go.ticket c.requires
+    (subst (λ (m : ℕ). last c.args.self.now.history ≤ m) (sym c.moment-at.ensures.value) (moment_later c.args.self.now.history c.args.now))
+    c.in-Go.ensures)
+
+pub returns-in-Go-clause-held : goal.returns-in-Go-clause-held
+returns-in-Go-clause-held c =
+    subst (λ (b : Kept). IsInHand b.history c.in-Go.ticket) (sym c.start.ensures)
+    (go_in_hand c.args.self.now.schedule c.args.self.now.history c.args.worker c.moment-at.result c.in-Go.ticket c.in-Go.ensures)

@@ -1,0 +1,23 @@
+-- The heads of a schedule's lanes.
+use Rattle.std.specs.Prelude.{◌≡◌, ℕ, ◌<◌, nat_lt, List, Option, Some, None, slice_index_or, if◌then◌else◌}
+use Rattle.snb_schema.specs.declared.step.Step.{Step}
+use Rattle.snb_schema.specs.Schedule.{Schedule, no_step, step_of, IsOperation}
+
+-- the operation stands at this place of the lane
+pub record IsAtPlace (s : Schedule) (lane place k : ℕ) : Type 0 where
+  pub within : IsOperation s k
+  pub in_lane : (step_of s k).lane ≡ lane
+  pub placed : (step_of s k).place ≡ place
+
+-- all of the lane stands before this place
+pub record IsPassed (s : Schedule) (lane place : ℕ) : Type 0 where
+  pub before : (k : ℕ) → IsOperation s k → (step_of s k).lane ≡ lane → (step_of s k).place < place
+
+-- when an operation is due
+abbrev pub due_of : List Step → ℕ → ℕ
+due_of steps k = (slice_index_or steps k no_step).due
+
+-- the one that is due earlier
+abbrev pub earlier_of : List Step → Option ℕ → ℕ → ℕ
+earlier_of steps None op = op
+earlier_of steps (Some best) op = if nat_lt (due_of steps op) (due_of steps best) then op else best

@@ -1,0 +1,17 @@
+-- Plans of one and of two persons' inserts.
+use Rattle.std.specs.Prelude.{ℕ, [], ◌∷◌, true, false}
+use Rattle.snb_schema.specs.declared.step.Step.{Step}
+use Rattle.snb_schema.specs.declared.step.LaneKind.TheVariants.{Person}
+use Rattle.snb_schema.specs.Schedule.{Schedule}
+
+-- a person's insert in lane 0
+abbrev pub person : ℕ → ℕ → ℕ → Step
+person place t due = record { lane = 0; place = place; t = t; t_d = 0; due = due; dependency = true; dependent = false; query = false }
+
+-- a person's insert at 5000, due at this moment
+abbrev pub one_person : ℕ → Schedule
+one_person due = record { steps = person 0 5000 due ∷ []; kinds = Person ∷ [] }
+
+-- persons' inserts at 5000 and 5700 in one lane, the first due at once, the second at 700
+abbrev pub two_persons : Schedule
+two_persons = record { steps = person 0 5000 0 ∷ person 1 5700 700 ∷ []; kinds = Person ∷ [] }

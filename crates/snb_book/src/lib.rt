@@ -1,0 +1,8 @@
+//! The book of a run: who has what in hand, and what has happened, as a legal history.
+#![tactic(auto)]
+
+pub mod book;
+pub mod claim;
+pub mod laws;
+#[cfg(test)]
+mod tests;

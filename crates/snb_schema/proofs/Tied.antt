@@ -1,0 +1,33 @@
+-- Row tie is a schedule's.
+use Rattle.std.proofs.Common.{◌≡◌, ℕ, zero, suc, ◌<◌, ◌≤◌, inl, refl, subst, arith}
+use Rattle.snb_schema.specs.Schedule.{step_of, ComesBefore, IsPlanned}
+use Rattle.snb_schema.specs.Worked.{tie}
+
+-- what is true of 0 and 1
+by_two : (P : ℕ → Type 0) → P 0 → P 1 → (k : ℕ) → k < 2 → P k
+by_two P at_zero at_one zero lt = at_zero
+by_two P at_zero at_one (suc zero) lt = at_one
+by_two P at_zero at_one (suc (suc k)) lt = absurd (omega arith)
+
+pub planned_tie : IsPlanned tie
+planned_tie = record {
+  few_lanes = omega arith;
+  few_steps = omega arith;
+  in_lanes = by_two (λ k. (step_of tie k).lane < 2) (omega arith) (omega arith);
+  ordered = λ j k below within.
+      by_two (λ k. (j : ℕ) → j < k → ComesBefore (step_of tie j) (step_of tie k))
+      (λ j lt. absurd (omega arith))
+      (λ j lt. subst (λ (i : ℕ). ComesBefore (step_of tie i) (step_of tie 1)) (let e : 0 ≡ j = omega arith in e) (inl (omega arith)))
+      k within j below;
+  placed = by_two (λ k. _) refl refl;
+  due_rises = λ j k below within.
+      by_two (λ k. (j : ℕ) → j < k → (step_of tie j).due ≤ (step_of tie k).due)
+      (λ j lt. absurd (omega arith))
+      (λ j lt. subst (λ (i : ℕ). (step_of tie i).due ≤ (step_of tie 1).due) (let e : 0 ≡ j = omega arith in e) (omega arith))
+      k within j below;
+  timed = by_two (λ k. _) (omega arith) (omega arith);
+  needs_timed = by_two (λ k. _) (omega arith) (omega arith);
+  due_timed = by_two (λ k. _) (omega arith) (omega arith);
+  reads = by_two (λ k. _) (λ q. absurd cc, λ q. absurd cc) (λ q. absurd cc, λ q. absurd cc);
+  apart = by_two (λ k. _) (λ q. refl) (λ q. absurd cc);
+}

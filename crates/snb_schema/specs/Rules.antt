@@ -1,0 +1,100 @@
+-- Which event may follow a history.
+use Rattle.std.specs.Prelude.{◌≡◌, ℕ, ◌<◌, ◌≤◌, List, ◌∷◌, ◌++◌, length, true, false, Some, None}
+use Rattle.std.specs.List.{position_or_len}
+use Rattle.snb_schema.specs.declared.event.Event.{Event}
+use Rattle.snb_schema.specs.declared.event.Event.TheVariants.{Start, Finish, Halt}
+use Rattle.snb_schema.specs.Schedule.{Schedule, step_of, IsOperation, IsBefore, IsInForum, is_dependency}
+use Rattle.snb_schema.specs.History.{starts, started, finished, halted, hand, moment, last}
+use Rattle.snb_schema.specs.declared.limits.TheConstants.{MAX_AT}
+
+-- the rules of an event, by their numbers
+pub data Rule : Type 0 where
+  V1 : Rule
+  V2 : Rule
+  V3 : Rule
+  V4 : Rule
+  V5 : Rule
+  V6 : Rule
+  V7 : Rule
+  V8 : Rule
+  V9 : Rule
+
+-- the number of a rule
+abbrev pub number : Rule → ℕ
+number V1 = 1
+number V2 = 2
+number V3 = 3
+number V4 = 4
+number V5 = 5
+number V6 = 6
+number V7 = 7
+number V8 = 8
+number V9 = 9
+
+-- the worker's number is below the count, and the worker hasn't halted
+pub record MayAct (workers : ℕ) (h : List Event) (worker : ℕ) : Type 0 where
+  pub known : worker < workers
+  pub running : halted h worker ≡ false
+
+-- the operation isn't started, and all before it in its lane are
+pub record IsHead (s : Schedule) (h : List Event) (op : ℕ) : Type 0 where
+  pub fresh : started h op ≡ false
+  pub led : (j : ℕ) → IsBefore s j op → started h j ≡ true
+
+-- in a forum lane, all before it are finished
+abbrev pub IsNotBusy : Schedule → List Event → ℕ → Type 0
+IsNotBusy s h op = IsInForum s op → (j : ℕ) → IsBefore s j op → finished h j ≡ true
+
+-- of a dependent, each dependency of the plan whose t is at most its t_d is finished: the dependency rule of Erling et al., SIGMOD 2015
+abbrev pub IsCleared : Schedule → List Event → ℕ → Type 0
+IsCleared s h op =
+    (step_of s op).dependent ≡ true → (k : ℕ) → is_dependency s k ≡ true → (step_of s k).t ≤ (step_of s op).t_d → finished h k ≡ true
+
+-- the front of a read lies after its Start and within the history; that of an insert is 0
+pub record IsFront (s : Schedule) (h : List Event) (op front : ℕ) : Type 0 where
+  pub of_read : (step_of s op).query ≡ true → (position_or_len (starts op) h < front) × (front ≤ length h)
+  pub of_insert : (step_of s op).query ≡ false → front ≡ 0
+
+-- what a rule says of a Start; the rules that aren't named say nothing of it
+abbrev pub StartObeys : Schedule → ℕ → List Event → ℕ → ℕ → ℕ → Rule → Type 0
+StartObeys s workers h op worker at V1 = IsOperation s op × MayAct workers h worker
+StartObeys s workers h op worker at V2 = IsHead s h op
+StartObeys s workers h op worker at V3 = IsNotBusy s h op
+StartObeys s workers h op worker at V4 = (step_of s op).due ≤ at
+StartObeys s workers h op worker at V5 = IsCleared s h op
+StartObeys s workers h op worker at V6 = hand h worker ≡ None
+StartObeys s workers h op worker at V9 = last h ≤ at
+StartObeys s workers h op worker at _ = Unit {0}
+
+-- what a rule says of a Finish
+abbrev pub FinishObeys : Schedule → ℕ → List Event → ℕ → ℕ → ℕ → ℕ → Rule → Type 0
+FinishObeys s workers h op worker at front V1 = IsOperation s op × MayAct workers h worker
+FinishObeys s workers h op worker at front V7 = hand h worker ≡ Some op
+FinishObeys s workers h op worker at front V8 = IsFront s h op front
+FinishObeys s workers h op worker at front V9 = last h ≤ at
+FinishObeys s workers h op worker at front _ = Unit {0}
+
+-- what a rule says of a Halt
+abbrev pub HaltObeys : ℕ → List Event → ℕ → Rule → Type 0
+HaltObeys workers h worker V1 = MayAct workers h worker
+HaltObeys workers h worker _ = Unit {0}
+
+-- what a rule says of an event at a history
+abbrev pub Obeys : Schedule → ℕ → List Event → Event → Rule → Type 0
+Obeys s workers h (Start op worker at) r = StartObeys s workers h op worker at r
+Obeys s workers h (Finish op worker at front) r = FinishObeys s workers h op worker at front r
+Obeys s workers h (Halt worker) r = HaltObeys workers h worker r
+
+-- the event may follow the history
+pub record Fits (s : Schedule) (workers : ℕ) (h : List Event) (e : Event) : Type 0 where
+  pub obeys : (r : Rule) → Obeys s workers h e r
+
+-- each event fits the events before it, and no moment is above the greatest
+pub record IsLegal (s : Schedule) (workers : ℕ) (h : List Event) : Type 0 where
+  pub bounded : (g : List Event) (e : Event) (rest : List Event) → g ++ e ∷ rest ≡ h → moment e ≤ MAX_AT
+  pub fits : (g : List Event) (e : Event) (rest : List Event) → g ++ e ∷ rest ≡ h → Fits s workers g e
+
+-- every operation is finished, and nobody has halted
+pub record IsComplete (s : Schedule) (h : List Event) : Type 0 where
+  pub all_finished : (k : ℕ) → IsOperation s k → finished h k ≡ true
+  pub none_halted : (w : ℕ) → halted h w ≡ false

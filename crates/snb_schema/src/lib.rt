@@ -1,0 +1,19 @@
+//! The plain types of the harness, and the definitions that its layers share: lines, rows, update
+//! lines, graphs, refusals, schedules and histories, with laws of all legal histories.
+#![tactic(auto)]
+
+pub mod event;
+pub mod fault;
+pub mod file;
+pub mod laws;
+pub mod limits;
+pub mod op;
+pub mod person;
+pub mod refusal;
+pub mod row;
+pub mod schedule;
+pub mod step;
+pub mod table;
+#[cfg(test)]
+mod tests;
+pub mod worked;

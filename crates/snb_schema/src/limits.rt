@@ -1,0 +1,19 @@
+//! The limits of the profile.
+
+/// The greatest date and time, in milliseconds since 1970-01-01 UTC: the last one of the year 9999.
+pub const MAX_TIME: u64 = 253402300799999;
+
+/// The greatest id.
+pub const MAX_ID: u64 = 9223372036854775807;
+
+/// The greatest moment of an event, in milliseconds since the clock of the run was made.
+pub const MAX_AT: u64 = 9223372036854775807;
+
+/// The most bytes of dataset, streams and parameter files together.
+pub const MAX_BYTES: u64 = 268435456;
+
+/// The most data lines of dataset, streams and parameter files together.
+pub const MAX_ROWS: u64 = 2000000;
+
+/// The most workers of a run.
+pub const MAX_WORKERS: u32 = 8;

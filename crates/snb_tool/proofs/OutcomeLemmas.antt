@@ -1,0 +1,97 @@
+-- Facts on what a call answers and writes.
+use Rattle.std.proofs.Common.{◌≡◌, ℕ, List, [], length, Option, Some, None, refl, sym, ap, ◌∙◌, inl, inr}
+use Rattle.std.proofs.lemmas.List.{length-map}
+use Rattle.std.specs.Option.{IfSome}
+use Rattle.snb_base.specs.Outbox.{Written}
+use Rattle.snb_base.specs.Shelf.{Files}
+use Rattle.snb_schema.specs.declared.op.Line.{Line}
+use Rattle.snb_schema.specs.declared.person.Person.{Person}
+use Rattle.snb_schema.specs.declared.refusal.Refusal.{Refusal}
+use Rattle.snb_schema.specs.declared.row.Row.TheVariants as row
+use Rattle.snb_schema.specs.declared.event.Event.{Event}
+use Rattle.snb_schema.specs.Graph.{Graph, all_rows, final_text}
+use Rattle.snb_schema.specs.RunTexts.{log_text, no_answers_text}
+use Rattle.snb_schema.specs.Input.{Refuses}
+use Rattle.snb_schema.specs.ScreenTexts.{refusal_text, summary_text, usage_text}
+use Rattle.snb_tool.specs.Outcome.{Belongs, IsLoaded, IsOtherLine, IsRun, IsRunOutput, Wrote, run_texts}
+use Rattle.snb_tool.specs.Output.{IsFront, on_screen}
+use Rattle.snb_tool.specs.Words.{IsRunLine}
+use Rattle.snb_tool.proofs.PersonReaderLemmas.{all_persons}
+use Rattle.snb_tool.proofs.TakeLemmas.{if_some}
+
+-- what holds of all files holds of those that are told
+if_some_always : (contents : Option Files) (P : Files → Type 0) → ((files : Files) → P files) → IfSome contents P
+if_some_always None P all = tt
+if_some_always (Some files) P all = all files
+
+-- the output of a run of what was loaded is a run's
+pub is_run : (words : List (List ℕ)) (folder : List ℕ) (files : Files) (fixed : Option ℕ) (graph : Graph) (inserts : List Line) (texts : Written)
+    → IsRunLine words folder → IsLoaded folder files graph inserts → IsRunOutput inserts fixed graph texts → IsRun words files fixed texts
+is_run words folder files fixed graph inserts texts line loaded output = record {
+  folder = folder;
+  line = line;
+  accepted = loaded.accepted;
+  dataset = loaded.dataset;
+  inserts = inserts;
+  input = loaded.input;
+  history = output.history;
+  legal = output.ran.legal;
+  complete = output.ran.complete;
+  moments = output.ran.moments;
+  graph = output.graph;
+  final = output.ran.rows loaded.dataset loaded.kept;
+  shown = output.shown;
+}
+
+-- what a cut call leaves
+abbrev pub Cut : List (List ℕ) → Files → Option ℕ → Option Written → Option Written → Type 0
+Cut words files fixed old new = (status : ℕ) × (texts : Written) × (part : Written) × Belongs words files fixed status texts × IsFront part texts × Wrote old new part
+
+-- a call that was cut at the usage
+pub cut_usage : (words : List (List ℕ)) (contents : Option Files) (fixed : Option ℕ) (old new : Option Written)
+    → IsOtherLine words → (part : Written) × IsFront part (on_screen usage_text) × Wrote old new part → IfSome contents (λ files. Cut words files fixed old new)
+cut_usage words contents fixed old new other p =
+    if_some_always contents (λ files. Cut words files fixed old new) (λ files. (2, on_screen usage_text, p.0, inr (inl (refl, record { other = other; shown = refl })), p.1, p.2))
+
+-- a call that was cut at a refusal
+pub cut_refusal : (words : List (List ℕ)) (folder : List ℕ) (r : Refusal) (contents : Option Files) (fixed : Option ℕ) (old new : Option Written)
+    → IsRunLine words folder → IfSome contents (λ files. Refuses folder files r) → (part : Written) × IsFront part (on_screen (refusal_text r)) × Wrote old new part → IfSome contents (λ files. Cut words files fixed old new)
+cut_refusal words folder r contents fixed old new line refused p =
+    if_some contents (λ files. Refuses folder files r) (λ files. Cut words files fixed old new)
+    (λ files b. (3, on_screen (refusal_text r), p.0, inr (inr (refl, record { folder = folder; line = line; refusal = r; refused = b; shown = refl })), p.1, p.2)) refused
+
+-- a call that was cut at the texts of a run
+pub cut_run : (words : List (List ℕ)) (folder : List ℕ) (contents : Option Files) (fixed : Option ℕ) (graph : Graph) (inserts : List Line) (old new : Option Written)
+    → IsRunLine words folder → IfSome contents (λ files. IsLoaded folder files graph inserts)
+    → (texts : Written) × (part : Written) × IsRunOutput inserts fixed graph texts × IsFront part texts × Wrote old new part → IfSome contents (λ files. Cut words files fixed old new)
+cut_run words folder contents fixed graph inserts old new line loaded p =
+    if_some contents (λ files. IsLoaded folder files graph inserts) (λ files. Cut words files fixed old new)
+    (λ files l. (0, p.0, p.1, inl (refl, is_run words folder files fixed graph inserts p.0 line l p.2), p.3, p.4)) loaded
+
+-- a call that ran
+pub done_run : (words : List (List ℕ)) (folder : List ℕ) (contents : Option Files) (fixed : Option ℕ) (graph : Graph) (inserts : List Line) (old new : Option Written)
+    → IsRunLine words folder → IfSome contents (λ files. IsLoaded folder files graph inserts)
+    → (texts : Written) × IsRunOutput inserts fixed graph texts × Wrote old new texts → IfSome contents (λ files. (texts : Written) × IsRun words files fixed texts × Wrote old new texts)
+done_run words folder contents fixed graph inserts old new line loaded p =
+    if_some contents (λ files. IsLoaded folder files graph inserts) (λ files. (texts : Written) × IsRun words files fixed texts × Wrote old new texts)
+    (λ files l. (p.0, is_run words folder files fixed graph inserts p.0 line l p.1, p.2)) loaded
+
+-- what is written is the text of each channel
+by_channel : (s l a f screen log answers finals : List ℕ) → s ≡ screen → l ≡ log → a ≡ answers → f ≡ finals →
+    ◌≡◌ {A = Written} (record { screen = s; log = l; answers = a; finals = f; cases = [] }) (record { screen = screen; log = log; answers = answers; finals = finals; cases = [] })
+by_channel s l a f screen log answers finals p q r t = cc
+
+-- the graph has as many rows as persons
+count_rows : (g : Graph) → length g.persons ≡ length (all_rows g)
+count_rows g = sym (ap length (all_persons g) ∙ length-map g.persons (λ (e : ℕ × Person). row.Person e.1))
+
+-- the summary of as many updates and rows
+summary_of : (text : List ℕ) (updates length_is rows rows_are : ℕ) → updates ≡ length_is → rows ≡ rows_are → text ≡ summary_text updates updates 0 rows → text ≡ summary_text length_is length_is 0 rows_are
+summary_of text updates length_is rows rows_are e f t = t ∙ ap (λ (n : ℕ). summary_text n n 0 rows) e ∙ ap (λ (n : ℕ). summary_text length_is length_is 0 n) f
+
+-- four texts are those of the run
+pub is_output : (inserts : List Line) (history : List Event) (graph : Graph) (s l a f : List ℕ) (updates count : ℕ) → l ≡ log_text 1 history → a ≡ no_answers_text → f ≡ final_text graph
+    → updates ≡ length inserts → count ≡ length graph.persons → s ≡ summary_text updates updates 0 count →
+    ◌≡◌ {A = Written} (record { screen = s; log = l; answers = a; finals = f; cases = [] }) (run_texts inserts history graph)
+is_output inserts history graph s l a f updates count p q r d e t =
+    by_channel s l a f _ _ _ _ (summary_of s updates (length inserts) count (length (all_rows graph)) d (e ∙ count_rows graph) t) p q r

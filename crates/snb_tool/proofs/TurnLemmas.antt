@@ -1,0 +1,286 @@
+-- Facts on the turns of a run by one worker.
+use Rattle.std.proofs.Common.{◌≡◌, ℕ, ◌+◌, ◌<◌, ◌≤◌, min, List, [], ◌∷◌, ◌++◌, length, take, drop, get_or, Bool, true, false, cond, ltb, eqb, Option, Some, None, inl, inr, refl, sym, ap, ◌∙◌, subst, arith, append_assoc, append-nil}
+use Rattle.std.specs.Prelude.{ℤ}
+use Rattle.std.specs.BTreeMap.{is_at}
+use Rattle.std.specs.List.{All, AllByRecursion}
+use Rattle.std.specs.Map.{lookup}
+use Rattle.std.specs.Option.{IfSome}
+use Rattle.std.specs.Ordering.{nat_cmp}
+use Rattle.std.proofs.lemmas.Bool.{cases_lt}
+use Rattle.std.proofs.lemmas.Bool.Decides.{nat_tests}
+use Rattle.std.proofs.lemmas.List.{take_all}
+use Rattle.std.proofs.lemmas.List.Elements.{All-push, All-nil, recursion_from_All}
+use Rattle.snb_schema.specs.declared.event.Event.{Event}
+use Rattle.snb_schema.specs.declared.event.Event.TheVariants.{Start, Finish, Halt}
+use Rattle.snb_schema.specs.declared.limits.TheConstants.{MAX_AT}
+use Rattle.snb_schema.specs.declared.op.Line.{Line}
+use Rattle.snb_schema.specs.declared.row.Row.{Row}
+use Rattle.snb_schema.specs.Graph.{Graph, HoldsRows, rows_of}
+use Rattle.snb_schema.specs.Input.{added_id}
+use Rattle.snb_schema.specs.History.{started, finished, halted, hand, last}
+use Rattle.snb_schema.specs.Plan.{plan_of}
+use Rattle.snb_schema.specs.Rules.{Fits, IsFront, IsLegal, MayAct, V1}
+use Rattle.snb_schema.specs.Schedule.{Schedule}
+use Rattle.snb_schema.proofs.Held.{started-push, finished-push, hand-push}
+use Rattle.snb_schema.proofs.Histories.{IsLegal-push, IsLegal-nil}
+use Rattle.snb_schema.proofs.Pushes.{by_push}
+use Rattle.snb_schema.proofs.Short.{halted-push, last-push, last_is_bounded}
+use Rattle.snb_book.specs.declared.claim.Claim.{Claim}
+use Rattle.snb_book.specs.declared.claim.Claim.TheVariants.{Halted, AllStarted, Busy, Go, Blocked}
+use Rattle.snb_book.specs.declared.claim.Ticket.{Ticket}
+use Rattle.snb_book.specs.Claims.{IsClaim}
+use Rattle.snb_book.specs.Kept.{Kept, moment_after}
+use Rattle.snb_tool.specs.Loading.{KeysNew}
+use Rattle.snb_tool.specs.Running.{IsAt, HasRun, rows_of_all}
+use Rattle.snb_tool.specs.Turns.{IsAdded, HasDone}
+use Rattle.snb_tool.proofs.PlanLemmas.{plan_length, plan_plain}
+use Rattle.snb_tool.proofs.RunLemmas.{key_new, keys_after, rows_after, rest_at, rows_more}
+
+-- what is true of each element is true of those before the last, and of the last
+all_front : {X : Type 0} (P : X → Type 0) (xs : List X) (x : X) → AllByRecursion P (xs ++ x ∷ []) → AllByRecursion P xs × P x
+all_front P [] x a = (tt, a.0)
+all_front P (y ∷ xs) x a = (let rest = all_front P xs x a.1 in ((a.0, rest.0), rest.1))
+
+-- the last moment of events that all have this one
+last_at : (at : ℕ) (h : List Event) → AllByRecursion (IsAt at) h → last h ≤ at
+last_at at h = by_push (λ g. AllByRecursion (IsAt at) g → last g ≤ at) (λ a. omega arith) more h
+  where
+    more : (g : List Event) (e : Event) → (AllByRecursion (IsAt at) g → last g ≤ at) → AllByRecursion (IsAt at) (g ++ e ∷ []) → last (g ++ e ∷ []) ≤ at
+    more g (Start op worker when) ih a = let p = last-push g (Start op worker when) in let parts = all_front (IsAt at) g (Start op worker when) a in let is : when ≡ at = parts.1 in omega arith
+    more g (Finish op worker when front) ih a = let p = last-push g (Finish op worker when front) in let parts = all_front (IsAt at) g (Finish op worker when front) a in let is : when ≡ at = parts.1 in omega arith
+    more g (Halt worker) ih a = let p = last-push g (Halt worker) in let parts = all_front (IsAt at) g (Halt worker) a in let before = ih parts.0 in omega arith
+
+-- where the clock tells a moment, the next event has it
+next_at : (fixed : Option ℕ) (h : List Event) (now : ℕ) (e : Event) → ((at : ℕ) → moment_after h now ≡ at → IsAt at e) → IfSome fixed (λ told. now ≡ told) →
+    IfSome fixed (λ told. All (IsAt (min told MAX_AT)) h) → IfSome fixed (λ told. All (IsAt (min told MAX_AT)) (h ++ e ∷ []))
+next_at None h now e is shown a = a
+next_at (Some told) h now e is shown a =
+    let l = last_at (min told MAX_AT) h (recursion_from_All (IsAt (min told MAX_AT)) h a) in
+    let same : now ≡ told = shown in
+    All-push (IsAt (min told MAX_AT)) h e a (is (min told MAX_AT) (omega arith))
+
+-- the operations below `count` are started and finished in this history, and nothing else has happened
+record IsDoneTo (lines : List Line) (fixed : Option ℕ) (count : ℕ) (h : List Event) : Type 0 where
+  legal : IsLegal (plan_of lines) 1 h
+  begun : (k : ℕ) → started h k ≡ ltb k count
+  over : (k : ℕ) → finished h k ≡ ltb k count
+  free : (w : ℕ) → hand h w ≡ None
+  running : (w : ℕ) → halted h w ≡ false
+  moments : IfSome fixed (λ told. All (IsAt (min told MAX_AT)) h)
+
+-- n itself is below n + 1, and no other that isn't below n
+below_more : (k n : ℕ) → cond (eqb n k) true (ltb k n) ≡ ltb k (n + 1)
+below_more k n = grind (arith, nat_tests)
+
+-- what worker 0 started and finished is in nobody's hand
+let_go : (w : ℕ) (held : Option ℕ) (n : ℕ) → held ≡ None → cond (eqb 0 w) None (cond (eqb 0 w) (Some n) held) ≡ None
+let_go w held n e = grind (arith, nat_tests)
+
+-- the next moment isn't above the greatest
+moment_small : (lines : List Line) (h : List Event) (now : ℕ) → IsLegal (plan_of lines) 1 h → moment_after h now ≤ MAX_AT
+moment_small lines h now legal = let l = last_is_bounded (plan_of lines) 1 h legal in omega arith
+
+-- one operation more
+done_next : (lines : List Line) (fixed : Option ℕ) (count : ℕ) (h g : List Event) (now later : ℕ) → IsDoneTo lines fixed count h → g ≡ h ++ Start count 0 (moment_after h now) ∷ [] →
+    Fits (plan_of lines) 1 h (Start count 0 (moment_after h now)) → Fits (plan_of lines) 1 g (Finish count 0 (moment_after g later) 0) →
+    IfSome fixed (λ told. now ≡ told) → IfSome fixed (λ told. later ≡ told) → IsDoneTo lines fixed (count + 1) (g ++ Finish count 0 (moment_after g later) 0 ∷ [])
+done_next lines fixed count h g now later d same starting ending shown shown_later =
+    let s : Event = Start count 0 (moment_after h now) in
+    let f : Event = Finish count 0 (moment_after g later) 0 in
+    let legal : IsLegal (plan_of lines) 1 g = subst (IsLegal (plan_of lines) 1) (sym same) (IsLegal-push (plan_of lines) 1 h s d.legal starting (moment_small lines h now d.legal)) in
+    let moments : IfSome fixed (λ told. All (IsAt (min told MAX_AT)) g) =
+    subst (λ (l : List Event). IfSome fixed (λ told. All (IsAt (min told MAX_AT)) l)) (sym same) (next_at fixed h now s (λ at e. e) shown d.moments) in
+    record {
+      legal = IsLegal-push (plan_of lines) 1 g f legal ending (moment_small lines g later legal);
+      begun = λ k.
+          started-push g f k ∙ ap (λ (l : List Event). started l k) same ∙ started-push h s k
+          ∙ ap (λ (b : Bool). cond (eqb count k) true b) (d.begun k) ∙ below_more k count;
+      over = λ k.
+          finished-push g f k
+          ∙ ap (λ (b : Bool). cond (eqb count k) true b) (ap (λ (l : List Event). finished l k) same ∙ finished-push h s k ∙ d.over k) ∙ below_more k count;
+      free = λ w.
+          hand-push g f w ∙ ap (λ (held : Option ℕ). cond (eqb 0 w) None held) (ap (λ (l : List Event). hand l w) same ∙ hand-push h s w) ∙ let_go w (hand h w) count (d.free w);
+      running = λ w. halted-push g f w ∙ ap (λ (l : List Event). halted l w) same ∙ halted-push h s w ∙ d.running w;
+      moments = next_at fixed g later f (λ at e. e) shown_later moments;
+    }
+
+-- what a run under way says of its history
+done_so_far : {lines : List Line} {fixed : Option ℕ} {old new : Graph} {b : Kept} → (d : HasDone lines fixed old new b) → IsDoneTo lines fixed d.count b.history
+done_so_far d = record { legal = d.legal; begun = d.begun; over = d.over; free = d.free; running = d.running; moments = d.moments }
+
+-- an answer over the plan itself
+over_plan : (lines : List Line) (b : Kept) (at : ℕ) (claim : Claim) → b.schedule ≡ plan_of lines → IsClaim b.schedule b.history 0 at claim → IsClaim (plan_of lines) b.history 0 at claim
+over_plan lines b at claim plan is = subst (λ (s : Schedule). IsClaim s b.history 0 at claim) plan is
+
+-- no number is below itself
+not_below : (n : ℕ) → ltb n n ≡ true → ⊥
+not_below n h = grind (arith, nat_tests)
+
+-- what isn't below n is n or above it
+past_from_test : (k n : ℕ) → ltb k n ≡ false → n ≤ k
+past_from_test k n h = grind (arith, nat_tests)
+
+-- the operation that is given is the first that isn't done
+pub go_is_next : (lines : List Line) (fixed : Option ℕ) (old new : Graph) (b : Kept) (at : ℕ) (ticket : Ticket) → (d : HasDone lines fixed old new b) →
+    IsClaim b.schedule b.history 0 at (Go ticket) → (ticket.op ≡ d.count) × (ticket.op < length lines) × (ticket.worker ≡ 0)
+go_is_next lines fixed old new b at ticket d claim =
+    let is = over_plan lines b at (Go ticket) d.plan claim in
+    let head = is.1.0.0 in
+    let within : ticket.op < length (plan_of lines).steps = head.0 in
+    let past : d.count ≤ ticket.op = past_from_test ticket.op d.count (sym (d.begun ticket.op) ∙ head.1.fresh) in
+    let here : ticket.op ≡ d.count =
+    elim (cases_lt d.count ticket.op) [
+      | inl lt ↦ absurd (not_below d.count (sym (d.begun d.count) ∙ head.1.led d.count (lt, (plan_plain lines d.count).0 ∙ sym (plan_plain lines ticket.op).0)))
+      | inr le ↦ omega arith
+    ] in
+    (here, omega (arith, plan_length lines), is.2)
+
+-- where all is started, all is done
+pub all_done : (lines : List Line) (fixed : Option ℕ) (old new : Graph) (b : Kept) (at : ℕ) → HasDone lines fixed old new b → IsClaim b.schedule b.history 0 at AllStarted → HasRun lines fixed old new b.history
+all_done lines fixed old new b at d claim =
+    let is = over_plan lines b at AllStarted d.plan claim in
+    let size = plan_length lines in
+    let all : length lines ≤ d.count =
+    elim (cases_lt d.count (length lines)) [
+      | inl lt ↦ absurd (not_below d.count (sym (d.begun d.count) ∙ is.1 d.count (omega arith)))
+      | inr le ↦ le
+    ] in
+    record {
+      legal = d.legal;
+      complete = record {
+        all_finished = λ k within. d.over k ∙ sym (d.begun k) ∙ is.1 k within;
+        none_halted = d.running;
+      };
+      moments = d.moments;
+      rows = λ dataset h. subst (λ (xs : List Line). HoldsRows new (dataset ++ rows_of_all xs)) (take_all d.count lines all) (d.rows dataset h);
+    }
+
+-- nobody has halted
+pub not_halted : (lines : List Line) (fixed : Option ℕ) (old new : Graph) (b : Kept) (at : ℕ) → HasDone lines fixed old new b → IsClaim b.schedule b.history 0 at Halted → ⊥
+not_halted lines fixed old new b at d claim = let r = d.running claim.0 in let h = claim.1 in cc
+
+-- the one worker has nothing in hand, and no insert waits for one before it
+pub not_busy : (lines : List Line) (fixed : Option ℕ) (old new : Graph) (b : Kept) (at op holder : ℕ) → HasDone lines fixed old new b → IsClaim b.schedule b.history 0 at (Busy op holder) → ⊥
+not_busy lines fixed old new b at op holder d (inl own) = let f = d.free 0 in let h = own.held in cc
+not_busy lines fixed old new b at op holder d (inr lane) =
+    let j = lane.held in
+    let head = lane.first.0.1 in
+    let begun = head.led j.0 j.1 in
+    let same : started b.history j.0 ≡ finished b.history j.0 = d.begun j.0 ∙ sym (d.over j.0) in
+    let open_yet = j.2 in
+    cc
+
+-- no insert waits for dependencies
+pub not_blocked : (lines : List Line) (fixed : Option ℕ) (old new : Graph) (b : Kept) (at op needs : ℕ) (time : ℤ) → HasDone lines fixed old new b → IsClaim b.schedule b.history 0 at (Blocked op needs time) → ⊥
+not_blocked lines fixed old new b at op needs time d claim =
+    let is = over_plan lines b at (Blocked op needs time) d.plan claim in
+    is.1 op is.2.0.0 (is.2.0.1, λ dependent. absurd (let free = (plan_plain lines op).1 in cc))
+
+-- the worker of a Start may act after it
+pub acts_after : (b after : Kept) (ticket : Ticket) (at : ℕ) → after ≡ record b { history = b.history ++ Start ticket.op 0 at ∷ [] } → Fits b.schedule b.workers b.history (Start ticket.op 0 at) → ticket.worker ≡ 0 →
+    MayAct after.workers after.history ticket.worker
+acts_after b after ticket at same fits worker =
+    let may = (fits.obeys V1).1 in
+    subst (λ (k : Kept). MayAct k.workers k.history ticket.worker) (sym same)
+    (subst (λ (w : ℕ). MayAct b.workers (b.history ++ Start ticket.op 0 at ∷ []) w) (sym worker)
+    (record { known = may.known; running = halted-push b.history (Start ticket.op 0 at) 0 ∙ may.running }))
+
+-- an insert's front is 0
+pub no_front : (lines : List Line) (b after : Kept) (op at : ℕ) → b.schedule ≡ plan_of lines → after ≡ record b { history = b.history ++ Start op 0 at ∷ [] } → IsFront after.schedule after.history op 0
+no_front lines b after op at plan same =
+    subst (λ (s : Schedule). IsFront s after.history op 0) (sym (ap (λ (k : Kept). k.schedule) same ∙ plan))
+    (record { of_read = λ q. absurd (let none = (plan_plain lines op).2 in cc); of_insert = λ q. refl })
+
+-- the key of the insert that is given is new
+pub key_next : (lines : List Line) (fixed : Option ℕ) (old new : Graph) (b : Kept) (at : ℕ) (ticket : Ticket) (x : Line) → HasDone lines fixed old new b →
+    IsClaim b.schedule b.history 0 at (Go ticket) → lookup (is_at (nat_cmp (added_id (get_or lines ticket.op x).op))) new.persons ≡ None
+key_next lines fixed old new b at ticket x d claim =
+    let next = go_is_next lines fixed old new b at ticket d claim in
+    let lt : d.count < length lines = omega (arith, next.0, next.1) in
+    let first = key_new new (get_or lines d.count x) (drop (d.count + 1) lines) (subst (KeysNew new) (rest_at lines d.count x lt) d.fresh) in
+    subst (λ (k : ℕ). lookup (is_at (nat_cmp (added_id (get_or lines k x).op))) new.persons ≡ None) (sym next.0) first
+
+-- one insert more is done
+pub done_more : (lines : List Line) (fixed : Option ℕ) (old graph new : Graph) (b held after : Kept) (ticket : Ticket) (default : Line) (at now later : ℕ) →
+    HasDone lines fixed old graph b → IsClaim b.schedule b.history 0 at (Go ticket) →
+    held ≡ record b { history = b.history ++ Start ticket.op 0 (moment_after b.history now) ∷ [] } →
+    Fits b.schedule b.workers b.history (Start ticket.op 0 (moment_after b.history now)) →
+    after ≡ record held { history = held.history ++ Finish ticket.op ticket.worker (moment_after held.history later) 0 ∷ [] } →
+    Fits held.schedule held.workers held.history (Finish ticket.op ticket.worker (moment_after held.history later) 0) →
+    IfSome fixed (λ told. now ≡ told) → IfSome fixed (λ told. later ≡ told) → IsAdded (get_or lines ticket.op default).op graph new → HasDone lines fixed old new after
+done_more lines fixed old graph new b held after ticket default at now later d claim one starts two ends shown shown_later added =
+    let next = go_is_next lines fixed old graph b at ticket d claim in
+    let here : ticket.op ≡ d.count = next.0 in
+    let lt : d.count < length lines = omega (arith, here, next.1) in
+    let plan : held.schedule ≡ plan_of lines = ap (λ (k : Kept). k.schedule) one ∙ d.plan in
+    let alone : held.workers ≡ 1 = ap (λ (k : Kept). k.workers) one ∙ d.alone in
+    let start_at : ℕ = moment_after b.history now in
+    let finish_at : ℕ = moment_after held.history later in
+    let starting : Fits (plan_of lines) 1 b.history (Start d.count 0 start_at) =
+    subst (λ (op : ℕ). Fits (plan_of lines) 1 b.history (Start op 0 start_at)) here
+    (subst (λ (n : ℕ). Fits (plan_of lines) n b.history (Start ticket.op 0 start_at)) d.alone
+    (subst (λ (s : Schedule). Fits s b.workers b.history (Start ticket.op 0 start_at)) d.plan starts)) in
+    let ending : Fits (plan_of lines) 1 held.history (Finish d.count 0 finish_at 0) =
+    subst (λ (w : ℕ). Fits (plan_of lines) 1 held.history (Finish d.count w finish_at 0)) next.2
+    (subst (λ (op : ℕ). Fits (plan_of lines) 1 held.history (Finish op ticket.worker finish_at 0)) here
+    (subst (λ (n : ℕ). Fits (plan_of lines) n held.history (Finish ticket.op ticket.worker finish_at 0)) alone
+    (subst (λ (s : Schedule). Fits s held.workers held.history (Finish ticket.op ticket.worker finish_at 0)) plan ends))) in
+    let started_so : held.history ≡ b.history ++ Start d.count 0 start_at ∷ [] =
+    ap (λ (k : Kept). k.history) one ∙ ap (λ (op : ℕ). b.history ++ Start op 0 start_at ∷ []) here in
+    let finished_so : after.history ≡ held.history ++ Finish d.count 0 finish_at 0 ∷ [] =
+    ap (λ (k : Kept). k.history) two ∙ ap (λ (op : ℕ). held.history ++ Finish op ticket.worker finish_at 0 ∷ []) here
+    ∙ ap (λ (w : ℕ). held.history ++ Finish d.count w finish_at 0 ∷ []) next.2 in
+    let more : IsDoneTo lines fixed (d.count + 1) after.history =
+    subst (IsDoneTo lines fixed (d.count + 1)) (sym finished_so)
+    (done_next lines fixed d.count b.history held.history now later (done_so_far d) started_so starting ending shown shown_later) in
+    let x : Line = get_or lines d.count default in
+    let entered : IsAdded x.op graph new = subst (λ (k : ℕ). IsAdded (get_or lines k default).op graph new) here added in
+    let fresh : KeysNew graph (x ∷ drop (d.count + 1) lines) =
+    subst (KeysNew graph) (rest_at lines d.count default lt) d.fresh in
+    record {
+      count = d.count + 1;
+      within = omega arith;
+      plan = ap (λ (k : Kept). k.schedule) two ∙ plan;
+      alone = ap (λ (k : Kept). k.workers) two ∙ alone;
+      legal = more.legal;
+      begun = more.begun;
+      over = more.over;
+      free = more.free;
+      running = more.running;
+      moments = more.moments;
+      rows = λ dataset h.
+          let so_far : List Row = rows_of_all (take d.count lines) in
+          let added_rows = rows_after x (dataset ++ so_far) graph new (d.rows dataset h) (key_new graph x (drop (d.count + 1) lines) fresh) entered in
+          subst (HoldsRows new)
+          (append_assoc dataset so_far (rows_of x.op) ∙ ap (λ (rs : List Row). dataset ++ rs) (sym (rows_more lines d.count default lt)))
+          added_rows;
+      fresh = keys_after x (drop (d.count + 1) lines) graph new fresh entered;
+    }
+
+-- nothing is below 0
+none_below : (k : ℕ) → false ≡ ltb k 0
+none_below k = grind (arith, nat_tests)
+
+-- no event has another moment where there is none
+no_moments : (fixed : Option ℕ) → IfSome fixed (λ told. All (IsAt (min told MAX_AT)) [])
+no_moments None = tt
+no_moments (Some told) = All-nil (IsAt (min told MAX_AT))
+
+-- at first nothing is done
+pub done_none : (lines : List Line) (fixed : Option ℕ) (graph : Graph) (b : Kept) → b ≡ record { schedule = plan_of lines; workers = 1; history = [] } → KeysNew graph lines → HasDone lines fixed graph graph b
+done_none lines fixed graph b is fresh =
+    subst (HasDone lines fixed graph graph) (sym is)
+    (record {
+      count = 0;
+      within = omega arith;
+      plan = refl;
+      alone = refl;
+      legal = IsLegal-nil (plan_of lines) 1;
+      begun = none_below;
+      over = none_below;
+      free = λ w. refl;
+      running = λ w. refl;
+      moments = no_moments fixed;
+      rows = λ dataset h. subst (HoldsRows graph) (sym (append-nil dataset)) h;
+      fresh = fresh;
+    })

@@ -1,0 +1,198 @@
+-- Facts on what is written on channels.
+use Rattle.std.proofs.Common.{◌≡◌, ℕ, ◌+◌, Option, Some, None, List, [], ◌++◌, take, drop, refl, sym, ap, ◌∙◌, inl, inr, arith}
+use Rattle.std.specs.Option.{option_map}
+use Rattle.std.proofs.lemmas.List.{append_assoc, append-nil, take-append-drop, take-take, drop-take}
+use Rattle.snb_base.specs.declared.outbox.Channel.{Channel}
+use Rattle.snb_base.specs.declared.outbox.Channel.TheVariants.{Screen, Log, Answers, Final, Cases}
+use Rattle.snb_base.specs.Outbox.{Written, nothing, appended, joined}
+use Rattle.snb_tool.specs.Output.{IsPrefix, IsFront, on_screen}
+
+-- two pieces on one channel are one
+pub appended-appended : (w : Written) (channel : Channel) (a b : List ℕ) → appended (appended w channel a) channel b ≡ appended w channel (a ++ b)
+appended-appended w Screen a b = simp append_assoc
+appended-appended w Log a b = simp append_assoc
+appended-appended w Answers a b = simp append_assoc
+appended-appended w Final a b = simp append_assoc
+appended-appended w Cases a b = simp append_assoc
+
+-- the next piece goes after the bytes so far
+pub take-then-take : (n m : ℕ) (bytes : List ℕ) → take n bytes ++ take m (drop n bytes) ≡ take (n + m) bytes
+take-then-take n m bytes =
+    ap (λ (x : List ℕ). x ++ take m (drop n bytes)) (sym (take-take n (n + m) bytes (omega arith)))
+    ∙ ap (λ (x : List ℕ). take n (take (n + m) bytes) ++ x) (sym (drop-take n m bytes))
+    ∙ take-append-drop n (take (n + m) bytes)
+
+-- one more piece of what is left is written
+pub written-more : (channel : Channel) (bytes piece : List ℕ) (n m : ℕ) (old now new : Option Written)
+    → piece ≡ drop n bytes
+    → now ≡ option_map (λ w. appended w channel (take n bytes)) old
+    → new ≡ option_map (λ w. appended w channel (take m piece)) now
+    → new ≡ option_map (λ w. appended w channel (take (n + m) bytes)) old
+written-more channel bytes piece n m None now new p e f = f ∙ ap (option_map (λ w. appended w channel (take m piece))) e
+written-more channel bytes piece n m (Some w) now new p e f =
+    f ∙ ap (option_map (λ w. appended w channel (take m piece))) e
+    ∙ ap Some
+    (appended-appended w channel _ _
+    ∙ ap (appended w channel) (ap (λ (x : List ℕ). take n bytes ++ take m x) p ∙ take-then-take n m bytes))
+
+-- bytes at the end of one channel of the second part are at the end of the whole's
+pub appended-joined : (w v : Written) (channel : Channel) (bytes : List ℕ) → appended (joined w v) channel bytes ≡ joined w (appended v channel bytes)
+appended-joined w v Screen bytes = simp append_assoc
+appended-joined w v Log bytes = simp append_assoc
+appended-joined w v Answers bytes = simp append_assoc
+appended-joined w v Final bytes = simp append_assoc
+appended-joined w v Cases bytes = simp append_assoc
+
+-- with nothing more
+pub joined-nothing : (w : Written) → joined w nothing ≡ w
+joined-nothing w = simp append-nil
+
+-- the first bytes of a call
+pub begun : (channel : Channel) (bytes : List ℕ) (old new : Option Written)
+    → new ≡ option_map (λ w. appended w channel bytes) old
+    → new ≡ option_map (λ w. joined w (appended nothing channel bytes)) old
+begun channel bytes None new e = e
+begun channel bytes (Some w) new e =
+    e ∙ ap Some (ap (λ (x : Written). appended x channel bytes) (sym (joined-nothing w)) ∙ appended-joined w nothing channel bytes)
+
+-- bytes after those of a call so far
+pub continued : (v : Written) (channel : Channel) (bytes : List ℕ) (old now new : Option Written)
+    → now ≡ option_map (λ w. joined w v) old
+    → new ≡ option_map (λ w. appended w channel bytes) now
+    → new ≡ option_map (λ w. joined w (appended v channel bytes)) old
+continued v channel bytes None now new e f = f ∙ ap (option_map (λ w. appended w channel bytes)) e
+continued v channel bytes (Some w) now new e f =
+    f ∙ ap (option_map (λ w. appended w channel bytes)) e ∙ ap Some (appended-joined w v channel bytes)
+
+-- equal bytes are a prefix
+prefix-whole : (bytes whole : List ℕ) → bytes ≡ whole → IsPrefix bytes whole
+prefix-whole bytes whole e = ([], append-nil bytes ∙ e)
+
+-- no bytes are a prefix
+prefix-none : (whole : List ℕ) → IsPrefix [] whole
+prefix-none whole = (whole, refl)
+
+-- the first bytes are a prefix
+prefix-take : (n : ℕ) (bytes whole : List ℕ) → bytes ≡ whole → IsPrefix (take n bytes) whole
+prefix-take n bytes whole e = (drop n bytes, take-append-drop n bytes ∙ e)
+
+-- a front of the whole was written
+abbrev pub HasFront : Written → Option Written → Option Written → Type 0
+HasFront whole old new = (part : Written) × IsFront part whole × (new ≡ option_map (λ w. joined w part) old)
+
+-- the log alone was begun
+pub stopped_in_log : (whole : Written) (log : List ℕ) (n : ℕ) (old new : Option Written)
+    → log ≡ whole.log
+    → new ≡ option_map (λ w. appended w Log (take n log)) old
+    → HasFront whole old new
+stopped_in_log whole log n old new l e = (
+  appended nothing Log (take n log),
+  record {
+    log = prefix-take n log _ l;
+    answers = prefix-none _;
+    finals = prefix-none _;
+    cases = prefix-none _;
+    screen = prefix-none _;
+    after_log = inr (refl, refl, refl, refl);
+    after_answers = inr (refl, refl, refl);
+    after_finals = inr (refl, refl);
+    after_cases = inr refl;
+  },
+  begun Log (take n log) old new e,
+)
+
+-- the log is whole, and the answers were begun
+pub stopped_in_answers : (whole : Written) (log answers : List ℕ) (n : ℕ) (old first new : Option Written)
+    → log ≡ whole.log
+    → answers ≡ whole.answers
+    → first ≡ option_map (λ w. appended w Log log) old
+    → new ≡ option_map (λ w. appended w Answers (take n answers)) first
+    → HasFront whole old new
+stopped_in_answers whole log answers n old first new l a d e = (
+  appended (appended nothing Log log) Answers (take n answers),
+  record {
+    log = prefix-whole log _ l;
+    answers = prefix-take n answers _ a;
+    finals = prefix-none _;
+    cases = prefix-none _;
+    screen = prefix-none _;
+    after_log = inl l;
+    after_answers = inr (refl, refl, refl);
+    after_finals = inr (refl, refl);
+    after_cases = inr refl;
+  },
+  continued _ Answers (take n answers) old first new (begun Log log old first d) e,
+)
+
+-- the log and the answers are whole, and the final text was begun
+pub stopped_in_finals : (whole : Written) (log answers finals : List ℕ) (n : ℕ) (old first second new : Option Written)
+    → log ≡ whole.log
+    → answers ≡ whole.answers
+    → finals ≡ whole.finals
+    → first ≡ option_map (λ w. appended w Log log) old
+    → second ≡ option_map (λ w. appended w Answers answers) first
+    → new ≡ option_map (λ w. appended w Final (take n finals)) second
+    → HasFront whole old new
+stopped_in_finals whole log answers finals n old first second new l a f c d e = (
+  appended (appended (appended nothing Log log) Answers answers) Final (take n finals),
+  record {
+    log = prefix-whole log _ l;
+    answers = prefix-whole answers _ a;
+    finals = prefix-take n finals _ f;
+    cases = prefix-none _;
+    screen = prefix-none _;
+    after_log = inl l;
+    after_answers = inl a;
+    after_finals = inr (refl, refl);
+    after_cases = inr refl;
+  },
+  continued _ Final (take n finals) old second new (continued _ Answers answers old first second (begun Log log old first c) d) e,
+)
+
+-- all but the screen's text is whole, and that was begun
+pub stopped_in_screen : (whole : Written) (log answers finals screen : List ℕ) (n : ℕ) (old first second third new : Option Written)
+    → [] ≡ whole.cases
+    → log ≡ whole.log
+    → answers ≡ whole.answers
+    → finals ≡ whole.finals
+    → screen ≡ whole.screen
+    → first ≡ option_map (λ w. appended w Log log) old
+    → second ≡ option_map (λ w. appended w Answers answers) first
+    → third ≡ option_map (λ w. appended w Final finals) second
+    → new ≡ option_map (λ w. appended w Screen (take n screen)) third
+    → HasFront whole old new
+stopped_in_screen whole log answers finals screen n old first second third new none l a f s b c d e = (
+  appended (appended (appended (appended nothing Log log) Answers answers) Final finals) Screen (take n screen),
+  record {
+    log = prefix-whole log _ l;
+    answers = prefix-whole answers _ a;
+    finals = prefix-whole finals _ f;
+    cases = prefix-none _;
+    screen = prefix-take n screen _ s;
+    after_log = inl l;
+    after_answers = inl a;
+    after_finals = inl f;
+    after_cases = inl none;
+  },
+  continued _ Screen (take n screen) old third new (continued _ Final finals old second third (continued _ Answers answers old first second (begun Log log old first b) c) d) e,
+)
+
+-- the screen's text alone was begun
+pub stopped_in_shown : (text : List ℕ) (n : ℕ) (old new : Option Written)
+    → new ≡ option_map (λ w. appended w Screen (take n text)) old
+    → HasFront (on_screen text) old new
+stopped_in_shown text n old new e = (
+  appended nothing Screen (take n text),
+  record {
+    log = prefix-none _;
+    answers = prefix-none _;
+    finals = prefix-none _;
+    cases = prefix-none _;
+    screen = prefix-take n text _ refl;
+    after_log = inl refl;
+    after_answers = inl refl;
+    after_finals = inl refl;
+    after_cases = inl refl;
+  },
+  begun Screen (take n text) old new e,
+)

@@ -1,0 +1,26 @@
+use Rattle.std.proofs.Common.{refl}
+use Rattle.std.proofs.lemmas.Result.{on_err_weaker}
+use Rattle.snb_tool.specs.Output.{bytes_of}
+use Rattle.snb_tool.proofs.Writing.{stopped_in_log, stopped_in_answers, stopped_in_finals, stopped_in_screen}
+use Rattle.snb_tool.proofs.deliver.deliver.Goals as goal
+
+pub returns-in-Err-clause-err : goal.returns-in-Err-clause-err
+returns-in-Err-clause-err g c =
+    let h = c.in-Err.ensures.err in
+    stopped_in_log (bytes_of c.args.output.now) _ h.0 _ _ c.deref.ensures.value h.2
+
+pub returns-in-Err-write_all-clause-err : goal.returns-in-Err-write_all-clause-err
+returns-in-Err-write_all-clause-err g c =
+    let h = c.in-Err-write_all.ensures.err in
+    stopped_in_answers (bytes_of c.args.output.now) _ _ h.0 _ _ _ c.deref.ensures.value c.deref-2.ensures.value c.in_default.ensures.ok h.2
+
+pub returns-in-Err-write_all-2-clause-err : goal.returns-in-Err-write_all-2-clause-err
+returns-in-Err-write_all-2-clause-err g c =
+    let h = c.in-Err-write_all-2.ensures.err in
+    stopped_in_finals (bytes_of c.args.output.now) _ _ _ h.0 _ _ _ _ c.deref.ensures.value c.deref-2.ensures.value c.deref-3.ensures.value c.in_default.ensures.ok c.in_default-write_all.ensures.ok h.2
+
+pub returns-clause-err : goal.returns-clause-err
+returns-clause-err g c =
+    on_err_weaker c.write_all-4.result
+    (λ h. stopped_in_screen (bytes_of c.args.output.now) _ _ _ _ h.0 _ _ _ _ _ refl c.deref.ensures.value c.deref-2.ensures.value c.deref-3.ensures.value c.deref-4.ensures.value c.in_default.ensures.ok c.in_default-write_all.ensures.ok c.in_default-write_all-2.ensures.ok h.2)
+    c.write_all-4.ensures.err

@@ -1,0 +1,9 @@
+use Rattle.std.proofs.lemmas.Result.{on_err_weaker}
+use Rattle.snb_tool.proofs.Writing.{stopped_in_shown}
+use Rattle.snb_tool.proofs.deliver.show.Goals as goal
+
+pub returns-clause-err : goal.returns-clause-err
+returns-clause-err g c =
+    on_err_weaker c.write_all.result
+    (λ h. stopped_in_shown c.args.text.now h.0 _ _ h.2)
+    c.write_all.ensures.err

@@ -1,0 +1,12 @@
+-- The lines so far, and those of the persons that are left, are all.
+use Rattle.std.proofs.Common.{◌≡◌, ◌++◌, map}
+use Rattle.std.specs.List.{flat_map}
+use Rattle.snb_schema.specs.Graph.{rows, row_line}
+use Rattle.snb_schema.specs.declared.row.Row.TheVariants as row
+use Rattle.snb_schema.specs.declared.table.Table.TheVariants as table
+use Rattle.snb_tool.proofs.graph.Graph.put_persons.Given as goal
+
+abbrev pub invariant-loop-person : goal.invariant-loop-person
+invariant-loop-person l =
+    l.to.items ++ flat_map row_line (map row.Person l.person-iterator)
+    ≡ l.fn.to.items ++ flat_map row_line (rows l.self table.Person)

@@ -1,0 +1,86 @@
+-- What a call of the program answers and writes.
+use Rattle.std.specs.Prelude.{◌≡◌, ℕ, min, List, [], length, All, Option, ◌⊎◌}
+use Rattle.std.specs.Option.{IfSome, option_map}
+use Rattle.snb_base.specs.Outbox.{Written, joined}
+use Rattle.snb_base.specs.Shelf.{Files}
+use Rattle.snb_schema.specs.declared.event.Event.{Event}
+use Rattle.snb_schema.specs.declared.limits.TheConstants.{MAX_AT}
+use Rattle.snb_schema.specs.declared.op.Line.{Line}
+use Rattle.snb_schema.specs.declared.refusal.Refusal.{Refusal}
+use Rattle.snb_schema.specs.declared.row.Row.{Row}
+use Rattle.snb_schema.specs.Graph.{Graph, HoldsRows, all_rows, final_text}
+use Rattle.snb_schema.specs.Input.{IsFinal, IsInput, Refuses}
+use Rattle.snb_schema.specs.Plan.{plan_of}
+use Rattle.snb_schema.specs.Rules.{IsComplete, IsLegal}
+use Rattle.snb_schema.specs.RunTexts.{log_text, no_answers_text}
+use Rattle.snb_schema.specs.ScreenTexts.{refusal_text, summary_text, usage_text}
+use Rattle.snb_tool.specs.Output.{on_screen}
+use Rattle.snb_tool.specs.Running.{HasRun, IsAt}
+use Rattle.snb_tool.specs.Words.{IsRunLine}
+
+-- the four texts of a run of these inserts, with this history and this final graph
+abbrev pub run_texts : List Line → List Event → Graph → Written
+run_texts inserts h g = record {
+  screen = summary_text (length inserts) (length inserts) 0 (length (all_rows g));
+  log = log_text 1 h;
+  answers = no_answers_text;
+  finals = final_text g;
+  cases = [];
+}
+
+-- the words are no line of the program's
+abbrev pub IsOtherLine : List (List ℕ) → Type 0
+IsOtherLine words = (folder : List ℕ) → ¬ IsRunLine words folder
+
+-- the words are no line of the program's, and the usage is shown
+pub record IsUsage (words : List (List ℕ)) (texts : Written) : Type 0 where
+  pub other : IsOtherLine words
+  pub shown : texts ≡ on_screen usage_text
+
+-- the words are a run's, and the first thing that is wrong with its files is shown
+pub record IsRefusal (words : List (List ℕ)) (files : Files) (texts : Written) : Type 0 where
+  pub folder : List ℕ
+  pub line : IsRunLine words folder
+  pub refusal : Refusal
+  pub refused : Refuses folder files refusal
+  pub shown : texts ≡ on_screen (refusal_text refusal)
+
+-- the words are a run's, nothing is wrong with its files, and the texts are those of a legal, complete history of its plan
+-- for one worker and of the dataset with each stream row once; where the clock tells a fixed moment, each event is of it
+pub record IsRun (words : List (List ℕ)) (files : Files) (fixed : Option ℕ) (texts : Written) : Type 0 where
+  pub folder : List ℕ
+  pub line : IsRunLine words folder
+  pub accepted : (r : Refusal) → ¬ Refuses folder files r
+  pub dataset : List Row
+  pub inserts : List Line
+  pub input : IsInput folder files dataset inserts
+  pub history : List Event
+  pub legal : IsLegal (plan_of inserts) 1 history
+  pub complete : IsComplete (plan_of inserts) history
+  pub moments : IfSome fixed (λ moment. All (IsAt (min moment MAX_AT)) history)
+  pub graph : Graph
+  pub final : IsFinal graph dataset inserts
+  pub shown : texts ≡ run_texts inserts history graph
+
+-- the texts that belong to a status that ends well, where the shelf holds these files
+abbrev pub Belongs : List (List ℕ) → Files → Option ℕ → ℕ → Written → Type 0
+Belongs words files fixed status texts =
+    ((status ≡ 0) × IsRun words files fixed texts) ⊎ ((status ≡ 2) × IsUsage words texts) ⊎ ((status ≡ 3) × IsRefusal words files texts)
+
+-- nothing is wrong with the files, the graph has the dataset's rows, and these are the inserts
+pub record IsLoaded (folder : List ℕ) (files : Files) (graph : Graph) (inserts : List Line) : Type 0 where
+  pub accepted : (r : Refusal) → ¬ Refuses folder files r
+  pub dataset : List Row
+  pub input : IsInput folder files dataset inserts
+  pub kept : HoldsRows graph dataset
+
+-- the texts of a run of these inserts from this graph on
+pub record IsRunOutput (inserts : List Line) (fixed : Option ℕ) (old : Graph) (texts : Written) : Type 0 where
+  pub history : List Event
+  pub graph : Graph
+  pub ran : HasRun inserts fixed old graph history
+  pub shown : texts ≡ run_texts inserts history graph
+
+-- the texts were added to the channels, where they are told
+abbrev pub Wrote : Option Written → Option Written → Written → Type 0
+Wrote old new texts = new ≡ option_map (λ w. joined w texts) old

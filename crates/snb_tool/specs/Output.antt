@@ -1,0 +1,27 @@
+-- What a call writes.
+use Rattle.std.specs.Prelude.{◌≡◌, ℕ, ◌⊎◌, List, [], ◌++◌}
+use Rattle.snb_base.specs.Outbox.{Written}
+use Rattle.snb_tool.specs.declared.deliver.Output.{Output}
+
+-- a text on the screen, and nothing on the other channels
+abbrev pub on_screen : List ℕ → Written
+on_screen text = record { screen = text; log = []; answers = []; finals = []; cases = [] }
+
+-- the bytes of each channel
+abbrev pub bytes_of : Output → Written
+bytes_of o = record { screen = o.screen.items; log = o.log.items; answers = o.answers.items; finals = o.finals.items; cases = [] }
+
+abbrev pub IsPrefix : List ℕ → List ℕ → Type 0
+IsPrefix front whole = (rest : List ℕ) × (front ++ rest ≡ whole)
+
+-- each channel has a prefix of its text, and in the order log, answers, final, cases, screen nothing follows a text that isn't whole
+pub record IsFront (part whole : Written) : Type 0 where
+  pub log : IsPrefix part.log whole.log
+  pub answers : IsPrefix part.answers whole.answers
+  pub finals : IsPrefix part.finals whole.finals
+  pub cases : IsPrefix part.cases whole.cases
+  pub screen : IsPrefix part.screen whole.screen
+  pub after_log : (part.log ≡ whole.log) ⊎ ((part.answers ≡ []) × (part.finals ≡ []) × (part.cases ≡ []) × (part.screen ≡ []))
+  pub after_answers : (part.answers ≡ whole.answers) ⊎ ((part.finals ≡ []) × (part.cases ≡ []) × (part.screen ≡ []))
+  pub after_finals : (part.finals ≡ whole.finals) ⊎ ((part.cases ≡ []) × (part.screen ≡ []))
+  pub after_cases : (part.cases ≡ whole.cases) ⊎ (part.screen ≡ [])

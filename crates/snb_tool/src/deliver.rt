@@ -1,0 +1,69 @@
+//! Texts on their channels.
+
+ghost use Rattle.std.specs.Prelude.{◌≡◌, ℕ, ◌<◌, ◌≤◌, List, length, take, OnOk, OnErr};
+ghost use Rattle.std.specs.Option.{option_map};
+ghost use Rattle.snb_base.specs.Outbox.{Written as Bytes, appended, joined};
+ghost use Rattle.snb_base.specs.Shelf.{Rose};
+ghost use Rattle.snb_tool.specs.Output.{bytes_of, on_screen, IsFront};
+
+use snb_base::outbox::{Channel, Outbox, Put};
+
+/// The texts that a call writes.
+#[derive(Drop)]
+pub struct Output {
+    pub log: Vec<u8>,
+    pub answers: Vec<u8>,
+    pub finals: Vec<u8>,
+    pub screen: Vec<u8>,
+}
+
+/// The outbox failed.
+#[derive(Clone, Copy, Debug, PartialEq, Eq)]
+pub struct WriteFault;
+
+// Writes all of the bytes on the channel, or a prefix of them where the outbox fails.
+fn write_all<O: Outbox>(out: &mut O, channel: Channel, bytes: &[u8]) -> Result<(), WriteFault>
+    ensures ok { OnOk result (O.written out.new ≡ option_map (λ w. appended w channel bytes.now) (O.written out.old)) }
+    ensures err { OnErr result ((n : ℕ) × (n < length bytes.now) × (O.written out.new ≡ option_map (λ w. appended w channel (take n bytes.now)) (O.written out.old))) }
+    ensures failed { OnErr result (Rose (O.faults out.old) (O.faults out.new)) }
+    ensures later { O.faults out.old ≤ O.faults out.new }
+{
+    let mut done = 0;
+    while done < bytes.len() {
+        match out.write(channel, &bytes[done..]) {
+            Put::Took { count } => done += count,
+            Put::Failed => return Err(WriteFault),
+        }
+    }
+    Ok(())
+}
+
+/// Writes the log, the answers, the final text and the screen's, in this order, until the outbox
+/// fails.
+pub fn deliver<O: Outbox>(out: &mut O, output: &Output) -> Result<(), WriteFault>
+    ensures ok { OnOk result (O.written out.new ≡ option_map (λ w. joined w (bytes_of output.now)) (O.written out.old)) }
+    ensures err { OnErr result ((part : Bytes) × IsFront part (bytes_of output.now) × (O.written out.new ≡ option_map (λ w. joined w part) (O.written out.old))) }
+    ensures failed { OnErr result (Rose (O.faults out.old) (O.faults out.new)) }
+    ensures later { O.faults out.old ≤ O.faults out.new }
+{
+    if let Err(fault) = write_all(out, Channel::Log, &output.log) {
+        return Err(fault);
+    }
+    if let Err(fault) = write_all(out, Channel::Answers, &output.answers) {
+        return Err(fault);
+    }
+    if let Err(fault) = write_all(out, Channel::Final, &output.finals) {
+        return Err(fault);
+    }
+    write_all(out, Channel::Screen, &output.screen)
+}
+
+/// Writes a text on the screen alone.
+pub fn show<O: Outbox>(out: &mut O, text: &[u8]) -> Result<(), WriteFault>
+    ensures ok { OnOk result (O.written out.new ≡ option_map (λ w. joined w (on_screen text.now)) (O.written out.old)) }
+    ensures err { OnErr result ((part : Bytes) × IsFront part (on_screen text.now) × (O.written out.new ≡ option_map (λ w. joined w part) (O.written out.old))) }
+    ensures failed { OnErr result (Rose (O.faults out.old) (O.faults out.new)) }
+    ensures later { O.faults out.old ≤ O.faults out.new }
+{
+    write_all(out, Channel::Screen, text)
+}

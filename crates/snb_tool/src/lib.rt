@@ -1,0 +1,27 @@
+//! The one call that does all that the program does.
+#![tactic(auto)]
+
+mod cut;
+mod deliver;
+mod fields;
+mod final_lines;
+mod graph;
+mod keys;
+pub mod laws;
+mod line_reader;
+mod load;
+mod loader;
+mod log_lines;
+mod person_lines;
+mod person_reader;
+mod plan;
+mod refusal_text;
+mod row_lines;
+mod run;
+mod stream_lines;
+mod stream_reader;
+mod take;
+#[cfg(test)]
+mod tests;
+pub mod tool;
+mod words;

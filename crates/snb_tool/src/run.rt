@@ -1,0 +1,129 @@
+//! The run of a plan by one worker.
+
+ghost use Rattle.std.specs.Prelude.{◌≡◌, ◌∷◌, [], None, IfOk, OnOk};
+ghost use Rattle.std.specs.BTreeMap.{is_at};
+ghost use Rattle.std.specs.Map.{lookup};
+ghost use Rattle.std.specs.Ordering.{nat_cmp};
+ghost use Rattle.snb_schema.specs.Graph.{Graph as Rows, rows_of};
+ghost use Rattle.snb_schema.specs.Input.{added_id};
+ghost use Rattle.snb_schema.specs.Plan.{plan_of};
+ghost use Rattle.snb_schema.specs.declared.row.Row.TheVariants as row;
+ghost use Rattle.snb_tool.specs.Loading.{KeysNew};
+ghost use Rattle.snb_tool.specs.Planning.{ArePlanned};
+ghost use Rattle.snb_tool.specs.Running.{HasRun};
+ghost use Rattle.snb_tool.specs.Turns.{IsAdded, HasDone, TurnsTo};
+
+use crate::graph::Graph;
+use crate::plan::make_schedule;
+use snb_base::clock::Clock;
+use snb_base::gate::{Gate, Phase};
+use snb_book::book::Book;
+use snb_book::claim::Claim;
+use snb_schema::op::{Line, Op};
+use snb_schema::person::Person;
+use std::alloc::{AllocError, Global};
+use std::sync::Wait;
+
+// Whether there may be more to do.
+#[derive(Clone, Copy)]
+enum Turn {
+    More,
+    Over,
+}
+
+// A copy of the person of an insert.
+fn person_of(op: &Op) -> Result<Person, AllocError>
+    ensures { IfOk result (λ person. rows_of op.now ≡ row.Person person ∷ []) }
+{
+    match op {
+        Op::AddPerson {
+            person_id,
+            first_name,
+            last_name,
+            gender,
+            birthday,
+            creation_date,
+            location_ip,
+            browser_used,
+            ..
+        } => Ok(Person {
+            id: *person_id,
+            first_name: first_name.try_copy()?,
+            last_name: last_name.try_copy()?,
+            gender: gender.try_copy()?,
+            birthday: *birthday,
+            creation_date: *creation_date,
+            location_ip: location_ip.try_copy()?,
+            browser_used: browser_used.try_copy()?,
+        }),
+    }
+}
+
+// Adds the row of an insert, whose key is new.
+fn add_row(op: &Op, graph: &mut Graph) -> Result<(), AllocError>
+    requires { lookup (is_at (nat_cmp (added_id op.now))) graph.old.persons ≡ None }
+    ensures { OnOk result (IsAdded op.now graph.old graph.new) }
+{
+    let person = person_of(op)?;
+    graph.add_person(person)
+}
+
+// Claims an operation, puts its row into the graph and finishes it; or rests until one is due.
+fn take_turn<R: Wait, C: Clock, G: Gate>(
+    rt: &R,
+    inserts: &[Line],
+    graph: &mut Graph,
+    book: &mut Book,
+    clock: &C,
+    gate: &G,
+) -> Result<Turn, AllocError>
+    requires planned { ArePlanned inserts.now }
+    requires under_way { (first : Rows) × HasDone inserts.now (C.fixed clock.now) first graph.old book.old }
+    ensures { IfOk result (λ turn. (first : Rows) → HasDone inserts.now (C.fixed clock.now) first graph.old book.old →
+        TurnsTo inserts.now (C.fixed clock.now) first graph.new book.new turn) }
+{
+    match book.claim(0, clock.now()) {
+        Claim::AllStarted => Ok(Turn::Over),
+        Claim::NotDue { until } => {
+            clock.rest(rt, until);
+            Ok(Turn::More)
+        }
+        Claim::Go { ticket } => {
+            gate.pass(rt, 0, ticket.op, Phase::Held);
+            add_row(&inserts[ticket.op as usize].op, graph)?;
+            book.finish(ticket, clock.now(), 0);
+            gate.pass(rt, 0, ticket.op, Phase::Done);
+            Ok(Turn::More)
+        }
+        // The one worker has nothing in hand when it claims, and no insert waits for another.
+        Claim::Halted => unreachable!(),
+        Claim::Busy { .. } => unreachable!(),
+        Claim::Blocked { .. } => unreachable!(),
+    }
+}
+
+/// Runs the plan of the inserts on this thread: each insert is claimed, its row goes into the graph,
+/// and it is finished.
+pub fn run_alone<R: Wait, C: Clock, G: Gate>(
+    rt: &R,
+    alloc: Global,
+    inserts: &[Line],
+    graph: &mut Graph,
+    clock: &C,
+    gate: &G,
+) -> Result<Book, AllocError>
+    requires planned { ArePlanned inserts.now }
+    requires new { KeysNew graph.old inserts.now }
+    ensures ran { IfOk result (λ book. HasRun inserts.now (C.fixed clock.now) graph.old graph.new book.history) }
+    ensures kept { IfOk result (λ book. (book.schedule ≡ plan_of inserts.now) × (book.workers ≡ 1)) }
+{
+    let schedule = make_schedule(alloc, inserts)?;
+    let mut book = Book::make(alloc, &schedule, 1)?;
+    for _ in rt.forever() {
+        match take_turn(rt, inserts, graph, &mut book, clock, gate)? {
+            Turn::More => {}
+            Turn::Over => return Ok(book),
+        }
+    }
+    unreachable!()
+}
