@@ -1,5 +1,5 @@
 -- An outbox in memory, as contracts see it.
-use Rattle.std.specs.Prelude.{ℕ, ◌+◌, ◌-◌, ◌^◌, ◌&&◌, ◌||◌, min, nat_lt, nat_le, Bool, List, length, take, if◌then◌else◌}
+use Rattle.std.specs.Prelude.{◌≡◌, ℕ, ◌+◌, ◌-◌, ◌^◌, ◌≤◌, ◌&&◌, ◌||◌, min, nat_lt, nat_le, Bool, List, [], length, take, if◌then◌else◌}
 use Rattle.snb_base.specs.declared.outbox.Channel.{Channel}
 use Rattle.snb_base.specs.declared.outbox.Channel.TheVariants.{Screen, Log, Answers, Final, Cases}
 use Rattle.snb_base.specs.declared.outbox.Put.{Put}
@@ -68,3 +68,8 @@ after_write s channel piece = record {
   calls = min (s.calls + 1) (2 ^ 64 - 1);
   faults = if is_refused s channel then min (s.faults + 1) (2 ^ 64 - 1) else s.faults;
 }
+
+-- no call is to fail, and each channel has room for so many bytes more
+pub record IsReady (s : Sheets) (n : ℕ) : Type 0 where
+  pub unlisted : s.failing ≡ []
+  pub roomy : (channel : Channel) → length (bytes_on s.written channel) + n ≤ room_of s.rooms channel

@@ -1,5 +1,5 @@
 -- The bytes of five channels, and what a call of `write` does to them.
-use Rattle.std.specs.Prelude.{◌≡◌, ℕ, ◌<◌, ◌≤◌, List, [], ◌++◌, length, take, Option}
+use Rattle.std.specs.Prelude.{◌≡◌, ℕ, ◌-◌, ◌<◌, ◌≤◌, List, [], ◌++◌, length, take, Option}
 use Rattle.std.specs.Option.{option_map}
 use Rattle.snb_base.specs.declared.outbox.Channel.{Channel}
 use Rattle.snb_base.specs.declared.outbox.Channel.TheVariants.{Screen, Log, Answers, Final, Cases}
@@ -49,3 +49,8 @@ abbrev pub IsWriting : Channel → List ℕ → Option Written → Option Writte
 IsWriting channel piece old new (Took count) =
     (0 < count) × (count ≤ length piece) × (new ≡ option_map (λ w. appended w channel (take count piece)) old)
 IsWriting channel piece old new Failed = new ≡ old
+
+-- it didn't fail, and of so many bytes that it was sure to take it is sure of the rest
+abbrev pub IsSure : Put → ℕ → (ℕ → Type 0) → Type 0
+IsSure (Took count) n ready = ready (n - count)
+IsSure Failed n ready = ⊥

@@ -43,6 +43,8 @@ impl<R: Files + Print> Outbox for FolderOutbox<R> {
 
     ghost faults = { λ s. s.faults };
 
+    ghost ready = { λ _ _. ⊥ };
+
     fn write(&mut self, channel: Channel, piece: &[u8]) -> Put {
         let written = match channel {
             Channel::Screen => self.rt.write_some(piece),

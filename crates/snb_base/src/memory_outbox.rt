@@ -1,9 +1,9 @@
 //! An outbox in memory.
 
-ghost use Rattle.std.specs.Prelude.{◌≡◌, ◌-◌, ◌^◌, ◌<◌, ◌≤◌, ◌↔◌, ◌⊎◌, ◌∷◌, ◌++◌, [], length, take, min, Some, IsTrue, IfOk, OnOk, OnErr};
+ghost use Rattle.std.specs.Prelude.{◌≡◌, ℕ, ◌-◌, ◌^◌, ◌<◌, ◌≤◌, ◌↔◌, ◌⊎◌, ◌∷◌, ◌++◌, [], length, take, min, Some, IsTrue, IfOk, OnOk, OnErr};
 ghost use Rattle.snb_base.specs.MemoryShelf.{is_listed};
-ghost use Rattle.snb_base.specs.MemoryOutbox.{equal_rooms, room_of, with_room, room_left, answer_of, after_write};
-ghost use Rattle.snb_base.specs.Outbox.{IsWriting, nothing, bytes_on, appended};
+ghost use Rattle.snb_base.specs.MemoryOutbox.{IsReady, equal_rooms, room_of, with_room, room_left, answer_of, after_write};
+ghost use Rattle.snb_base.specs.Outbox.{IsSure, IsWriting, nothing, bytes_on, appended};
 ghost use Rattle.snb_base.specs.Shelf.{Rose};
 
 use crate::calls::is_on;
@@ -194,6 +194,8 @@ impl Outbox for MemoryOutbox {
     ghost written = { λ s. Some s.written };
 
     ghost faults = { λ s. s.faults };
+
+    ghost ready = { IsReady };
 
     /// Writes as many bytes of the piece as there is room for. Takes no memory.
     fn write(&mut self, channel: Channel, piece: &[u8]) -> Put

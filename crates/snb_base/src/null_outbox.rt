@@ -14,6 +14,8 @@ impl Outbox for NullOutbox {
 
     ghost faults = { λ _. 0 };
 
+    ghost ready = { λ _ _. Unit {0} };
+
     /// Takes the whole piece.
     fn write(&mut self, _channel: Channel, piece: &[u8]) -> Put
         requires { 0 < length piece.now }

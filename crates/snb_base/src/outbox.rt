@@ -1,7 +1,7 @@
 //! Where bytes are written.
 
 ghost use Rattle.std.specs.Prelude.{◌≡◌, ℕ, ◌<◌, ◌≤◌, length, Option};
-ghost use Rattle.snb_base.specs.Outbox.{Written, IsWriting};
+ghost use Rattle.snb_base.specs.Outbox.{Written, IsSure, IsWriting};
 ghost use Rattle.snb_base.specs.Shelf.{Rose};
 
 /// What is written where.
@@ -33,8 +33,8 @@ pub enum Put {
 
 /// Five channels of bytes that only grow.
 ///
-/// Its meanings are the bytes of each channel, where it tells them, and a count of faults that
-/// never falls. An outbox that can take nothing counts a fault.
+/// Its meanings are the bytes of each channel, where it tells them, a count of faults that never
+/// falls, and how many bytes more it takes for sure. An outbox that can take nothing counts a fault.
 pub trait Outbox {
     /// The bytes on each channel, where they are told.
     ghost written: { Self → Option Written };
@@ -42,10 +42,14 @@ pub trait Outbox {
     /// How many faults there have been.
     ghost faults: { Self → ℕ };
 
+    /// It takes so many bytes more, on whatever channels, and doesn't fail.
+    ghost ready: { Self → ℕ → Type 0 };
+
     /// Appends a prefix of the piece to the channel, and nothing to another.
     fn write(&mut self, channel: Channel, piece: &[u8]) -> Put
         requires { 0 < length piece.now }
         ensures took { IsWriting channel piece.now (written self.old) (written self.new) result }
         ensures failed { result ≡ Put.Failed → Rose (faults self.old) (faults self.new) }
-        ensures later { faults self.old ≤ faults self.new };
+        ensures later { faults self.old ≤ faults self.new }
+        ensures sure { (n : ℕ) → ready self.old n → length piece.now ≤ n → IsSure result n (ready self.new) };
 }

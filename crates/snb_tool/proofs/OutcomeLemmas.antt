@@ -1,5 +1,6 @@
 -- Facts on what a call answers and writes.
-use Rattle.std.proofs.Common.{◌≡◌, ℕ, List, [], length, Option, Some, None, refl, sym, ap, ◌∙◌, inl, inr}
+use Rattle.std.proofs.Common.{arith, ◌≡◌, ℕ, ◌<◌, ◌≤◌, List, [], length, Option, Some, None, refl, sym, ap, ◌∙◌, inl, inr}
+use Rattle.std.proofs.lemmas.Bool.Decides.{leb_tells}
 use Rattle.std.proofs.lemmas.List.{length-map}
 use Rattle.std.specs.Option.{IfSome}
 use Rattle.snb_base.specs.Outbox.{Written}
@@ -13,8 +14,8 @@ use Rattle.snb_schema.specs.Graph.{Graph, all_rows, final_text}
 use Rattle.snb_schema.specs.RunTexts.{log_text, no_answers_text}
 use Rattle.snb_schema.specs.Input.{Refuses}
 use Rattle.snb_schema.specs.ScreenTexts.{refusal_text, summary_text, usage_text}
-use Rattle.snb_tool.specs.Outcome.{Belongs, IsLoaded, IsOtherLine, IsRun, IsRunOutput, Wrote, run_texts}
-use Rattle.snb_tool.specs.Output.{IsFront, on_screen}
+use Rattle.snb_tool.specs.Outcome.{IsCut, IsLoaded, IsOtherLine, IsRun, IsRunOutput, Wrote, run_texts}
+use Rattle.snb_tool.specs.Output.{IsFront, on_screen, size_of}
 use Rattle.snb_tool.specs.Words.{IsRunLine}
 use Rattle.snb_tool.proofs.PersonReaderLemmas.{all_persons}
 use Rattle.snb_tool.proofs.TakeLemmas.{if_some}
@@ -43,30 +44,52 @@ is_run words folder files fixed graph inserts texts line loaded output = record 
   shown = output.shown;
 }
 
--- what a cut call leaves
-abbrev pub Cut : List (List ℕ) → Files → Option ℕ → Option Written → Option Written → Type 0
-Cut words files fixed old new = (status : ℕ) × (texts : Written) × (part : Written) × Belongs words files fixed status texts × IsFront part texts × Wrote old new part
+-- what isn't at most so much is above it
+pub above : (n m : ℕ) → (m ≤ n → ⊥) → n < m
+above n m h = elim (leb_tells m n) [ inl t ↦ absurd (h t.1) | inr t ↦ t.1 ]
+
+-- a text on the screen is all that there is
+shown_size : (text : List ℕ) (n : ℕ) → n < length text → n < size_of (on_screen text)
+shown_size text n h = omega (arith, h)
 
 -- a call that was cut at the usage
-pub cut_usage : (words : List (List ℕ)) (contents : Option Files) (fixed : Option ℕ) (old new : Option Written)
-    → IsOtherLine words → (part : Written) × IsFront part (on_screen usage_text) × Wrote old new part → IfSome contents (λ files. Cut words files fixed old new)
-cut_usage words contents fixed old new other p =
-    if_some_always contents (λ files. Cut words files fixed old new) (λ files. (2, on_screen usage_text, p.0, inr (inl (refl, record { other = other; shown = refl })), p.1, p.2))
+pub cut_usage : (words : List (List ℕ)) (contents : Option Files) (fixed : Option ℕ) (ready : ℕ → Type 0) (old new : Option Written)
+    → IsOtherLine words → (part : Written) × IsFront part (on_screen usage_text) × Wrote old new part → ((n : ℕ) → ready n → n < length usage_text) → IfSome contents (λ files. IsCut words files fixed ready old new)
+cut_usage words contents fixed ready old new other p short =
+    if_some_always contents (λ files. IsCut words files fixed ready old new)
+    (λ files. record { status = 2; texts = on_screen usage_text; part = p.0; belongs = inr (inl (refl, record { other = other; shown = refl })); front = p.1; wrote = p.2; unsure = short })
 
 -- a call that was cut at a refusal
-pub cut_refusal : (words : List (List ℕ)) (folder : List ℕ) (r : Refusal) (contents : Option Files) (fixed : Option ℕ) (old new : Option Written)
-    → IsRunLine words folder → IfSome contents (λ files. Refuses folder files r) → (part : Written) × IsFront part (on_screen (refusal_text r)) × Wrote old new part → IfSome contents (λ files. Cut words files fixed old new)
-cut_refusal words folder r contents fixed old new line refused p =
-    if_some contents (λ files. Refuses folder files r) (λ files. Cut words files fixed old new)
-    (λ files b. (3, on_screen (refusal_text r), p.0, inr (inr (refl, record { folder = folder; line = line; refusal = r; refused = b; shown = refl })), p.1, p.2)) refused
+pub cut_refusal : (words : List (List ℕ)) (folder : List ℕ) (r : Refusal) (contents : Option Files) (fixed : Option ℕ) (ready : ℕ → Type 0) (old new : Option Written)
+    → IsRunLine words folder → IfSome contents (λ files. Refuses folder files r) → (part : Written) × IsFront part (on_screen (refusal_text r)) × Wrote old new part
+    → ((n : ℕ) → ready n → n < length (refusal_text r)) → IfSome contents (λ files. IsCut words files fixed ready old new)
+cut_refusal words folder r contents fixed ready old new line refused p short =
+    if_some contents (λ files. Refuses folder files r) (λ files. IsCut words files fixed ready old new)
+    (λ files b. record {
+      status = 3;
+      texts = on_screen (refusal_text r);
+      part = p.0;
+      belongs = inr (inr (refl, record { folder = folder; line = line; refusal = r; refused = b; shown = refl }));
+      front = p.1;
+      wrote = p.2;
+      unsure = λ n ready_is. shown_size (refusal_text r) n (short n ready_is);
+    }) refused
 
 -- a call that was cut at the texts of a run
-pub cut_run : (words : List (List ℕ)) (folder : List ℕ) (contents : Option Files) (fixed : Option ℕ) (graph : Graph) (inserts : List Line) (old new : Option Written)
+pub cut_run : (words : List (List ℕ)) (folder : List ℕ) (contents : Option Files) (fixed : Option ℕ) (graph : Graph) (inserts : List Line) (ready : ℕ → Type 0) (old new : Option Written)
     → IsRunLine words folder → IfSome contents (λ files. IsLoaded folder files graph inserts)
-    → (texts : Written) × (part : Written) × IsRunOutput inserts fixed graph texts × IsFront part texts × Wrote old new part → IfSome contents (λ files. Cut words files fixed old new)
-cut_run words folder contents fixed graph inserts old new line loaded p =
-    if_some contents (λ files. IsLoaded folder files graph inserts) (λ files. Cut words files fixed old new)
-    (λ files l. (0, p.0, p.1, inl (refl, is_run words folder files fixed graph inserts p.0 line l p.2), p.3, p.4)) loaded
+    → (texts : Written) × (part : Written) × IsRunOutput inserts fixed graph texts × IsFront part texts × Wrote old new part × ((n : ℕ) → ready n → n < size_of texts) → IfSome contents (λ files. IsCut words files fixed ready old new)
+cut_run words folder contents fixed graph inserts ready old new line loaded p =
+    if_some contents (λ files. IsLoaded folder files graph inserts) (λ files. IsCut words files fixed ready old new)
+    (λ files l. record {
+      status = 0;
+      texts = p.0;
+      part = p.1;
+      belongs = inl (refl, is_run words folder files fixed graph inserts p.0 line l p.2);
+      front = p.3;
+      wrote = p.4;
+      unsure = p.5;
+    }) loaded
 
 -- a call that ran
 pub done_run : (words : List (List ℕ)) (folder : List ℕ) (contents : Option Files) (fixed : Option ℕ) (graph : Graph) (inserts : List Line) (old new : Option Written)

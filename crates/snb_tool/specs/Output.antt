@@ -1,5 +1,5 @@
 -- What a call writes.
-use Rattle.std.specs.Prelude.{◌≡◌, ℕ, ◌⊎◌, List, [], ◌++◌}
+use Rattle.std.specs.Prelude.{◌≡◌, ℕ, ◌+◌, ◌⊎◌, List, [], ◌++◌, length}
 use Rattle.snb_base.specs.Outbox.{Written}
 use Rattle.snb_tool.specs.declared.deliver.Output.{Output}
 
@@ -11,6 +11,11 @@ on_screen text = record { screen = text; log = []; answers = []; finals = []; ca
 abbrev pub bytes_of : Output → Written
 bytes_of o = record { screen = o.screen.items; log = o.log.items; answers = o.answers.items; finals = o.finals.items; cases = [] }
 
+-- how many bytes there are on all channels together
+abbrev pub size_of : Written → ℕ
+size_of w = length w.log + (length w.answers + (length w.finals + (length w.cases + length w.screen)))
+
+-- the bytes begin the text
 abbrev pub IsPrefix : List ℕ → List ℕ → Type 0
 IsPrefix front whole = (rest : List ℕ) × (front ++ rest ≡ whole)
 

@@ -1,10 +1,10 @@
 //! Texts on their channels.
 
-ghost use Rattle.std.specs.Prelude.{◌≡◌, ℕ, ◌<◌, ◌≤◌, List, length, take, OnOk, OnErr};
+ghost use Rattle.std.specs.Prelude.{◌≡◌, ℕ, ◌-◌, ◌<◌, ◌≤◌, List, length, take, OnOk, OnErr};
 ghost use Rattle.std.specs.Option.{option_map};
 ghost use Rattle.snb_base.specs.Outbox.{Written as Bytes, appended, joined};
 ghost use Rattle.snb_base.specs.Shelf.{Rose};
-ghost use Rattle.snb_tool.specs.Output.{bytes_of, on_screen, IsFront};
+ghost use Rattle.snb_tool.specs.Output.{bytes_of, on_screen, size_of, IsFront};
 
 use snb_base::outbox::{Channel, Outbox, Put};
 
@@ -27,6 +27,8 @@ fn write_all<O: Outbox>(out: &mut O, channel: Channel, bytes: &[u8]) -> Result<(
     ensures err { OnErr result ((n : ℕ) × (n < length bytes.now) × (O.written out.new ≡ option_map (λ w. appended w channel (take n bytes.now)) (O.written out.old))) }
     ensures failed { OnErr result (Rose (O.faults out.old) (O.faults out.new)) }
     ensures later { O.faults out.old ≤ O.faults out.new }
+    ensures sure { (n : ℕ) → O.ready out.old n → length bytes.now ≤ n → OnErr result ⊥ }
+    ensures left { OnOk result ((n : ℕ) → O.ready out.old n → length bytes.now ≤ n → O.ready out.new (n - length bytes.now)) }
 {
     let mut done = 0;
     while done < bytes.len() {
@@ -45,6 +47,7 @@ pub fn deliver<O: Outbox>(out: &mut O, output: &Output) -> Result<(), WriteFault
     ensures err { OnErr result ((part : Bytes) × IsFront part (bytes_of output.now) × (O.written out.new ≡ option_map (λ w. joined w part) (O.written out.old))) }
     ensures failed { OnErr result (Rose (O.faults out.old) (O.faults out.new)) }
     ensures later { O.faults out.old ≤ O.faults out.new }
+    ensures sure { (n : ℕ) → O.ready out.old n → size_of (bytes_of output.now) ≤ n → OnErr result ⊥ }
 {
     if let Err(fault) = write_all(out, Channel::Log, &output.log) {
         return Err(fault);
@@ -64,6 +67,7 @@ pub fn show<O: Outbox>(out: &mut O, text: &[u8]) -> Result<(), WriteFault>
     ensures err { OnErr result ((part : Bytes) × IsFront part (on_screen text.now) × (O.written out.new ≡ option_map (λ w. joined w part) (O.written out.old))) }
     ensures failed { OnErr result (Rose (O.faults out.old) (O.faults out.new)) }
     ensures later { O.faults out.old ≤ O.faults out.new }
+    ensures sure { (n : ℕ) → O.ready out.old n → length text.now ≤ n → OnErr result ⊥ }
 {
     write_all(out, Channel::Screen, text)
 }

@@ -1,14 +1,14 @@
 //! The one call that does all that the program does.
 
-ghost use Rattle.std.specs.Prelude.{◌≡◌, ℕ, ◌≤◌, ◌⊎◌, List, IfOk, IfSome};
+ghost use Rattle.std.specs.Prelude.{◌≡◌, ℕ, ◌<◌, ◌≤◌, ◌⊎◌, List, length, IfOk, IfSome};
 ghost use Rattle.snb_base.specs.Outbox.{Written as Bytes};
 ghost use Rattle.snb_base.specs.Shelf.{Rose};
 ghost use Rattle.snb_schema.specs.Input.{Refuses};
 ghost use Rattle.snb_schema.specs.declared.refusal.Refusal.{Refusal as Refused};
 ghost use Rattle.snb_schema.specs.ScreenTexts.{refusal_text};
 ghost use Rattle.snb_tool.specs.Loading.{KeysNew, OnReadFault, OnRefused};
-ghost use Rattle.snb_tool.specs.Outcome.{Belongs, IsLoaded, IsOtherLine, IsRefusal, IsRun, IsRunOutput, IsUsage, Wrote};
-ghost use Rattle.snb_tool.specs.Output.{IsFront, bytes_of, on_screen};
+ghost use Rattle.snb_tool.specs.Outcome.{IsCut, IsLoaded, IsOtherLine, IsRefusal, IsRun, IsRunOutput, IsUsage, Wrote};
+ghost use Rattle.snb_tool.specs.Output.{IsFront, bytes_of, on_screen, size_of};
 ghost use Rattle.snb_tool.specs.Planning.{ArePlanned};
 ghost use Rattle.snb_tool.specs.Words.{IsRunLine, texts_of};
 
@@ -102,6 +102,7 @@ fn refuse<O: Outbox>(alloc: Global, refusal: Refusal, out: &mut O) -> u8
     ensures shown { result ≡ 3 → Wrote (O.written out.old) (O.written out.new) (on_screen (refusal_text refusal)) }
     ensures fault { result ≡ 5 → Rose (O.faults out.old) (O.faults out.new) }
     ensures part { result ≡ 5 → (part : Bytes) × IsFront part (on_screen (refusal_text refusal)) × Wrote (O.written out.old) (O.written out.new) part }
+    ensures short { result ≡ 5 → (n : ℕ) → O.ready out.old n → n < length (refusal_text refusal) }
     ensures memory { result ≡ 6 → O.written out.new ≡ O.written out.old }
     ensures later { O.faults out.old ≤ O.faults out.new }
 {
@@ -129,7 +130,8 @@ fn run_input<R: Wait, O: Outbox, C: Clock, G: Gate>(
     ensures status { (result ≡ 0) ⊎ (result ≡ 5) ⊎ (result ≡ 6) }
     ensures shown { result ≡ 0 → (texts : Bytes) × IsRunOutput input.inserts.items (C.fixed clock.now) input.graph texts × Wrote (O.written out.old) (O.written out.new) texts }
     ensures fault { result ≡ 5 → Rose (O.faults out.old) (O.faults out.new) }
-    ensures part { result ≡ 5 → (texts : Bytes) × (part : Bytes) × IsRunOutput input.inserts.items (C.fixed clock.now) input.graph texts × IsFront part texts × Wrote (O.written out.old) (O.written out.new) part }
+    ensures part { result ≡ 5 → (texts : Bytes) × (part : Bytes) × IsRunOutput input.inserts.items (C.fixed clock.now) input.graph texts × IsFront part texts × Wrote (O.written out.old) (O.written out.new) part
+        × ((n : ℕ) → O.ready out.old n → n < size_of texts) }
     ensures memory { result ≡ 6 → O.written out.new ≡ O.written out.old }
     ensures later { O.faults out.old ≤ O.faults out.new }
 {
@@ -175,7 +177,7 @@ pub fn snb<R: AllocGlobal + Wait, S: Shelf, O: Outbox, C: Clock + Sync, G: Gate 
     ensures refused { result ≡ 3 → IfSome (S.contents shelf.old) (λ files. (texts : Bytes) × IsRefusal (texts_of words.now) files texts × Wrote (O.written out.old) (O.written out.new) texts) }
     ensures read_fault { result ≡ 4 → Rose (S.faults shelf.old) (S.faults shelf.new) × (O.written out.new ≡ O.written out.old) }
     ensures write_fault { result ≡ 5 → Rose (O.faults out.old) (O.faults out.new) }
-    ensures cut { result ≡ 5 → IfSome (S.contents shelf.old) (λ files. (status : ℕ) × (texts : Bytes) × (part : Bytes) × Belongs (texts_of words.now) files (C.fixed clock.now) status texts × IsFront part texts × Wrote (O.written out.old) (O.written out.new) part) }
+    ensures cut { result ≡ 5 → IfSome (S.contents shelf.old) (λ files. IsCut (texts_of words.now) files (C.fixed clock.now) (O.ready out.old) (O.written out.old) (O.written out.new)) }
     ensures memory { result ≡ 6 → O.written out.new ≡ O.written out.old }
     ensures complete { IfSome (S.contents shelf.old) (λ files. (folder : List ℕ) → IsRunLine (texts_of words.now) folder → ((r : Refused) → ¬ Refuses folder files r)
         → ¬ Rose (S.faults shelf.old) (S.faults shelf.new) → ¬ Rose (O.faults out.old) (O.faults out.new) → (result ≡ 0) ⊎ (result ≡ 6)) }
