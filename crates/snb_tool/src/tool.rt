@@ -161,7 +161,7 @@ fn run_input<R: Wait, O: Outbox, C: Clock, G: Gate>(
 /// - 6: memory didn't suffice; nothing was written.
 ///
 /// The formats and the order of the operations are those of the Social Network Benchmark's
-/// Interactive workload (Erling et al., SIGMOD 2015; LDBC SNB specification, version 0.3.3).
+/// Interactive workload, version 1 (Erling et al., SIGMOD 2015).
 pub fn snb<R: AllocGlobal + Wait, S: Shelf, O: Outbox, C: Clock + Sync, G: Gate + Sync>(
     rt: &R,
     words: &[&str],
