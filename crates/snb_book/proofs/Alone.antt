@@ -1,8 +1,9 @@
--- The plans of one and of two persons' inserts are schedules', of the kind that a book takes.
+-- The plans of the worked rows are schedules', of the kind that a book takes.
 use Rattle.std.proofs.Common.{◌≡◌, ℕ, zero, suc, ◌<◌, ◌≤◌, inl, refl, subst, arith}
 use Rattle.snb_schema.specs.Schedule.{step_of, ComesBefore, IsPlanned}
+use Rattle.snb_schema.specs.Worked.{tie}
 use Rattle.snb_book.specs.Worked.{one_person, two_persons}
-use Rattle.snb_book.specs.Book.{IsOfPersons, IsWithoutDependents}
+use Rattle.snb_book.specs.Book.{IsOfPersons}
 
 -- what is true of 0
 by_one : (P : ℕ → Type 0) → P 0 → (k : ℕ) → k < 1 → P k
@@ -26,9 +27,6 @@ planned_one due small = record {
 
 pub persons_one : (due : ℕ) → IsOfPersons (one_person due)
 persons_one due = record { persons = by_one (λ k. _) refl }
-
-pub free_one : (due : ℕ) → IsWithoutDependents (one_person due)
-free_one due = record { none = by_one (λ k. _) refl }
 
 -- what is true of 0 and 1
 by_two : (P : ℕ → Type 0) → P 0 → P 1 → (k : ℕ) → k < 2 → P k
@@ -62,5 +60,5 @@ planned_two = record {
 pub persons_two : IsOfPersons two_persons
 persons_two = record { persons = by_one (λ k. _) refl }
 
-pub free_two : IsWithoutDependents two_persons
-free_two = record { none = by_two (λ k. _) refl refl }
+pub persons_tie : IsOfPersons tie
+persons_tie = record { persons = by_two (λ k. _) refl refl }

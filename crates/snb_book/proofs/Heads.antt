@@ -1,15 +1,17 @@
 -- The heads of the lanes, by the place that is kept for each.
 use Rattle.std.proofs.Common.{◌≡◌, ℕ, ◌+◌, ◌<◌, ◌≤◌, List, length, true, false, inl, inr, refl, sym, ap, ◌∙◌, subst, arith, Option, Some, None}
-use Rattle.std.specs.Prelude.{nat_lt, slice_index, ◌⊎◌, MatchOption, IfSome}
+use Rattle.std.specs.Prelude.{ℤ, pos, nat_lt, slice_index, ◌⊎◌, MatchOption}
 use Rattle.std.proofs.lemmas.Bool.{cases_Bool, cases_lt}
 use Rattle.std.proofs.lemmas.Bool.Decides.{nat_tests}
+use Rattle.std.proofs.lemmas.Int.{ints}
 use Rattle.snb_schema.specs.declared.event.Event.{Event}
+use Rattle.snb_schema.specs.declared.limits.TheConstants.{MAX_TIME}
 use Rattle.snb_schema.specs.Schedule.{Schedule, step_of, IsOperation, IsBefore, IsPlanned}
 use Rattle.snb_schema.specs.History.{started}
 use Rattle.snb_schema.proofs.Planned.{planned_is_placed}
 use Rattle.snb_book.specs.Claims.{IsPlanHead, ComesFirst, IsFirst}
 use Rattle.snb_book.specs.Book.{IsNext}
-use Rattle.snb_book.specs.Heads.{IsAtPlace, IsPassed, earlier_of}
+use Rattle.snb_book.specs.Heads.{IsAtPlace, IsWithin, IsHeadWithin, HasNoneWithin, earlier_of}
 use Rattle.snb_book.proofs.Places.{earlier_place, same_place}
 
 -- what is started stands before the place that is kept for its lane
@@ -67,44 +69,62 @@ all_begun s h heads planned begins none k within =
       ])
     ]
 
--- of the heads of the lanes below n, the first
-pub record IsFirstBelow (s : Schedule) (heads : List ℕ) (n op : ℕ) : Type 0 where
-  pub next : IsNext s heads op
+-- every operation is within the greatest limit
+pub within_all : (s : Schedule) → IsPlanned s → (k : ℕ) → IsOperation s k → IsWithin s (pos MAX_TIME) k
+within_all s planned k within dependent = let t = planned.needs_timed k within in omega (arith, ints, t)
+
+-- a head of a lane
+pub record IsLaneHead (s : Schedule) (heads : List ℕ) (limit : ℤ) (j : ℕ) : Type 0 where
+  pub next : IsNext s heads j
+  pub within : IsWithin s limit j
+
+-- of the heads within the limit in the lanes below n, the first
+pub record IsFirstBelow (s : Schedule) (heads : List ℕ) (limit : ℤ) (n op : ℕ) : Type 0 where
+  pub head : IsLaneHead s heads limit op
   pub below : (step_of s op).lane < n
-  pub first : (j : ℕ) → IsNext s heads j → (step_of s j).lane < n → ComesFirst s op j
+  pub first : (j : ℕ) → IsLaneHead s heads limit j → (step_of s j).lane < n → ComesFirst s op j
 
--- the lanes below n have no head
-pub record HasNoneBelow (s : Schedule) (heads : List ℕ) (n : ℕ) : Type 0 where
-  pub none : (j : ℕ) → IsNext s heads j → n ≤ (step_of s j).lane
+-- the lanes below n have no head within the limit
+pub record HasNoneBelow (s : Schedule) (heads : List ℕ) (limit : ℤ) (n : ℕ) : Type 0 where
+  pub none : (j : ℕ) → IsLaneHead s heads limit j → n ≤ (step_of s j).lane
 
-abbrev pub FirstBelow : Schedule → List ℕ → ℕ → Option ℕ → Type 0
-FirstBelow s heads n None = HasNoneBelow s heads n
-FirstBelow s heads n (Some op) = IsFirstBelow s heads n op
+abbrev pub FirstBelow : Schedule → List ℕ → ℤ → ℕ → Option ℕ → Type 0
+FirstBelow s heads limit n None = HasNoneBelow s heads limit n
+FirstBelow s heads limit n (Some op) = IsFirstBelow s heads limit n op
+
+-- the one that stands there is not within the limit
+pub none_at : (s : Schedule) → IsPlanned s → (lane place op : ℕ) (limit : ℤ) → IsAtPlace s lane place op → ¬ IsWithin s limit op → HasNoneWithin s lane place limit
+none_at s planned lane place op limit at above = record {
+  none = λ k here within.
+      above (subst (λ (i : ℕ). IsWithin s limit i)
+      (same_place s planned k op here.within at.within (here.in_lane ∙ sym at.in_lane) (here.placed ∙ sym at.placed)) within);
+}
+
+-- a lane's head stands at its lane's place
+at_place : (s : Schedule) (heads : List ℕ) (n j : ℕ) → IsNext s heads j → (step_of s j).lane ≡ n → IsAtPlace s n (slice_index heads n) j
+at_place s heads n j next lane = record { within = next.0; in_lane = lane; placed = next.1 ∙ ap (λ l. slice_index heads l) lane }
 
 -- no head is in a lane that is passed
-not_passed : (s : Schedule) (heads : List ℕ) (n j : ℕ) → IsPassed s n (slice_index heads n) → IsNext s heads j → (step_of s j).lane ≡ n → ⊥
-not_passed s heads n j passed next lane =
-    let b = passed.before j next.0 lane in
-    let e : (step_of s j).place ≡ slice_index heads n = next.1 ∙ ap (λ l. slice_index heads l) lane in
-    omega arith
+not_passed : (s : Schedule) (heads : List ℕ) (limit : ℤ) (n j : ℕ) → HasNoneWithin s n (slice_index heads n) limit → IsLaneHead s heads limit j → (step_of s j).lane ≡ n → ⊥
+not_passed s heads limit n j passed head lane = passed.none j (at_place s heads n j head.next lane) head.within
 
-pub FirstBelow-passed : (s : Schedule) (heads : List ℕ) (n : ℕ) (first : Option ℕ) → FirstBelow s heads n first → IsPassed s n (slice_index heads n)
-    → FirstBelow s heads (n + 1) first
-FirstBelow-passed s heads n None is passed = record {
-  none = λ j next.
-      let low = is.none j next in
+pub FirstBelow-passed : (s : Schedule) (heads : List ℕ) (limit : ℤ) (n : ℕ) (first : Option ℕ) → FirstBelow s heads limit n first
+    → HasNoneWithin s n (slice_index heads n) limit → FirstBelow s heads limit (n + 1) first
+FirstBelow-passed s heads limit n None is passed = record {
+  none = λ j head.
+      let low = is.none j head in
       elim (cases_lt n (step_of s j).lane) [
         | inl above ↦ omega arith
-        | inr here ↦ absurd (not_passed s heads n j passed next (omega arith))
+        | inr here ↦ absurd (not_passed s heads limit n j passed head (omega arith))
       ];
 }
-FirstBelow-passed s heads n (Some op) is passed = record {
-  next = is.next;
+FirstBelow-passed s heads limit n (Some op) is passed = record {
+  head = is.head;
   below = (let b = is.below in omega arith);
-  first = λ j next lt.
+  first = λ j head lt.
       elim (cases_lt (step_of s j).lane n) [
-        | inl below ↦ is.first j next below
-        | inr here ↦ absurd (not_passed s heads n j passed next (omega arith))
+        | inl below ↦ is.first j head below
+        | inr here ↦ absurd (not_passed s heads limit n j passed head (omega arith))
       ];
 }
 
@@ -120,54 +140,54 @@ pub due_no_later : (s : Schedule) (op j : ℕ) → ComesFirst s op j → (step_o
 due_no_later s op j (inl less) = omega arith
 due_no_later s op j (inr same) = (let e = same.0 in omega arith)
 
-next_at : (s : Schedule) (heads : List ℕ) (n op : ℕ) → IsAtPlace s n (slice_index heads n) op → IsNext s heads op
-next_at s heads n op at = (at.within, at.placed ∙ ap (λ l. slice_index heads l) (sym at.in_lane))
+head_at : (s : Schedule) (heads : List ℕ) (limit : ℤ) (n op : ℕ) → IsHeadWithin s n (slice_index heads n) limit op → IsLaneHead s heads limit op
+head_at s heads limit n op at = record { next = (at.0.within, at.0.placed ∙ ap (λ l. slice_index heads l) (sym at.0.in_lane)); within = at.1 }
 
-pub FirstBelow-at : (s : Schedule) (heads : List ℕ) (n : ℕ) (first : Option ℕ) (op : ℕ) → IsPlanned s → FirstBelow s heads n first
-    → IsAtPlace s n (slice_index heads n) op → FirstBelow s heads (n + 1) (Some (earlier_of s.steps first op))
-FirstBelow-at s heads n None op planned is at = record {
-  next = next_at s heads n op at;
-  below = (let e = at.in_lane in omega arith);
-  first = λ j next lt.
-      let low = is.none j next in
-      comes_first_same s op j (one_head s heads planned n op j at next (omega arith));
+pub FirstBelow-at : (s : Schedule) (heads : List ℕ) (limit : ℤ) (n : ℕ) (first : Option ℕ) (op : ℕ) → IsPlanned s → FirstBelow s heads limit n first
+    → IsHeadWithin s n (slice_index heads n) limit op → FirstBelow s heads limit (n + 1) (Some (earlier_of s.steps first op))
+FirstBelow-at s heads limit n None op planned is at = record {
+  head = head_at s heads limit n op at;
+  below = (let e = at.0.in_lane in omega arith);
+  first = λ j head lt.
+      let low = is.none j head in
+      comes_first_same s op j (one_head s heads planned n op j at.0 head.next (omega arith));
 }
-FirstBelow-at s heads n (Some best) op planned is at =
+FirstBelow-at s heads limit n (Some best) op planned is at =
     elim (cases_lt (step_of s op).due (step_of s best).due) [
       | inl less ↦
           let e : earlier_of s.steps (Some best) op ≡ op = grind (arith, nat_tests) in
-          subst (λ (i : ℕ). IsFirstBelow s heads (n + 1) i) (sym e) (record {
-            next = next_at s heads n op at;
-            below = (let l = at.in_lane in omega arith);
-            first = λ j next lt.
+          subst (λ (i : ℕ). IsFirstBelow s heads limit (n + 1) i) (sym e) (record {
+            head = head_at s heads limit n op at;
+            below = (let l = at.0.in_lane in omega arith);
+            first = λ j head lt.
                 elim (cases_lt (step_of s j).lane n) [
-                  | inl low ↦ (let d = due_no_later s best j (is.first j next low) in inl (omega arith))
-                  | inr here ↦ comes_first_same s op j (one_head s heads planned n op j at next (omega arith))
+                  | inl low ↦ (let d = due_no_later s best j (is.first j head low) in inl (omega arith))
+                  | inr here ↦ comes_first_same s op j (one_head s heads planned n op j at.0 head.next (omega arith))
                 ];
           })
       | inr more ↦
           let e : earlier_of s.steps (Some best) op ≡ best = grind (arith, nat_tests) in
-          subst (λ (i : ℕ). IsFirstBelow s heads (n + 1) i) (sym e) (record {
-            next = is.next;
+          subst (λ (i : ℕ). IsFirstBelow s heads limit (n + 1) i) (sym e) (record {
+            head = is.head;
             below = (let b = is.below in omega arith);
-            first = λ j next lt.
+            first = λ j head lt.
                 elim (cases_lt (step_of s j).lane n) [
-                  | inl low ↦ is.first j next low
+                  | inl low ↦ is.first j head low
                   | inr here ↦
-                      let one = one_head s heads planned n op j at next (omega arith) in
+                      let one = one_head s heads planned n op j at.0 head.next (omega arith) in
                       subst (λ (i : ℕ). ComesFirst s best i) one
-                      (let l = at.in_lane in
+                      (let l = at.0.in_lane in
                       let b = is.below in
                       elim (cases_lt (step_of s best).due (step_of s op).due) [ inl earlier ↦ inl earlier | inr even ↦ inr (omega arith, omega arith) ])
                 ];
           })
     ]
 
-pub FirstBelow-all : (s : Schedule) (heads : List ℕ) (n : ℕ) (first : Option ℕ) → IsPlanned s → length s.kinds ≤ n → FirstBelow s heads n first
-    → MatchOption first ((j : ℕ) → ¬ IsNext s heads j) (λ op. IsFirst s (IsNext s heads) op)
-FirstBelow-all s heads n None planned all is = λ j next. let a = planned.in_lanes j next.0 in let b = is.none j next in omega arith
-FirstBelow-all s heads n (Some op) planned all is = (is.next, λ j next. is.first j next (let a = planned.in_lanes j next.0 in omega arith))
-
-pub FirstBelow-within : (s : Schedule) (heads : List ℕ) (n : ℕ) (first : Option ℕ) → FirstBelow s heads n first → IfSome first (λ k. k < length s.steps)
-FirstBelow-within s heads n None is = tt
-FirstBelow-within s heads n (Some op) is = is.next.0
+pub FirstBelow-all : (s : Schedule) (heads : List ℕ) (limit : ℤ) (n : ℕ) (first : Option ℕ) → IsPlanned s → length s.kinds ≤ n → FirstBelow s heads limit n first
+    → MatchOption first ((j : ℕ) → IsNext s heads j → ¬ IsWithin s limit j) (λ op. IsFirst s (λ j. IsNext s heads j × IsWithin s limit j) op)
+FirstBelow-all s heads limit n None planned all is = λ j next within.
+    let a = planned.in_lanes j next.0 in let b = is.none j (record { next = next; within = within }) in omega arith
+FirstBelow-all s heads limit n (Some op) planned all is = (
+  (is.head.next, is.head.within),
+  λ j both. is.first j (record { next = both.0; within = both.1 }) (let a = planned.in_lanes j both.0.0 in omega arith),
+)

@@ -2,8 +2,7 @@
 use Rattle.std.proofs.Common.{◌≡◌, ℕ, zero, suc, ◌+◌, ◌<◌, ◌≤◌, List, length, take, get_or, Bool, true, inl, inr, sym, ap, ◌∙◌, subst, arith}
 use Rattle.std.specs.Prelude.{◌==◌, count_by}
 use Rattle.std.proofs.lemmas.Bool.{cases_Bool, cases_lt, cases_order, eqb-true}
-use Rattle.std.proofs.lemmas.List.{length-take}
-use Rattle.std.proofs.lemmas.List.Sums.{count_by_more_yes, count_by_more_no, count_by-le-length}
+use Rattle.std.proofs.lemmas.List.Sums.{count_by_more_yes, count_by_more_no}
 use Rattle.snb_schema.specs.declared.step.Step.{Step}
 use Rattle.snb_schema.specs.Schedule.{Schedule, no_step, step_of, count_before, IsOperation, IsBefore, IsPlaced, IsPlanned}
 use Rattle.snb_schema.proofs.Planned.{planned_is_placed}
@@ -56,11 +55,3 @@ same_place s planned j k within_j within_k lane place =
         | inr higher ↦ absurd (let a = placed.rises k j higher within_j (sym lane) in omega arith)
       ]
     ]
-
--- a place is no greater than the number
-pub place_small : (s : Schedule) → IsPlanned s → (k : ℕ) → IsOperation s k → (step_of s k).place ≤ k
-place_small s planned k within =
-    let counted = planned.placed k within in
-    let few = count_by-le-length (λ step. step.lane == (step_of s k).lane) (take k s.steps) in
-    let size : length (take k s.steps) ≤ k = (let l = length-take k s.steps in omega arith) in
-    omega arith

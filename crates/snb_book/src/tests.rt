@@ -1,9 +1,10 @@
-//! Books over the plans of one and of two persons' inserts.
+//! Books over the plans of one and of two persons' inserts, and of a friendship that waits.
 
-ghost use Rattle.std.specs.Prelude.{◌≡◌, ◌<◌, ◌^◌, IfOk};
+ghost use Rattle.std.specs.Prelude.{◌≡◌, ◌<◌, ◌^◌, ◌∷◌, [], IfOk};
 ghost use Rattle.snb_schema.specs.Schedule.{IsPlanned};
-ghost use Rattle.snb_book.specs.Worked.{one_person as one_value, person as person_value, two_persons as two_value};
-ghost use Rattle.snb_book.specs.Book.{IsOfPersons, IsWithoutDependents};
+ghost use Rattle.snb_schema.specs.Worked.{tie};
+ghost use Rattle.snb_book.specs.Worked.{one_person as one_value, person as person_value, two_persons as two_value, of_tie};
+ghost use Rattle.snb_book.specs.Book.{IsOfPersons};
 
 use crate::book::Book;
 use crate::claim::{Claim, Ticket};
@@ -11,6 +12,7 @@ use snb_schema::event::Event;
 use snb_schema::schedule::Schedule;
 use snb_schema::step::{LaneKind, Step};
 use std::alloc::{AllocError, Global};
+use std::process::Abort;
 use std::test::Fail;
 
 fn person(place: u32, t: u64, due: u64) -> Step
@@ -47,26 +49,35 @@ fn one_is_usable(due: u32)
     requires { due < 2 ^ 32 }
     ensures planned { IsPlanned (one_value due) }
     ensures persons { IsOfPersons (one_value due) }
-    ensures free { IsWithoutDependents (one_value due) }
 {}
 
 /// A book may stand on the plan of two persons' inserts.
 fn two_are_usable()
     ensures planned { IsPlanned two_value }
     ensures persons { IsOfPersons two_value }
-    ensures free { IsWithoutDependents two_value }
 {}
 
-#[test]
-fn one_person_is_started_and_finished(rt: HostRuntime) -> Result<(), Fail> {
-    let alloc = rt.alloc();
-    let mut book = Book::make(alloc, &one_person(alloc, 0)?, 1)?;
+/// Worker 0 takes the first operation in hand, which is due at once.
+fn take_first(rt: &impl Abort, book: &mut Book) -> Ticket
+    requires workers { 0 < book.old.workers }
+    requires history { book.old.history ≡ [] }
+    ensures new { book.new ≡ record book.old { history = Event.Start 0 0 0 ∷ [] } }
+    ensures ticket { result ≡ record { op = 0; worker = 0; start = 0 } }
+{
     let ticket = Ticket {
         op: 0,
         worker: 0,
         start: 0,
     };
     assert_eq!(rt; book.claim(0, 0), Claim::Go { ticket });
+    ticket
+}
+
+#[test]
+fn one_person_is_started_and_finished(rt: HostRuntime) -> Result<(), Fail> {
+    let alloc = rt.alloc();
+    let mut book = Book::make(alloc, &one_person(alloc, 0)?, 1)?;
+    let ticket = take_first(&rt, &mut book);
     assert!(rt; !book.is_complete());
     book.finish(ticket, 0, 0);
     let events = [
@@ -107,5 +118,164 @@ fn a_worker_is_busy_and_the_next_is_not_due(rt: HostRuntime) -> Result<(), Fail>
     };
     assert_eq!(rt; book.claim(1, 700), Claim::Go { ticket: next });
     assert_eq!(rt; book.claim(0, 0), Claim::AllStarted);
+    Ok(())
+}
+
+/// A book may stand on the plan of a person's insert and a friendship that waits for it.
+fn tie_is_usable()
+    ensures planned { IsPlanned tie }
+    ensures persons { IsOfPersons tie }
+{}
+
+/// A person's insert at 8000 in lane 0, due at once, and in lane 1 a friendship at 9000 that waits
+/// for it, due at 1000: the book of two workers.
+fn tie_book(alloc: Global) -> Result<Book, AllocError>
+    ensures { IfOk result (λ b. b ≡ of_tie []) }
+{
+    let friendship = Step {
+        lane: 1,
+        place: 0,
+        t: 9000,
+        t_d: 8000,
+        due: 1000,
+        dependency: false,
+        dependent: true,
+        query: false,
+    };
+    let steps = Vec::from_slice(alloc, &[person(0, 8000, 0), friendship])?;
+    tie_is_usable();
+    let schedule = Schedule::make(alloc, &[LaneKind::Person, LaneKind::Person], steps)?;
+    Book::make(alloc, &schedule, 2)
+}
+
+/// Worker 0 finishes the person's insert.
+fn finish_person(book: &mut Book, ticket: Ticket)
+    requires ticket { ticket ≡ record { op = 0; worker = 0; start = 0 } }
+    requires old { book.old ≡ of_tie (Event.Start 0 0 0 ∷ []) }
+    ensures { book.new ≡ of_tie (Event.Start 0 0 0 ∷ Event.Finish 0 0 1000 0 ∷ []) }
+{
+    book.finish(ticket, 1000, 0);
+}
+
+/// Worker 1 takes the friendship in hand and finishes it.
+fn make_friends(rt: &impl Abort, book: &mut Book)
+    requires { book.old ≡ of_tie (Event.Start 0 0 0 ∷ Event.Finish 0 0 1000 0 ∷ []) }
+    ensures { book.new ≡ of_tie (Event.Start 0 0 0 ∷ Event.Finish 0 0 1000 0 ∷ Event.Start 1 1 1000 ∷ Event.Finish 1 1 2000 0 ∷ []) }
+{
+    let ticket = Ticket {
+        op: 1,
+        worker: 1,
+        start: 2,
+    };
+    assert_eq!(rt; book.claim(1, 1000), Claim::Go { ticket });
+    book.finish(ticket, 2000, 0);
+}
+
+/// Neither worker is given anything any more.
+fn nobody_goes(rt: &impl Abort, book: &mut Book)
+    requires { book.old.workers ≡ 2 }
+    ensures { book.new ≡ book.old }
+{
+    assert_eq!(rt; book.claim(0, 5000), Claim::Halted);
+    assert_eq!(rt; book.claim(1, 5000), Claim::Halted);
+}
+
+const START: Event = Event::Start {
+    op: 0,
+    worker: 0,
+    at: 0,
+};
+
+const FINISH: Event = Event::Finish {
+    op: 0,
+    worker: 0,
+    at: 1000,
+    front: 0,
+};
+
+#[test]
+fn a_friendship_waits_for_the_person(rt: HostRuntime) -> Result<(), Fail> {
+    let mut book = tie_book(rt.alloc())?;
+    assert_eq!(rt; book.completion(), 7999);
+    let ticket = take_first(&rt, &mut book);
+    let blocked = Claim::Blocked {
+        op: 1,
+        needs: 8000,
+        completion: 7999,
+    };
+    assert_eq!(rt; book.claim(1, 1000), blocked);
+    finish_person(&mut book, ticket);
+    assert_eq!(rt; book.completion(), 253402300799999);
+    assert!(rt; !book.is_complete());
+    make_friends(&rt, &mut book);
+    assert!(rt; book.is_complete());
+    Ok(())
+}
+
+#[test]
+fn a_halt_with_nothing_in_hand(rt: HostRuntime) -> Result<(), Fail> {
+    let mut book = tie_book(rt.alloc())?;
+    book.halt(0);
+    nobody_goes(&rt, &mut book);
+    assert_eq!(rt; book.events(), [Event::Halt { worker: 0 }].as_slice());
+    assert!(rt; !book.is_complete());
+    Ok(())
+}
+
+#[test]
+fn a_halt_with_an_insert_in_hand(rt: HostRuntime) -> Result<(), Fail> {
+    let mut book = tie_book(rt.alloc())?;
+    take_first(&rt, &mut book);
+    book.halt(0);
+    nobody_goes(&rt, &mut book);
+    let events = [START, Event::Halt { worker: 0 }];
+    assert_eq!(rt; book.events(), events.as_slice());
+    assert!(rt; !book.is_complete());
+    Ok(())
+}
+
+#[test]
+fn another_worker_finishes_after_a_halt(rt: HostRuntime) -> Result<(), Fail> {
+    let mut book = tie_book(rt.alloc())?;
+    let ticket = take_first(&rt, &mut book);
+    book.halt(1);
+    nobody_goes(&rt, &mut book);
+    book.finish(ticket, 1000, 0);
+    nobody_goes(&rt, &mut book);
+    let events = [START, Event::Halt { worker: 1 }, FINISH];
+    assert_eq!(rt; book.events(), events.as_slice());
+    assert!(rt; !book.is_complete());
+    Ok(())
+}
+
+#[test]
+fn a_halt_after_the_last_finish(rt: HostRuntime) -> Result<(), Fail> {
+    let mut book = tie_book(rt.alloc())?;
+    let ticket = take_first(&rt, &mut book);
+    finish_person(&mut book, ticket);
+    make_friends(&rt, &mut book);
+    assert!(rt; book.is_complete());
+    book.halt(1);
+    nobody_goes(&rt, &mut book);
+    let friendship = Event::Start {
+        op: 1,
+        worker: 1,
+        at: 1000,
+    };
+    let friends = Event::Finish {
+        op: 1,
+        worker: 1,
+        at: 2000,
+        front: 0,
+    };
+    let events = [
+        START,
+        FINISH,
+        friendship,
+        friends,
+        Event::Halt { worker: 1 },
+    ];
+    assert_eq!(rt; book.events(), events.as_slice());
+    assert!(rt; !book.is_complete());
     Ok(())
 }

@@ -4,7 +4,7 @@ use Rattle.std.specs.Prelude.{◌==◌, count_by}
 use Rattle.std.proofs.lemmas.Bool.{cases_lt, cases_Bool, eq-eqb}
 use Rattle.std.proofs.lemmas.List.Sums.{count_by_more_yes, count_by_more_no}
 use Rattle.snb_schema.specs.declared.step.Step.{Step}
-use Rattle.snb_schema.specs.Schedule.{step_of, no_step, count_before, ComesBefore}
+use Rattle.snb_schema.specs.Schedule.{Schedule, step_of, no_step, count_before, ComesBefore, IsPlanned}
 use Rattle.snb_schema.specs.Laws.{PlannedIsPlaced, PlannedIsTimely}
 
 -- a count over a longer list is no smaller, and greater where one more passes
@@ -43,13 +43,17 @@ t_rises : (one other : Step) → ComesBefore one other → one.t ≤ other.t
 t_rises one other (inl less) = omega arith
 t_rises one other (inr same) = (let e = same.0 in omega arith)
 
+-- t doesn't fall along the numbers of a plan
+pub t_rises_along : (s : Schedule) → IsPlanned s → (j k : ℕ) → j ≤ k → k < length s.steps → (step_of s j).t ≤ (step_of s k).t
+t_rises_along s planned j k le within =
+    elim (cases_lt j k) [
+      | inl lt ↦ t_rises (step_of s j) (step_of s k) (planned.ordered j k lt within)
+      | inr ge ↦ (let e : j ≡ k = omega arith in rw e (omega arith))
+    ]
+
 pub planned_is_timely : PlannedIsTimely
 planned_is_timely s planned below = record {
-  numbered = λ j k le within.
-      elim (cases_lt j k) [
-        | inl lt ↦ t_rises (step_of s j) (step_of s k) (planned.ordered j k lt within)
-        | inr ge ↦ (let e : j ≡ k = omega arith in rw e (omega arith))
-      ];
+  numbered = t_rises_along s planned;
   due_rises = λ j k le within.
       elim (cases_lt j k) [
         | inl lt ↦ planned.due_rises j k lt within

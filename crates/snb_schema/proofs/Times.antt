@@ -1,6 +1,6 @@
 -- The least t of the operations that pass a test, and the completion time.
 use Rattle.std.proofs.Common.{◌≡◌, ℕ, zero, suc, ◌+◌, ◌<◌, ◌≤◌, min, List, [], ◌∷◌, ◌++◌, length, Bool, true, false, ◌&&◌, not, cond, ◌⊎◌, inl, inr, refl, sym, ap, ◌∙◌, subst, arith}
-use Rattle.std.specs.Prelude.{pos, ◌-ℤ◌, ◌≤ℤ◌, ◌==◌}
+use Rattle.std.specs.Prelude.{pos, ◌-ℤ◌, ◌≤ℤ◌, ◌==◌, ◌↔◌}
 use Rattle.std.proofs.lemmas.Bool.{cases_Bool, cases_lt, cases_order, eq-eqb, cond-true, cond-false, and_parts, and_from, not-true}
 use Rattle.std.proofs.lemmas.List.{get_or_past}
 use Rattle.std.proofs.lemmas.List.Folds.{list_any-append}
@@ -9,9 +9,9 @@ use Rattle.std.proofs.Math.Nat.{min-le_left, min-le_right, le-min}
 use Rattle.snb_schema.specs.declared.limits.TheConstants.{MAX_TIME}
 use Rattle.snb_schema.specs.declared.step.Step.{Step}
 use Rattle.snb_schema.specs.declared.event.Event.{Event}
-use Rattle.snb_schema.specs.Schedule.{Schedule, step_of, no_step, is_dependency}
+use Rattle.snb_schema.specs.Schedule.{Schedule, step_of, no_step, IsOperation, is_dependency}
 use Rattle.snb_schema.specs.History.{finishes, finished}
-use Rattle.snb_schema.specs.Completion.{least_of, least_t, is_awaited, completion, local}
+use Rattle.snb_schema.specs.Completion.{least_of, least_t, is_left, is_awaited, time_left, completion, local}
 use Rattle.snb_schema.specs.Laws.{CompletionDecides, CompletionRises, CompletionWaits, CompletionIsReached, CompletionIsLocal, StartStays, BeforeIsByPlace}
 
 pub least_of-top : (f : ℕ → ℕ) (top : ℕ) (p : ℕ → Bool) (n : ℕ) → least_of f top p n ≤ top
@@ -86,24 +86,45 @@ completion_rises s g h =
     (λ k awaited. grind (arith, list_any-append (finishes k) g h)) in
     omega (arith, ints, l)
 
-pub completion_decides : CompletionDecides
-completion_decides s h op small = (
-  λ cleared dependent. at_most_before (step_of s op).t_d (least_t s (is_awaited s h))
-      (le-least_of (λ k. (step_of s k).t) (MAX_TIME + 1) (is_awaited s h) (length s.steps) (suc (step_of s op).t_d) (omega arith)
-      (λ k lt awaited. let parts = and_parts (is_dependency s k) (not (finished h k)) awaited in
+-- whatever the test of what is done
+pub decides_where : (s : Schedule) (done : ℕ → Bool) (op : ℕ) → (step_of s op).t_d ≤ MAX_TIME
+    → ((step_of s op).dependent ≡ true → (k : ℕ) → is_dependency s k ≡ true → (step_of s k).t ≤ (step_of s op).t_d → done k ≡ true)
+    ↔ ((step_of s op).dependent ≡ true → pos (step_of s op).t_d ≤ℤ time_left s done)
+decides_where s done op small = (
+  λ cleared dependent. at_most_before (step_of s op).t_d (least_t s (is_left s done))
+      (le-least_of (λ k. (step_of s k).t) (MAX_TIME + 1) (is_left s done) (length s.steps) (suc (step_of s op).t_d) (omega arith)
+      (λ k lt left. let parts = and_parts (is_dependency s k) (not (done k)) left in
       elim (cases_lt (step_of s op).t_d (step_of s k).t) [
         | inl later ↦ omega arith
-        | inr due ↦ absurd (let f : finished h k ≡ true = cleared dependent k parts.0 due in let n = not-true (finished h k) parts.1 in cc)
+        | inr due ↦ absurd (let f : done k ≡ true = cleared dependent k parts.0 due in let n = not-true (done k) parts.1 in cc)
       ])),
   λ told dependent k dep due.
-      elim (cases_Bool (finished h k)) [
-        | inl done ↦ done
+      elim (cases_Bool (done k)) [
+        | inl over ↦ over
         | inr waits ↦ absurd (
-            let l = least_of-le (λ k. (step_of s k).t) (MAX_TIME + 1) (is_awaited s h) (length s.steps) k (is_dependency-within s k dep) (is_awaited-from s h k dep waits) in
-            let b = below_from_at_most (step_of s op).t_d (least_t s (is_awaited s h)) (told dependent) in
+            let l = least_of-le (λ k. (step_of s k).t) (MAX_TIME + 1) (is_left s done) (length s.steps) k (is_dependency-within s k dep)
+            (and_from (is_dependency s k) (not (done k)) dep (ap not waits)) in
+            let b = below_from_at_most (step_of s op).t_d (least_t s (is_left s done)) (told dependent) in
             omega arith)
       ],
 )
+
+pub completion_decides : CompletionDecides
+completion_decides s h op small = decides_where s (finished h) op small
+
+-- a least value is told by the tests of the numbers below n
+pub least_of-same : (f : ℕ → ℕ) (top : ℕ) (p q : ℕ → Bool) (n : ℕ) → ((k : ℕ) → k < n → p k ≡ q k) → least_of f top p n ≡ least_of f top q n
+least_of-same f top p q zero same = refl
+least_of-same f top p q (suc n) same =
+    let here : p n ≡ q n = same n (omega arith) in
+    let rest : least_of f top p n ≡ least_of f top q n = least_of-same f top p q n (λ k lt. same k (omega arith)) in
+    rw (here, rest)
+
+-- completion times are told by the tests of the operations
+pub time_left-same : (s : Schedule) (p q : ℕ → Bool) → ((k : ℕ) → IsOperation s k → p k ≡ q k) → time_left s p ≡ time_left s q
+time_left-same s p q same =
+    ap (λ (n : ℕ). pos n -ℤ pos 1)
+    (least_of-same (λ k. (step_of s k).t) (MAX_TIME + 1) (is_left s p) (is_left s q) (length s.steps) (λ k lt. ap (λ b. (step_of s k).dependency && not b) (same k lt)))
 
 pub completion_is_reached : CompletionIsReached
 completion_is_reached s h =

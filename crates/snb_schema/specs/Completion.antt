@@ -22,18 +22,30 @@ first_op s p = least_of (λ k. k) (length s.steps) p (length s.steps)
 abbrev pub time_before : Schedule → (ℕ → Bool) → ℤ
 time_before s p = pos (least_t s p) -ℤ pos 1
 
+-- a dependency that doesn't pass the test of those that are done
+abbrev pub is_left : Schedule → (ℕ → Bool) → ℕ → Bool
+is_left s done k = (step_of s k).dependency && not (done k)
+
+-- the least t of a dependency of the plan that isn't done, less one, or MAX_TIME where there is none
+abbrev pub time_left : Schedule → (ℕ → Bool) → ℤ
+time_left s done = time_before s (is_left s done)
+
+-- the same over one lane
+abbrev pub time_left_in : Schedule → (ℕ → Bool) → ℕ → ℤ
+time_left_in s done lane = time_before s (λ k. ((step_of s k).lane == lane) && is_left s done k)
+
 -- a dependency that isn't finished
 abbrev pub is_awaited : Schedule → List Event → ℕ → Bool
-is_awaited s h k = (step_of s k).dependency && not (finished h k)
+is_awaited s h k = is_left s (finished h) k
 
 -- the least t of an unfinished dependency of the plan, less one, or MAX_TIME where there is none
 abbrev pub completion : Schedule → List Event → ℤ
-completion s h = time_before s (is_awaited s h)
+completion s h = time_left s (finished h)
 
 -- the same over one lane
 abbrev pub local : Schedule → List Event → ℕ → ℤ
-local s h lane = time_before s (λ k. ((step_of s k).lane == lane) && is_awaited s h k)
+local s h lane = time_left_in s (finished h) lane
 
 -- the same over one lane, of the dependencies that aren't started
 abbrev pub initiated : Schedule → List Event → ℕ → ℤ
-initiated s h lane = time_before s (λ k. ((step_of s k).lane == lane) && ((step_of s k).dependency && not (started h k)))
+initiated s h lane = time_left_in s (started h) lane

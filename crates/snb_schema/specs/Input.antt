@@ -7,15 +7,15 @@ use Rattle.snb_schema.specs.declared.file.FileId.{FileId}
 use Rattle.snb_schema.specs.declared.file.FileKind.TheVariants.{Table, PersonStream}
 use Rattle.snb_schema.specs.declared.op.Line.{Line}
 use Rattle.snb_schema.specs.declared.op.Op.{Op}
-use Rattle.snb_schema.specs.declared.op.Op.TheVariants.{AddPerson}
 use Rattle.snb_schema.specs.declared.person.Person.{Person}
 use Rattle.snb_schema.specs.declared.refusal.Refusal.{Refusal}
 use Rattle.snb_schema.specs.declared.refusal.Refusal.TheVariants.{Absent, BadLine, Duplicate}
 use Rattle.snb_schema.specs.declared.row.Row.{Row}
 use Rattle.snb_schema.specs.declared.row.Row.TheVariants as row
 use Rattle.snb_schema.specs.declared.table.Table.TheVariants as table
+use Rattle.snb_schema.specs.Closed.{IsFirstWrong}
 use Rattle.snb_schema.specs.FileNames.{name_of}
-use Rattle.snb_schema.specs.Graph.{Graph, HoldsRows, rows_of}
+use Rattle.snb_schema.specs.Graph.{Graph, HoldsRows, IsHeldIn, rows_of}
 use Rattle.snb_schema.specs.Lines.{lines, is_filled, filled, data_lines}
 use Rattle.snb_schema.specs.RowLines.{IsRow, IsHeader}
 use Rattle.snb_schema.specs.UpdateLines.{IsLine}
@@ -108,21 +108,6 @@ IsBadStreamLine used before line =
 abbrev pub StreamFault : ℕ → List (List ℕ) → List ℕ → Refusal → Type 0
 StreamFault used before line r = IsBadStreamLine used before line × (r ≡ BadLine person_stream (number_of before) 0)
 
--- the id of the person that an insert adds
-abbrev pub added_id : Op → ℕ
-added_id (AddPerson id first last gender birthday created ip browser city languages emails tags study work) = id
-
--- a line of these inserts the person of this id
-abbrev pub Adds : List (List ℕ) → ℕ → Type 0
-Adds ls id = (line : List ℕ) × (t : ℕ) × (t_d : ℕ) × (op : Op) × Contains (filled ls) line × IsLine line t t_d op × (added_id op ≡ id)
-
--- an insert's key is held in the dataset, of whose file these are the lines, or added by an earlier insert
-abbrev pub KeyFault : List (List ℕ) → List (List ℕ) → List ℕ → Refusal → Type 0
-KeyFault held before line r =
-    (t : ℕ) × (t_d : ℕ) × (op : Op) × IsLine line t t_d op
-    × (((p : Person) × HasPerson held p × (p.id ≡ added_id op)) ⊎ Adds before (added_id op))
-    × (r ≡ Duplicate person_stream (number_of before))
-
 -- the second refuses, where the first doesn't
 abbrev pub Then : (Refusal → Type 0) → (Refusal → Type 0) → Refusal → Type 0
 Then A B r = A r ⊎ (((q : Refusal) → ¬ A q) × B r)
@@ -130,22 +115,6 @@ Then A B r = A r ⊎ (((q : Refusal) → ¬ A q) × B r)
 -- no line of the person file has a byte
 abbrev pub NoPersonHeader : List (List ℕ) → Refusal → Type 0
 NoPersonHeader ls r = (filled ls ≡ []) × (r ≡ BadLine person_file 1 0)
-
--- the refusals of the two files, in order: the lines of the person file, the lines of the stream, the keys of the inserts
-abbrev pub FilesRefuse : List ℕ → List ℕ → Refusal → Type 0
-FilesRefuse persons stream r =
-    Then (FirstFault (Within 0 (length persons) person_file PersonFault) (lines persons))
-    (Then (NoPersonHeader (lines persons))
-    (Then (FirstFault (Within (length persons) (length stream) person_stream (StreamFault (length (data_lines (lines persons))))) (lines stream))
-    (FirstFault (KeyFault (lines persons)) (lines stream)))) r
-
--- the files of a folder are refused so; what `run` and `check` read
-abbrev pub RefusesHeld : Option (List ℕ) → List ℕ → Refusal → Type 0
-RefusesHeld None stream r = r ≡ Absent person_file
-RefusesHeld (Some persons) stream r = FilesRefuse persons stream r
-
-abbrev pub Refuses : List ℕ → Files → Refusal → Type 0
-Refuses folder files r = RefusesHeld (held_in folder files person_file) (stream_of folder files) r
 
 -- the rows are those of the lines, one each
 abbrev pub AreRows : List (List ℕ) → List Row → Type 0
@@ -160,6 +129,30 @@ AreLines n [] (x ∷ xs) = ⊥
 AreLines n ([] ∷ ls) xs = AreLines (n + 1) ls xs
 AreLines n ((b ∷ bs) ∷ ls) [] = ⊥
 AreLines n ((b ∷ bs) ∷ ls) (x ∷ xs) = (x.number ≡ n + 1) × IsLine (b ∷ bs) x.t x.t_d x.op × AreLines (n + 1) ls xs
+
+-- the first insert of the stream that has no new key, or doesn't find its persons in time, by the rows of the person file
+pub record IsNotClosed (persons stream : List ℕ) (r : Refusal) : Type 0 where
+  pub dataset : List Row
+  pub rows : AreRows (data_lines (lines persons)) dataset
+  pub inserts : List Line
+  pub read : AreLines 0 (lines stream) inserts
+  pub wrong : IsFirstWrong (IsHeldIn dataset) person_stream inserts r
+
+-- the refusals of the two files, in order: the lines of the person file, the lines of the stream, what its inserts need
+abbrev pub FilesRefuse : List ℕ → List ℕ → Refusal → Type 0
+FilesRefuse persons stream r =
+    Then (FirstFault (Within 0 (length persons) person_file PersonFault) (lines persons))
+    (Then (NoPersonHeader (lines persons))
+    (Then (FirstFault (Within (length persons) (length stream) person_stream (StreamFault (length (data_lines (lines persons))))) (lines stream))
+    (IsNotClosed persons stream))) r
+
+-- the files of a folder are refused so; what `run` and `check` read
+abbrev pub RefusesHeld : Option (List ℕ) → List ℕ → Refusal → Type 0
+RefusesHeld None stream r = r ≡ Absent person_file
+RefusesHeld (Some persons) stream r = FilesRefuse persons stream r
+
+abbrev pub Refuses : List ℕ → Files → Refusal → Type 0
+Refuses folder files r = RefusesHeld (held_in folder files person_file) (stream_of folder files) r
 
 -- the dataset holds the rows of the data lines, and the inserts are those of the stream
 pub record IsInput (folder : List ℕ) (files : Files) (dataset : List Row) (inserts : List Line) : Type 0 where

@@ -1,5 +1,7 @@
 pub mod Columns
+pub mod Closed
 pub mod Completion
+pub mod Faults
 pub mod FileNames
 pub mod Graph
 pub mod History

@@ -1,9 +1,18 @@
--- The plan of a stream of person inserts.
-use Rattle.std.specs.Prelude.{ℕ, ◌+◌, ◌-◌, List, [], ◌∷◌, true, false}
+-- The plan of a person stream.
+use Rattle.std.specs.Prelude.{ℕ, ◌+◌, ◌-◌, ◌<◌, ◌≤◌, List, [], ◌∷◌, length, slice_index_or, Bool, true, false, not}
+use Rattle.snb_schema.specs.declared.limits.TheConstants.{MAX_ROWS, MAX_TIME}
+use Rattle.snb_schema.specs.declared.op.Op.{Op}
+use Rattle.snb_schema.specs.declared.op.Op.TheVariants.{AddPerson, AddFriend}
 use Rattle.snb_schema.specs.declared.op.Line.{Line}
 use Rattle.snb_schema.specs.declared.step.Step.{Step}
 use Rattle.snb_schema.specs.declared.step.LaneKind.TheVariants.{Person}
 use Rattle.snb_schema.specs.Schedule.{Schedule}
+use Rattle.snb_schema.specs.UpdateLines.{IsOfTwo}
+
+-- dependents wait for inserts of persons, and every other insert waits for them
+abbrev pub adds_person : Op → Bool
+adds_person (AddPerson id first last gender birthday created ip browser city languages emails tags study work) = true
+adds_person (AddFriend one other date) = false
 
 -- an insert at a place of the one lane, due as long after the run's start as its t is after that of the first
 abbrev pub insert_step : ℕ → ℕ → Line → Step
@@ -13,8 +22,8 @@ insert_step first place line = record {
   t = line.t;
   t_d = line.t_d;
   due = line.t - first;
-  dependency = true;
-  dependent = false;
+  dependency = adds_person line.op;
+  dependent = not (adds_person line.op);
   query = false;
 }
 
@@ -28,6 +37,14 @@ abbrev pub first_t : List Line → ℕ
 first_t [] = 0
 first_t (line ∷ lines) = line.t
 
--- one lane of persons, with the inserts in order; the ratio is 1
+-- the inserts aren't too many, no date and time is too great, t never falls, and no friendship is with oneself
+pub record ArePlanned (xs : List Line) : Type 0 where
+  pub few : length xs ≤ MAX_ROWS
+  pub timed : (k : ℕ) (d : Line) → k < length xs → (slice_index_or xs k d).t ≤ MAX_TIME
+  pub needs_timed : (k : ℕ) (d : Line) → k < length xs → (slice_index_or xs k d).t_d ≤ MAX_TIME
+  pub rises : (i j : ℕ) (d : Line) → i ≤ j → j < length xs → (slice_index_or xs i d).t ≤ (slice_index_or xs j d).t
+  pub of_two : (k : ℕ) (d : Line) → k < length xs → IsOfTwo (slice_index_or xs k d).op
+
+-- one lane of persons and friendships, with the inserts in order; the ratio is 1
 abbrev pub plan_of : List Line → Schedule
 plan_of lines = record { steps = insert_steps (first_t lines) 0 lines; kinds = Person ∷ [] }

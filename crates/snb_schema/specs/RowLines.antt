@@ -18,6 +18,7 @@ columns _ = []
 -- the table that a row stands in
 abbrev pub table_of : Row → Table
 table_of (row.Person person) = table.Person
+table_of (row.Dated t from to date) = t
 
 -- the values of a person's columns
 abbrev pub person_values : Person → List Value
@@ -28,6 +29,7 @@ person_values p =
 -- the values of a row's columns
 abbrev pub values : Row → List Value
 values (row.Person person) = person_values person
+values (row.Dated t from to date) = Digits from ∷ Digits to ∷ Digits date ∷ []
 
 -- the line is the row's: UTF-8, without a byte order mark, and each field spells its column's value
 pub record IsRow (t : Table) (line : List ℕ) (r : Row) : Type 0 where

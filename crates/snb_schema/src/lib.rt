@@ -5,6 +5,7 @@
 pub mod event;
 pub mod fault;
 pub mod file;
+pub mod key;
 pub mod laws;
 pub mod limits;
 pub mod op;

@@ -29,6 +29,13 @@ pub enum Op {
         /// Companies, each with a year.
         work_at: Pairs,
     },
+    /// Insert 8: a friendship of two persons, which has no direction.
+    AddFriend {
+        person1_id: u64,
+        person2_id: u64,
+        /// In milliseconds since 1970-01-01 UTC.
+        date: u64,
+    },
 }
 
 /// A line of an update stream.

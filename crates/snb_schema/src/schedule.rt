@@ -1,6 +1,6 @@
 //! Schedules: the steps of a plan in the order of their numbers, and its lanes.
 
-ghost use Rattle.std.specs.Prelude.{◌≡◌, ◌<◌, IfOk, length};
+ghost use Rattle.std.specs.Prelude.{◌≡◌, ◌<◌, ◌≤◌, IfOk, length};
 ghost use Rattle.snb_schema.specs.Schedule.{IsLane, IsPlanned};
 ghost use Rattle.snb_schema.specs.Lanes.{IsKept};
 
@@ -87,7 +87,8 @@ impl Schedule {
 
     /// The kind of each lane.
     pub fn kinds(&self) -> &[LaneKind]
-        ensures { result.now ≡ self.now.kinds }
+        ensures value { result.now ≡ self.now.kinds }
+        ensures few { length result.now ≤ 129 }
     {
         &self.kinds
     }

@@ -1,50 +1,103 @@
--- Facts on graphs.
-use Rattle.std.proofs.Common.{◌≡◌, ℕ, Some, None, List, [], ◌∷◌, map, refl, sym, ap, cond}
-use Rattle.std.specs.declared.cmp.Ordering.TheVariants.{Less, Equal, Greater}
-use Rattle.std.specs.Ordering.{nat_cmp, match_ordering, is_eq}
-use Rattle.std.specs.BTreeMap.{insert_entry, is_at}
-use Rattle.std.specs.Map.{lookup}
-use Rattle.std.specs.List.{AllByRecursion, All}
+-- Facts on graphs, and on the keys of their rows.
+use Rattle.std.proofs.Common.{◌≡◌, ℕ, List, [], ◌∷◌, ◌++◌, get_or, inl, inr}
+use Rattle.std.specs.List.{Contains}
 use Rattle.std.specs.List.Sorted.{IsPermutation}
-use Rattle.std.proofs.lemmas.Map.Lookups.{exact_unsigned}
-use Rattle.std.proofs.lemmas.List.Elements.{All-from_recursion, recursion_from_All}
-use Rattle.std.proofs.lemmas.List.Sorted.{IsPermutation-refl, IsPermutation-cons, IsPermutation-trans, IsPermutation-append_left, IsPermutation-append_comm}
+use Rattle.std.proofs.lemmas.List.Sorted.{IsPermutation-append_left, IsPermutation-trans, IsPermutation-sym, Contains-permutation}
+use Rattle.snb_schema.specs.declared.file.FileId.{FileId}
+use Rattle.snb_schema.specs.declared.refusal.Refusal.{Refusal}
+use Rattle.snb_schema.specs.declared.key.Key.{Key}
+use Rattle.snb_schema.specs.declared.key.Key.TheVariants.{Node}
+use Rattle.snb_schema.specs.declared.op.Line.{Line}
 use Rattle.snb_schema.specs.declared.person.Person.{Person}
 use Rattle.snb_schema.specs.declared.row.Row.{Row}
 use Rattle.snb_schema.specs.declared.row.Row.TheVariants as row
+use Rattle.snb_schema.specs.declared.table.Kind.{Kind}
+use Rattle.snb_schema.specs.declared.table.Kind.TheVariants as kind
+use Rattle.snb_schema.specs.declared.table.Table.{Table}
+use Rattle.snb_schema.specs.declared.table.Table.TheVariants as table
+use Rattle.snb_schema.specs.Closed.{key_of, persons_of, IsTaken, IsMet, IsFirstLacking, IsWrong, IsFirstWrong, IsClosed}
+use Rattle.snb_schema.specs.Graph.{Graph, HasGained, HoldsKey, HoldsRows, IsHeldIn, all_rows, dated_key, key_of_row}
 
--- an entry is under its row's key
-abbrev Keyed : ℕ × Person → Type 0
-Keyed e = e.0 ≡ e.1.id
+-- rows in another order hold the same keys
+held_moved : (rows others : List Row) (key : Key) → IsPermutation rows others → IsHeldIn rows key → IsHeldIn others key
+held_moved rows others key same held = (held.0, Contains-permutation rows others held.0 same held.1, held.2)
 
-keyed_by_recursion : (es : List (ℕ × Person)) (p : Person) → AllByRecursion Keyed es → AllByRecursion Keyed (insert_entry nat_cmp es p.id p)
-keyed_by_recursion [] p a = (refl, tt)
-keyed_by_recursion (e ∷ es) p a =
-    elim (nat_cmp p.id e.0) as (λ o. nat_cmp p.id e.0 ≡ o → AllByRecursion Keyed (match_ordering o ((p.id, p) ∷ e ∷ es) ((e.0, p) ∷ es) (e ∷ insert_entry nat_cmp es p.id p))) [
-      | Less ↦ λ q. (refl, a)
-      | Equal ↦ λ q. (sym (exact_unsigned p.id e.0 q), a.1)
-      | Greater ↦ λ q. (a.0, keyed_by_recursion es p a.1)
-    ] refl
+-- a graph holds the keys of its dataset
+pub held_by : (g : Graph) (dataset : List Row) (key : Key) → HoldsRows g dataset → HoldsKey g key → IsHeldIn dataset key
+held_by g dataset key h held = held_moved (all_rows g) dataset key h.same held
 
--- entries under their rows' keys stay so with one more
-pub keyed-insert : (es : List (ℕ × Person)) (p : Person) → All Keyed es → All Keyed (insert_entry nat_cmp es p.id p)
-keyed-insert es p a = All-from_recursion Keyed _ (keyed_by_recursion es p (recursion_from_All Keyed es a))
+pub held_in_graph : (g : Graph) (dataset : List Row) (key : Key) → HoldsRows g dataset → IsHeldIn dataset key → HoldsKey g key
+held_in_graph g dataset key h held = held_moved dataset (all_rows g) key (IsPermutation-sym (all_rows g) dataset h.same) held
 
--- a new entry is one more entry
-pub entries-insert : (es : List (ℕ × Person)) (k : ℕ) (p : Person) → lookup (is_at (nat_cmp k)) es ≡ None → IsPermutation (insert_entry nat_cmp es k p) ((k, p) ∷ es)
-entries-insert [] k p n = IsPermutation-refl _
-entries-insert (e ∷ es) k p n =
-    elim (nat_cmp k e.0) as (λ o. nat_cmp k e.0 ≡ o → cond (is_eq o) (Some e.1) (lookup (is_at (nat_cmp k)) es) ≡ None → IsPermutation (match_ordering o ((k, p) ∷ e ∷ es) ((e.0, p) ∷ es) (e ∷ insert_entry nat_cmp es k p)) ((k, p) ∷ e ∷ es)) [
-      | Less ↦ λ q m. IsPermutation-refl _
-      | Equal ↦ λ q m. absurd cc
-      | Greater ↦ λ q m.
-          IsPermutation-trans _ _ _ (IsPermutation-cons e _ _ (entries-insert es k p m)) (two_swapped e (k, p) es)
-    ] refl n
-  where
-    two_swapped : (x y : ℕ × Person) (zs : List (ℕ × Person)) → IsPermutation (x ∷ y ∷ zs) (y ∷ x ∷ zs)
-    two_swapped x y zs = IsPermutation-append_left zs (x ∷ y ∷ []) (y ∷ x ∷ []) (IsPermutation-append_comm (x ∷ []) (y ∷ []))
+-- one row more
+pub holds_gained : (g new : Graph) (dataset : List Row) (r : Row) → HoldsRows g dataset → HasGained g r new → HoldsRows new (dataset ++ r ∷ [])
+holds_gained g new dataset r h gained = record {
+  graph = gained.graph;
+  same = IsPermutation-trans _ _ _ gained.rows (IsPermutation-append_left (r ∷ []) (all_rows g) dataset h.same);
+}
 
--- the rows of a map's values are those of its entries
-pub rows-values : (es : List (ℕ × Person)) → map row.Person (map (λ (e : ℕ × Person). e.1) es) ≡ map (λ (e : ℕ × Person). row.Person e.1) es
-rows-values [] = refl
-rows-values (e ∷ es) = ap (λ (rest : List Row). row.Person e.1 ∷ rest) (rows-values es)
+-- the key of an edge is no node's
+edge_apart : (t : Table) (from to id : ℕ) (k : Kind) → dated_key t from to ≡ Node k id → ⊥
+edge_apart table.PersonLikesPost from to id k e = cc
+edge_apart table.PersonLikesComment from to id k e = cc
+edge_apart table.ForumHasMemberPerson from to id k e = cc
+edge_apart _ from to id k e = cc
+
+-- a row under a person's key is a person of this id
+person_row : (rows : List Row) (id : ℕ) (r : Row) → Contains rows r → key_of_row r ≡ Node kind.Person id → (q : Person) × Contains rows (row.Person q) × (q.id ≡ id)
+person_row rows id (row.Person q) c e = (q, c, cc)
+person_row rows id (row.Dated t from to date) c e = absurd (edge_apart t from to id kind.Person e)
+
+pub held_person : (rows : List Row) (id : ℕ) → IsHeldIn rows (Node kind.Person id) → (q : Person) × Contains rows (row.Person q) × (q.id ≡ id)
+held_person rows id held = person_row rows id held.0 held.1 held.2
+
+-- what is true of one list of keys is true of another that holds the same
+pub closed_moved : (P Q : Key → Type 0) (xs : List Line) → ((k : Key) → P k → Q k) → ((k : Key) → Q k → P k) → IsClosed P xs → IsClosed Q xs
+closed_moved P Q xs there back closed = record {
+  each = λ before x after splits.
+      let at = closed.each before x after splits in
+      record {
+        timely = at.timely;
+        new = λ taken. at.new (elim taken [ inl h ↦ inl (back (key_of x.op) h) | inr y ↦ inr y ]);
+        met = λ k d lt. elim (at.met k d lt) [ inl h ↦ inl (there _ h) | inr y ↦ inr y ];
+      };
+}
+
+taken_moved : (P Q : Key → Type 0) (before : List Line) (x : Line) → ((k : Key) → P k → Q k) → IsTaken P before x → IsTaken Q before x
+taken_moved P Q before x there (inl h) = inl (there (key_of x.op) h)
+taken_moved P Q before x there (inr y) = inr y
+
+met_moved : (P Q : Key → Type 0) (all : List Line) (t_d id : ℕ) → ((k : Key) → P k → Q k) → IsMet P all t_d id → IsMet Q all t_d id
+met_moved P Q all t_d id there (inl h) = inl (there (Node kind.Person id) h)
+met_moved P Q all t_d id there (inr y) = inr y
+
+wrong_moved : (P Q : Key → Type 0) (file : FileId) (all before : List Line) (x : Line) (r : Refusal) → ((k : Key) → P k → Q k) → ((k : Key) → Q k → P k) → IsWrong P file all before x r → IsWrong Q file all before x r
+wrong_moved P Q file all before x r there back (inl late) = inl late
+wrong_moved P Q file all before x r there back (inr (inl taken)) = inr (inl (taken.0, taken_moved P Q before x there taken.1, taken.2))
+wrong_moved P Q file all before x r there back (inr (inr unmet)) =
+    let first : IsFirstLacking (IsMet P all x.t_d) (persons_of x.op) unmet.2.0 = unmet.2.1 in
+    inr (inr (
+      unmet.0,
+      λ taken. unmet.1 (taken_moved Q P before x back taken),
+      (
+        unmet.2.0,
+        record {
+          front = first.front;
+          rest = first.rest;
+          splits = first.splits;
+          before = λ k d lt. met_moved P Q all x.t_d (get_or first.front k d) there (first.before k d lt);
+          lacking = λ met. first.lacking (met_moved Q P all x.t_d unmet.2.0 back met);
+        },
+        unmet.2.2,
+      ),
+    ))
+
+pub first_wrong_moved : (P Q : Key → Type 0) (file : FileId) (all : List Line) (r : Refusal) → ((k : Key) → P k → Q k) → ((k : Key) → Q k → P k) → IsFirstWrong P file all r → IsFirstWrong Q file all r
+first_wrong_moved P Q file all r there back f = record {
+  before = f.before;
+  insert = f.insert;
+  after = f.after;
+  splits = f.splits;
+  wrong = wrong_moved P Q file all f.before f.insert r there back f.wrong;
+  none_before = λ front y rest q splits w. f.none_before front y rest q splits (wrong_moved Q P file all front y q back there w);
+}

@@ -12,8 +12,6 @@ pub mod TakeLemmas
 pub mod GraphLemmas
 pub mod Writing
 pub mod InputLemmas
-pub mod KeyLemmas
 pub mod LogLemmas
-pub mod PlanLemmas
 pub mod RunLemmas
 pub mod TurnLemmas

@@ -7,7 +7,8 @@ use Rattle.snb_schema.specs.Lines.{lines}
 use Rattle.snb_schema.specs.declared.fault.Fault.{Fault}
 use Rattle.snb_schema.specs.declared.fault.Fault.TheVariants.{Bad, Memory}
 use Rattle.snb_schema.specs.declared.refusal.Refusal.{Refusal}
-use Rattle.snb_tool.specs.Reading.{HasNoEnd, IsFirstLine, OnBad}
+use Rattle.snb_schema.specs.Faults.{OnBad}
+use Rattle.snb_tool.specs.Reading.{HasNoEnd, IsFirstLine}
 
 -- an element of a list with one more at its end is that one, or stands in the list
 pub push_split : {X : Type 0} (g : List X) (x : X) (rest h : List X) (e : X) → g ++ x ∷ rest ≡ h ++ e ∷ [] → ((g ≡ h) × (x ≡ e)) ⊎ ((after : List X) × (g ++ x ∷ after ≡ h))

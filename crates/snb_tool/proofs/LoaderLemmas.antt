@@ -12,7 +12,7 @@ use Rattle.snb_schema.specs.Graph.{Graph}
 use Rattle.snb_schema.specs.Input.{person_file}
 use Rattle.snb_tool.specs.declared.load.Load.{Load}
 use Rattle.snb_tool.specs.declared.load.Load.TheVariants.{Refused, ReadFault, Memory}
-use Rattle.snb_tool.specs.Reading.{OnBad}
+use Rattle.snb_schema.specs.Faults.{OnBad}
 use Rattle.snb_tool.specs.Loading.{OnRefused, load_for, PersonsOf, PersonsBad, PersonsLoaded, PersonsRefused}
 use Rattle.snb_tool.proofs.TakeLemmas.{if_some}
 

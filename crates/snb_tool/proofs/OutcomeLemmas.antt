@@ -1,14 +1,11 @@
 -- Facts on what a call answers and writes.
-use Rattle.std.proofs.Common.{arith, ◌≡◌, ℕ, ◌<◌, ◌≤◌, List, [], length, Option, Some, None, refl, sym, ap, ◌∙◌, inl, inr}
+use Rattle.std.proofs.Common.{arith, ◌≡◌, ℕ, ◌<◌, ◌≤◌, List, [], length, Option, Some, None, refl, ap, ◌∙◌, inl, inr}
 use Rattle.std.proofs.lemmas.Bool.Decides.{leb_tells}
-use Rattle.std.proofs.lemmas.List.{length-map}
 use Rattle.std.specs.Option.{IfSome}
 use Rattle.snb_base.specs.Outbox.{Written}
 use Rattle.snb_base.specs.Shelf.{Files}
 use Rattle.snb_schema.specs.declared.op.Line.{Line}
-use Rattle.snb_schema.specs.declared.person.Person.{Person}
 use Rattle.snb_schema.specs.declared.refusal.Refusal.{Refusal}
-use Rattle.snb_schema.specs.declared.row.Row.TheVariants as row
 use Rattle.snb_schema.specs.declared.event.Event.{Event}
 use Rattle.snb_schema.specs.Graph.{Graph, all_rows, final_text}
 use Rattle.snb_schema.specs.RunTexts.{log_text, no_answers_text}
@@ -17,7 +14,6 @@ use Rattle.snb_schema.specs.ScreenTexts.{refusal_text, summary_text, usage_text}
 use Rattle.snb_tool.specs.Outcome.{IsCut, IsLoaded, IsOtherLine, IsRun, IsRunOutput, Wrote, run_texts}
 use Rattle.snb_tool.specs.Output.{IsFront, on_screen, size_of}
 use Rattle.snb_tool.specs.Words.{IsRunLine}
-use Rattle.snb_tool.proofs.PersonReaderLemmas.{all_persons}
 use Rattle.snb_tool.proofs.TakeLemmas.{if_some}
 
 -- what holds of all files holds of those that are told
@@ -35,6 +31,7 @@ is_run words folder files fixed graph inserts texts line loaded output = record 
   dataset = loaded.dataset;
   inserts = inserts;
   input = loaded.input;
+  closed = loaded.closed;
   history = output.history;
   legal = output.ran.legal;
   complete = output.ran.complete;
@@ -104,17 +101,13 @@ by_channel : (s l a f screen log answers finals : List ℕ) → s ≡ screen →
     ◌≡◌ {A = Written} (record { screen = s; log = l; answers = a; finals = f; cases = [] }) (record { screen = screen; log = log; answers = answers; finals = finals; cases = [] })
 by_channel s l a f screen log answers finals p q r t = cc
 
--- the graph has as many rows as persons
-count_rows : (g : Graph) → length g.persons ≡ length (all_rows g)
-count_rows g = sym (ap length (all_persons g) ∙ length-map g.persons (λ (e : ℕ × Person). row.Person e.1))
-
 -- the summary of as many updates and rows
 summary_of : (text : List ℕ) (updates length_is rows rows_are : ℕ) → updates ≡ length_is → rows ≡ rows_are → text ≡ summary_text updates updates 0 rows → text ≡ summary_text length_is length_is 0 rows_are
 summary_of text updates length_is rows rows_are e f t = t ∙ ap (λ (n : ℕ). summary_text n n 0 rows) e ∙ ap (λ (n : ℕ). summary_text length_is length_is 0 n) f
 
 -- four texts are those of the run
 pub is_output : (inserts : List Line) (history : List Event) (graph : Graph) (s l a f : List ℕ) (updates count : ℕ) → l ≡ log_text 1 history → a ≡ no_answers_text → f ≡ final_text graph
-    → updates ≡ length inserts → count ≡ length graph.persons → s ≡ summary_text updates updates 0 count →
+    → updates ≡ length inserts → count ≡ length (all_rows graph) → s ≡ summary_text updates updates 0 count →
     ◌≡◌ {A = Written} (record { screen = s; log = l; answers = a; finals = f; cases = [] }) (run_texts inserts history graph)
 is_output inserts history graph s l a f updates count p q r d e t =
-    by_channel s l a f _ _ _ _ (summary_of s updates (length inserts) count (length (all_rows graph)) d (e ∙ count_rows graph) t) p q r
+    by_channel s l a f _ _ _ _ (summary_of s updates (length inserts) count (length (all_rows graph)) d e t) p q r

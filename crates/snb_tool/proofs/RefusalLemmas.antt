@@ -1,38 +1,49 @@
 -- Files are refused for one thing at most.
-use Rattle.std.proofs.Common.{◌≡◌, ℕ, List, [], ◌∷◌, ◌++◌, Option, Some, None, length, refl, sym, ap, ◌∙◌, subst, inl, inr, ◌⊎◌}
+use Rattle.std.proofs.Common.{◌≡◌, ℕ, List, [], ◌∷◌, ◌++◌, Option, Some, None, length, refl, sym, ap, ◌∙◌, subst, inl, inr, ◌⊎◌, arith, length-append}
 use Rattle.snb_base.specs.Shelf.{Files}
 use Rattle.snb_schema.specs.declared.file.FileId.{FileId}
 use Rattle.snb_schema.specs.declared.refusal.Refusal.{Refusal}
-use Rattle.snb_schema.specs.Input.{FilesRefuse, FirstFault, KeyFault, NoPersonHeader, PersonFault, Refuses, RefusesHeld, StreamFault, Then, Within, held_in, person_file, person_stream, stream_of}
+use Rattle.snb_schema.specs.Input.{FilesRefuse, AreLines, AreRows, FirstFault, IsNotClosed, NoPersonHeader, PersonFault, Refuses, RefusesHeld, StreamFault, Then, Within, held_in, person_file, person_stream, stream_of}
+use Rattle.snb_schema.specs.declared.key.Key.{Key}
+use Rattle.snb_schema.specs.declared.op.Line.{Line}
+use Rattle.snb_schema.specs.declared.refusal.Refusal.TheVariants.{Unmet}
+use Rattle.snb_schema.specs.declared.row.Row.{Row}
+use Rattle.snb_schema.specs.declared.table.Kind.TheVariants as kind
+use Rattle.snb_schema.specs.Closed.{persons_of, IsMet, IsFirstLacking, IsWrong, IsFirstWrong}
+use Rattle.snb_schema.specs.Graph.{IsHeldIn}
 use Rattle.snb_schema.specs.Lines.{data_lines, lines}
+use Rattle.std.specs.List.{All}
+use Rattle.std.proofs.Math.Seq.{get_or-append_seam}
+use Rattle.snb_tool.proofs.RowLemmas.{one_dataset}
+use Rattle.snb_tool.proofs.StreamReaderLemmas.{one_stream}
 
 -- a fault of one line at most
 abbrev pub IsOne : (List (List ℕ) → List ℕ → Refusal → Type 0) → Type 0
 IsOne F = (before : List (List ℕ)) (line : List ℕ) (r q : Refusal) → F before line r → F before line q → r ≡ q
 
 -- two places in one list
-abbrev pub Places : List (List ℕ) → List ℕ → List (List ℕ) → List ℕ → Type 0
-Places b x c y =
-    ((b ≡ c) × (x ≡ y)) ⊎ ((m : List (List ℕ)) × (b ++ x ∷ m ≡ c)) ⊎ ((m : List (List ℕ)) × (c ++ y ∷ m ≡ b))
+abbrev pub Places : {X : Type 0} → List X → X → List X → X → Type 0
+Places {X} b x c y =
+    ((b ≡ c) × (x ≡ y)) ⊎ ((m : List X) × (b ++ x ∷ m ≡ c)) ⊎ ((m : List X) × (c ++ y ∷ m ≡ b))
 
 -- the rest of equal lists
-same_head : (x y : List ℕ) (xs ys : List (List ℕ)) → x ∷ xs ≡ y ∷ ys → x ≡ y
+same_head : {X : Type 0} (x y : X) (xs ys : List X) → x ∷ xs ≡ y ∷ ys → x ≡ y
 same_head x y xs ys e = cc
 
-same_rest : (x y : List ℕ) (xs ys : List (List ℕ)) → x ∷ xs ≡ y ∷ ys → xs ≡ ys
+same_rest : {X : Type 0} (x y : X) (xs ys : List X) → x ∷ xs ≡ y ∷ ys → xs ≡ ys
 same_rest x y xs ys e = cc
 
-places : (b : List (List ℕ)) (x : List ℕ) (d c : List (List ℕ)) (y : List ℕ) (e : List (List ℕ)) → b ++ x ∷ d ≡ c ++ y ∷ e → Places b x c y
+places : {X : Type 0} (b : List X) (x : X) (d c : List X) (y : X) (e : List X) → b ++ x ∷ d ≡ c ++ y ∷ e → Places b x c y
 places [] x d [] y e q = inl (refl, same_head x y d e q)
-places [] x d (z ∷ c) y e q = inr (inl (c, ap (λ (w : List ℕ). w ∷ c) (same_head x z d (c ++ y ∷ e) q)))
-places (w ∷ b) x d [] y e q = inr (inr (b, ap (λ (v : List ℕ). v ∷ b) (sym (same_head w y (b ++ x ∷ d) e q))))
-places (w ∷ b) x d (z ∷ c) y e q =
+places {X} [] x d (z ∷ c) y e q = inr (inl (c, ap (λ (w : X). w ∷ c) (same_head x z d (c ++ y ∷ e) q)))
+places {X} (w ∷ b) x d [] y e q = inr (inr (b, ap (λ (v : X). v ∷ b) (sym (same_head w y (b ++ x ∷ d) e q))))
+places {X} (w ∷ b) x d (z ∷ c) y e q =
     longer w z (same_head w z (b ++ x ∷ d) (c ++ y ∷ e) q) (places b x d c y e (same_rest w z (b ++ x ∷ d) (c ++ y ∷ e) q))
   where
-    longer : (w z : List ℕ) → w ≡ z → Places b x c y → Places (w ∷ b) x (z ∷ c) y
-    longer w z h (inl p) = inl (ap (λ (v : List ℕ). v ∷ b) h ∙ ap (λ (t : List (List ℕ)). z ∷ t) p.0, p.1)
-    longer w z h (inr (inl p)) = inr (inl (p.0, ap (λ (v : List ℕ). v ∷ (b ++ x ∷ p.0)) h ∙ ap (λ (t : List (List ℕ)). z ∷ t) p.1))
-    longer w z h (inr (inr p)) = inr (inr (p.0, ap (λ (v : List ℕ). v ∷ (c ++ y ∷ p.0)) (sym h) ∙ ap (λ (t : List (List ℕ)). w ∷ t) p.1))
+    longer : (w z : X) → w ≡ z → Places b x c y → Places (w ∷ b) x (z ∷ c) y
+    longer w z h (inl p) = inl (ap (λ (v : X). v ∷ b) h ∙ ap (λ (t : List X). z ∷ t) p.0, p.1)
+    longer w z h (inr (inl p)) = inr (inl (p.0, ap (λ (v : X). v ∷ (b ++ x ∷ p.0)) h ∙ ap (λ (t : List X). z ∷ t) p.1))
+    longer w z h (inr (inr p)) = inr (inr (p.0, ap (λ (v : X). v ∷ (c ++ y ∷ p.0)) (sym h) ∙ ap (λ (t : List X). w ∷ t) p.1))
 
 -- the first fault is one
 first_one : (F : List (List ℕ) → List ℕ → Refusal → Type 0) (ls : List (List ℕ)) (r q : Refusal) → IsOne F → FirstFault F ls r → FirstFault F ls q → r ≡ q
@@ -66,29 +77,71 @@ person_one before line r q (inr x) (inr y) = x.2 ∙ sym y.2
 stream_one : (used : ℕ) → IsOne (StreamFault used)
 stream_one used before line r q x y = x.1 ∙ sym y.1
 
-key_one : (held : List (List ℕ)) → IsOne (KeyFault held)
-key_one held before line r q x y = x.5 ∙ sym y.5
+-- of a list one id is the first that lacks a property
+lacking_one : (P : ℕ → Type 0) (ids : List ℕ) (a b : ℕ) → IsFirstLacking P ids a → IsFirstLacking P ids b → a ≡ b
+lacking_one P ids a b f g = by_place (places f.front a f.rest g.front b g.rest (f.splits ∙ sym g.splits))
+  where
+    among : (front : List ℕ) (x : ℕ) (rest whole : List ℕ) → front ++ x ∷ rest ≡ whole → All P whole → P x
+    among front x rest whole e all =
+        subst P (get_or-append_seam front x rest x) (subst (All P) (sym e) all (length front) x (omega (arith, length-append front (x ∷ rest))))
+
+    by_place : Places f.front a g.front b → a ≡ b
+    by_place (inl p) = p.1
+    by_place (inr (inl p)) = absurd (f.lacking (among f.front a p.0 g.front p.1 g.before))
+    by_place (inr (inr p)) = absurd (g.lacking (among g.front b p.0 f.front p.1 f.before))
+
+wrong_one : (holds : Key → Type 0) (file : FileId) (all before : List Line) (x : Line) (r q : Refusal) → IsWrong holds file all before x r → IsWrong holds file all before x q → r ≡ q
+wrong_one holds file all before x r q (inl a) (inl b) = a.1 ∙ sym b.1
+wrong_one holds file all before x r q (inl a) (inr (inl b)) = absurd (b.0 a.0)
+wrong_one holds file all before x r q (inl a) (inr (inr b)) = absurd (b.0 a.0)
+wrong_one holds file all before x r q (inr (inl a)) (inl b) = absurd (a.0 b.0)
+wrong_one holds file all before x r q (inr (inl a)) (inr (inl b)) = a.2 ∙ sym b.2
+wrong_one holds file all before x r q (inr (inl a)) (inr (inr b)) = absurd (b.1 a.1)
+wrong_one holds file all before x r q (inr (inr a)) (inl b) = absurd (a.0 b.0)
+wrong_one holds file all before x r q (inr (inr a)) (inr (inl b)) = absurd (a.1 b.1)
+wrong_one holds file all before x r q (inr (inr a)) (inr (inr b)) =
+    a.2.2
+    ∙ ap (λ (id : ℕ). Unmet file x.number (record { kind = kind.Person; id = id })) (lacking_one (IsMet holds all x.t_d) (persons_of x.op) a.2.0 b.2.0 a.2.1 b.2.1)
+    ∙ sym b.2.2
+
+first_wrong_one : (holds : Key → Type 0) (file : FileId) (all : List Line) (r q : Refusal) → IsFirstWrong holds file all r → IsFirstWrong holds file all q → r ≡ q
+first_wrong_one holds file all r q f g = by_place (places f.before f.insert f.after g.before g.insert g.after (f.splits ∙ sym g.splits))
+  where
+    by_place : Places f.before f.insert g.before g.insert → r ≡ q
+    by_place (inl p) =
+        wrong_one holds file all g.before g.insert r q
+        (subst (λ (x : Line). IsWrong holds file all g.before x r) p.1 (subst (λ (b : List Line). IsWrong holds file all b f.insert r) p.0 f.wrong)) g.wrong
+    by_place (inr (inl p)) = absurd (g.none_before f.before f.insert p.0 r p.1 f.wrong)
+    by_place (inr (inr p)) = absurd (f.none_before g.before g.insert p.0 q p.1 g.wrong)
+
+-- what isn't closed, over one dataset and one list of inserts
+pub over_one : (persons stream : List ℕ) (dataset : List Row) (inserts : List Line) (r : Refusal) → AreRows (data_lines (lines persons)) dataset → AreLines 0 (lines stream) inserts
+    → IsNotClosed persons stream r → IsFirstWrong (IsHeldIn dataset) person_stream inserts r
+over_one persons stream dataset inserts r rows read n =
+    subst (λ (xs : List Line). IsFirstWrong (IsHeldIn dataset) person_stream xs r) (one_stream 0 (lines stream) n.inserts inserts n.read read)
+    (subst (λ (rs : List Row). IsFirstWrong (IsHeldIn rs) person_stream n.inserts r) (one_dataset (data_lines (lines persons)) n.dataset dataset n.rows rows) n.wrong)
+
+not_closed_one : (persons stream : List ℕ) (r q : Refusal) → IsNotClosed persons stream r → IsNotClosed persons stream q → r ≡ q
+not_closed_one persons stream r q a b =
+    first_wrong_one (IsHeldIn b.dataset) person_stream b.inserts r q (over_one persons stream b.dataset b.inserts r b.rows b.read a) b.wrong
 
 header_one : (ls : List (List ℕ)) (r q : Refusal) → NoPersonHeader ls r → NoPersonHeader ls q → r ≡ q
 header_one ls r q x y = x.1 ∙ sym y.1
 
--- what is wrong with the lines of the person file, with those of the stream, and with the keys
+-- what is wrong with the lines of the person file, and with those of the stream
 abbrev pub Rows : List ℕ → Refusal → Type 0
 Rows persons = FirstFault (Within 0 (length persons) person_file PersonFault) (lines persons)
 
 abbrev pub Inserts : List ℕ → List ℕ → Refusal → Type 0
 Inserts persons stream = FirstFault (Within (length persons) (length stream) person_stream (StreamFault (length (data_lines (lines persons))))) (lines stream)
 
-abbrev pub Keys : List ℕ → List ℕ → Refusal → Type 0
-Keys persons stream = FirstFault (KeyFault (lines persons)) (lines stream)
-
 files_one : (persons stream : List ℕ) (r q : Refusal) → FilesRefuse persons stream r → FilesRefuse persons stream q → r ≡ q
 files_one persons stream r q =
-    then_one (Rows persons) (Then (NoPersonHeader (lines persons)) (Then (Inserts persons stream) (Keys persons stream))) r q (λ a b. first_one _ (lines persons) a b (within_one 0 (length persons) person_file PersonFault person_one))
-    (λ c d. then_one (NoPersonHeader (lines persons)) (Then (Inserts persons stream) (Keys persons stream)) c d (header_one (lines persons))
-    (λ e f. then_one (Inserts persons stream) (Keys persons stream) e f
+    then_one (Rows persons) (Then (NoPersonHeader (lines persons)) (Then (Inserts persons stream) (IsNotClosed persons stream))) r q (λ a b. first_one _ (lines persons) a b (within_one 0 (length persons) person_file PersonFault person_one))
+    (λ c d. then_one (NoPersonHeader (lines persons)) (Then (Inserts persons stream) (IsNotClosed persons stream)) c d (header_one (lines persons))
+    (λ e f. then_one (Inserts persons stream) (IsNotClosed persons stream) e f
     (λ a b. first_one _ (lines stream) a b (within_one (length persons) (length stream) person_stream (StreamFault (length (data_lines (lines persons)))) (stream_one (length (data_lines (lines persons))))))
-    (λ a b. first_one (KeyFault (lines persons)) (lines stream) a b (key_one (lines persons)))))
+    (not_closed_one persons stream)))
 
 pub one_refusal : (folder : List ℕ) (files : Files) (r q : Refusal) → Refuses folder files r → Refuses folder files q → r ≡ q
 one_refusal folder files r q = by_held (held_in folder files person_file)

@@ -5,6 +5,7 @@ use Rattle.snb_base.specs.Spellings.{value_after}
 use Rattle.snb_schema.specs.declared.person.Person.{Person}
 use Rattle.snb_schema.specs.declared.row.Row.{Row}
 use Rattle.snb_schema.specs.declared.row.Row.TheVariants as row
+use Rattle.snb_schema.specs.declared.table.Table.{Table}
 use Rattle.snb_schema.specs.declared.table.Table.TheVariants as table
 use Rattle.snb_schema.specs.Columns.{Column, Number, Date, Day, Words, TextList, IdList, PairList, Value, Digits, Letters, Texts, Ids, Pairs, Spells, SpellsAll}
 use Rattle.snb_schema.specs.Input.{AreRows}
@@ -76,6 +77,30 @@ same_person p q e =
 pub one_person : (line : List ℕ) (p q : Person) → IsRow table.Person line (row.Person p) → IsRow table.Person line (row.Person q) → p ≡ q
 one_person line p q h k = same_person p q (spells_one (columns table.Person) (fields line) (person_values p) (person_values q) h.spelled k.spelled)
 
+-- a line of the person file is no edge's row
+pub no_dated : (line : List ℕ) (t : Table) (from to date : ℕ) → IsRow table.Person line (row.Dated t from to date) → ⊥
+no_dated line t from to date i = by_fields (fields line) i.spelled
+  where
+    by_fields : (xs : List (List ℕ)) → SpellsAll (columns table.Person) xs (Digits from ∷ Digits to ∷ Digits date ∷ []) → ⊥
+    by_fields [] h = h
+    by_fields (x ∷ []) h = h.1
+    by_fields (x ∷ y ∷ xs) h = h.1.0
+
+-- a line is one row
+pub one_row : (line : List ℕ) (r q : Row) → IsRow table.Person line r → IsRow table.Person line q → r ≡ q
+one_row line (row.Person p) (row.Person q) h k = ap row.Person (one_person line p q h k)
+one_row line (row.Person p) (row.Dated t from to date) h k = absurd (no_dated line t from to date k)
+one_row line (row.Dated t from to date) q h k = absurd (no_dated line t from to date h)
+
+-- lines have one list of rows
+pub one_dataset : (ls : List (List ℕ)) (rs qs : List Row) → AreRows ls rs → AreRows ls qs → rs ≡ qs
+one_dataset [] [] [] a b = refl
+one_dataset [] [] (q ∷ qs) a b = absurd b
+one_dataset [] (r ∷ rs) qs a b = absurd a
+one_dataset (l ∷ ls) [] qs a b = absurd a
+one_dataset (l ∷ ls) (r ∷ rs) [] a b = absurd b
+one_dataset (l ∷ ls) (r ∷ rs) (q ∷ qs) a b = λ i. one_row l r q a.0 b.0 i ∷ one_dataset ls rs qs a.1 b.1 i
+
 -- an element is the first one, or stands after it
 pub contains_cases : {X : Type 0} (y : X) (ys : List X) (x : X) → Contains (y ∷ ys) x → (y ≡ x) ⊎ Contains ys x
 contains_cases y ys x h = by_place h.0 h.1 h.2
@@ -102,6 +127,7 @@ row_among (l ∷ ls) (row.Person p ∷ rs) line q a c i =
           subst (λ (z : Person). Contains (row.Person p ∷ rs) (row.Person z)) same (contains_here (row.Person p) rs)
       | inr k ↦ contains_there (row.Person p) rs (row.Person q) (row_among ls rs line q a.1 k i)
     ]
+row_among (l ∷ ls) (row.Dated t from to date ∷ rs) line q a c i = absurd (no_dated l t from to date a.0)
 
 -- a row among the rows of the lines is that of one of them
 pub line_among : (ls : List (List ℕ)) (rs : List Row) (q : Person) → AreRows ls rs → Contains rs (row.Person q) → (line : List ℕ) × Contains ls line × IsRow table.Person line (row.Person q)

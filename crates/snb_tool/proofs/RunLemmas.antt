@@ -1,121 +1,101 @@
 -- Facts on the rows and keys of a run.
-use Rattle.std.proofs.Common.{◌≡◌, ℕ, suc, ◌+◌, ◌<◌, List, [], ◌∷◌, ◌++◌, length, take, drop, get_or, Bool, true, false, cond, Option, Some, None, is_some, ◌⊎◌, inl, inr, refl, sym, ap, ◌∙◌, subst, arith, append-nil, drop-cons}
-use Rattle.std.specs.declared.cmp.Ordering.TheVariants.{Less, Equal, Greater}
-use Rattle.std.specs.BTreeMap.{insert_entry, is_at}
-use Rattle.std.specs.Map.{lookup}
-use Rattle.std.specs.Ordering.{nat_cmp, match_ordering, is_eq}
+use Rattle.std.proofs.Common.{◌≡◌, ℕ, ◌+◌, ◌<◌, List, [], ◌∷◌, ◌++◌, length, take, drop, get_or, true, false, inl, inr, sym, ap, ◌∙◌, subst, arith, append-nil, append_assoc}
+use Rattle.std.specs.List.{Contains}
+use Rattle.std.specs.List.Sorted.{IsPermutation}
+use Rattle.std.proofs.lemmas.Bool.{cases_lt, not-true}
 use Rattle.std.proofs.lemmas.Grind.{flat_map-append}
-use Rattle.std.proofs.lemmas.List.{take_more}
-use Rattle.std.proofs.lemmas.Map.Lookups.{exact_unsigned}
+use Rattle.std.proofs.lemmas.List.{take_more, get_or_past, get_or_default}
+use Rattle.std.proofs.lemmas.List.Elements.{Contains-append_cases}
+use Rattle.std.proofs.lemmas.List.Sorted.{Contains-permutation, IsPermutation-append_left, IsPermutation-trans}
+use Rattle.snb_schema.specs.declared.key.Key.{Key}
 use Rattle.snb_schema.specs.declared.op.Line.{Line}
 use Rattle.snb_schema.specs.declared.op.Op.{Op}
-use Rattle.snb_schema.specs.declared.op.Op.TheVariants.{AddPerson}
-use Rattle.snb_schema.specs.declared.person.Person.{Person}
+use Rattle.snb_schema.specs.declared.op.Op.TheVariants.{AddPerson, AddFriend}
 use Rattle.snb_schema.specs.declared.row.Row.{Row}
-use Rattle.snb_schema.specs.declared.row.Row.TheVariants as row
-use Rattle.snb_schema.specs.Graph.{Graph, IsGraph, HoldsRows, rows_of}
-use Rattle.snb_schema.specs.Input.{added_id}
-use Rattle.snb_tool.specs.Loading.{IsKeyTaken, KeysNew}
+use Rattle.snb_schema.specs.declared.step.Step.{Step}
+use Rattle.snb_schema.specs.Closed.{key_of, IsTaken, IsClosed}
+use Rattle.snb_schema.specs.Graph.{Graph, HoldsKey, all_rows, key_of_row, rows_of}
+use Rattle.snb_schema.specs.Plan.{adds_person, plan_of, ArePlanned}
+use Rattle.snb_schema.specs.Schedule.{IsTimely, no_step, step_of}
+use Rattle.snb_schema.proofs.Planned.{planned_is_timely}
+use Rattle.snb_plan.proofs.ClosedLemmas.{split_here}
+use Rattle.snb_plan.proofs.PlanLemmas.{plan_length, plan_times, planned_plan}
 use Rattle.snb_tool.specs.Running.{rows_of_all}
 use Rattle.snb_tool.specs.Turns.{IsAdded}
-use Rattle.snb_tool.proofs.PersonReaderLemmas.{holds_push}
-use Rattle.snb_tool.proofs.RowLemmas.{contains_here, contains_there}
+use Rattle.snb_tool.proofs.RowLemmas.{contains_cases, contains_here, contains_there}
 
--- keys that compare as equal are equal
-same_key : (q k : ℕ) → is_eq (nat_cmp q k) ≡ true → q ≡ k
-same_key q k h =
-    elim (nat_cmp q k) as (λ o. nat_cmp q k ≡ o → is_eq o ≡ true → q ≡ k) [
-      | Less ↦ λ e t. absurd cc
-      | Equal ↦ λ e t. exact_unsigned q k e
-      | Greater ↦ λ e t. absurd cc
-    ] refl h
+-- the key of an insert is that of its row
+key_of_rows : (op : Op) (r : Row) → Contains (rows_of op) r → key_of_row r ≡ key_of op
+key_of_rows (AddPerson id first last gender birthday created ip browser city languages emails tags study work) r c =
+    elim (contains_cases _ [] r c) [ inl e ↦ sym (ap key_of_row e) | inr none ↦ absurd (let l = none.1 in omega arith) ]
+key_of_rows (AddFriend one other date) r c =
+    elim (contains_cases _ [] r c) [ inl e ↦ sym (ap key_of_row e) | inr none ↦ absurd (let l = none.1 in omega arith) ]
 
--- what is found is the first entry's, or found after it
-by_first : (t : Bool) (v : Person) (o : Option Person) → is_some (cond t (Some v) o) ≡ true → (t ≡ true) ⊎ (is_some o ≡ true)
-by_first true v o h = inl refl
-by_first false v o h = inr h
+-- a row of the inserts is that of one of them
+row_of_one : (xs : List Line) (r : Row) → Contains (rows_of_all xs) r → (y : Line) × Contains xs y × Contains (rows_of y.op) r
+row_of_one [] r c = absurd (let l = c.1 in omega arith)
+row_of_one (x ∷ xs) r c =
+    elim (Contains-append_cases (rows_of x.op) (rows_of_all xs) r c) [
+      | inl here ↦ (x, contains_here x xs, here)
+      | inr later ↦ let y = row_of_one xs r later in (y.0, contains_there x xs y.0 y.1, y.2)
+    ]
 
--- what passes first is found
-found_first : (t : Bool) (v : Person) (o : Option Person) → t ≡ true → is_some (cond t (Some v) o) ≡ true
-found_first true v o h = refl
-found_first false v o h = absurd cc
-
--- what is found after the first entry is found
-found_rest : (t : Bool) (v : Person) (o : Option Person) → is_some o ≡ true → is_some (cond t (Some v) o) ≡ true
-found_rest true v o h = refl
-found_rest false v o h = h
-
--- there is an entry under the key
-abbrev IsFound : List (ℕ × Person) → ℕ → Type 0
-IsFound es q = is_some (lookup (is_at (nat_cmp q)) es) ≡ true
-
--- a key that is found with one more entry was found before, or is the new one
-found_before : (es : List (ℕ × Person)) (k : ℕ) (p : Person) (q : ℕ) → IsFound (insert_entry nat_cmp es k p) q → IsFound es q ⊎ (k ≡ q)
-found_before [] k p q h = elim (by_first (is_eq (nat_cmp q k)) p None h) [ inl t ↦ inr (sym (same_key q k t)) | inr o ↦ inl o ]
-found_before (e ∷ es) k p q h =
-    elim (nat_cmp k e.0) as (λ o. IsFound (match_ordering o ((k, p) ∷ e ∷ es) ((e.0, p) ∷ es) (e ∷ insert_entry nat_cmp es k p)) q → IsFound (e ∷ es) q ⊎ (k ≡ q)) [
-      | Less ↦ λ m. elim (by_first (is_eq (nat_cmp q k)) p (lookup (is_at (nat_cmp q)) (e ∷ es)) m) [ inl t ↦ inr (sym (same_key q k t)) | inr o ↦ inl o ]
-      | Equal ↦ λ m. inl (elim (by_first (is_eq (nat_cmp q e.0)) p (lookup (is_at (nat_cmp q)) es) m) [ inl t ↦ here t | inr o ↦ later o ])
-      | Greater ↦ λ m. elim (by_first (is_eq (nat_cmp q e.0)) e.1 (lookup (is_at (nat_cmp q)) (insert_entry nat_cmp es k p)) m) [
-        | inl t ↦ inl (here t)
-        | inr o ↦ elim (found_before es k p q o) [ inl f ↦ inl (later f) | inr same ↦ inr same ]
-      ]
-    ] h
-  where
-    here : is_eq (nat_cmp q e.0) ≡ true → IsFound (e ∷ es) q
-    here t = found_first (is_eq (nat_cmp q e.0)) e.1 (lookup (is_at (nat_cmp q)) es) t
-
-    later : IsFound es q → IsFound (e ∷ es) q
-    later o = found_rest (is_eq (nat_cmp q e.0)) e.1 (lookup (is_at (nat_cmp q)) es) o
-
--- the key of the first row
-abbrev first_id : List Row → ℕ
-first_id [] = 0
-first_id (row.Person p ∷ rs) = p.id
-
--- the key of the one row that an insert adds
-added_key : (op : Op) (p : Person) → rows_of op ≡ row.Person p ∷ [] → p.id ≡ added_id op
-added_key (AddPerson id first last gender birthday created ip browser city languages emails tags study work) p e = sym (ap first_id e)
-
--- where nothing is there, it is None
-not_some : (o : Option Person) → (is_some o ≡ true → ⊥) → o ≡ None
-not_some None h = refl
-not_some (Some p) h = absurd (h refl)
+-- a key that the graph holds after the first inserts is one of the dataset's or of theirs
+pub taken_after : (old new : Graph) (before : List Line) (x : Line) → IsPermutation (all_rows new) (all_rows old ++ rows_of_all before) → HoldsKey new (key_of x.op) → IsTaken (HoldsKey old) before x
+taken_after old new before x same held =
+    elim (Contains-append_cases (all_rows old) (rows_of_all before) held.0 (Contains-permutation (all_rows new) (all_rows old ++ rows_of_all before) held.0 same held.1)) [
+      | inl first ↦ inl (held.0, first, held.2)
+      | inr added ↦ let y = row_of_one before held.0 added in inr (y.0, y.1, sym (key_of_rows y.0.op held.0 y.2) ∙ held.2)
+    ]
 
 -- the key of the next insert is new to the graph
-pub key_new : (g : Graph) (x : Line) (xs : List Line) → KeysNew g (x ∷ xs) → lookup (is_at (nat_cmp (added_id x.op))) g.persons ≡ None
-key_new g x xs n = not_some (lookup (is_at (nat_cmp (added_id x.op))) g.persons) (λ found. n.new [] x xs refl (inl found))
-
--- the keys after it are new to the graph with its row
-pub keys_after : (x : Line) (xs : List Line) (old new : Graph) → KeysNew old (x ∷ xs) → IsAdded x.op old new → KeysNew new xs
-keys_after x xs old new n a = record {
-  new = λ before y after splits taken. n.new (x ∷ before) y after (ap (λ (ys : List Line). x ∷ ys) splits) (was_taken before y taken);
-}
+pub key_new : (lines : List Line) (old new : Graph) (count : ℕ) (d : Line) → count < length lines → IsClosed (HoldsKey old) lines
+    → IsPermutation (all_rows new) (all_rows old ++ rows_of_all (take count lines)) → HoldsKey new (key_of (get_or lines count d).op) → ⊥
+key_new lines old new count d lt closed same held =
+    let x : Line = get_or lines count d in
+    let at = closed.each (take count lines) x (drop (count + 1) lines) (split_here lines count x lt (get_or_self lines count d lt)) in
+    at.new (taken_after old new (take count lines) x same held)
   where
-    key : a.person.id ≡ added_id x.op
-    key = added_key x.op a.person a.row
-
-    was_taken : (before : List Line) (y : Line) → IsKeyTaken new before y → IsKeyTaken old (x ∷ before) y
-    was_taken before y (inl found) =
-        elim (found_before old.persons a.person.id a.person (added_id y.op) (subst (λ (g : Graph). IsFound g.persons (added_id y.op)) a.entered found)) [
-          | inl h ↦ inl h
-          | inr e ↦ inr (x, contains_here x before, sym key ∙ e)
-        ]
-    was_taken before y (inr other) = inr (other.0, contains_there x before other.0 other.1, other.2)
-
--- the rows of the graph, and those of one insert more
-pub rows_after : (x : Line) (dataset : List Row) (old new : Graph) → HoldsRows old dataset → lookup (is_at (nat_cmp (added_id x.op))) old.persons ≡ None → IsAdded x.op old new → HoldsRows new (dataset ++ rows_of x.op)
-rows_after x dataset old new h none a =
-    let key = added_key x.op a.person a.row in
-    let pushed = holds_push old dataset a.person h (subst (λ (k : ℕ). lookup (is_at (nat_cmp k)) old.persons ≡ None) (sym key) none) (subst IsGraph a.entered a.graph) in
-    subst (λ (g : Graph). HoldsRows g (dataset ++ rows_of x.op)) (sym a.entered) (subst (λ (rs : List Row). HoldsRows (record { persons = insert_entry nat_cmp old.persons a.person.id a.person }) (dataset ++ rs)) (sym a.row) pushed)
-
--- the inserts from the k-th on
-pub rest_at : (xs : List Line) (k : ℕ) (d : Line) → k < length xs → drop k xs ≡ get_or xs k d ∷ drop (k + 1) xs
-rest_at xs k d lt = (let next : suc k ≡ k + 1 = omega arith in drop-cons xs k d lt ∙ ap (λ (n : ℕ). get_or xs k d ∷ drop n xs) next)
+    get_or_self : (xs : List Line) (k : ℕ) (e : Line) → k < length xs → get_or xs k e ≡ get_or xs k (get_or xs k e)
+    get_or_self xs k e l = get_or_default xs k e (get_or xs k e) l
 
 -- the rows of the first inserts, and those of the next
 pub rows_more : (xs : List Line) (k : ℕ) (d : Line) → k < length xs → rows_of_all (take (k + 1) xs) ≡ rows_of_all (take k xs) ++ rows_of (get_or xs k d).op
 rows_more xs k d lt =
     ap rows_of_all (take_more xs k d lt) ∙ flat_map-append (λ (x : Line). rows_of x.op) (take k xs) (get_or xs k d ∷ [])
     ∙ ap (λ (rs : List Row). rows_of_all (take k xs) ++ rs) (append-nil (rows_of (get_or xs k d).op))
+
+-- the rows of the graph, and those of one insert more
+pub rows_after : (lines : List Line) (old graph new : Graph) (count : ℕ) (d : Line) → count < length lines
+    → IsPermutation (all_rows graph) (all_rows old ++ rows_of_all (take count lines)) → IsAdded (get_or lines count d).op graph new
+    → IsPermutation (all_rows new) (all_rows old ++ rows_of_all (take (count + 1) lines))
+rows_after lines old graph new count d lt same added =
+    let before : List Row = rows_of_all (take count lines) in
+    let moved = IsPermutation-trans _ _ _ added.gained.rows (IsPermutation-append_left (added.row ∷ []) (all_rows graph) (all_rows old ++ before) same) in
+    subst (IsPermutation (all_rows new))
+    (append_assoc (all_rows old) before (added.row ∷ [])
+    ∙ ap (λ (rs : List Row). all_rows old ++ (before ++ rs)) (sym added.is)
+    ∙ ap (λ (rs : List Row). all_rows old ++ rs) (sym (rows_more lines count d lt)))
+    moved
+
+-- the plan of inserts that are closed is timely
+pub plan_timely : (xs : List Line) (holds : Key → Type 0) → ArePlanned xs → IsClosed holds xs → IsTimely (plan_of xs)
+plan_timely xs holds planned closed =
+    planned_is_timely (plan_of xs) (planned_plan xs planned)
+    (λ k waits. elim (cases_lt k (length xs)) [
+      | inl lt ↦ below xs closed k lt waits
+      | inr past ↦ absurd (
+          let none : step_of (plan_of xs) k ≡ no_step = get_or_past (plan_of xs).steps k no_step (let l = plan_length xs in omega arith) in
+          let free = ap (λ (s : Step). s.dependent) none in
+          cc)
+    ])
+  where
+    below : (ys : List Line) → IsClosed holds ys → (k : ℕ) → k < length ys → (step_of (plan_of ys) k).dependent ≡ true → (step_of (plan_of ys) k).t_d < (step_of (plan_of ys) k).t
+    below [] c k lt waits = absurd (omega arith)
+    below (y ∷ ys) c k lt waits =
+        let x : Line = get_or (y ∷ ys) k y in
+        let at = c.each (take k (y ∷ ys)) x (drop (k + 1) (y ∷ ys)) (split_here (y ∷ ys) k x lt (get_or_default (y ∷ ys) k y x lt)) in
+        let times = plan_times y ys k lt in
+        let waits_op : adds_person x.op ≡ false = not-true (adds_person x.op) (sym times.waits ∙ waits) in
+        let lt_t = at.timely waits_op in
+        omega (arith, times.t, times.t_d)

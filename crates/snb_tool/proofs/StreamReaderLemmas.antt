@@ -1,5 +1,5 @@
 -- Facts on a reader of the update stream.
-use Rattle.std.proofs.Common.{◌≡◌, ℕ, ◌+◌, ◌<◌, ◌≤◌, true, false, List, [], ◌∷◌, ◌++◌, length, refl, sym, ap, subst, inl, inr, arith, length-append, eqb}
+use Rattle.std.proofs.Common.{◌≡◌, ℕ, ◌+◌, ◌<◌, ◌≤◌, true, false, List, [], ◌∷◌, ◌++◌, length, refl, sym, ap, ◌∙◌, subst, inl, inr, arith, length-append, eqb}
 use Rattle.std.specs.Prelude.{slice_index_or}
 use Rattle.std.specs.List.{All, Contains}
 use Rattle.std.proofs.lemmas.List.Elements.{All-contains, All-append, All-cons, All-nil, Contains-append_right}
@@ -10,14 +10,14 @@ use Rattle.std.proofs.Math.Seq.{get_or-append_seam}
 use Rattle.snb_schema.specs.declared.limits.TheConstants.{MAX_ROWS, MAX_TIME}
 use Rattle.snb_schema.specs.declared.op.Line.{Line}
 use Rattle.snb_schema.specs.declared.op.Op.{Op}
-use Rattle.snb_schema.specs.declared.op.Op.TheVariants.{AddPerson}
+use Rattle.snb_schema.specs.declared.op.Op.TheVariants.{AddPerson, AddFriend}
 use Rattle.snb_schema.specs.declared.refusal.Refusal.{Refusal}
 use Rattle.snb_schema.specs.declared.refusal.Refusal.TheVariants.{BadLine}
-use Rattle.snb_schema.specs.Columns.{Number, Digits, SpellsAll}
+use Rattle.snb_schema.specs.Columns.{Column, Number, Value, Digits, SpellsAll}
 use Rattle.snb_schema.specs.Input.{AreLines, StreamFault, person_stream, number_of}
 use Rattle.snb_schema.specs.Lines.{filled, fields}
-use Rattle.snb_schema.specs.UpdateLines.{IsLine, op_columns, op_values, op_number}
-use Rattle.snb_tool.specs.StreamLines.{InsertsSound, InsertsStand, insert_columns}
+use Rattle.snb_schema.specs.UpdateLines.{IsLine, IsOfTwo, op_columns, op_values, op_number}
+use Rattle.snb_tool.specs.StreamLines.{InsertsSound, InsertsStand, friend_columns, insert_columns}
 use Rattle.snb_tool.proofs.PersonReaderLemmas.{is_filled_true}
 use Rattle.snb_tool.proofs.RowLemmas.{spells_one, contains_cases, contains_here, contains_there}
 
@@ -27,12 +27,42 @@ pub record Same (a b c d : ℕ) (e f : Op) : Type 0 where
   pub t_d : c ≡ d
   pub op : e ≡ f
 
+-- the third field of a line is one number
+other_number : (xs : List (List ℕ)) (cs ds : List Column) (vs ws : List Value) (t d t' d' : ℕ) →
+    SpellsAll (Number MAX_TIME ∷ Number MAX_TIME ∷ Number 1 ∷ cs) xs (Digits t ∷ Digits d ∷ Digits 1 ∷ vs) →
+    SpellsAll (Number MAX_TIME ∷ Number MAX_TIME ∷ Number 8 ∷ ds) xs (Digits t' ∷ Digits d' ∷ Digits 8 ∷ ws) → ⊥
+other_number [] cs ds vs ws t d u e h k = h
+other_number (x ∷ []) cs ds vs ws t d u e h k = h.1
+other_number (x ∷ y ∷ []) cs ds vs ws t d u e h k = h.1.1
+other_number (x ∷ y ∷ z ∷ xs) cs ds vs ws t d u e h k = (let one = h.1.1.0.value in let eight = k.1.1.0.value in omega (arith, one, eight))
+
 pub one_line : (line : List ℕ) (t t' t_d t_d' : ℕ) (op op' : Op) → IsLine line t t_d op → IsLine line t' t_d' op' → Same t t' t_d t_d' op op'
 one_line line t t' d d' (AddPerson a b c e f g h i j k l m n o) (AddPerson a' b' c' e' f' g' h' i' j' k' l' m' n' o') x y =
     let values = op_values (AddPerson a b c e f g h i j k l m n o) in
     let values' = op_values (AddPerson a' b' c' e' f' g' h' i' j' k' l' m' n' o') in
     let q = spells_one (Number MAX_TIME ∷ Number MAX_TIME ∷ Number 1 ∷ insert_columns) (fields line) (Digits t ∷ Digits d ∷ Digits 1 ∷ values) (Digits t' ∷ Digits d' ∷ Digits 1 ∷ values') x.spelled y.spelled in
     record { t = cc; t_d = cc; op = cc }
+one_line line t t' d d' (AddPerson a b c e f g h i j k l m n o) (AddFriend a' b' c') x y = absurd (other_number (fields line) insert_columns friend_columns (op_values (AddPerson a b c e f g h i j k l m n o)) (op_values (AddFriend a' b' c')) t d t' d' x.spelled y.spelled)
+one_line line t t' d d' (AddFriend a b c) (AddPerson a' b' c' e' f' g' h' i' j' k' l' m' n' o') x y = absurd (other_number (fields line) insert_columns friend_columns (op_values (AddPerson a' b' c' e' f' g' h' i' j' k' l' m' n' o')) (op_values (AddFriend a b c)) t' d' t d y.spelled x.spelled)
+one_line line t t' d d' (AddFriend a b c) (AddFriend a' b' c') x y =
+    let q = spells_one (Number MAX_TIME ∷ Number MAX_TIME ∷ Number 8 ∷ friend_columns) (fields line) (Digits t ∷ Digits d ∷ Digits 8 ∷ Digits a ∷ Digits b ∷ Digits c ∷ []) (Digits t' ∷ Digits d' ∷ Digits 8 ∷ Digits a' ∷ Digits b' ∷ Digits c' ∷ []) x.spelled y.spelled in
+    let one : a ≡ a' = cc in
+    let other : b ≡ b' = cc in
+    let date : c ≡ c' = cc in
+    record { t = cc; t_d = cc; op = λ i. AddFriend (one i) (other i) (date i) }
+
+-- lines have one list of inserts
+pub one_stream : (n : ℕ) (ls : List (List ℕ)) (xs ys : List Line) → AreLines n ls xs → AreLines n ls ys → xs ≡ ys
+one_stream n [] [] [] a b = refl
+one_stream n [] [] (y ∷ ys) a b = absurd b
+one_stream n [] (x ∷ xs) ys a b = absurd a
+one_stream n ([] ∷ ls) xs ys a b = one_stream (n + 1) ls xs ys a b
+one_stream n ((c ∷ cs) ∷ ls) [] ys a b = absurd a
+one_stream n ((c ∷ cs) ∷ ls) (x ∷ xs) [] a b = absurd b
+one_stream n ((c ∷ cs) ∷ ls) (x ∷ xs) (y ∷ ys) a b =
+    let one = one_line (c ∷ cs) x.t y.t x.t_d y.t_d x.op y.op a.1 b.1 in
+    let numbers : x.number ≡ y.number = a.0 ∙ sym b.0 in
+    λ i. record { t = one.t i; t_d = one.t_d i; op = one.op i; number = numbers i } ∷ one_stream (n + 1) ls xs ys a.2 b.2 i
 
 -- one more line without a byte
 lines_skip : (n : ℕ) (ls : List (List ℕ)) (xs : List Line) → AreLines n ls xs → AreLines n (ls ++ [] ∷ []) xs
@@ -189,12 +219,13 @@ timed_line line t t_d op i = timed (fields line) i.spelled
     timed (x ∷ y ∷ xs) s = (s.0.small, s.1.0.small)
 
 -- the inserts stay sound by one more line
-pub stream_sound : (used number last : ℕ) (inserts after : List Line) (line : List ℕ) (t t_d : ℕ) (op own : Op) → IsLine line t t_d op → last ≤ t → used + length inserts < MAX_ROWS →
+pub stream_sound : (used number last : ℕ) (inserts after : List Line) (line : List ℕ) (t t_d : ℕ) (op own : Op) → IsLine line t t_d op → own ≡ op → last ≤ t → used + length inserts < MAX_ROWS →
     after ≡ inserts ++ record { t = t; t_d = t_d; op = own; number = number } ∷ [] → InsertsSound inserts last → InsertsSound after t
-stream_sound used number last inserts after line t t_d op own i le few e s =
+stream_sound used number last inserts after line t t_d op own i same le few e s =
     let x : Line = record { t = t; t_d = t_d; op = own; number = number } in
     let later : All (λ (y : Line). y.t ≤ t) inserts = λ k d l. (let old = s.latest k d l in omega arith) in
     let times = timed_line line t t_d op i in
+    let two : IsOfTwo own = subst IsOfTwo (sym same) i.of_two in
     subst (λ (xs : List Line). InsertsSound xs t) (sym e)
     (record {
       planned = record {
@@ -202,6 +233,7 @@ stream_sound used number last inserts after line t t_d op own i le few e s =
         timed = All-append (λ (y : Line). y.t ≤ MAX_TIME) inserts (x ∷ []) s.planned.timed (All-cons (λ (y : Line). y.t ≤ MAX_TIME) x [] times.0 (All-nil (λ (y : Line). y.t ≤ MAX_TIME)));
         needs_timed = All-append (λ (y : Line). y.t_d ≤ MAX_TIME) inserts (x ∷ []) s.planned.needs_timed (All-cons (λ (y : Line). y.t_d ≤ MAX_TIME) x [] times.1 (All-nil (λ (y : Line). y.t_d ≤ MAX_TIME)));
         rises = rises_push inserts last x s le;
+        of_two = All-append (λ (y : Line). IsOfTwo y.op) inserts (x ∷ []) s.planned.of_two (All-cons (λ (y : Line). IsOfTwo y.op) x [] two (All-nil (λ (y : Line). IsOfTwo y.op)));
       };
       latest = All-append (λ (y : Line). y.t ≤ t) inserts (x ∷ []) later (All-cons (λ (y : Line). y.t ≤ t) x [] (omega arith) (All-nil (λ (y : Line). y.t ≤ t)));
     })

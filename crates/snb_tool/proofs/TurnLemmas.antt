@@ -1,40 +1,38 @@
 -- Facts on the turns of a run by one worker.
-use Rattle.std.proofs.Common.{◌≡◌, ℕ, ◌+◌, ◌<◌, ◌≤◌, min, List, [], ◌∷◌, ◌++◌, length, take, drop, get_or, Bool, true, false, cond, ltb, eqb, Option, Some, None, inl, inr, refl, sym, ap, ◌∙◌, subst, arith, append_assoc, append-nil}
+use Rattle.std.proofs.Common.{◌≡◌, ℕ, ◌+◌, ◌<◌, ◌≤◌, min, List, [], ◌∷◌, ◌++◌, length, take, get_or, Bool, true, false, cond, ltb, eqb, Option, Some, None, inl, inr, refl, sym, ap, ◌∙◌, subst, ◌⊎◌, arith, append-nil}
 use Rattle.std.specs.Prelude.{ℤ}
-use Rattle.std.specs.BTreeMap.{is_at}
 use Rattle.std.specs.List.{All, AllByRecursion}
-use Rattle.std.specs.Map.{lookup}
 use Rattle.std.specs.Option.{IfSome}
-use Rattle.std.specs.Ordering.{nat_cmp}
+use Rattle.std.specs.List.Sorted.{IsPermutation}
 use Rattle.std.proofs.lemmas.Bool.{cases_lt}
 use Rattle.std.proofs.lemmas.Bool.Decides.{nat_tests}
 use Rattle.std.proofs.lemmas.List.{take_all}
 use Rattle.std.proofs.lemmas.List.Elements.{All-push, All-nil, recursion_from_All}
+use Rattle.std.proofs.lemmas.List.Sorted.{IsPermutation-append_left, IsPermutation-refl, IsPermutation-trans}
 use Rattle.snb_schema.specs.declared.event.Event.{Event}
 use Rattle.snb_schema.specs.declared.event.Event.TheVariants.{Start, Finish, Halt}
 use Rattle.snb_schema.specs.declared.limits.TheConstants.{MAX_AT}
 use Rattle.snb_schema.specs.declared.op.Line.{Line}
-use Rattle.snb_schema.specs.declared.row.Row.{Row}
-use Rattle.snb_schema.specs.Graph.{Graph, HoldsRows, rows_of}
-use Rattle.snb_schema.specs.Input.{added_id}
+use Rattle.snb_schema.specs.Closed.{key_of, IsClosed}
+use Rattle.snb_schema.specs.Graph.{Graph, HoldsKey, IsGraph, all_rows}
 use Rattle.snb_schema.specs.History.{started, finished, halted, hand, last}
-use Rattle.snb_schema.specs.Plan.{plan_of}
+use Rattle.snb_schema.specs.Plan.{plan_of, ArePlanned}
 use Rattle.snb_schema.specs.Rules.{Fits, IsFront, IsLegal, MayAct, V1}
-use Rattle.snb_schema.specs.Schedule.{Schedule}
+use Rattle.snb_schema.specs.Schedule.{Schedule, IsOperation, IsTimely}
 use Rattle.snb_schema.proofs.Held.{started-push, finished-push, hand-push}
 use Rattle.snb_schema.proofs.Histories.{IsLegal-push, IsLegal-nil}
 use Rattle.snb_schema.proofs.Pushes.{by_push}
 use Rattle.snb_schema.proofs.Short.{halted-push, last-push, last_is_bounded}
 use Rattle.snb_book.specs.declared.claim.Claim.{Claim}
-use Rattle.snb_book.specs.declared.claim.Claim.TheVariants.{Halted, AllStarted, Busy, Go, Blocked}
+use Rattle.snb_book.specs.declared.claim.Claim.TheVariants.{Halted, AllStarted, Busy, NotDue, Go, Blocked}
 use Rattle.snb_book.specs.declared.claim.Ticket.{Ticket}
 use Rattle.snb_book.specs.Claims.{IsClaim}
 use Rattle.snb_book.specs.Kept.{Kept, moment_after}
-use Rattle.snb_tool.specs.Loading.{KeysNew}
 use Rattle.snb_tool.specs.Running.{IsAt, HasRun, rows_of_all}
 use Rattle.snb_tool.specs.Turns.{IsAdded, HasDone}
-use Rattle.snb_tool.proofs.PlanLemmas.{plan_length, plan_plain}
-use Rattle.snb_tool.proofs.RunLemmas.{key_new, keys_after, rows_after, rest_at, rows_more}
+use Rattle.snb_plan.proofs.PlanLemmas.{plan_length, plan_plain}
+use Rattle.snb_book.proofs.Claiming.{claim_is_not_stuck}
+use Rattle.snb_tool.proofs.RunLemmas.{key_new, plan_timely, rows_after}
 
 -- what is true of each element is true of those before the last, and of the last
 all_front : {X : Type 0} (P : X → Type 0) (xs : List X) (x : X) → AllByRecursion P (xs ++ x ∷ []) → AllByRecursion P xs × P x
@@ -152,29 +150,49 @@ all_done lines fixed old new b at d claim =
         none_halted = d.running;
       };
       moments = d.moments;
-      rows = λ dataset h. subst (λ (xs : List Line). HoldsRows new (dataset ++ rows_of_all xs)) (take_all d.count lines all) (d.rows dataset h);
+      rows = λ dataset h. record {
+        graph = d.graph;
+        same = subst (λ (xs : List Line). IsPermutation (all_rows new) (dataset ++ rows_of_all xs)) (take_all d.count lines all)
+            (IsPermutation-trans _ _ _ d.rows (IsPermutation-append_left (rows_of_all (take d.count lines)) (all_rows old) dataset h.same));
+      };
     }
 
 -- nobody has halted
 pub not_halted : (lines : List Line) (fixed : Option ℕ) (old new : Graph) (b : Kept) (at : ℕ) → HasDone lines fixed old new b → IsClaim b.schedule b.history 0 at Halted → ⊥
 not_halted lines fixed old new b at d claim = let r = d.running claim.0 in let h = claim.1 in cc
 
--- the one worker has nothing in hand, and no insert waits for one before it
-pub not_busy : (lines : List Line) (fixed : Option ℕ) (old new : Graph) (b : Kept) (at op holder : ℕ) → HasDone lines fixed old new b → IsClaim b.schedule b.history 0 at (Busy op holder) → ⊥
-not_busy lines fixed old new b at op holder d (inl own) = let f = d.free 0 in let h = own.held in cc
-not_busy lines fixed old new b at op holder d (inr lane) =
-    let j = lane.held in
-    let head = lane.first.0.1 in
-    let begun = head.led j.0 j.1 in
-    let same : started b.history j.0 ≡ finished b.history j.0 = d.begun j.0 ∙ sym (d.over j.0) in
-    let open_yet = j.2 in
-    cc
+-- where the one worker has nothing in hand, a claim starts an operation or finds none due
+moves_on : (lines : List Line) (fixed : Option ℕ) (old new : Graph) (b : Kept) (now k : ℕ) (claim : Claim) → ArePlanned lines → HasDone lines fixed old new b →
+    IsOperation b.schedule k → started b.history k ≡ false → IsClaim b.schedule b.history 0 (moment_after b.history now) claim →
+    ((ticket : Ticket) × (claim ≡ Go ticket)) ⊎ ((until : ℕ) × (claim ≡ NotDue until))
+moves_on lines fixed old new b now k claim planned d within fresh is =
+    let same : (s : Schedule) → IsTimely s × IsLegal s 1 b.history → IsOperation s k → IsClaim s b.history 0 (moment_after b.history now) claim → ((ticket : Ticket) × (claim ≡ Go ticket)) ⊎ ((until : ℕ) × (claim ≡ NotDue until)) =
+    λ s known at c.
+    elim (claim_is_not_stuck s 1 b.history 0 (moment_after b.history now) claim known.0 known.1 (omega arith) (omega arith) d.free d.running k at fresh c) [
+      | inl go ↦ inl go
+      | inr late ↦ inr (late.0, late.1)
+    ] in
+    same (plan_of lines) (plan_timely lines (HoldsKey old) planned d.closed, d.legal)
+    (subst (λ (s : Schedule). IsOperation s k) d.plan within) (over_plan lines b (moment_after b.history now) claim d.plan is)
 
--- no insert waits for dependencies
-pub not_blocked : (lines : List Line) (fixed : Option ℕ) (old new : Graph) (b : Kept) (at op needs : ℕ) (time : ℤ) → HasDone lines fixed old new b → IsClaim b.schedule b.history 0 at (Blocked op needs time) → ⊥
-not_blocked lines fixed old new b at op needs time d claim =
-    let is = over_plan lines b at (Blocked op needs time) d.plan claim in
-    is.1 op is.2.0.0 (is.2.0.1, λ dependent. absurd (let free = (plan_plain lines op).1 in cc))
+-- the one worker has nothing in hand, and no insert waits for one before it
+pub not_busy : (lines : List Line) (fixed : Option ℕ) (old new : Graph) (b : Kept) (now op holder : ℕ) → ArePlanned lines → HasDone lines fixed old new b →
+    IsClaim b.schedule b.history 0 (moment_after b.history now) (Busy op holder) → ⊥
+not_busy lines fixed old new b now op holder planned d is = by_left (left_of is)
+  where
+    left_of : IsClaim b.schedule b.history 0 (moment_after b.history now) (Busy op holder) → (k : ℕ) × IsOperation b.schedule k × (started b.history k ≡ false)
+    left_of (inl own) = own.left
+    left_of (inr lane) = lane.under_way.left
+
+    by_left : (k : ℕ) × IsOperation b.schedule k × (started b.history k ≡ false) → ⊥
+    by_left k = elim (moves_on lines fixed old new b now k.0 (Busy op holder) planned d k.1 k.2 is) [ inl go ↦ (let e = go.1 in cc) | inr late ↦ (let e = late.1 in cc) ]
+
+-- what is due first has what it waits for
+pub not_blocked : (lines : List Line) (fixed : Option ℕ) (old new : Graph) (b : Kept) (now op needs : ℕ) (time : ℤ) → ArePlanned lines → HasDone lines fixed old new b →
+    IsClaim b.schedule b.history 0 (moment_after b.history now) (Blocked op needs time) → ⊥
+not_blocked lines fixed old new b now op needs time planned d is =
+    let k = is.0.left in
+    elim (moves_on lines fixed old new b now k.0 (Blocked op needs time) planned d k.1 k.2 is) [ inl go ↦ (let e = go.1 in cc) | inr late ↦ (let e = late.1 in cc) ]
 
 -- the worker of a Start may act after it
 pub acts_after : (b after : Kept) (ticket : Ticket) (at : ℕ) → after ≡ record b { history = b.history ++ Start ticket.op 0 at ∷ [] } → Fits b.schedule b.workers b.history (Start ticket.op 0 at) → ticket.worker ≡ 0 →
@@ -189,16 +207,15 @@ acts_after b after ticket at same fits worker =
 pub no_front : (lines : List Line) (b after : Kept) (op at : ℕ) → b.schedule ≡ plan_of lines → after ≡ record b { history = b.history ++ Start op 0 at ∷ [] } → IsFront after.schedule after.history op 0
 no_front lines b after op at plan same =
     subst (λ (s : Schedule). IsFront s after.history op 0) (sym (ap (λ (k : Kept). k.schedule) same ∙ plan))
-    (record { of_read = λ q. absurd (let none = (plan_plain lines op).2 in cc); of_insert = λ q. refl })
+    (record { of_read = λ q. absurd (let none = (plan_plain lines op).1 in cc); of_insert = λ q. refl })
 
--- the key of the insert that is given is new
+-- the key of the insert that is given is new, and a friendship is of two
 pub key_next : (lines : List Line) (fixed : Option ℕ) (old new : Graph) (b : Kept) (at : ℕ) (ticket : Ticket) (x : Line) → HasDone lines fixed old new b →
-    IsClaim b.schedule b.history 0 at (Go ticket) → lookup (is_at (nat_cmp (added_id (get_or lines ticket.op x).op))) new.persons ≡ None
+    IsClaim b.schedule b.history 0 at (Go ticket) → ¬ HoldsKey new (key_of (get_or lines ticket.op x).op)
 key_next lines fixed old new b at ticket x d claim =
     let next = go_is_next lines fixed old new b at ticket d claim in
     let lt : d.count < length lines = omega (arith, next.0, next.1) in
-    let first = key_new new (get_or lines d.count x) (drop (d.count + 1) lines) (subst (KeysNew new) (rest_at lines d.count x lt) d.fresh) in
-    subst (λ (k : ℕ). lookup (is_at (nat_cmp (added_id (get_or lines k x).op))) new.persons ≡ None) (sym next.0) first
+    λ held. key_new lines old new d.count x lt d.closed d.rows (subst (λ (k : ℕ). HoldsKey new (key_of (get_or lines k x).op)) next.0 held)
 
 -- one insert more is done
 pub done_more : (lines : List Line) (fixed : Option ℕ) (old graph new : Graph) (b held after : Kept) (ticket : Ticket) (default : Line) (at now later : ℕ) →
@@ -233,10 +250,7 @@ done_more lines fixed old graph new b held after ticket default at now later d c
     let more : IsDoneTo lines fixed (d.count + 1) after.history =
     subst (IsDoneTo lines fixed (d.count + 1)) (sym finished_so)
     (done_next lines fixed d.count b.history held.history now later (done_so_far d) started_so starting ending shown shown_later) in
-    let x : Line = get_or lines d.count default in
-    let entered : IsAdded x.op graph new = subst (λ (k : ℕ). IsAdded (get_or lines k default).op graph new) here added in
-    let fresh : KeysNew graph (x ∷ drop (d.count + 1) lines) =
-    subst (KeysNew graph) (rest_at lines d.count default lt) d.fresh in
+    let entered : IsAdded (get_or lines d.count default).op graph new = subst (λ (k : ℕ). IsAdded (get_or lines k default).op graph new) here added in
     record {
       count = d.count + 1;
       within = omega arith;
@@ -248,13 +262,9 @@ done_more lines fixed old graph new b held after ticket default at now later d c
       free = more.free;
       running = more.running;
       moments = more.moments;
-      rows = λ dataset h.
-          let so_far : List Row = rows_of_all (take d.count lines) in
-          let added_rows = rows_after x (dataset ++ so_far) graph new (d.rows dataset h) (key_new graph x (drop (d.count + 1) lines) fresh) entered in
-          subst (HoldsRows new)
-          (append_assoc dataset so_far (rows_of x.op) ∙ ap (λ (rs : List Row). dataset ++ rs) (sym (rows_more lines d.count default lt)))
-          added_rows;
-      fresh = keys_after x (drop (d.count + 1) lines) graph new fresh entered;
+      graph = entered.gained.graph;
+      rows = rows_after lines old graph new d.count default lt d.rows entered;
+      closed = d.closed;
     }
 
 -- nothing is below 0
@@ -267,8 +277,8 @@ no_moments None = tt
 no_moments (Some told) = All-nil (IsAt (min told MAX_AT))
 
 -- at first nothing is done
-pub done_none : (lines : List Line) (fixed : Option ℕ) (graph : Graph) (b : Kept) → b ≡ record { schedule = plan_of lines; workers = 1; history = [] } → KeysNew graph lines → HasDone lines fixed graph graph b
-done_none lines fixed graph b is fresh =
+pub done_none : (lines : List Line) (fixed : Option ℕ) (graph : Graph) (b : Kept) → b ≡ record { schedule = plan_of lines; workers = 1; history = [] } → IsGraph graph → IsClosed (HoldsKey graph) lines → HasDone lines fixed graph graph b
+done_none lines fixed graph b is is_graph closed =
     subst (HasDone lines fixed graph graph) (sym is)
     (record {
       count = 0;
@@ -281,6 +291,7 @@ done_none lines fixed graph b is fresh =
       free = λ w. refl;
       running = λ w. refl;
       moments = no_moments fixed;
-      rows = λ dataset h. subst (HoldsRows graph) (sym (append-nil dataset)) h;
-      fresh = fresh;
+      graph = is_graph;
+      rows = subst (IsPermutation (all_rows graph)) (sym (append-nil (all_rows graph))) (IsPermutation-refl (all_rows graph));
+      closed = closed;
     })

@@ -6,7 +6,6 @@ pub mod Outcome
 pub mod Output
 pub mod PersonLines
 pub mod Pieces
-pub mod Planning
 pub mod Reading
 pub mod Running
 pub mod StreamLines

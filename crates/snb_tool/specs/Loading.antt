@@ -1,8 +1,5 @@
 -- What is taken of the files of an input.
-use Rattle.std.specs.Prelude.{◌≡◌, ◌≢◌, ℕ, ◌+◌, ◌⊎◌, true, List, [], ◌∷◌, ◌++◌, length, take, Option, Some, None, Result, Ok, Err, is_some, Contains, Vec}
-use Rattle.std.specs.BTreeMap.{is_at}
-use Rattle.std.specs.Map.{lookup}
-use Rattle.std.specs.Ordering.{nat_cmp}
+use Rattle.std.specs.Prelude.{◌≡◌, ◌≢◌, ℕ, ◌+◌, ◌⊎◌, List, [], length, take, Option, Some, None, Result, Ok, Err, Vec}
 use Rattle.std.specs.declared.alloc.Global.{Global}
 use Rattle.snb_base.specs.Shelf.{Files}
 use Rattle.snb_schema.specs.declared.fault.Fault.{Fault}
@@ -10,10 +7,10 @@ use Rattle.snb_schema.specs.declared.fault.Fault.TheVariants.{Bad}
 use Rattle.snb_schema.specs.declared.fault.Fault.TheVariants as fault
 use Rattle.snb_schema.specs.declared.op.Line.{Line}
 use Rattle.snb_schema.specs.declared.refusal.Refusal.{Refusal}
-use Rattle.snb_schema.specs.declared.refusal.Refusal.TheVariants.{Absent, Duplicate}
+use Rattle.snb_schema.specs.declared.refusal.Refusal.TheVariants.{Absent}
 use Rattle.snb_schema.specs.declared.row.Row.{Row}
 use Rattle.snb_schema.specs.Graph.{Graph, HoldsRows}
-use Rattle.snb_schema.specs.Input.{AreLines, AreRows, FirstFault, NoFault, NoPersonHeader, PersonFault, StreamFault, Within, added_id, held_in, person_file, person_stream}
+use Rattle.snb_schema.specs.Input.{AreLines, AreRows, FirstFault, NoFault, NoPersonHeader, PersonFault, StreamFault, Within, held_in, person_file, person_stream}
 use Rattle.snb_schema.specs.Lines.{lines, filled, data_lines}
 use Rattle.snb_tool.specs.declared.load.Load.{Load}
 use Rattle.snb_tool.specs.declared.load.Load.TheVariants.{Refused, ReadFault, Memory}
@@ -76,26 +73,6 @@ pub record StreamOf (stream : List ℕ) (bytes rows : ℕ) (inserts : List Line)
 -- this is what is wrong with the lines of the stream
 abbrev pub StreamBad : List ℕ → ℕ → ℕ → Refusal → Type 0
 StreamBad stream bytes rows r = FirstFault (Within bytes (length stream) person_stream (StreamFault rows)) (lines stream) r
-
--- the key of an insert is held in the graph, or was added before
-abbrev pub IsKeyTaken : Graph → List Line → Line → Type 0
-IsKeyTaken g before x =
-    (is_some (lookup (is_at (nat_cmp (added_id x.op))) g.persons) ≡ true)
-    ⊎ ((y : Line) × Contains before y × (added_id y.op ≡ added_id x.op))
-
--- no key of the inserts is taken
-pub record KeysNew (g : Graph) (xs : List Line) : Type 0 where
-  pub new : (before : List Line) (x : Line) (after : List Line) → before ++ x ∷ after ≡ xs → ¬ IsKeyTaken g before x
-
--- the first insert whose key is taken is refused so
-pub record KeyRefused (g : Graph) (xs : List Line) (r : Refusal) : Type 0 where
-  pub before : List Line
-  pub insert : Line
-  pub after : List Line
-  pub splits : before ++ insert ∷ after ≡ xs
-  pub taken : IsKeyTaken g before insert
-  pub new_before : KeysNew g before
-  pub named : r ≡ Duplicate person_stream insert.number
 
 -- how a stop at a line stops the loading
 abbrev pub load_for : Fault → Load

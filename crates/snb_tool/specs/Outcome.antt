@@ -8,7 +8,8 @@ use Rattle.snb_schema.specs.declared.limits.TheConstants.{MAX_AT}
 use Rattle.snb_schema.specs.declared.op.Line.{Line}
 use Rattle.snb_schema.specs.declared.refusal.Refusal.{Refusal}
 use Rattle.snb_schema.specs.declared.row.Row.{Row}
-use Rattle.snb_schema.specs.Graph.{Graph, HoldsRows, all_rows, final_text}
+use Rattle.snb_schema.specs.Closed.{IsClosed}
+use Rattle.snb_schema.specs.Graph.{Graph, HoldsRows, IsHeldIn, all_rows, final_text}
 use Rattle.snb_schema.specs.Input.{IsFinal, IsInput, Refuses}
 use Rattle.snb_schema.specs.Plan.{plan_of}
 use Rattle.snb_schema.specs.Rules.{IsComplete, IsLegal}
@@ -45,8 +46,9 @@ pub record IsRefusal (words : List (List ℕ)) (files : Files) (texts : Written)
   pub refused : Refuses folder files refusal
   pub shown : texts ≡ on_screen (refusal_text refusal)
 
--- the words are a run's, nothing is wrong with its files, and the texts are those of a legal, complete history of its plan
--- for one worker and of the dataset with each stream row once; where the clock tells a fixed moment, each event is of it
+-- the words are a run's, nothing is wrong with its files, whose inserts are closed over the dataset, and the texts are those of a
+-- legal, complete history of its plan for one worker and of the dataset with each stream row once; where the clock tells a fixed
+-- moment, each event is of it
 pub record IsRun (words : List (List ℕ)) (files : Files) (fixed : Option ℕ) (texts : Written) : Type 0 where
   pub folder : List ℕ
   pub line : IsRunLine words folder
@@ -54,6 +56,7 @@ pub record IsRun (words : List (List ℕ)) (files : Files) (fixed : Option ℕ) 
   pub dataset : List Row
   pub inserts : List Line
   pub input : IsInput folder files dataset inserts
+  pub closed : IsClosed (IsHeldIn dataset) inserts
   pub history : List Event
   pub legal : IsLegal (plan_of inserts) 1 history
   pub complete : IsComplete (plan_of inserts) history
@@ -72,6 +75,7 @@ pub record IsLoaded (folder : List ℕ) (files : Files) (graph : Graph) (inserts
   pub accepted : (r : Refusal) → ¬ Refuses folder files r
   pub dataset : List Row
   pub input : IsInput folder files dataset inserts
+  pub closed : IsClosed (IsHeldIn dataset) inserts
   pub kept : HoldsRows graph dataset
 
 -- the texts of a run of these inserts from this graph on

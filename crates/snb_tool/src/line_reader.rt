@@ -6,7 +6,7 @@ ghost use Rattle.snb_schema.specs.declared.limits.TheConstants.{MAX_BYTES};
 ghost use Rattle.snb_schema.specs.declared.refusal.Refusal.{Refusal as Refused};
 ghost use Rattle.snb_schema.specs.Input.{NoFault, FirstFault, Within, number_of};
 ghost use Rattle.snb_schema.specs.Lines.{lines};
-ghost use Rattle.snb_tool.specs.Reading.{OnBad};
+ghost use Rattle.snb_schema.specs.Faults.{OnBad};
 
 use crate::cut::first_line;
 use snb_schema::fault::Fault;

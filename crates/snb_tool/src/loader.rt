@@ -6,7 +6,7 @@ ghost use Rattle.snb_schema.specs.declared.limits.TheConstants.{MAX_BYTES};
 ghost use Rattle.snb_schema.specs.FileNames.{name_of};
 ghost use Rattle.snb_schema.specs.Input.{stream_of};
 ghost use Rattle.snb_tool.specs.Loading.{PersonsBad, PersonsLoaded, PersonsOf, PersonsRefused, StreamBad, StreamOf, OnReadFault, OnRefused, load_for};
-ghost use Rattle.snb_tool.specs.Planning.{ArePlanned};
+ghost use Rattle.snb_schema.specs.Plan.{ArePlanned};
 
 use crate::line_reader::read_lines;
 use crate::load::Load;

@@ -3,16 +3,17 @@
 ghost use Rattle.std.specs.Prelude.{◌≡◌, ◌<◌, ℕ, [], false, true, length, OnOk};
 ghost use Rattle.snb_schema.specs.Graph.{no_rows, IsGraph};
 ghost use Rattle.snb_tool.specs.PersonLines.{TakesPersonLine, RefusesPersonLine};
-ghost use Rattle.snb_tool.specs.Reading.{OnBad};
+ghost use Rattle.snb_schema.specs.Faults.{OnBad};
 
-use crate::graph::Graph;
 use crate::line_reader::LineReader;
 use crate::person_lines::{is_person_header, read_person};
 use snb_schema::fault::Fault;
 use snb_schema::file::{FileId, FileKind};
 use snb_schema::limits::MAX_ROWS;
 use snb_schema::refusal::Refusal;
+use snb_schema::row::Row;
 use snb_schema::table::Table;
+use snb_tables::graph::{Graph, Insert};
 use std::alloc::Global;
 
 /// The first part of the table person.
@@ -63,7 +64,7 @@ impl PersonReader {
     {
         PersonReader {
             alloc,
-            graph: Graph::new(alloc),
+            graph: Graph::empty(alloc),
             headed: false,
             rows: 0,
         }
@@ -107,18 +108,20 @@ impl PersonReader {
         let Some(fields) = read_person(line) else {
             return Err(bad_line(number));
         };
-        if self.graph.has_person(fields.id) {
-            return Err(Fault::Bad {
+        let person = fields.to_person(self.alloc)?;
+        match self.graph.insert_row(Row::Person { person }) {
+            Ok(()) => {
+                self.rows += 1;
+                Ok(())
+            }
+            Err(Insert::Duplicate) => Err(Fault::Bad {
                 refusal: Refusal::Duplicate {
                     file: PERSON_FILE,
                     line: number,
                 },
-            });
+            }),
+            Err(Insert::Memory) => Err(Fault::Memory),
         }
-        let person = fields.to_person(self.alloc)?;
-        self.graph.add_person(person)?;
-        self.rows += 1;
-        Ok(())
     }
 }
 

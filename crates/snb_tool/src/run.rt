@@ -1,26 +1,25 @@
 //! The run of a plan by one worker.
 
-ghost use Rattle.std.specs.Prelude.{◌≡◌, ◌∷◌, [], None, IfOk, OnOk};
-ghost use Rattle.std.specs.BTreeMap.{is_at};
-ghost use Rattle.std.specs.Map.{lookup};
-ghost use Rattle.std.specs.Ordering.{nat_cmp};
-ghost use Rattle.snb_schema.specs.Graph.{Graph as Rows, rows_of};
-ghost use Rattle.snb_schema.specs.Input.{added_id};
-ghost use Rattle.snb_schema.specs.Plan.{plan_of};
+ghost use Rattle.std.specs.Prelude.{◌≡◌, ◌≢◌, ◌∷◌, [], true, max, min, IfOk, OnOk};
+ghost use Rattle.snb_schema.specs.Closed.{key_of, IsClosed};
+ghost use Rattle.snb_schema.specs.Graph.{Graph as Rows, rows_of, HoldsKey, IsBuilt, IsGraph};
+ghost use Rattle.snb_schema.specs.Plan.{adds_person, plan_of, ArePlanned};
+ghost use Rattle.snb_schema.specs.UpdateLines.{IsOfTwo};
 ghost use Rattle.snb_schema.specs.declared.row.Row.TheVariants as row;
-ghost use Rattle.snb_tool.specs.Loading.{KeysNew};
-ghost use Rattle.snb_tool.specs.Planning.{ArePlanned};
+ghost use Rattle.snb_schema.specs.declared.table.Table.TheVariants as table;
 ghost use Rattle.snb_tool.specs.Running.{HasRun};
 ghost use Rattle.snb_tool.specs.Turns.{IsAdded, HasDone, TurnsTo};
 
-use crate::graph::Graph;
-use crate::plan::make_schedule;
 use snb_base::clock::Clock;
 use snb_base::gate::{Gate, Phase};
 use snb_book::book::Book;
 use snb_book::claim::Claim;
+use snb_plan::plan::make_schedule;
 use snb_schema::op::{Line, Op};
 use snb_schema::person::Person;
+use snb_schema::row::Row;
+use snb_schema::table::Table;
+use snb_tables::graph::{Graph, Insert};
 use std::alloc::{AllocError, Global};
 use std::sync::Wait;
 
@@ -33,6 +32,7 @@ enum Turn {
 
 // A copy of the person of an insert.
 fn person_of(op: &Op) -> Result<Person, AllocError>
+    requires { adds_person op.now ≡ true }
     ensures { IfOk result (λ person. rows_of op.now ≡ row.Person person ∷ []) }
 {
     match op {
@@ -56,16 +56,55 @@ fn person_of(op: &Op) -> Result<Person, AllocError>
             location_ip: location_ip.try_copy()?,
             browser_used: browser_used.try_copy()?,
         }),
+        Op::AddFriend { .. } => unreachable!(),
+    }
+}
+
+// The row that an insert adds.
+fn row_of(op: &Op) -> Result<Row, AllocError>
+    requires { IsOfTwo op.now }
+    ensures row { IfOk result (λ r. rows_of op.now ≡ r ∷ []) }
+    ensures built { IfOk result IsBuilt }
+{
+    match op {
+        Op::AddPerson { .. } => Ok(Row::Person {
+            person: person_of(op)?,
+        }),
+        Op::AddFriend {
+            person1_id,
+            person2_id,
+            date,
+        } => Ok(friendship(*person1_id, *person2_id, *date)),
+    }
+}
+
+// The row of a friendship: the lower id comes first.
+fn friendship(one: u64, other: u64, date: u64) -> Row
+    requires { one ≢ other }
+    ensures row { result ≡ row.Dated table.PersonKnowsPerson (min one other) (max one other) date }
+    ensures built { IsBuilt result }
+{
+    Row::Dated {
+        table: Table::PersonKnowsPerson,
+        from: one.min(other),
+        to: one.max(other),
+        date,
     }
 }
 
 // Adds the row of an insert, whose key is new.
 fn add_row(op: &Op, graph: &mut Graph) -> Result<(), AllocError>
-    requires { lookup (is_at (nat_cmp (added_id op.now))) graph.old.persons ≡ None }
+    requires of_two { IsOfTwo op.now }
+    requires new { ¬ HoldsKey graph.old (key_of op.now) }
     ensures { OnOk result (IsAdded op.now graph.old graph.new) }
 {
-    let person = person_of(op)?;
-    graph.add_person(person)
+    let row = row_of(op)?;
+    match graph.insert_row(row) {
+        Ok(()) => Ok(()),
+        Err(Insert::Memory) => Err(AllocError),
+        // The key is new.
+        Err(Insert::Duplicate) => unreachable!(),
+    }
 }
 
 // Claims an operation, puts its row into the graph and finishes it; or rests until one is due.
@@ -95,7 +134,8 @@ fn take_turn<R: Wait, C: Clock, G: Gate>(
             gate.pass(rt, 0, ticket.op, Phase::Done);
             Ok(Turn::More)
         }
-        // The one worker has nothing in hand when it claims, and no insert waits for another.
+        // The one worker has nothing in hand when it claims, and what is due first waits only for
+        // what is due no later and so is finished.
         Claim::Halted => unreachable!(),
         Claim::Busy { .. } => unreachable!(),
         Claim::Blocked { .. } => unreachable!(),
@@ -113,7 +153,8 @@ pub fn run_alone<R: Wait, C: Clock, G: Gate>(
     gate: &G,
 ) -> Result<Book, AllocError>
     requires planned { ArePlanned inserts.now }
-    requires new { KeysNew graph.old inserts.now }
+    requires closed { IsClosed (HoldsKey graph.old) inserts.now }
+    requires graph { IsGraph graph.old }
     ensures ran { IfOk result (λ book. HasRun inserts.now (C.fixed clock.now) graph.old graph.new book.history) }
     ensures kept { IfOk result (λ book. (book.schedule ≡ plan_of inserts.now) × (book.workers ≡ 1)) }
 {

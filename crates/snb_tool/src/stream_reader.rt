@@ -87,7 +87,7 @@ impl LineReader for StreamReader {
         if fields.t < self.last {
             return Err(bad_line(number));
         }
-        let op = fields.to_op(self.alloc)?;
+        let op = fields.insert.to_op(self.alloc)?;
         self.inserts.push(Line {
             t: fields.t,
             t_d: fields.t_d,

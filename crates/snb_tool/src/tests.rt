@@ -1,4 +1,4 @@
-//! Whole calls on shelves and outboxes in memory: one person, one insert, and what can go wrong.
+//! Whole calls on shelves and outboxes in memory: one person, an insert or two, and what can go wrong.
 
 use crate::tool::snb;
 use snb_base::clock::FarClock;
@@ -31,7 +31,7 @@ const LOG: &str = "snblog|1|1\nS|0|0|0\nF|0|0|0|0\n";
 const ANSWERS: &str = "answers|1\n";
 
 const FINAL: &str =
-    "final|1\nperson|2\n10|Ann|Lee|female|0|1000|1.1.1.1|Firefox\n12|Cy|Fox|male|0|5000|1.1.1.3|Opera\n";
+    "final|1\nperson|2\n10|Ann|Lee|female|0|1000|1.1.1.1|Firefox\n12|Cy|Fox|male|0|5000|1.1.1.3|Opera\nperson_knows_person|0\n";
 
 const SCREEN: &str = "operations 1\nupdates 1\nreads 0\nrows 2\n";
 
@@ -189,7 +189,7 @@ fn runs_without_a_stream(rt: HostRuntime) -> Result<(), Fail> {
     let texts = Texts {
         log: "snblog|1|1\n",
         answers: ANSWERS,
-        finals: "final|1\nperson|1\n10|Ann|Lee|female|0|1000|1.1.1.1|Firefox\n",
+        finals: "final|1\nperson|1\n10|Ann|Lee|female|0|1000|1.1.1.1|Firefox\nperson_knows_person|0\n",
         screen: "operations 0\nupdates 0\nreads 0\nrows 1\n",
     };
     are_written(&rt, &out, texts);
@@ -261,6 +261,64 @@ fn refuses_inserts(rt: HostRuntime) -> Result<(), Fail> {
         ),
     ] {
         is_refused(&rt, Some(&[HEADER, ANN]), Some(lines), line)?;
+    }
+    Ok(())
+}
+
+// The person 12, inserted at 8000.
+const CY_AT_8000: &[u8] = b"8000|0|1|12|Cy|Fox|male|0|8000|1.1.1.3|Opera|1|||||";
+
+#[test]
+fn runs_a_friendship(rt: HostRuntime) -> Result<(), Fail> {
+    for line in [
+        b"9000|8000|8|10|12|9000".as_slice(),
+        b"9000|8999|8|12|10|9000",
+    ] {
+        let mut shelf = shelf_of(rt.alloc(), Some(&[HEADER, ANN]), Some(&[CY_AT_8000, line]))?;
+        let mut out = MemoryOutbox::new(rt.alloc(), ROOM)?;
+        let clock = FarClock::new(1000);
+        let status = snb(&rt, &WORDS, &mut shelf, &mut out, &clock, &OpenGate);
+        assert_eq!(rt; status, 0);
+        let texts = Texts {
+            log: "snblog|1|1\nS|0|0|1000\nF|0|0|1000|0\nS|1|0|1000\nF|1|0|1000|0\n",
+            answers: ANSWERS,
+            finals: "final|1\nperson|2\n10|Ann|Lee|female|0|1000|1.1.1.1|Firefox\n12|Cy|Fox|male|0|8000|1.1.1.3|Opera\nperson_knows_person|1\n10|12|9000\n",
+            screen: "operations 2\nupdates 2\nreads 0\nrows 3\n",
+        };
+        are_written(&rt, &out, texts);
+    }
+    Ok(())
+}
+
+#[test]
+fn refuses_friendships(rt: HostRuntime) -> Result<(), Fail> {
+    let known = b"9000|8000|8|10|12|9000".as_slice();
+    for (line, cause) in [
+        (b"9000|7999|8|10|12|9000".as_slice(), "unmet person 12"),
+        (b"9000|8000|8|13|12|9000", "unmet person 13"),
+        (b"9000|9000|8|10|12|9000", "late dependency"),
+        (b"9000|9000|8|13|14|9000", "late dependency"),
+        (b"9000|8000|8|10|10|9000", "column 0"),
+        (b"9000|8000|8|10|12", "column 0"),
+        (b"9000|8000|8|10|12|9000|", "column 0"),
+        (b"9000|8000|7|10|12|9000", "column 0"),
+        (b"7999|7998|8|10|12|9000", "column 0"),
+    ] {
+        let text = format!(in rt.alloc(); "refused: updateStream_0_0_person.csv:2: {cause}\n")?;
+        is_refused(
+            &rt,
+            Some(&[HEADER, ANN]),
+            Some(&[CY_AT_8000, line]),
+            text.as_str(),
+        )?;
+    }
+    for line in [known, b"9001|9000|8|12|10|9001"] {
+        is_refused(
+            &rt,
+            Some(&[HEADER, ANN]),
+            Some(&[CY_AT_8000, known, line]),
+            "refused: updateStream_0_0_person.csv:3: duplicate\n",
+        )?;
     }
     Ok(())
 }
@@ -376,7 +434,7 @@ fn many_rows(alloc: Global) -> Result<String, AllocError> {
 fn reads_piece_by_piece(rt: HostRuntime) -> Result<(), Fail> {
     let alloc = rt.alloc();
     let rows = many_rows(alloc)?;
-    let finals = format!(in alloc; "final|1\nperson|3000\n{rows}")?;
+    let finals = format!(in alloc; "final|1\nperson|3000\n{rows}person_knows_person|0\n")?;
     let done = Texts {
         log: "snblog|1|1\n",
         answers: ANSWERS,

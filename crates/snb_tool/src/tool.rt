@@ -6,28 +6,31 @@ ghost use Rattle.snb_base.specs.Shelf.{Rose};
 ghost use Rattle.snb_schema.specs.Input.{Refuses};
 ghost use Rattle.snb_schema.specs.declared.refusal.Refusal.{Refusal as Refused};
 ghost use Rattle.snb_schema.specs.ScreenTexts.{refusal_text};
-ghost use Rattle.snb_tool.specs.Loading.{KeysNew, OnReadFault, OnRefused};
+ghost use Rattle.snb_schema.specs.Closed.{IsClosed};
+ghost use Rattle.snb_schema.specs.Graph.{HoldsKey, IsGraph};
+ghost use Rattle.snb_tool.specs.Loading.{OnReadFault, OnRefused};
 ghost use Rattle.snb_tool.specs.Outcome.{IsCut, IsLoaded, IsOtherLine, IsRefusal, IsRun, IsRunOutput, IsUsage, Wrote};
 ghost use Rattle.snb_tool.specs.Output.{IsFront, bytes_of, on_screen, size_of};
-ghost use Rattle.snb_tool.specs.Planning.{ArePlanned};
+ghost use Rattle.snb_schema.specs.Plan.{ArePlanned};
 ghost use Rattle.snb_tool.specs.Words.{IsRunLine, texts_of};
 
 use crate::deliver::{Output, deliver, show};
 use crate::final_lines::{final_lines, summary_lines};
-use crate::graph::Graph;
-use crate::keys::check_keys;
 use crate::load::Load;
 use crate::loader::{load_inserts, load_of, load_persons};
 use crate::log_lines::log_lines;
 use crate::refusal_text::refusal_line;
 use crate::run::run_alone;
+use crate::stream_reader::PERSON_STREAM;
 use crate::words::run_folder;
 use snb_base::clock::Clock;
 use snb_base::gate::Gate;
 use snb_base::outbox::Outbox;
 use snb_base::shelf::Shelf;
+use snb_plan::closed::check_closed;
 use snb_schema::op::Line;
 use snb_schema::refusal::Refusal;
+use snb_tables::graph::Graph;
 use std::alloc::{AllocError, Global};
 use std::sync::Wait;
 
@@ -45,7 +48,8 @@ struct Input {
 // Reads the files of a folder.
 fn load_input<S: Shelf>(alloc: Global, shelf: &mut S, folder: &str) -> Result<Input, Load>
     ensures ok { IfOk result (λ i. IfSome (S.contents shelf.old) (λ files. IsLoaded folder.now files i.graph i.inserts.items)) }
-    ensures new { IfOk result (λ i. KeysNew i.graph i.inserts.items) }
+    ensures closed { IfOk result (λ i. IsClosed (HoldsKey i.graph) i.inserts.items) }
+    ensures graph { IfOk result (λ i. IsGraph i.graph) }
     ensures planned { IfOk result (λ i. ArePlanned i.inserts.items) }
     ensures refused { OnRefused result (λ r. IfSome (S.contents shelf.old) (λ files. Refuses folder.now files r)) }
     ensures fault { OnReadFault result (Rose (S.faults shelf.old) (S.faults shelf.new)) }
@@ -60,7 +64,7 @@ fn load_input<S: Shelf>(alloc: Global, shelf: &mut S, folder: &str) -> Result<In
         Ok(inserts) => inserts,
         Err(load) => return Err(load),
     };
-    match check_keys(alloc, &persons.graph, &inserts) {
+    match check_closed(alloc, &persons.graph, PERSON_STREAM, &inserts) {
         Ok(()) => Ok(Input {
             graph: persons.graph,
             inserts,
@@ -77,7 +81,8 @@ fn run_output<R: Wait, C: Clock, G: Gate>(
     clock: &C,
     gate: &G,
 ) -> Result<Output, AllocError>
-    requires new { KeysNew input.graph input.inserts.items }
+    requires closed { IsClosed (HoldsKey input.graph) input.inserts.items }
+    requires graph { IsGraph input.graph }
     requires planned { ArePlanned input.inserts.items }
     ensures { IfOk result (λ output. IsRunOutput input.inserts.items (C.fixed clock.now) input.graph (bytes_of output)) }
 {
@@ -125,7 +130,8 @@ fn run_input<R: Wait, O: Outbox, C: Clock, G: Gate>(
     clock: &C,
     gate: &G,
 ) -> u8
-    requires new { KeysNew input.graph input.inserts.items }
+    requires closed { IsClosed (HoldsKey input.graph) input.inserts.items }
+    requires graph { IsGraph input.graph }
     requires planned { ArePlanned input.inserts.items }
     ensures status { (result ≡ 0) ⊎ (result ≡ 5) ⊎ (result ≡ 6) }
     ensures shown { result ≡ 0 → (texts : Bytes) × IsRunOutput input.inserts.items (C.fixed clock.now) input.graph texts × Wrote (O.written out.old) (O.written out.new) texts }

@@ -1,7 +1,17 @@
-use Rattle.std.proofs.lemmas.List.{append_assoc, append-nil, length-map}
+use Rattle.std.proofs.Common.{◌≡◌, [], ◌++◌, List, ℕ, ap, ◌∙◌}
+use Rattle.std.specs.Prelude.{codes}
+use Rattle.std.proofs.lemmas.List.{append_assoc, append-nil}
+use Rattle.snb_schema.specs.Graph.{section}
+use Rattle.snb_schema.specs.declared.table.Table.TheVariants as table
 use Rattle.snb_tool.proofs.final_lines.final_lines.Goals as goal
+
+-- the sections of two tables after a head
+two_sections : (head one other : List ℕ) → (head ++ one) ++ other ≡ head ++ (one ++ (other ++ []))
+two_sections head one other = simp (append_assoc, append-nil)
 
 pub returns : goal.returns
 returns c =
-    simp (append_assoc, append-nil, length-map)
-    (simp (append_assoc, c.in_ok-extend_from_slice.ensures.items, c.in_ok-text.ensures.items, c.as_bytes.ensures.value, c.in_ok-head.ensures.ok, c.rows-rows.ensures) at c.in_ok-put_persons.ensures)
+    let graph = c.args.graph.now in
+    c.in_ok-put_section-2.ensures
+    ∙ ap (λ (text : List ℕ). text ++ section graph table.PersonKnowsPerson) (c.in_ok-put_section.ensures ∙ ap (λ (text : List ℕ). text ++ section graph table.Person) c.in_ok-text.ensures.items)
+    ∙ two_sections (codes "final|1\n") (section graph table.Person) (section graph table.PersonKnowsPerson)

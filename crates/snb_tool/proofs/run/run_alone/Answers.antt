@@ -1,19 +1,19 @@
 use Rattle.std.proofs.Common.{[], ◌∙◌, ap, subst, sym}
 use Rattle.snb_schema.specs.Schedule.{Schedule}
-use Rattle.snb_book.specs.Book.{IsWithoutDependents}
+use Rattle.snb_book.specs.Book.{IsOfPersons}
+use Rattle.snb_plan.proofs.PlanLemmas.{lane_of_persons}
 use Rattle.snb_tool.specs.declared.run.Turn.{Turn}
 use Rattle.snb_tool.specs.Turns.{TurnsTo}
-use Rattle.snb_tool.proofs.PlanLemmas.{free_plan}
 use Rattle.snb_tool.proofs.TurnLemmas.{done_none}
 use Rattle.snb_tool.proofs.run.run_alone.Goals as goal
 
-pub make-requires-clause-free : goal.make-requires-clause-free
-make-requires-clause-free g c = subst IsWithoutDependents (sym c.in_ok-schedule.ensures) (free_plan c.args.inserts.now)
+pub make-requires-clause-persons : goal.make-requires-clause-persons
+make-requires-clause-persons g c = subst IsOfPersons (sym c.in_ok-schedule.ensures) (record { persons = λ lane lt. lane_of_persons lane lt })
 
 pub loop-init : goal.loop-init
 loop-init g c =
     done_none c.args.inserts.now (g.C.Clock.fixed c.args.clock.now) c.args.graph.now c.in_ok-book.book
-    (c.in_ok-book.ensures ∙ ap (λ (s : Schedule). record { schedule = s; workers = 1; history = [] }) c.in_ok-schedule.ensures) c.requires.new
+    (c.in_ok-book.ensures ∙ ap (λ (s : Schedule). record { schedule = s; workers = 1; history = [] }) c.in_ok-schedule.ensures) c.requires.graph c.requires.closed
 
 pub returns-in-Over-clause-ran : goal.returns-in-Over-clause-ran
 returns-in-Over-clause-ran g c =

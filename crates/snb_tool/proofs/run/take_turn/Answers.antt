@@ -10,8 +10,14 @@ bounds-inserts-ticket g c =
     (go_is_next c.args.inserts.now (g.C.Clock.fixed c.args.clock.now) c.requires.under_way.0 c.args.graph.now c.args.book.now (moment_after c.args.book.now.history c.now.result) c.in-Go.ticket
     c.requires.under_way.1 c.in-Go.ensures.answer).1
 
-pub add_row-requires : goal.add_row-requires
-add_row-requires g c =
+pub add_row-requires-clause-of_two : goal.add_row-requires-clause-of_two
+add_row-requires-clause-of_two g c =
+    c.requires.planned.of_two c.in-Go.ticket.op c.index-inserts-ticket.result
+    (go_is_next c.args.inserts.now (g.C.Clock.fixed c.args.clock.now) c.requires.under_way.0 c.args.graph.now c.args.book.now (moment_after c.args.book.now.history c.now.result) c.in-Go.ticket
+    c.requires.under_way.1 c.in-Go.ensures.answer).1
+
+pub add_row-requires-clause-new : goal.add_row-requires-clause-new
+add_row-requires-clause-new g c =
     key_next c.args.inserts.now (g.C.Clock.fixed c.args.clock.now) c.requires.under_way.0 c.args.graph.now c.args.book.now (moment_after c.args.book.now.history c.now.result) c.in-Go.ticket c.index-inserts-ticket.result
     c.requires.under_way.1 c.in-Go.ensures.answer
 
@@ -32,13 +38,13 @@ unreachable-requires g c =
 
 pub unreachable-requires-in-Busy : goal.unreachable-requires-in-Busy
 unreachable-requires-in-Busy g c =
-    not_busy c.args.inserts.now (g.C.Clock.fixed c.args.clock.now) c.requires.under_way.0 c.args.graph.now c.args.book.now (moment_after c.args.book.now.history c.now.result) c.in-Busy.op c.in-Busy.holder
-    c.requires.under_way.1 c.in-Busy.ensures.answer
+    not_busy c.args.inserts.now (g.C.Clock.fixed c.args.clock.now) c.requires.under_way.0 c.args.graph.now c.args.book.now c.now.result c.in-Busy.op c.in-Busy.holder
+    c.requires.planned c.requires.under_way.1 c.in-Busy.ensures.answer
 
 pub unreachable-requires-in-Blocked : goal.unreachable-requires-in-Blocked
 unreachable-requires-in-Blocked g c =
-    not_blocked c.args.inserts.now (g.C.Clock.fixed c.args.clock.now) c.requires.under_way.0 c.args.graph.now c.args.book.now (moment_after c.args.book.now.history c.now.result) c.in-Blocked.op c.in-Blocked.needs c.in-Blocked.completion
-    c.requires.under_way.1 c.in-Blocked.ensures.answer
+    not_blocked c.args.inserts.now (g.C.Clock.fixed c.args.clock.now) c.requires.under_way.0 c.args.graph.now c.args.book.now c.now.result c.in-Blocked.op c.in-Blocked.needs c.in-Blocked.completion
+    c.requires.planned c.requires.under_way.1 c.in-Blocked.ensures.answer
 
 pub returns-in-AllStarted : goal.returns-in-AllStarted
 returns-in-AllStarted g c = λ first d.

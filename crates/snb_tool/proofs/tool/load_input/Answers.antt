@@ -1,14 +1,16 @@
 use Rattle.std.proofs.Common.{List, Option, Vec, subst}
 use Rattle.std.specs.Option.{IfSome}
 use Rattle.snb_base.specs.Shelf.{Files}
-use Rattle.snb_schema.specs.Input.{Refuses, stream_of}
+use Rattle.snb_schema.specs.Input.{Refuses, person_stream, stream_of}
+use Rattle.snb_schema.specs.Closed.{IsClosed, IsFirstWrong}
+use Rattle.snb_schema.specs.Graph.{HoldsKey}
 use Rattle.snb_schema.specs.declared.op.Line.{Line}
 use Rattle.std.specs.declared.alloc.Global.{Global}
 use Rattle.snb_tool.specs.declared.person_reader.Persons.{Persons}
 use Rattle.snb_tool.specs.declared.tool.Input.{Input}
-use Rattle.snb_tool.specs.Loading.{KeyRefused, KeysNew, PersonsLoaded, PersonsRefused, StreamBad, StreamOf}
+use Rattle.snb_tool.specs.Loading.{PersonsLoaded, PersonsRefused, StreamBad, StreamOf}
 use Rattle.snb_tool.specs.Outcome.{IsLoaded}
-use Rattle.snb_tool.proofs.InputLemmas.{files_loaded, keys_refuse, persons_refuse, stream_refuses}
+use Rattle.snb_tool.proofs.InputLemmas.{files_loaded, persons_refuse, stream_refuses, wrong_refuses}
 use Rattle.snb_tool.proofs.LoaderLemmas.{refused_bad, refused_weaker}
 use Rattle.snb_tool.proofs.TakeLemmas.{if_some, if_some_both}
 use Rattle.snb_tool.proofs.tool.load_input.Goals as goal
@@ -29,24 +31,25 @@ returns-in-Err-load_inserts-clause-refused g c =
     (subst (λ (o : Option Files). IfSome o (λ files. StreamBad (stream_of c.args.folder.now files) c.in-Ok.persons.bytes c.in-Ok.persons.rows r)) c.in-Ok.ensures.same bad))
     c.in-Err-load_inserts.ensures.refused
 
-pub returns-in-Ok-check_keys-clause-ok : goal.returns-in-Ok-check_keys-clause-ok
-returns-in-Ok-check_keys-clause-ok g c =
+pub returns-in-Ok-check_closed-clause-ok : goal.returns-in-Ok-check_closed-clause-ok
+returns-in-Ok-check_closed-clause-ok g c =
     if_some_both (g.S.Shelf.contents c.args.shelf.now) (λ files. PersonsLoaded c.args.folder.now files c.in-Ok.persons.graph c.in-Ok.persons.bytes c.in-Ok.persons.rows)
     (λ files. StreamOf (stream_of c.args.folder.now files) c.in-Ok.persons.bytes c.in-Ok.persons.rows c.in-Ok-load_inserts.inserts.items)
     (λ files. IsLoaded c.args.folder.now files c.in-Ok.persons.graph c.in-Ok-load_inserts.inserts.items)
     (λ files p s. files_loaded c.args.folder.now files c.in-Ok.persons.graph c.in-Ok.persons.bytes c.in-Ok.persons.rows c.in-Ok-load_inserts.inserts.items p s
-    (subst (λ (xs : List Line). KeysNew c.in-Ok.persons.graph xs) c.deref.ensures.value c.in-Ok-check_keys.ensures.ok))
+    (subst (λ (xs : List Line). IsClosed (HoldsKey c.in-Ok.persons.graph) xs) c.deref.ensures.value c.in-Ok-check_closed.ensures.ok))
     c.in-Ok.ensures.ok
     (subst (λ (o : Option Files). IfSome o (λ files. StreamOf (stream_of c.args.folder.now files) c.in-Ok.persons.bytes c.in-Ok.persons.rows c.in-Ok-load_inserts.inserts.items)) c.in-Ok.ensures.same c.in-Ok-load_inserts.ensures.ok)
 
-pub returns-in-Err-check_keys-clause-refused : goal.returns-in-Err-check_keys-clause-refused
-returns-in-Err-check_keys-clause-refused g c =
+pub returns-in-Err-check_closed-clause-refused : goal.returns-in-Err-check_closed-clause-refused
+returns-in-Err-check_closed-clause-refused g c =
     rw c.load_of.ensures
-    (refused_bad (Unit {0}) Input c.in-Err-check_keys.fault (KeyRefused c.in-Ok.persons.graph c.deref.result.now) _
+    (refused_bad (Unit {0}) Input c.in-Err-check_closed.fault (IsFirstWrong (HoldsKey c.in-Ok.persons.graph) person_stream c.deref.result.now) _
     (λ r k. if_some_both (g.S.Shelf.contents c.args.shelf.now) (λ files. PersonsLoaded c.args.folder.now files c.in-Ok.persons.graph c.in-Ok.persons.bytes c.in-Ok.persons.rows)
     (λ files. StreamOf (stream_of c.args.folder.now files) c.in-Ok.persons.bytes c.in-Ok.persons.rows c.in-Ok-load_inserts.inserts.items)
     (λ files. Refuses c.args.folder.now files r)
-    (λ files p s. keys_refuse c.args.folder.now files c.in-Ok.persons.graph c.in-Ok.persons.bytes c.in-Ok.persons.rows c.in-Ok-load_inserts.inserts.items r p s (subst (λ (xs : List Line). KeyRefused c.in-Ok.persons.graph xs r) c.deref.ensures.value k))
+    (λ files p s. wrong_refuses c.args.folder.now files c.in-Ok.persons.graph c.in-Ok.persons.bytes c.in-Ok.persons.rows c.in-Ok-load_inserts.inserts.items r p s
+    (subst (λ (xs : List Line). IsFirstWrong (HoldsKey c.in-Ok.persons.graph) person_stream xs r) c.deref.ensures.value k))
     c.in-Ok.ensures.ok
     (subst (λ (o : Option Files). IfSome o (λ files. StreamOf (stream_of c.args.folder.now files) c.in-Ok.persons.bytes c.in-Ok.persons.rows c.in-Ok-load_inserts.inserts.items)) c.in-Ok.ensures.same c.in-Ok-load_inserts.ensures.ok))
-    c.in-Err-check_keys.ensures.bad)
+    c.in-Err-check_closed.ensures.bad)

@@ -4,7 +4,7 @@ use Rattle.snb_schema.specs.History.{last}
 use Rattle.snb_schema.specs.Rules.{Fits}
 use Rattle.snb_book.specs.Kept.{Kept, IsInHand}
 use Rattle.snb_book.proofs.Claiming.{claim_fits, go_in_hand}
-use Rattle.snb_book.proofs.Telling.{moment_later}
+use Rattle.snb_book.proofs.Telling.{moment_later, adds_none, adding_rises}
 use Rattle.snb_book.proofs.book.Book.claim.Goals as goal
 
 pub start-requires-clause-fits : goal.start-requires-clause-fits
@@ -22,5 +22,14 @@ returns-in-Go-clause-fits c =
 
 pub returns-in-Go-clause-held : goal.returns-in-Go-clause-held
 returns-in-Go-clause-held c =
-    subst (λ (b : Kept). IsInHand b.history c.in-Go.ticket) (sym c.start.ensures)
+    subst (λ (b : Kept). IsInHand b.history c.in-Go.ticket) (sym c.start.ensures.appended)
     (go_in_hand c.args.self.now.schedule c.args.self.now.history c.args.worker c.moment-at.result c.in-Go.ticket c.in-Go.ensures)
+
+pub returns-in-Go-clause-rises : goal.returns-in-Go-clause-rises
+returns-in-Go-clause-rises c = adding_rises c.args.worker _ _ c.start.ensures.adds
+
+pub returns-in_default-clause-adds : goal.returns-in_default-clause-adds
+returns-in_default-clause-adds c = adds_none _ c.args.worker c.moment-at.ensures.legal c.moment-at.ensures.short
+
+pub returns-in_default-clause-rises : goal.returns-in_default-clause-rises
+returns-in_default-clause-rises c = adding_rises c.args.worker _ _ (returns-in_default-clause-adds c)

@@ -1,10 +1,12 @@
-use Rattle.std.proofs.Common.{◌≡◌, ℕ, ◌<◌, length, sym, ap, ◌∙◌, subst, arith, Some}
+use Rattle.std.proofs.Common.{◌≡◌, ℕ, refl, sym, ap, ◌∙◌, subst, Some}
+use Rattle.std.proofs.lemmas.Bool.{eq-eqb}
 use Rattle.snb_schema.specs.declared.event.Event.TheVariants.{Finish}
 use Rattle.snb_schema.specs.History.{hand}
-use Rattle.snb_schema.specs.Rules.{Fits, IsFront, MayAct, V1}
+use Rattle.snb_schema.specs.Rules.{Fits, IsFront, MayAct}
+use Rattle.snb_completion.specs.Progress.{Progress}
 use Rattle.snb_book.specs.Kept.{Kept, moment_after}
 use Rattle.snb_book.specs.Book.{IsKept}
-use Rattle.snb_book.proofs.Telling.{has_room, finish_fits, IsKept-finish, IsTold-finish}
+use Rattle.snb_book.proofs.Telling.{has_room, finish_fits, open_yet, IsKept-push, IsTold-finish, adds_event, adding_rises}
 use Rattle.snb_book.proofs.book.Book.finish.Goals as goal
 
 -- the Finish fits the fields, by what the value is asked for
@@ -25,21 +27,18 @@ append-requires c =
     (fits_fields _ _ _ _ _ c.args.now _ _ c.self.view_is c.self.invariant.0 c.requires.held.held c.requires.acts c.requires.front c.moment-at.ensures.value)
     c.moment-at.ensures.bounded
 
-pub index_mut-requires-2 : goal.index_mut-requires-2
-index_mut-requires-2 c =
-    let fits =
-    fits_fields _ _ _ _ _ c.args.now _ _ c.self.view_is c.self.invariant.0 c.requires.held.held c.requires.acts c.requires.front c.moment-at.ensures.value in
-    let within : c.args.ticket.op < length c.self.inside.schedule.steps = (fits.obeys V1).0 in
-    let each = c.self.invariant.1.a_flag_each in
-    omega arith
+pub finish-requires : goal.finish-requires
+finish-requires c =
+    open_yet _ _ _ _ _ _ _ _ _ _ _ refl c.self.invariant.0 c.self.invariant.1
+    (fits_fields _ _ _ _ _ c.args.now _ _ c.self.view_is c.self.invariant.0 c.requires.held.held c.requires.acts c.requires.front c.moment-at.ensures.value)
 
 pub invariant_of-self : goal.invariant_of-self
 invariant_of-self c =
     let fits =
     fits_fields _ _ _ _ _ c.args.now _ _ c.self.view_is c.self.invariant.0 c.requires.held.held c.requires.acts c.requires.front c.moment-at.ensures.value in
-    rw c.append.ensures.items (
-      IsKept-finish _ _ _ _ _ _ _ c.self.invariant.0 fits c.moment-at.ensures.bounded c.append.ensures.capacity,
-      IsTold-finish _ _ _ _ _ _ _ _ _ c.self.invariant.1 fits,
+    rw (c.append.ensures.items, c.finish.ensures) (
+      IsKept-push _ _ _ _ c.self.invariant.0 fits c.moment-at.ensures.bounded c.append.ensures.capacity,
+      IsTold-finish _ _ _ _ _ _ _ _ _ _ c.self.invariant.1 fits,
     )
 
 pub returns-clause-fits : goal.returns-clause-fits
@@ -48,3 +47,13 @@ returns-clause-fits c =
     fits_fields _ _ _ _ _ c.args.now _ _ c.self.view_is c.self.invariant.0 c.requires.held.held c.requires.acts c.requires.front c.moment-at.ensures.value in
     subst (λ (m : ℕ). Fits c.args.self.now.schedule c.args.self.now.workers c.args.self.now.history (Finish c.args.ticket.op c.args.ticket.worker m c.args.front)) c.moment-at.ensures.value
     (subst (λ (b : Kept). Fits b.schedule b.workers b.history (Finish c.args.ticket.op c.args.ticket.worker c.moment-at.result c.args.front)) c.self.view_is fits)
+
+pub returns-clause-adds : goal.returns-clause-adds
+returns-clause-adds c =
+    adds_event _ _ _ _ _ c.args.ticket.worker (Finish c.args.ticket.op c.args.ticket.worker c.moment-at.result c.args.front) c.self.view_is
+    (ap (λ (p : Progress). p.schedule) c.finish.ensures) c.append.ensures.items c.self.invariant.0
+    (fits_fields _ _ _ _ _ c.args.now _ _ c.self.view_is c.self.invariant.0 c.requires.held.held c.requires.acts c.requires.front c.moment-at.ensures.value)
+    c.moment-at.ensures.bounded (eq-eqb c.args.ticket.worker c.args.ticket.worker refl)
+
+pub returns-clause-rises : goal.returns-clause-rises
+returns-clause-rises c = adding_rises c.args.ticket.worker _ _ (returns-clause-adds c)

@@ -1,5 +1,6 @@
-use Rattle.std.proofs.Common.{arith}
-use Rattle.snb_book.proofs.Telling.{moment_bounded}
+use Rattle.std.proofs.Common.{◌<◌, length, subst, arith}
+use Rattle.snb_book.specs.Kept.{Kept}
+use Rattle.snb_book.proofs.Telling.{history_short, moment_bounded}
 use Rattle.snb_book.proofs.book.Book.moment.Goals as goal
 
 pub returns-clause-bounded : goal.returns-clause-bounded
@@ -9,3 +10,6 @@ returns-clause-bounded c =
     let shown = c.min.ensures in
     let later = c.max.ensures in
     omega arith
+
+pub returns-clause-short : goal.returns-clause-short
+returns-clause-short c = subst (λ (b : Kept). length b.history < 4294967296) c.self.view_is (history_short _ _ c.self.invariant.0)

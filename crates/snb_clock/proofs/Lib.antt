@@ -1,0 +1,4 @@
+pub mod DayFacts
+pub mod RatioFacts
+pub mod SpellingFacts
+pub mod TextFacts

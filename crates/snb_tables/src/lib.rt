@@ -1,0 +1,7 @@
+//! The graph: its tables, each a map from key to row.
+#![tactic(auto)]
+
+pub mod graph;
+mod row_lines;
+#[cfg(test)]
+mod tests;
