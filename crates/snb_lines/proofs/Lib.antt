@@ -1,0 +1,4 @@
+pub mod BarFacts
+pub mod CutFacts
+pub mod FieldFacts
+pub mod ReadingFacts

@@ -1,0 +1,13 @@
+use Rattle.std.proofs.Common.{◌≢◌, [], subst, sym, ◌∙◌, All}
+use Rattle.std.specs.Str.{IsUtf8}
+use Rattle.snb_lines.proofs.FieldFacts.{fields_text}
+use Rattle.snb_lines.proofs.BarFacts.{not-empty}
+use Rattle.snb_lines.proofs.progress.Progress.take_line.Goals as goal
+
+pub take-requires : goal.take-requires
+take-requires g c =
+    let line = c.args.line.now in
+    let filled : line ≢ [] = not-empty line (sym c.is_empty.ensures ∙ c.if-not-is_empty.true) in
+    let checked = c.in_ok-check_line.ensures.ok in
+    let same = c.requires.split (record { filled = filled; unmarked = checked.0 }) in
+    record { utf8 = subst (All IsUtf8) (sym same) (fields_text line checked.1) }

@@ -1,0 +1,28 @@
+//! Laws of the definitions, over every text.
+
+ghost use Rattle.snb_lines.specs.Laws.{CutAnywhere, EndJoins, LinesAreWhole, PiecesJoin};
+
+use crate::meaning::Meaning;
+
+/// The lines of a file are those that are ended, and what follows the last end where it has a byte.
+pub fn lines_are_whole()
+    ensures { LinesAreWhole }
+{}
+
+/// Where a text is cut makes no difference: what follows the last end of the front is joined to the
+/// back.
+pub fn cut_anywhere()
+    ensures { CutAnywhere }
+{}
+
+/// What a reader is fed in two pieces says what both say in one: their items follow one another, a
+/// refusal in the second is the refusal of both, and one in the first stands whatever follows.
+pub fn pieces_join<M: Meaning>()
+    ensures { PiecesJoin M.takes M.refuses }
+{}
+
+/// What a reader was fed and the last line that it takes at the end say what the lines of the whole
+/// file say.
+pub fn end_joins<M: Meaning>()
+    ensures { EndJoins M.takes M.refuses }
+{}

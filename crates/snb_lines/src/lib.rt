@@ -1,0 +1,11 @@
+//! Lines out of the pieces of a file: one reader for tables, update streams, parameter files and
+//! logs, which differ in what a line means.
+#![tactic(auto)]
+
+pub mod laws;
+pub mod lines;
+pub mod meaning;
+mod progress;
+mod split;
+#[cfg(test)]
+mod tests;

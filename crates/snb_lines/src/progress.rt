@@ -1,0 +1,175 @@
+//! How far a reader of lines has come.
+
+ghost use Rattle.std.specs.Prelude.{◌≡◌, ◌+◌, ◌^◌, ◌<◌, ◌≤◌, ℕ, ◌++◌, ◌∷◌, [], List, length, drop, IsUtf8, IfErr, OnOk, OnErr, Some, None, ◌⊎◌, false};
+ghost use Rattle.csv.specs.Records.{fields_of};
+ghost use Rattle.snb_schema.specs.declared.fault.Fault.TheVariants.{Bad};
+ghost use Rattle.snb_schema.specs.declared.limits.TheConstants.{MAX_BYTES};
+ghost use Rattle.snb_schema.specs.declared.refusal.Refusal.{Refusal as Refused};
+ghost use Rattle.snb_schema.specs.Faults.{OnBad};
+ghost use Rattle.snb_schema.specs.Lines.{begins_with_mark, fields};
+ghost use Rattle.snb_lines.specs.Cut.{HasNoEnd, last_lines, rest_of, whole_lines};
+ghost use Rattle.snb_lines.specs.Reading.{EndsBad, IsPlain, OnMemory, Reads, ReadsLine, ReadsSome, RefusesLine, RefusesText, Stops};
+
+use crate::meaning::Meaning;
+use crate::split::{EndedLines, cut_at_end, is_marked, split_line};
+use csv::ByteRecord;
+use snb_schema::fault::Fault;
+use snb_schema::file::FileId;
+use snb_schema::refusal::Refusal;
+use std::alloc::Global;
+use std::{mem, str};
+
+// Finds fault with a line that begins with a byte order mark, or that isn't UTF-8.
+fn check_line(file: FileId, number: u32, line: &[u8]) -> Result<(), Fault>
+    ensures ok { OnOk result ((begins_with_mark line.now ≡ false) × IsUtf8 line.now) }
+    ensures err { IfErr result (λ fault. (r : Refused) × (fault ≡ Bad r) × RefusesText file number line.now r) }
+{
+    if is_marked(line) {
+        return Err(Fault::Bad {
+            refusal: Refusal::BadLine {
+                file,
+                line: number,
+                column: 1,
+            },
+        });
+    }
+    if str::from_utf8(line).is_err() {
+        return Err(Fault::Bad {
+            refusal: Refusal::NotUtf8 { file, line: number },
+        });
+    }
+    Ok(())
+}
+
+/// The file, how many of its lines have ended, the bytes of the line begun, and what the lines so
+/// far mean.
+#[derive(Drop)]
+pub struct Progress<M> {
+    pub alloc: Global,
+    pub file: FileId,
+    pub ended: u32,
+    pub begun: Vec<u8>,
+    pub meaning: M,
+}
+
+impl<M: Meaning> Progress<M> {
+    // Takes the next line. Its fields are in `row`, where it is plain.
+    fn take_line(
+        &mut self,
+        line: &[u8],
+        row: &ByteRecord,
+        into: &mut Vec<M::Item>,
+    ) -> Result<(), Fault>
+        requires room { self.old.ended + 1 < 2 ^ 32 }
+        requires split { IsPlain line.now → fields_of row.now ≡ fields line.now }
+        ensures ok { OnOk result ((items : List M.Item) × ReadsLine M.takes self.old.meaning (self.old.ended + 1) line.now items self.new.meaning
+            × (into.new.items ≡ into.old.items ++ items)) }
+        ensures bad { OnBad result (λ r. RefusesLine M.refuses self.old.file self.old.meaning (self.old.ended + 1) line.now r) }
+        ensures same { OnErr result (into.new.items ≡ into.old.items) }
+        ensures file { self.new.file ≡ self.old.file }
+        ensures ended { OnOk result (self.new.ended ≡ self.old.ended + 1) }
+        ensures begun { self.new.begun.items ≡ self.old.begun.items }
+    {
+        let number = self.ended + 1;
+        if !line.is_empty() {
+            check_line(self.file, number, line)?;
+            self.meaning.take(number, row, into)?;
+        }
+        self.ended = number;
+        Ok(())
+    }
+
+    // Takes the line begun, of which these are the last bytes.
+    fn take_begun(&mut self, head: &[u8], into: &mut Vec<M::Item>) -> Result<(), Fault>
+        requires room { self.old.ended + 1 < 2 ^ 32 }
+        requires one_line { HasNoEnd (self.old.begun.items ++ head.now) }
+        ensures ok { OnOk result ((items : List M.Item) × ReadsLine M.takes self.old.meaning (self.old.ended + 1) (self.old.begun.items ++ head.now) items self.new.meaning
+            × (into.new.items ≡ into.old.items ++ items)) }
+        ensures bad { OnBad result (λ r. RefusesLine M.refuses self.old.file self.old.meaning (self.old.ended + 1) (self.old.begun.items ++ head.now) r) }
+        ensures same { OnErr result (into.new.items ≡ into.old.items) }
+        ensures file { self.new.file ≡ self.old.file }
+        ensures ended { OnOk result (self.new.ended ≡ self.old.ended + 1) }
+        ensures begun { OnOk result (self.new.begun.items ≡ []) }
+    {
+        let mut row = ByteRecord::new(self.alloc);
+        let mut line = mem::replace(&mut self.begun, Vec::new(self.alloc));
+        line.extend_from_slice(head)?;
+        split_line(self.alloc, line.as_slice(), &mut row)?;
+        self.take_line(line.as_slice(), &row, into)?;
+        line.clear();
+        self.begun = line;
+        Ok(())
+    }
+
+    // Takes the lines that are ended after the line end with which the text begins, and begins the
+    // line that follows them.
+    fn take_rest(&mut self, text: &[u8], into: &mut Vec<M::Item>) -> Result<(), Fault>
+        requires after_end { (rest : List ℕ) × (text.now ≡ 10 ∷ rest) }
+        requires fresh { self.old.begun.items ≡ [] }
+        requires room { self.old.ended + length (drop 1 text.now) ≤ MAX_BYTES }
+        ensures ok { OnOk result ((items : List M.Item) × Reads M.takes self.old.meaning self.old.ended (whole_lines (drop 1 text.now)) items self.new.meaning
+            × (into.new.items ≡ into.old.items ++ items)) }
+        ensures bad { OnBad result (λ r. (items : List M.Item) × Stops M.takes M.refuses self.old.file self.old.meaning self.old.ended (whole_lines (drop 1 text.now)) items r
+            × (into.new.items ≡ into.old.items ++ items)) }
+        ensures memory { OnMemory result ((items : List M.Item) × ReadsSome M.takes self.old.meaning self.old.ended (whole_lines (drop 1 text.now)) items
+            × (into.new.items ≡ into.old.items ++ items)) }
+        ensures file { self.new.file ≡ self.old.file }
+        ensures ended { OnOk result (self.new.ended ≡ self.old.ended + length (whole_lines (drop 1 text.now))) }
+        ensures begun { OnOk result (self.new.begun.items ≡ rest_of (drop 1 text.now)) }
+    {
+        let mut reader = EndedLines::after_end(self.alloc, text);
+        let mut row = ByteRecord::new(self.alloc);
+        while let Some(line) = reader.read(&mut row)? {
+            self.take_line(line, &row, into)?;
+        }
+        self.begun.extend_from_slice(reader.rest())?;
+        Ok(())
+    }
+
+    /// Takes the lines that are ended in the piece, and begins the line that follows them.
+    pub fn take_piece(&mut self, piece: &[u8], into: &mut Vec<M::Item>) -> Result<(), Fault>
+        requires one_line { HasNoEnd self.old.begun.items }
+        requires room { self.old.ended + length self.old.begun.items + length piece.now ≤ MAX_BYTES }
+        ensures ok { OnOk result ((items : List M.Item) × Reads M.takes self.old.meaning self.old.ended (whole_lines (self.old.begun.items ++ piece.now)) items self.new.meaning
+            × (into.new.items ≡ into.old.items ++ items)) }
+        ensures bad { OnBad result (λ r. (items : List M.Item) × Stops M.takes M.refuses self.old.file self.old.meaning self.old.ended (whole_lines (self.old.begun.items ++ piece.now)) items r
+            × (into.new.items ≡ into.old.items ++ items)) }
+        ensures memory { OnMemory result ((items : List M.Item) × ReadsSome M.takes self.old.meaning self.old.ended (whole_lines (self.old.begun.items ++ piece.now)) items
+            × (into.new.items ≡ into.old.items ++ items)) }
+        ensures file { self.new.file ≡ self.old.file }
+        ensures ended { OnOk result (self.new.ended ≡ self.old.ended + length (whole_lines (self.old.begun.items ++ piece.now))) }
+        ensures begun { OnOk result (self.new.begun.items ≡ rest_of (self.old.begun.items ++ piece.now)) }
+    {
+        let Some((head, others)) = cut_at_end(piece) else {
+            self.begun.extend_from_slice(piece)?;
+            return Ok(());
+        };
+        self.take_begun(head, into)?;
+        self.take_rest(others, into)
+    }
+
+    /// Takes the line begun, where it has a byte, and ends the file.
+    pub fn finish(&mut self, into: &mut Vec<M::Item>) -> Result<(), Fault>
+        requires one_line { HasNoEnd self.old.begun.items }
+        requires room { self.old.ended + length self.old.begun.items ≤ MAX_BYTES }
+        ensures ok { OnOk result ((items : List M.Item) × Reads M.takes self.old.meaning self.old.ended (last_lines self.old.begun.items) items self.new.meaning
+            × (into.new.items ≡ into.old.items ++ items)) }
+        ensures ends { OnOk result (M.ends self.new.meaning ≡ None) }
+        ensures bad { OnBad result (λ r. (items : List M.Item) × (Stops M.takes M.refuses self.old.file self.old.meaning self.old.ended (last_lines self.old.begun.items) items r
+            ⊎ EndsBad M.takes M.ends self.old.meaning self.old.ended (last_lines self.old.begun.items) items r)
+            × (into.new.items ≡ into.old.items ++ items)) }
+        ensures memory { OnMemory result ((items : List M.Item) × ReadsSome M.takes self.old.meaning self.old.ended (last_lines self.old.begun.items) items
+            × (into.new.items ≡ into.old.items ++ items)) }
+        ensures file { self.new.file ≡ self.old.file }
+        ensures ended { OnOk result (self.new.ended ≡ self.old.ended + length (last_lines self.old.begun.items)) }
+        ensures begun { OnOk result (self.new.begun.items ≡ []) }
+    {
+        if !self.begun.is_empty() {
+            self.take_begun(&[], into)?;
+        }
+        match self.meaning.at_end() {
+            Some(refusal) => Err(Fault::Bad { refusal }),
+            None => Ok(()),
+        }
+    }
+}
