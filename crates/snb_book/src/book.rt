@@ -162,7 +162,8 @@ fn all_set(flags: &[bool]) -> bool
 }
 
 impl Book {
-    /// A book of a schedule and this many workers, in which nothing has happened.
+    /// A book of 1 to 8 workers and a schedule whose lanes are all of a person stream, in which
+    /// nothing has happened.
     ///
     /// It has room for all that can happen, so that no later call takes memory.
     pub fn make(alloc: Global, schedule: &Schedule, workers: u32) -> Result<Book, AllocError>
@@ -320,7 +321,8 @@ impl Book {
         self.last = at;
     }
 
-    /// Gives the worker an operation, if one may start, where the clock shows `now`.
+    /// Gives the worker, one of the book's, an operation, if one may start, where the clock shows
+    /// `now`.
     ///
     /// Only a `Go` changes the book, by one Start.
     pub fn claim(&mut self, worker: u32, now: u64) -> Claim
@@ -346,7 +348,8 @@ impl Book {
         }
     }
 
-    /// Appends the Finish of a ticket's operation, where the clock shows `now`.
+    /// Appends the Finish of a ticket's operation, where the clock shows `now`. The ticket's worker
+    /// has that operation in hand, by that Start, and hasn't halted.
     ///
     /// `front` is the number of events whose inserts a read saw, and 0 of an insert. That another
     /// worker has halted doesn't hinder it.
@@ -376,7 +379,8 @@ impl Book {
         self.last = at;
     }
 
-    /// Appends the Halt of a worker: from then on every claim, of whichever worker, is `Halted`.
+    /// Appends the Halt of a worker, which is one of the book's and hasn't halted before: from then
+    /// on every claim, of whichever worker, is `Halted`.
     pub fn halt(&mut self, worker: u32)
         requires { MayAct self.old.workers self.old.history worker }
         ensures appended { self.new ≡ record self.old { history = self.old.history ++ Event.Halt worker ∷ [] } }

@@ -76,7 +76,7 @@ impl<M: Meaning> Lines<M> {
 
     /// Takes the next piece of the file, and appends the items of the lines that end in it, each line
     /// at its `\n` and numbered from 1. The pieces may be cut anywhere, and are 268,435,456 bytes at
-    /// most together.
+    /// most together. None follows an `end` that answered Ok.
     ///
     /// The error is the first line that is refused, or want of memory. The items of the lines before
     /// it are appended. From then on the reader answers that error, and appends nothing.
@@ -107,7 +107,7 @@ impl<M: Meaning> Lines<M> {
     }
 
     /// Ends the file, and appends the items of a last line without a `\n`, where it has a byte.
-    /// Nothing may follow but what repeats an error.
+    /// Once this has answered Ok, the reader is fed and ended no more.
     ///
     /// The error is that last line, where it is refused, or what the meaning refuses at the end of
     /// the file, or want of memory. It is kept as an error of `feed` is.

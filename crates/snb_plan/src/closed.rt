@@ -173,7 +173,8 @@ fn wrong_with<H: Held>(held: &H, added: &Added, file: FileId, line: &Line) -> Op
 /// whose key is held or is that of an insert before it, or that refers to a person which is neither
 /// held nor added by an insert whose t is at most its t_d.
 ///
-/// `file` is the stream, and `held` tells the keys of the dataset. The inserts are in order of t.
+/// `file` is the stream, and `held` tells the keys of the dataset. The inserts are in order of t,
+/// `MAX_ROWS` at most, with no moment above `MAX_TIME` and no friendship with oneself.
 pub fn check_closed<H: Held>(
     alloc: Global,
     held: &H,

@@ -59,7 +59,8 @@ fn steps_of(alloc: Global, first: u64, inserts: &[Line]) -> Result<Vec<Step>, Al
     Ok(steps)
 }
 
-/// The schedule of the inserts of a stream, which are in order of t.
+/// The schedule of the inserts of a stream, which are in order of t, `MAX_ROWS` at most, with no
+/// moment above `MAX_TIME` and no friendship with oneself.
 pub fn make_schedule(alloc: Global, inserts: &[Line]) -> Result<Schedule, AllocError>
     requires { ArePlanned inserts.now }
     ensures { IfOk result (λ schedule. schedule ≡ plan_of inserts.now) }
