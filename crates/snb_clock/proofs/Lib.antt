@@ -1,4 +1,5 @@
 pub mod DayFacts
+pub mod MomentFacts
 pub mod RatioFacts
 pub mod SpellingFacts
 pub mod TextFacts

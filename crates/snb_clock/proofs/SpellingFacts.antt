@@ -6,7 +6,7 @@ use Rattle.snb_base.specs.Calendar.{IsDigit}
 use Rattle.snb_base.specs.Spellings.{Num, last_time}
 
 -- no number has a dash as its fifth byte
-no_number : (x : List ℕ) (n most : ℕ) → 4 < length x → get_or x 4 0 ≡ 45 → ¬ Num x n most
+pub no_number : (x : List ℕ) (n most : ℕ) → 4 < length x → get_or x 4 0 ≡ 45 → ¬ Num x n most
 no_number x n most long dash num = let digit = All-get_or IsDigit x 4 0 long (All-from_recursion IsDigit x num.digits) in absurd (omega (arith, digit.0))
 
 -- so a text that has one is read as words alone

@@ -12,7 +12,8 @@ use Rattle.csv.specs.declared.parser.State.TheVariants as st
 use Rattle.std.specs.List.{onto_first}
 use Rattle.snb_schema.specs.Lines.{begins_with_mark, fields}
 use Rattle.snb_lines.specs.Bars.{Stands, bar_config}
-use Rattle.snb_lines.specs.Cut.{HasNoEnd, IsCutAtEnd}
+use Rattle.snb_lines.specs.Cut.{IsCutAtEnd}
+use Rattle.snb_schema.specs.Lines.{HasNoEnd}
 
 -- bytes in front of the first piece
 abbrev onto : List ℕ → List (List ℕ) → List (List ℕ)

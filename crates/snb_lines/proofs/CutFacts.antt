@@ -5,7 +5,8 @@ use Rattle.std.proofs.lemmas.List.Elements.{All-nil, All-cons, All-head, All-tai
 use Rattle.std.proofs.lemmas.List.Splits.{slice_split_at, slice_split_none, length-slice_split}
 use Rattle.std.specs.List.{slice_split, onto_first}
 use Rattle.snb_schema.specs.Lines.{lines}
-use Rattle.snb_lines.specs.Cut.{HasNoEnd, all_but_last, last_lines, last_part, rest_of, whole_lines}
+use Rattle.snb_lines.specs.Cut.{all_but_last, last_lines, last_part, rest_of, whole_lines}
+use Rattle.snb_schema.specs.Lines.{HasNoEnd}
 
 -- the test of a byte that ends no line
 unended : (line : List ℕ) → HasNoEnd line → All (λ b. (b == 10) ≡ false) line

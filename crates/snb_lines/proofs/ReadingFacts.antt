@@ -2,7 +2,8 @@
 use Rattle.std.proofs.Common.{◌≡◌, ◌≢◌, ◌==◌, true, false, drop, ◌++◌, ◌∷◌, ◌∙◌, ◌+◌, ◌<◌, ◌≤◌, [], ℕ, List, refl, sym, ap, subst, length, arith, length-append, append_assoc, append-nil, Result, Ok, Err, OnOk, Option, Some}
 use Rattle.snb_schema.specs.declared.file.FileId.{FileId}
 use Rattle.snb_schema.specs.declared.refusal.Refusal.{Refusal}
-use Rattle.snb_lines.specs.Cut.{HasNoEnd, IsCutAtEnd, last_lines, rest_of, whole_lines}
+use Rattle.snb_lines.specs.Cut.{IsCutAtEnd, last_lines, rest_of, whole_lines}
+use Rattle.snb_schema.specs.Lines.{HasNoEnd}
 use Rattle.std.proofs.lemmas.List.Elements.{All-append}
 use Rattle.std.specs.Result.{IsErrAnd}
 use Rattle.snb_schema.specs.Faults.{OnBad}

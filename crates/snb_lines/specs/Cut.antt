@@ -1,10 +1,7 @@
 -- A text cut at its line ends: the lines that are ended, and what follows the last end.
-use Rattle.std.specs.Prelude.{◌≡◌, ◌++◌, ◌≢◌, ◌==◌, ℕ, List, [], ◌∷◌, All}
+use Rattle.std.specs.Prelude.{◌≡◌, ◌++◌, ◌==◌, ℕ, List, [], ◌∷◌}
 use Rattle.std.specs.List.{slice_split}
-
--- no byte ends a line
-abbrev pub HasNoEnd : List ℕ → Type 0
-HasNoEnd line = All (λ b. b ≢ 10) line
+use Rattle.snb_schema.specs.Lines.{HasNoEnd}
 
 -- a text is a front without a line end and a back that begins with one
 pub record IsCutAtEnd (text front back : List ℕ) : Type 0 where

@@ -1,11 +1,11 @@
 -- What a file says, line by line, where `takes` and `refuses` say what a line means.
-use Rattle.std.specs.Prelude.{◌≡◌, ◌≢◌, ◌⊎◌, ◌+◌, ℕ, true, false, List, [], ◌∷◌, ◌++◌, length, Option, Some, Bool, IsUtf8, Result, Ok, Err}
+use Rattle.std.specs.Prelude.{◌≡◌, ◌≢◌, ◌⊎◌, ◌+◌, ℕ, false, List, [], ◌∷◌, ◌++◌, length, Option, Some, Bool, IsUtf8, Result, Ok, Err}
+use Rattle.snb_schema.specs.LineFaults.{RefusesText}
 use Rattle.snb_schema.specs.Lines.{begins_with_mark, fields}
 use Rattle.snb_schema.specs.declared.fault.Fault.{Fault}
 use Rattle.snb_schema.specs.declared.fault.Fault.TheVariants.{Bad, Memory}
 use Rattle.snb_schema.specs.declared.file.FileId.{FileId}
 use Rattle.snb_schema.specs.declared.refusal.Refusal.{Refusal}
-use Rattle.snb_schema.specs.declared.refusal.Refusal.TheVariants as refusal
 
 -- what a contract sees of a reader of lines: its file, how many bytes it was fed, how many lines
 -- ended, the bytes of the line begun, whether the file has ended, the fault that it keeps, and its meaning
@@ -29,11 +29,6 @@ abbrev pub ReadsLine : {M T : Type 0} → (M → ℕ → List (List ℕ) → Lis
 ReadsLine takes state number [] items new = (items ≡ []) × (new ≡ state)
 ReadsLine takes state number (b ∷ bs) items new =
     (begins_with_mark (b ∷ bs) ≡ false) × IsUtf8 (b ∷ bs) × takes state number (fields (b ∷ bs)) items new
-
--- the line of this number is refused for its bytes: it begins with a byte order mark, or it isn't UTF-8
-abbrev pub RefusesText : FileId → ℕ → List ℕ → Refusal → Type 0
-RefusesText file number line r = (begins_with_mark line ≡ true) × (r ≡ refusal.BadLine file number 1)
-    ⊎ (begins_with_mark line ≡ false) × (¬ IsUtf8 line) × (r ≡ refusal.NotUtf8 file number)
 
 -- the line of this number is refused, for its bytes or for what it means
 abbrev pub RefusesLine : {M : Type 0} → (M → ℕ → List (List ℕ) → Refusal → Type 0) → FileId → M → ℕ → List ℕ → Refusal → Type 0

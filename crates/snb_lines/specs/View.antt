@@ -1,7 +1,7 @@
 -- How a contract sees a reader of lines.
 use Rattle.std.specs.Prelude.{◌≡◌, ◌+◌, ◌≤◌, None, length}
 use Rattle.snb_schema.specs.declared.limits.TheConstants.{MAX_BYTES}
-use Rattle.snb_lines.specs.Cut.{HasNoEnd}
+use Rattle.snb_schema.specs.Lines.{HasNoEnd}
 use Rattle.snb_lines.specs.Reading.{Reader}
 use Rattle.snb_lines.specs.declared.lines.Lines.TheInside.{Inside}
 

@@ -6,6 +6,6 @@ pub mod laws;
 pub mod lines;
 pub mod meaning;
 mod progress;
-mod split;
+pub mod split;
 #[cfg(test)]
 mod tests;

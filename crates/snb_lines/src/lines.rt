@@ -67,6 +67,13 @@ impl<M: Meaning> Lines<M> {
         self.fed
     }
 
+    /// How many lines have ended, as long as the reader keeps no fault.
+    pub fn ended(&self) -> u32
+        ensures { result ≡ self.now.ended }
+    {
+        self.progress.ended
+    }
+
     /// What the lines so far mean, as long as the reader keeps no fault.
     pub fn meaning(&self) -> &M
         ensures { result.now ≡ self.now.meaning }

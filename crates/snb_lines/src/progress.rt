@@ -7,8 +7,10 @@ ghost use Rattle.snb_schema.specs.declared.limits.TheConstants.{MAX_BYTES};
 ghost use Rattle.snb_schema.specs.declared.refusal.Refusal.{Refusal as Refused};
 ghost use Rattle.snb_schema.specs.Faults.{OnBad};
 ghost use Rattle.snb_schema.specs.Lines.{begins_with_mark, fields};
-ghost use Rattle.snb_lines.specs.Cut.{HasNoEnd, last_lines, rest_of, whole_lines};
-ghost use Rattle.snb_lines.specs.Reading.{EndsBad, IsPlain, OnMemory, Reads, ReadsLine, ReadsSome, RefusesLine, RefusesText, Stops};
+ghost use Rattle.snb_lines.specs.Cut.{last_lines, rest_of, whole_lines};
+ghost use Rattle.snb_schema.specs.Lines.{HasNoEnd};
+ghost use Rattle.snb_lines.specs.Reading.{EndsBad, IsPlain, OnMemory, Reads, ReadsLine, ReadsSome, RefusesLine, Stops};
+ghost use Rattle.snb_schema.specs.LineFaults.{RefusesText};
 
 use crate::meaning::Meaning;
 use crate::split::{EndedLines, cut_at_end, is_marked, split_line};

@@ -7,7 +7,8 @@ ghost use Rattle.csv.specs.Records.{fields_of};
 ghost use Rattle.csv.specs.declared.parser.State.TheVariants as st;
 ghost use Rattle.snb_schema.specs.Lines.{begins_with_mark, fields};
 ghost use Rattle.snb_lines.specs.Bars.{MayStand, Stands, bar_config};
-ghost use Rattle.snb_lines.specs.Cut.{HasNoEnd, IsCutAtEnd};
+ghost use Rattle.snb_lines.specs.Cut.{IsCutAtEnd};
+ghost use Rattle.snb_schema.specs.Lines.{HasNoEnd};
 ghost use Rattle.snb_lines.specs.Reading.{IsPlain};
 
 use csv::{ByteRecord, ErrorKind, Reader, ReaderBuilder, Terminator};
@@ -66,8 +67,8 @@ pub fn cut_at_end<'a>(text: &'a [u8]) -> Option<(&'a [u8], &'a [u8])>
     Some((&text[..end], &text[end..]))
 }
 
-/// Splits a line at its bars into `row`, where it has a byte and doesn't begin with a byte order
-/// mark. The one error is want of memory.
+/// Splits a line, which has no `\n`, at its bars into `row`, where it has a byte and doesn't begin
+/// with a byte order mark. The one error is want of memory.
 pub fn split_line(alloc: Global, line: &[u8], row: &mut ByteRecord) -> Result<(), AllocError>
     requires { HasNoEnd line.now }
     ensures { OnOk result (IsPlain line.now → fields_of row.new ≡ fields line.now) }

@@ -219,6 +219,7 @@ fn a_fault_is_kept(rt: HostRuntime) -> Result<(), Fail> {
         return Err(AllocError.into());
     }
     assert_eq!(rt; reader.fed(), 3);
+    assert_eq!(rt; reader.ended(), 1);
     assert_eq!(rt; reader.meaning().taken, 1);
     let Err(fault) = reader.feed(b"\nbad\nc\n", &mut rows) else {
         assert!(rt; false, "no refusal");

@@ -10,7 +10,7 @@ use Rattle.snb_schema.specs.declared.key.Key.{Key}
 use Rattle.snb_schema.specs.declared.key.Key.TheVariants.{Node}
 use Rattle.snb_schema.specs.declared.op.Line.{Line}
 use Rattle.snb_schema.specs.declared.op.Op.{Op}
-use Rattle.snb_schema.specs.declared.op.Op.TheVariants.{AddPerson, AddFriend}
+use Rattle.snb_schema.specs.declared.op.Op.TheVariants.{AddPerson}
 use Rattle.snb_schema.specs.declared.refusal.Refusal.{Refusal}
 use Rattle.snb_schema.specs.declared.table.Kind.TheVariants.{Person}
 use Rattle.snb_schema.specs.Closed.{key_of, persons_of, IsLate, IsTaken, IsMet, IsFirstLacking, IsWrongBy, IsWrong, IsFirstWrong, IsClosedAt, IsClosed}
@@ -84,7 +84,7 @@ met_by holds xs i id x added planned lt is timely s (inr y) =
 waits : (op : Op) (front : List ℕ) (id : ℕ) (rest : List ℕ) → front ++ id ∷ rest ≡ persons_of op → adds_person op ≡ false
 waits (AddPerson a b c d e f g h i j k l m n) [] id rest q = absurd cc
 waits (AddPerson a b c d e f g h i j k l m n) (x ∷ front) id rest q = absurd cc
-waits (AddFriend one other date) front id rest q = refl
+waits _ front id rest q = refl
 
 -- what isn't late is in time
 timely_from : (x : Line) → (IsLate x → ⊥) → adds_person x.op ≡ false → x.t_d < x.t

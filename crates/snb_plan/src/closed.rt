@@ -3,7 +3,7 @@
 ghost use Rattle.std.specs.Prelude.{◌≡◌, ◌↔◌, max, min, IsTrue, MatchOption, OnOk, All};
 ghost use Rattle.snb_schema.specs.Closed.{key_of, persons_of, IsClosed, IsFirstLacking, IsFirstWrong, IsLate, IsWrongBy};
 ghost use Rattle.snb_schema.specs.Faults.{OnBad};
-ghost use Rattle.snb_schema.specs.Plan.{ArePlanned};
+ghost use Rattle.snb_schema.specs.Plan.{ArePlanned, IsOfPersonStream};
 ghost use Rattle.snb_plan.specs.Added.{time_of, HasAdded, IsFine, IsMetBy, IsTakenBy};
 
 use crate::plan::adds_person;
@@ -47,6 +47,7 @@ impl Added {
 
     // Adds an insert, whose key is new.
     fn add(&mut self, line: &Line) -> Result<(), AllocError>
+        requires { IsOfPersonStream line.now.op }
         ensures { OnOk result (HasAdded self.old line.now self.new) }
     {
         match &line.op {
@@ -63,6 +64,7 @@ impl Added {
                 self.friendships.insert(pair, line.t)?;
                 Ok(())
             }
+            _ => unreachable!(),
         }
     }
 }
@@ -75,6 +77,42 @@ fn key_of(op: &Op) -> Key
         Op::AddPerson { person_id, .. } => Key::Node {
             kind: Kind::Person,
             id: *person_id,
+        },
+        Op::LikePost {
+            person_id,
+            post_id,
+            ..
+        } => Key::LikesPost {
+            person: *person_id,
+            post: *post_id,
+        },
+        Op::LikeComment {
+            person_id,
+            comment_id,
+            ..
+        } => Key::LikesComment {
+            person: *person_id,
+            comment: *comment_id,
+        },
+        Op::AddForum { forum_id, .. } => Key::Node {
+            kind: Kind::Forum,
+            id: *forum_id,
+        },
+        Op::AddMember {
+            person_id,
+            forum_id,
+            ..
+        } => Key::Member {
+            forum: *forum_id,
+            person: *person_id,
+        },
+        Op::AddPost { post_id, .. } => Key::Node {
+            kind: Kind::Post,
+            id: *post_id,
+        },
+        Op::AddComment { comment_id, .. } => Key::Node {
+            kind: Kind::Comment,
+            id: *comment_id,
         },
         Op::AddFriend {
             person1_id,
@@ -106,6 +144,7 @@ fn is_met<H: Held>(held: &H, added: &Added, t_d: u64, id: u64) -> bool
 
 // The first person that an insert refers to and that isn't met.
 fn first_unmet<H: Held>(held: &H, added: &Added, line: &Line) -> Option<u64>
+    requires { IsOfPersonStream line.now.op }
     ensures { MatchOption result (All (IsMetBy (H.holds held.now) added.now line.now.t_d) (persons_of line.now.op))
         (λ id. IsFirstLacking (IsMetBy (H.holds held.now) added.now line.now.t_d) (persons_of line.now.op) id) }
 {
@@ -124,6 +163,7 @@ fn first_unmet<H: Held>(held: &H, added: &Added, line: &Line) -> Option<u64>
             }
             None
         }
+        _ => unreachable!(),
     }
 }
 
@@ -143,6 +183,7 @@ fn is_taken<H: Held>(held: &H, added: &Added, key: &Key) -> bool
 
 // What is wrong with an insert, by the inserts so far.
 fn wrong_with<H: Held>(held: &H, added: &Added, file: FileId, line: &Line) -> Option<Refusal>
+    requires { IsOfPersonStream line.now.op }
     ensures { MatchOption result (IsFine (H.holds held.now) added.now line.now)
         (λ r. IsWrongBy (λ x. IsTakenBy (H.holds held.now) added.now (key_of x.op)) (IsMetBy (H.holds held.now) added.now) file line.now r) }
 {
@@ -173,8 +214,9 @@ fn wrong_with<H: Held>(held: &H, added: &Added, file: FileId, line: &Line) -> Op
 /// whose key is held or is that of an insert before it, or that refers to a person which is neither
 /// held nor added by an insert whose t is at most its t_d.
 ///
-/// `file` is the stream, and `held` tells the keys of the dataset. The inserts are in order of t,
-/// `MAX_ROWS` at most, with no moment above `MAX_TIME` and no friendship with oneself.
+/// `file` is the stream, and `held` tells the keys of the dataset. The inserts are of persons and
+/// friendships, in order of t, `MAX_ROWS` at most, with no moment above `MAX_TIME` and no friendship
+/// with oneself.
 pub fn check_closed<H: Held>(
     alloc: Global,
     held: &H,

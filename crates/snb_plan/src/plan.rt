@@ -22,7 +22,7 @@ pub fn adds_person(op: &Op) -> bool
 {
     match op {
         Op::AddPerson { .. } => true,
-        Op::AddFriend { .. } => false,
+        _ => false,
     }
 }
 
@@ -59,8 +59,8 @@ fn steps_of(alloc: Global, first: u64, inserts: &[Line]) -> Result<Vec<Step>, Al
     Ok(steps)
 }
 
-/// The schedule of the inserts of a stream, which are in order of t, `MAX_ROWS` at most, with no
-/// moment above `MAX_TIME` and no friendship with oneself.
+/// The schedule of the inserts of a stream, which are of persons and friendships, in order of t,
+/// `MAX_ROWS` at most, with no moment above `MAX_TIME` and no friendship with oneself.
 pub fn make_schedule(alloc: Global, inserts: &[Line]) -> Result<Schedule, AllocError>
     requires { ArePlanned inserts.now }
     ensures { IfOk result (λ schedule. schedule ≡ plan_of inserts.now) }

@@ -14,3 +14,4 @@ pub mod Planned
 pub mod Short
 pub mod InTurn
 pub mod Tied
+pub mod FrequencyFacts

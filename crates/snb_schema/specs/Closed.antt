@@ -2,10 +2,10 @@
 use Rattle.std.specs.Prelude.{◌≡◌, ℕ, ◌<◌, ◌≤◌, ◌⊎◌, min, max, false, List, [], ◌∷◌, ◌++◌, Contains, All}
 use Rattle.snb_schema.specs.declared.file.FileId.{FileId}
 use Rattle.snb_schema.specs.declared.key.Key.{Key}
-use Rattle.snb_schema.specs.declared.key.Key.TheVariants.{Node, Knows}
+use Rattle.snb_schema.specs.declared.key.Key.TheVariants.{Node, Knows, LikesPost, LikesComment, Member}
 use Rattle.snb_schema.specs.declared.op.Line.{Line}
 use Rattle.snb_schema.specs.declared.op.Op.{Op}
-use Rattle.snb_schema.specs.declared.op.Op.TheVariants.{AddPerson, AddFriend}
+use Rattle.snb_schema.specs.declared.op.Op.TheVariants.{AddPerson, LikePost, LikeComment, AddForum, AddMember, AddPost, AddComment, AddFriend}
 use Rattle.snb_schema.specs.declared.refusal.Refusal.{Refusal}
 use Rattle.snb_schema.specs.declared.refusal.Refusal.TheVariants.{LateDependency, Duplicate, Unmet}
 use Rattle.snb_schema.specs.declared.table.Kind.TheVariants as kind
@@ -14,11 +14,23 @@ use Rattle.snb_schema.specs.Plan.{adds_person}
 -- the key of what an insert adds
 abbrev pub key_of : Op → Key
 key_of (AddPerson id first last gender birthday created ip browser city languages emails tags study work) = Node kind.Person id
+key_of (LikePost person post date) = LikesPost person post
+key_of (LikeComment person comment date) = LikesComment person comment
+key_of (AddForum id title date moderator tags) = Node kind.Forum id
+key_of (AddMember person forum date) = Member forum person
+key_of (AddPost id image date ip browser language content size author forum country tags) = Node kind.Post id
+key_of (AddComment id date ip browser content size author country parent tags) = Node kind.Comment id
 key_of (AddFriend one other date) = Knows (min one other) (max one other)
 
 -- the persons that an insert refers to, in the order of its fields; references to other nodes aren't looked at yet
 abbrev pub persons_of : Op → List ℕ
 persons_of (AddPerson id first last gender birthday created ip browser city languages emails tags study work) = []
+persons_of (LikePost person post date) = person ∷ []
+persons_of (LikeComment person comment date) = person ∷ []
+persons_of (AddForum id title date moderator tags) = moderator ∷ []
+persons_of (AddMember person forum date) = person ∷ []
+persons_of (AddPost id image date ip browser language content size author forum country tags) = author ∷ []
+persons_of (AddComment id date ip browser content size author country parent tags) = author ∷ []
 persons_of (AddFriend one other date) = one ∷ other ∷ []
 
 -- in all of these definitions `holds` tells the keys of the dataset

@@ -1,36 +1,31 @@
 -- The columns of tables and streams, and how each spells its value.
-use Rattle.std.specs.Prelude.{◌≡◌, ℕ, List, [], ◌∷◌}
+use Rattle.std.specs.Prelude.{◌≡◌, ℕ, zero, suc, List, [], ◌∷◌, ◌++◌, map, codes}
 use Rattle.std.specs.Fmt.{decimal}
-use Rattle.snb_base.specs.Spellings.{Num}
-use Rattle.snb_schema.specs.declared.limits.TheConstants.{MAX_TIME}
+use Rattle.std.specs.List.{join_with_byte}
+use Rattle.snb_base.specs.Spellings.{Num, SpellsId, SpellsWord}
+use Rattle.snb_base.specs.Spellings as spellings
+use Rattle.snb_schema.specs.declared.column.Column.{Column}
+use Rattle.snb_schema.specs.declared.column.Column.TheVariants.{Number, Small, OptionalId, Date, Day, Words, Word, TextList, IdList, PairList}
+use Rattle.snb_schema.specs.declared.column.Value.{Value}
+use Rattle.snb_schema.specs.declared.column.Value.TheVariants.{Digits, SmallDigits, NoId, Letters, Texts, Ids, Pairs}
 
--- what a column holds: a number of at most so much, a date, a day, any text, or a list of texts, of ids or of ids with years
-pub data Column : Type 0 where
-  Number : (most : ℕ) → Column
-  Date : Column
-  Day : Column
-  Words : Column
-  TextList : Column
-  IdList : Column
-  PairList : Column
+-- the text `-1`, which stands for no id
+abbrev pub no_id : List ℕ
+no_id = codes "-1"
 
--- the value of a column
-pub data Value : Type 0 where
-  Digits : (n : ℕ) → Value
-  Letters : (text : List ℕ) → Value
-  Texts : (texts : List (List ℕ)) → Value
-  Ids : (ids : List ℕ) → Value
-  Pairs : (pairs : List (ℕ × ℕ)) → Value
-
--- the text is a spelling of the value; a date and a day are their milliseconds, and a list is empty
+-- the text is a spelling of the value; dates and days are in words or digits, and a list has each element once
 abbrev pub Spells : Column → List ℕ → Value → Type 0
 Spells (Number most) x (Digits n) = Num x n most
-Spells Date x (Digits n) = Num x n MAX_TIME
-Spells Day x (Digits n) = Num x n MAX_TIME
+Spells (Small most) x (SmallDigits n) = Num x n most
+Spells OptionalId x (Digits n) = SpellsId x n
+Spells OptionalId x NoId = x ≡ no_id
+Spells Date x (Digits n) = spellings.Date x n
+Spells Day x (Digits n) = spellings.Day x n
 Spells Words x (Letters text) = x ≡ text
-Spells TextList x (Texts texts) = (x ≡ []) × (texts ≡ [])
-Spells IdList x (Ids ids) = (x ≡ []) × (ids ≡ [])
-Spells PairList x (Pairs pairs) = (x ≡ []) × (pairs ≡ [])
+Spells Word x (Letters text) = SpellsWord x text
+Spells TextList x (Texts texts) = spellings.WordList x texts
+Spells IdList x (Ids ids) = spellings.IdList x ids
+Spells PairList x (Pairs pairs) = spellings.PairList x pairs
 Spells _ x _ = ⊥
 
 -- there is a field for each column, and it spells the value beside it
@@ -39,10 +34,22 @@ SpellsAll [] [] [] = Unit {0}
 SpellsAll (c ∷ cs) (x ∷ xs) (v ∷ vs) = Spells c x v × SpellsAll cs xs vs
 SpellsAll _ _ _ = ⊥
 
--- the one canonical spelling of a number or a text
+-- after so many fields that spell values of their columns comes one that spells none
+abbrev pub StopsAfter : List Column → List (List ℕ) → ℕ → Type 0
+StopsAfter (c ∷ cs) (x ∷ xs) zero = (v : Value) → ¬ Spells c x v
+StopsAfter (c ∷ cs) (x ∷ xs) (suc n) = ((v : Value) × Spells c x v) × StopsAfter cs xs n
+StopsAfter _ _ _ = ⊥
+
+-- an id and a year, as a list of pairs has them
+abbrev pub pair_text : ℕ × ℕ → List ℕ
+pair_text pair = decimal pair.0 ++ 44 ∷ decimal pair.1
+
+-- the one canonical spelling of a value
 abbrev pub canonical_field : Value → List ℕ
 canonical_field (Digits n) = decimal n
+canonical_field (SmallDigits n) = decimal n
 canonical_field (Letters text) = text
-canonical_field (Texts texts) = []
-canonical_field (Ids ids) = []
-canonical_field (Pairs pairs) = []
+canonical_field NoId = no_id
+canonical_field (Texts texts) = join_with_byte 59 texts
+canonical_field (Ids ids) = join_with_byte 59 (map decimal ids)
+canonical_field (Pairs pairs) = join_with_byte 59 (map pair_text pairs)

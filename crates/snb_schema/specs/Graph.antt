@@ -1,5 +1,5 @@
 -- A graph: for each table a finite map from key to row.
-use Rattle.std.specs.Prelude.{◌≡◌, ℕ, ◌<◌, min, max, List, [], ◌∷◌, ◌++◌, map, length, All, Contains, IsPermutation, codes}
+use Rattle.std.specs.Prelude.{◌≡◌, ℕ, ◌<◌, min, max, List, [], ◌∷◌, ◌++◌, map, length, All, Contains, IsPermutation, Option, Some, None, codes}
 use Rattle.std.specs.Fmt.{decimal}
 use Rattle.std.specs.List.{flat_map}
 use Rattle.std.specs.List.Sorted.{IsStrictlySortedBy}
@@ -58,7 +58,7 @@ pub record HoldsRows (g : Graph) (held : List Row) : Type 0 where
   pub graph : IsGraph g
   pub same : IsPermutation (all_rows g) held
 
--- the rows that an insert adds
+-- the rows that an insert adds to the tables that are built
 abbrev pub rows_of : Op → List Row
 rows_of (AddPerson id first last gender birthday created ip browser city languages emails tags study work) =
     row.Person (record {
@@ -72,6 +72,7 @@ rows_of (AddPerson id first last gender birthday created ip browser city languag
       browser_used = browser;
     }) ∷ []
 rows_of (AddFriend one other date) = row.Dated table.PersonKnowsPerson (min one other) (max one other) date ∷ []
+rows_of _ = []
 
 -- the key of an edge with a date, by its table
 abbrev pub dated_key : Table → ℕ → ℕ → Key
@@ -80,14 +81,22 @@ dated_key table.PersonLikesComment from to = LikesComment from to
 dated_key table.ForumHasMemberPerson from to = Member from to
 dated_key _ from to = Knows from to
 
--- the key of a row
-abbrev pub key_of_row : Row → Key
-key_of_row (row.Person p) = Node kind.Person p.id
-key_of_row (row.Dated t from to date) = dated_key t from to
+-- the key of a node's row, or of an edge's that an insert can add
+abbrev pub key_of_row : Row → Option Key
+key_of_row (row.Place p) = Some (Node kind.Place p.id)
+key_of_row (row.TagClass c) = Some (Node kind.TagClass c.id)
+key_of_row (row.Tag g) = Some (Node kind.Tag g.id)
+key_of_row (row.Organisation o) = Some (Node kind.Organisation o.id)
+key_of_row (row.Person p) = Some (Node kind.Person p.id)
+key_of_row (row.Forum f) = Some (Node kind.Forum f.id)
+key_of_row (row.Post p) = Some (Node kind.Post p.id)
+key_of_row (row.Comment c) = Some (Node kind.Comment c.id)
+key_of_row (row.Dated t from to date) = Some (dated_key t from to)
+key_of_row _ = None
 
 -- one of the rows has the key
 abbrev pub IsHeldIn : List Row → Key → Type 0
-IsHeldIn held key = (r : Row) × Contains held r × (key_of_row r ≡ key)
+IsHeldIn held key = (r : Row) × Contains held r × (key_of_row r ≡ Some key)
 
 -- the key is held in the graph
 abbrev pub HoldsKey : Graph → Key → Type 0
@@ -97,6 +106,7 @@ HoldsKey g key = IsHeldIn (all_rows g) key
 abbrev pub IsBuilt : Row → Type 0
 IsBuilt (row.Person p) = Unit {0}
 IsBuilt (row.Dated t from to date) = (t ≡ table.PersonKnowsPerson) × (from < to)
+IsBuilt _ = ⊥
 
 -- the new graph has one row more
 pub record HasGained (old : Graph) (r : Row) (new : Graph) : Type 0 where

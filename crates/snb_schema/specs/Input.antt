@@ -1,5 +1,5 @@
 -- What is wrong with the files of an input, and what they stand for: statements over whole files.
-use Rattle.std.specs.Prelude.{◌≡◌, ℕ, ◌+◌, ◌<◌, ◌≤◌, ◌⊎◌, min, List, [], ◌∷◌, ◌++◌, length, true, Option, Some, None, unwrap_or, sum_by, Contains}
+use Rattle.std.specs.Prelude.{◌≡◌, ◌≢◌, ℕ, ◌+◌, ◌<◌, ◌≤◌, ◌⊎◌, min, List, [], ◌∷◌, ◌++◌, length, true, Option, Some, None, unwrap_or, sum_by, Contains}
 use Rattle.std.specs.List.{flat_map}
 use Rattle.snb_base.specs.Shelf.{Files}
 use Rattle.snb_schema.specs.declared.limits.TheConstants.{MAX_BYTES, MAX_ROWS}
@@ -7,9 +7,10 @@ use Rattle.snb_schema.specs.declared.file.FileId.{FileId}
 use Rattle.snb_schema.specs.declared.file.FileKind.TheVariants.{Table, PersonStream}
 use Rattle.snb_schema.specs.declared.op.Line.{Line}
 use Rattle.snb_schema.specs.declared.op.Op.{Op}
+use Rattle.snb_schema.specs.declared.op.Op.TheVariants.{AddPerson}
 use Rattle.snb_schema.specs.declared.person.Person.{Person}
 use Rattle.snb_schema.specs.declared.refusal.Refusal.{Refusal}
-use Rattle.snb_schema.specs.declared.refusal.Refusal.TheVariants.{Absent, BadLine, Duplicate}
+use Rattle.snb_schema.specs.declared.refusal.Refusal.TheVariants.{Absent, BadLine, Duplicate, NoHeader, OutOfOrder}
 use Rattle.snb_schema.specs.declared.row.Row.{Row}
 use Rattle.snb_schema.specs.declared.row.Row.TheVariants as row
 use Rattle.snb_schema.specs.declared.table.Table.TheVariants as table
@@ -17,8 +18,9 @@ use Rattle.snb_schema.specs.Closed.{IsFirstWrong}
 use Rattle.snb_schema.specs.FileNames.{name_of}
 use Rattle.snb_schema.specs.Graph.{Graph, HoldsRows, IsHeldIn, rows_of}
 use Rattle.snb_schema.specs.Lines.{lines, is_filled, filled, data_lines}
-use Rattle.snb_schema.specs.RowLines.{IsRow, IsHeader}
-use Rattle.snb_schema.specs.UpdateLines.{IsLine}
+use Rattle.snb_schema.specs.LineFaults.{RefusesInsertLine, RefusesRowLine}
+use Rattle.snb_schema.specs.RowLines.{IsRow}
+use Rattle.snb_schema.specs.UpdateLines.{IsLine, person_inserts}
 
 -- the files that are read
 abbrev pub person_file : FileId
@@ -34,6 +36,10 @@ held_in folder files file = files (folder ++ 47 ∷ name_of file)
 -- the bytes of the stream; one that isn't held has no lines
 abbrev pub stream_of : List ℕ → Files → List ℕ
 stream_of folder files = unwrap_or (held_in folder files person_stream) []
+
+-- the second refuses, where the first doesn't
+abbrev pub Then : (Refusal → Type 0) → (Refusal → Type 0) → Refusal → Type 0
+Then A B r = A r ⊎ (((q : Refusal) → ¬ A q) × B r)
 
 -- no line has a fault
 pub record NoFault (F : List (List ℕ) → List ℕ → Refusal → Type 0) (ls : List (List ℕ)) : Type 0 where
@@ -60,61 +66,76 @@ IsBeyond used size before line = MAX_BYTES < used + reach size before line
 abbrev pub number_of : List (List ℕ) → ℕ
 number_of before = length before + 1
 
--- a line with a byte is the header, where no line before it has one, and isn't in its grammar
-abbrev pub IsBadHeader : List (List ℕ) → List ℕ → Type 0
-IsBadHeader before line = (filled before ≡ []) × ¬ IsHeader table.Person line
+-- a line with a byte of the person file is refused by itself
+abbrev pub IsBadPersonLine : List (List ℕ) → List ℕ → Refusal → Type 0
+IsBadPersonLine before line r = RefusesRowLine table.Person person_file (number_of before) (filled before) line r
 
--- a line with a byte is a data line, and isn't in its grammar or is one too many
-abbrev pub IsBadData : List (List ℕ) → List ℕ → Type 0
-IsBadData before line = (0 < length (filled before)) × (((r : Row) → ¬ IsRow table.Person line r) ⊎ (MAX_ROWS ≤ length (data_lines before)))
-
-abbrev pub IsBadPersonLine : List (List ℕ) → List ℕ → Type 0
-IsBadPersonLine before line = (is_filled line ≡ true) × (IsBadHeader before line ⊎ IsBadData before line)
+-- a line with a byte is a data line too many
+abbrev pub IsRowTooMany : List (List ℕ) → Refusal → Type 0
+IsRowTooMany before r = (filled before ≢ []) × (MAX_ROWS ≤ length (data_lines before)) × (r ≡ BadLine person_file (number_of before) 0)
 
 -- a data line of these lines is the row of this person
 abbrev pub HasPerson : List (List ℕ) → Person → Type 0
 HasPerson ls p = (line : List ℕ) × Contains (data_lines ls) line × IsRow table.Person line (row.Person p)
 
 -- the line is a row whose id an earlier row has
-abbrev pub IsHeldTwice : List (List ℕ) → List ℕ → Type 0
-IsHeldTwice before line =
-    (0 < length (filled before)) × ((p : Person) × (q : Person) × IsRow table.Person line (row.Person p) × HasPerson before q × (q.id ≡ p.id))
+abbrev pub IsHeldTwice : List (List ℕ) → List ℕ → Refusal → Type 0
+IsHeldTwice before line r =
+    (filled before ≢ [])
+    × ((p : Person) × (q : Person) × IsRow table.Person line (row.Person p) × HasPerson before q × (q.id ≡ p.id))
+    × (r ≡ Duplicate person_file (number_of before))
 
--- what is wrong with a line of the person file, but for bytes that are too many
+-- what is wrong with a line of the person file, but for bytes that are too many: the line itself, then that it is one too many, then its key
 abbrev pub PersonFault : List (List ℕ) → List ℕ → Refusal → Type 0
-PersonFault before line r =
-    (IsBadPersonLine before line × (r ≡ BadLine person_file (number_of before) 0))
-    ⊎ (¬ IsBadPersonLine before line × IsHeldTwice before line × (r ≡ Duplicate person_file (number_of before)))
+PersonFault before line r = (is_filled line ≡ true) × Then (IsBadPersonLine before line) (Then (IsRowTooMany before) (IsHeldTwice before line)) r
 
 -- what is wrong with a line of a file, where too many bytes come before anything else
 abbrev pub Within : ℕ → ℕ → FileId → (List (List ℕ) → List ℕ → Refusal → Type 0) → List (List ℕ) → List ℕ → Refusal → Type 0
 Within used size file F before line r =
     (IsBeyond used size before line × (r ≡ BadLine file (number_of before) 0)) ⊎ (¬ IsBeyond used size before line × F before line r)
 
+-- a line with a byte of the stream is refused by itself
+abbrev pub IsBadStreamLine : List (List ℕ) → List ℕ → Refusal → Type 0
+IsBadStreamLine before line r = RefusesInsertLine person_inserts person_stream (number_of before) line r
+
+-- a line with a byte is a data line too many, where `used` were read before the stream
+abbrev pub IsInsertTooMany : ℕ → List (List ℕ) → Refusal → Type 0
+IsInsertTooMany used before r = (MAX_ROWS ≤ used + length (filled before)) × (r ≡ BadLine person_stream (number_of before) 0)
+
 -- an earlier line of the stream has a greater t
-abbrev pub IsOutOfOrder : List (List ℕ) → ℕ → Type 0
-IsOutOfOrder before t =
+abbrev pub IsEarlier : List (List ℕ) → ℕ → Type 0
+IsEarlier before t =
     (line : List ℕ) × (earlier : ℕ) × (t_d : ℕ) × (op : Op) × Contains (filled before) line × IsLine line earlier t_d op × (t < earlier)
 
--- a line of the stream that has a byte isn't in its grammar, falls behind the lines before, or is a data line too many, where `used` were read before the stream
-abbrev pub IsBadStreamLine : ℕ → List (List ℕ) → List ℕ → Type 0
-IsBadStreamLine used before line =
-    (is_filled line ≡ true)
-    × (((t t_d : ℕ) (op : Op) → ¬ IsLine line t t_d op)
-    ⊎ ((t : ℕ) × (t_d : ℕ) × (op : Op) × IsLine line t t_d op × IsOutOfOrder before t)
-    ⊎ (MAX_ROWS ≤ used + length (filled before)))
+-- the line's t falls behind that of a line before
+abbrev pub IsOutOfOrder : List (List ℕ) → List ℕ → Refusal → Type 0
+IsOutOfOrder before line r =
+    (t : ℕ) × (t_d : ℕ) × (op : Op) × IsLine line t t_d op × IsEarlier before t × (r ≡ OutOfOrder person_stream (number_of before))
 
--- what is wrong with a line of the stream, but for bytes that are too many
+-- the column of the first list of a person's insert that isn't empty
+abbrev pub first_list : Op → Option ℕ
+first_list (AddPerson id first last gender birthday created ip browser city (l ∷ ls) emails tags study work) = Some 13
+first_list (AddPerson id first last gender birthday created ip browser city [] (e ∷ es) tags study work) = Some 14
+first_list (AddPerson id first last gender birthday created ip browser city [] [] (t ∷ ts) study work) = Some 15
+first_list (AddPerson id first last gender birthday created ip browser city [] [] [] (s ∷ ss) work) = Some 16
+first_list (AddPerson id first last gender birthday created ip browser city [] [] [] [] (w ∷ ws)) = Some 17
+first_list _ = None
+
+-- the line's insert has a list, of which there is no table yet
+abbrev pub HasList : List (List ℕ) → List ℕ → Refusal → Type 0
+HasList before line r =
+    (t : ℕ) × (t_d : ℕ) × (op : Op) × (column : ℕ) × IsLine line t t_d op × (first_list op ≡ Some column) × (r ≡ BadLine person_stream (number_of before) column)
+
+-- what is wrong with a line of the stream, but for bytes that are too many: the line itself, then that it is one too many, then its t,
+-- then its lists, where `used` data lines were read before the stream
 abbrev pub StreamFault : ℕ → List (List ℕ) → List ℕ → Refusal → Type 0
-StreamFault used before line r = IsBadStreamLine used before line × (r ≡ BadLine person_stream (number_of before) 0)
-
--- the second refuses, where the first doesn't
-abbrev pub Then : (Refusal → Type 0) → (Refusal → Type 0) → Refusal → Type 0
-Then A B r = A r ⊎ (((q : Refusal) → ¬ A q) × B r)
+StreamFault used before line r =
+    (is_filled line ≡ true)
+    × Then (IsBadStreamLine before line) (Then (IsInsertTooMany used before) (Then (IsOutOfOrder before line) (HasList before line))) r
 
 -- no line of the person file has a byte
 abbrev pub NoPersonHeader : List (List ℕ) → Refusal → Type 0
-NoPersonHeader ls r = (filled ls ≡ []) × (r ≡ BadLine person_file 1 0)
+NoPersonHeader ls r = (filled ls ≡ []) × (r ≡ NoHeader person_file)
 
 -- the rows are those of the lines, one each
 abbrev pub AreRows : List (List ℕ) → List Row → Type 0

@@ -1,5 +1,5 @@
 -- Files cut into lines, and lines cut into fields, each a function of the whole list of bytes.
-use Rattle.std.specs.Prelude.{ℕ, ◌==◌, ◌&&◌, Bool, true, false, List, [], ◌∷◌, if◌then◌else◌, drop}
+use Rattle.std.specs.Prelude.{ℕ, ◌==◌, ◌≢◌, ◌&&◌, All, Bool, true, false, List, [], ◌∷◌, if◌then◌else◌, drop}
 use Rattle.std.specs.List.{slice_split, onto_first, filter}
 
 -- the lines of a file: it is cut at each `\n`, and the last piece is a line where it has a byte
@@ -28,3 +28,7 @@ data_lines ls = drop 1 (filled ls)
 abbrev pub begins_with_mark : List ℕ → Bool
 begins_with_mark (a ∷ b ∷ c ∷ rest) = (a == 239) && (b == 187) && (c == 191)
 begins_with_mark _ = false
+
+-- no byte ends a line
+abbrev pub HasNoEnd : List ℕ → Type 0
+HasNoEnd line = All (λ b. b ≢ 10) line

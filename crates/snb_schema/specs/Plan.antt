@@ -12,7 +12,13 @@ use Rattle.snb_schema.specs.UpdateLines.{IsOfTwo}
 -- dependents wait for inserts of persons, and every other insert waits for them
 abbrev pub adds_person : Op → Bool
 adds_person (AddPerson id first last gender birthday created ip browser city languages emails tags study work) = true
-adds_person (AddFriend one other date) = false
+adds_person _ = false
+
+-- the insert stands in a stream of persons
+abbrev pub IsOfPersonStream : Op → Type 0
+IsOfPersonStream (AddPerson id first last gender birthday created ip browser city languages emails tags study work) = Unit {0}
+IsOfPersonStream (AddFriend one other date) = Unit {0}
+IsOfPersonStream _ = ⊥
 
 -- an insert at a place of the one lane, due as long after the run's start as its t is after that of the first
 abbrev pub insert_step : ℕ → ℕ → Line → Step
@@ -37,9 +43,10 @@ abbrev pub first_t : List Line → ℕ
 first_t [] = 0
 first_t (line ∷ lines) = line.t
 
--- the inserts aren't too many, no date and time is too great, t never falls, and no friendship is with oneself
+-- the inserts are of a stream of persons and not too many, no date and time is too great, t never falls, and no friendship is with oneself
 pub record ArePlanned (xs : List Line) : Type 0 where
   pub few : length xs ≤ MAX_ROWS
+  pub of_persons : (k : ℕ) (d : Line) → k < length xs → IsOfPersonStream (slice_index_or xs k d).op
   pub timed : (k : ℕ) (d : Line) → k < length xs → (slice_index_or xs k d).t ≤ MAX_TIME
   pub needs_timed : (k : ℕ) (d : Line) → k < length xs → (slice_index_or xs k d).t_d ≤ MAX_TIME
   pub rises : (i j : ℕ) (d : Line) → i ≤ j → j < length xs → (slice_index_or xs i d).t ≤ (slice_index_or xs j d).t

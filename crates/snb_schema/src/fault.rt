@@ -1,6 +1,7 @@
 //! Why a reader of lines stops.
 
 ghost use Rattle.snb_schema.specs.declared.fault.Fault.TheVariants.{Memory};
+ghost use Rattle.snb_schema.specs.declared.fault.LineFault.TheVariants as line_fault;
 
 use crate::refusal::Refusal;
 use std::alloc::{AllocError, AllocFailed};
@@ -31,5 +32,35 @@ impl<T: Drop> From<AllocFailed<T>> for Fault {
 
     fn from(_error: AllocFailed<T>) -> Fault {
         Fault::Memory
+    }
+}
+
+/// Why one line isn't read.
+#[derive(Clone, Copy, Debug, PartialEq, Eq)]
+pub enum LineFault {
+    /// The line isn't in its grammar, in this column first, counted from 1; column 0 stands for a
+    /// wrong number of fields.
+    Bad { column: u32 },
+    /// Memory ran out.
+    Memory,
+}
+
+impl From<AllocError> for LineFault {
+    ghost use Rattle.std.specs.Prelude.{◌≡◌};
+
+    ghost from_gives = { λ _ e. e ≡ line_fault.Memory };
+
+    fn from(_error: AllocError) -> LineFault {
+        LineFault::Memory
+    }
+}
+
+impl<T: Drop> From<AllocFailed<T>> for LineFault {
+    ghost use Rattle.std.specs.Prelude.{◌≡◌};
+
+    ghost from_gives = { λ _ e. e ≡ line_fault.Memory };
+
+    fn from(_error: AllocFailed<T>) -> LineFault {
+        LineFault::Memory
     }
 }

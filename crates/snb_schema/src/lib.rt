@@ -2,14 +2,23 @@
 //! lines, graphs, refusals, schedules and histories, with laws of all legal histories.
 #![tactic(auto)]
 
+pub mod column;
 pub mod event;
 pub mod fault;
 pub mod file;
+pub mod frequencies;
 pub mod key;
+pub mod lanes;
 pub mod laws;
+pub mod layout;
 pub mod limits;
+pub mod lists;
+pub mod nodes;
 pub mod op;
 pub mod person;
+#[cfg(test)]
+mod plan_input_tests;
+pub mod query;
 pub mod refusal;
 pub mod row;
 pub mod schedule;

@@ -6,6 +6,12 @@ pub const MAX_TIME: u64 = 253402300799999;
 /// The greatest id.
 pub const MAX_ID: u64 = 9223372036854775807;
 
+/// The greatest year.
+pub const MAX_YEAR: u32 = 9999;
+
+/// The greatest length of a message.
+pub const MAX_LENGTH: u32 = 2147483647;
+
 /// The greatest moment of an event, in milliseconds since the clock of the run was made.
 pub const MAX_AT: u64 = 9223372036854775807;
 
@@ -14,6 +20,9 @@ pub const MAX_BYTES: u64 = 268435456;
 
 /// The most data lines of dataset, streams and parameter files together.
 pub const MAX_ROWS: u64 = 2000000;
+
+/// The most streams of persons, and likewise of the other inserts.
+pub const MAX_LANES: u32 = 64;
 
 /// The most workers of a run.
 pub const MAX_WORKERS: u32 = 8;

@@ -5,7 +5,16 @@ use snb_base::pairs::Pairs;
 use snb_base::text::Text;
 use snb_base::texts::Texts;
 
-/// An insert of the workload.
+/// The message that a comment replies to.
+#[derive(Clone, Copy, Debug, PartialEq, Eq)]
+pub enum Parent {
+    /// A post.
+    Post { id: u64 },
+    /// A comment.
+    Comment { id: u64 },
+}
+
+/// An insert of the workload. Dates and days are in milliseconds since 1970-01-01 UTC.
 #[derive(Drop)]
 pub enum Op {
     /// Insert 1: a person, with the city, languages, emails, interests, studies and works.
@@ -14,9 +23,7 @@ pub enum Op {
         first_name: Text,
         last_name: Text,
         gender: Text,
-        /// In milliseconds since 1970-01-01 UTC.
         birthday: u64,
-        /// In milliseconds since 1970-01-01 UTC.
         creation_date: u64,
         location_ip: Text,
         browser_used: Text,
@@ -29,13 +36,79 @@ pub enum Op {
         /// Companies, each with a year.
         work_at: Pairs,
     },
+    /// Insert 2: a person's like of a post.
+    LikePost {
+        person_id: u64,
+        post_id: u64,
+        date: u64,
+    },
+    /// Insert 3: a person's like of a comment.
+    LikeComment {
+        person_id: u64,
+        comment_id: u64,
+        date: u64,
+    },
+    /// Insert 4: a forum, with its moderator and tags.
+    AddForum {
+        forum_id: u64,
+        title: Text,
+        date: u64,
+        moderator_id: u64,
+        tag_ids: Numbers,
+    },
+    /// Insert 5: a person's membership of a forum.
+    AddMember {
+        person_id: u64,
+        forum_id: u64,
+        join_date: u64,
+    },
+    /// Insert 6: a post, with its author, forum, country and tags.
+    AddPost {
+        post_id: u64,
+        image_file: Text,
+        date: u64,
+        location_ip: Text,
+        browser_used: Text,
+        language: Text,
+        content: Text,
+        length: u32,
+        author_id: u64,
+        forum_id: u64,
+        country_id: u64,
+        tag_ids: Numbers,
+    },
+    /// Insert 7: a comment, with its author, country, parent and tags.
+    AddComment {
+        comment_id: u64,
+        date: u64,
+        location_ip: Text,
+        browser_used: Text,
+        content: Text,
+        length: u32,
+        author_id: u64,
+        country_id: u64,
+        parent: Parent,
+        tag_ids: Numbers,
+    },
     /// Insert 8: a friendship of two persons, which has no direction.
     AddFriend {
         person1_id: u64,
         person2_id: u64,
-        /// In milliseconds since 1970-01-01 UTC.
         date: u64,
     },
+}
+
+/// The eight inserts, in the order of their numbers from 1 on.
+#[derive(Clone, Copy, Debug, PartialEq, Eq)]
+pub enum OpKind {
+    AddPerson,
+    LikePost,
+    LikeComment,
+    AddForum,
+    AddMember,
+    AddPost,
+    AddComment,
+    AddFriend,
 }
 
 /// A line of an update stream.

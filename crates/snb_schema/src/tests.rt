@@ -3,7 +3,9 @@
 ghost use Rattle.std.specs.Prelude.{◌≡◌, IfOk};
 ghost use Rattle.snb_schema.specs.Worked.{tie as tie_value};
 
-use crate::file::{FileId, FileKind, file_name, name_text};
+use crate::column::Column;
+use crate::file::{FileId, FileKind, file_name, name_text, table_name};
+use crate::layout::{KeyColumns, columns_of, is_undirected, key_columns_of};
 use crate::schedule::Schedule;
 use crate::step::{LaneKind, Step};
 use crate::table::Table;
@@ -82,4 +84,58 @@ fn names_files(rt: HostRuntime) -> Result<(), Fail> {
         assert_eq!(rt; to.as_slice(), line.as_bytes());
     }
     Ok(())
+}
+
+// Some columns, each with its table and its place, counted from 0.
+const COLUMNS: [(Table, usize, Column); 8] = [
+    (
+        Table::Comment,
+        0,
+        Column::Number {
+            most: 9223372036854775807,
+        },
+    ),
+    (
+        Table::TagHasTypeTagClass,
+        1,
+        Column::Number {
+            most: 9223372036854775807,
+        },
+    ),
+    (
+        Table::PersonWorkAtOrganisation,
+        2,
+        Column::Small { most: 9999 },
+    ),
+    (Table::Post, 7, Column::Small { most: 2147483647 }),
+    (Table::Post, 2, Column::Date),
+    (Table::Person, 4, Column::Day),
+    (Table::PersonKnowsPerson, 2, Column::Date),
+    (Table::PersonSpeaksLanguage, 1, Column::Word),
+];
+
+#[test]
+fn knows_columns(rt: HostRuntime) {
+    for (table, place, column) in COLUMNS {
+        assert_eq!(rt; columns_of(table).get(place), Some(&column));
+    }
+    assert_eq!(rt; columns_of(Table::Comment).len(), 6);
+    assert_eq!(rt;
+        table_name(Table::CommentReplyOfPost),
+        "comment_replyOf_post"
+    );
+    assert_eq!(rt;
+        key_columns_of(Table::CommentReplyOfPost),
+        KeyColumns::First
+    );
+    assert_eq!(rt;
+        key_columns_of(Table::ForumContainerOfPost),
+        KeyColumns::Second
+    );
+    assert_eq!(rt;
+        key_columns_of(Table::PersonKnowsPerson),
+        KeyColumns::FirstTwo
+    );
+    assert!(rt; is_undirected(Table::PersonKnowsPerson));
+    assert!(rt; !is_undirected(Table::PersonLikesPost));
 }

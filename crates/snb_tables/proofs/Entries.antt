@@ -85,20 +85,21 @@ map_contains f (x ∷ xs) y c =
     ]
 
 -- a table's rows: f makes the row of an entry, and name the key of a row from the key of its entry
-module _ {K V : Type 0} (f : K × V → Row) (name : K → Key) (es : List (K × V)) (named : All (λ e. key_of_row (f e) ≡ name e.0) es) where
+module _ {K V : Type 0} (f : K × V → Row) (name : K → Key) (es : List (K × V)) (named : All (λ e. key_of_row (f e) ≡ Some (name e.0)) es) where
   -- a key that a row has is the name of an entry's key
   pub name_from_row : (key : Key) → IsHeldIn (map f es) key → (k : K) × Contains (keys_of es) k × (name k ≡ key)
   name_from_row key h =
       let e = map_contains f es h.0 h.1 in
-      let same = All-contains (λ (x : K × V). key_of_row (f x) ≡ name x.0) es e.0 named e.1 in
-      (e.0.0, contains_map (λ (x : K × V). x.0) es e.0 e.1, sym same ∙ ap key_of_row e.2 ∙ h.2)
+      let same = All-contains (λ (x : K × V). key_of_row (f x) ≡ Some (name x.0)) es e.0 named e.1 in
+      let keys : Some (name e.0.0) ≡ Some key = sym same ∙ ap key_of_row e.2 ∙ h.2 in
+      (e.0.0, contains_map (λ (x : K × V). x.0) es e.0 e.1, cc)
 
   -- a row has the name of an entry's key
   row_from_name : (k : K) → Contains (keys_of es) k → IsHeldIn (map f es) (name k)
   row_from_name k c =
       let e = map_contains (λ (x : K × V). x.0) es k c in
-      let same = All-contains (λ (x : K × V). key_of_row (f x) ≡ name x.0) es e.0 named e.1 in
-      (f e.0, contains_map f es e.0 e.1, same ∙ ap name e.2)
+      let same = All-contains (λ (x : K × V). key_of_row (f x) ≡ Some (name x.0)) es e.0 named e.1 in
+      (f e.0, contains_map f es e.0 e.1, same ∙ ap (λ (j : K). Some (name j)) e.2)
 
   -- the map has the key exactly where a row has its name
   pub found_iff_row : {cmp : K → K → Ordering} → IsTotalOrder cmp → CmpEqualImpliesEq cmp → ((j k : K) → name j ≡ name k → j ≡ k) → (k : K) → IsSome (lookup (is_at (cmp k)) es) ↔ IsHeldIn (map f es) (name k)

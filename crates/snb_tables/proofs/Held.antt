@@ -1,5 +1,5 @@
 -- The keys that a graph holds.
-use Rattle.std.proofs.Common.{◌≡◌, ◌↔◌, ℕ, ◌<◌, Bool, false, IsTrue, None, [], ◌++◌, map, refl, sym, ap, inl, inr, ◌⊎◌, arith}
+use Rattle.std.proofs.Common.{◌≡◌, ◌↔◌, ℕ, ◌<◌, Bool, false, IsTrue, Some, None, [], ◌++◌, map, refl, sym, ap, inl, inr, ◌⊎◌, arith}
 use Rattle.std.specs.Ordering.{nat_cmp}
 use Rattle.std.specs.Option.{IsSome}
 use Rattle.std.specs.BTreeMap.{insert_entry, is_at}
@@ -41,11 +41,11 @@ pair_exact : CmpEqualImpliesEq pair_cmp
 pair_exact = exact_pairs nat_cmp nat_cmp exact_unsigned exact_unsigned
 
 -- the persons' rows are named by their ids
-persons_named : (g : Graph) → IsGraph g → All (λ (e : ℕ × Person). key_of_row (person_row e) ≡ Node kind.Person e.0) g.persons
-persons_named g is = All-weaker (λ (e : ℕ × Person). e.0 ≡ e.1.id) (λ (e : ℕ × Person). Node kind.Person e.1.id ≡ Node kind.Person e.0) (λ e same. ap (Node kind.Person) (sym same)) g.persons is.keyed
+persons_named : (g : Graph) → IsGraph g → All (λ (e : ℕ × Person). key_of_row (person_row e) ≡ Some (Node kind.Person e.0)) g.persons
+persons_named g is = All-weaker (λ (e : ℕ × Person). e.0 ≡ e.1.id) (λ (e : ℕ × Person). Some (Node kind.Person e.1.id) ≡ Some (Node kind.Person e.0)) (λ e same. ap (λ (id : ℕ). Some (Node kind.Person id)) (sym same)) g.persons is.keyed
 
 -- the friendships' rows are named by their two ids
-pairs_named : (g : Graph) → All (λ (e : (ℕ × ℕ) × ℕ). key_of_row (pair_row e) ≡ pair_name e.0) g.knows
+pairs_named : (g : Graph) → All (λ (e : (ℕ × ℕ) × ℕ). key_of_row (pair_row e) ≡ Some (pair_name e.0)) g.knows
 pairs_named g k d l = refl
 
 -- a key is held among the rows of one of the tables

@@ -1,10 +1,12 @@
 //! The graph of a run.
 
-ghost use Rattle.std.specs.Prelude.{◌≡◌, ◌<◌, ◌++◌, ◌↔◌, ℕ, List, Err, IsTrue, OnOk, OnErr, length};
+ghost use Rattle.std.specs.Prelude.{◌≡◌, ◌<◌, ◌++◌, ◌↔◌, ℕ, List, Some, Err, IsTrue, OnOk, OnErr, length};
 ghost use Rattle.std.specs.List.{flat_map};
 ghost use Rattle.snb_schema.specs.Graph.{no_rows, all_rows, rows, row_line, key_of_row, HasGained, HoldsKey, IsBuilt, IsGraph};
-ghost use Rattle.snb_schema.specs.declared.key.Key.TheVariants.{Node};
+ghost use Rattle.snb_schema.specs.declared.key.Key.{Key};
+ghost use Rattle.snb_schema.specs.declared.key.Key.TheVariants.{Node, Knows};
 ghost use Rattle.snb_schema.specs.declared.row.Row.TheVariants as row;
+ghost use Rattle.snb_schema.specs.declared.table.Kind.TheVariants as kind;
 ghost use Rattle.snb_schema.specs.declared.table.Table.TheVariants as table;
 
 use crate::row_lines::{put_friendship, put_person};
@@ -63,20 +65,21 @@ impl Graph {
     pub fn insert_row(&mut self, row: Row) -> Result<(), Insert>
         requires { IsBuilt row }
         ensures ok { OnOk result (HasGained self.old row self.new) }
-        ensures duplicate { (result ≡ Err Insert.Duplicate) ↔ HoldsKey self.old (key_of_row row) }
+        ensures duplicate { (key : Key) → key_of_row row ≡ Some key → ((result ≡ Err Insert.Duplicate) ↔ HoldsKey self.old key) }
         ensures err { OnErr result (self.new ≡ self.old) }
         ensures graph { IsGraph self.new }
     {
         match row {
             Row::Person { person } => self.insert_person(person),
             Row::Dated { from, to, date, .. } => self.insert_friendship(from, to, date),
+            _ => unreachable!(),
         }
     }
 
     // `insert_row` of a person.
     fn insert_person(&mut self, person: Person) -> Result<(), Insert>
         ensures ok { OnOk result (HasGained self.old (row.Person person) self.new) }
-        ensures duplicate { (result ≡ Err Insert.Duplicate) ↔ HoldsKey self.old (key_of_row (row.Person person)) }
+        ensures duplicate { (result ≡ Err Insert.Duplicate) ↔ HoldsKey self.old (Node kind.Person person.id) }
         ensures err { OnErr result (self.new ≡ self.old) }
         ensures graph { IsGraph self.new }
     {
@@ -94,7 +97,7 @@ impl Graph {
     fn insert_friendship(&mut self, low: u64, high: u64, date: u64) -> Result<(), Insert>
         requires { low < high }
         ensures ok { OnOk result (HasGained self.old (row.Dated table.PersonKnowsPerson low high date) self.new) }
-        ensures duplicate { (result ≡ Err Insert.Duplicate) ↔ HoldsKey self.old (key_of_row (row.Dated table.PersonKnowsPerson low high date)) }
+        ensures duplicate { (result ≡ Err Insert.Duplicate) ↔ HoldsKey self.old (Knows low high) }
         ensures err { OnErr result (self.new ≡ self.old) }
         ensures graph { IsGraph self.new }
     {

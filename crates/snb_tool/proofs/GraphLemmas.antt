@@ -1,6 +1,5 @@
 -- Facts on graphs, and on the keys of their rows.
-use Rattle.std.proofs.Common.{◌≡◌, ℕ, List, [], ◌∷◌, ◌++◌, get_or, inl, inr}
-use Rattle.std.specs.List.{Contains}
+use Rattle.std.proofs.Common.{ℕ, List, [], ◌∷◌, ◌++◌, get_or, inl, inr}
 use Rattle.std.specs.List.Sorted.{IsPermutation}
 use Rattle.std.proofs.lemmas.List.Sorted.{IsPermutation-append_left, IsPermutation-trans, IsPermutation-sym, Contains-permutation}
 use Rattle.snb_schema.specs.declared.file.FileId.{FileId}
@@ -8,15 +7,10 @@ use Rattle.snb_schema.specs.declared.refusal.Refusal.{Refusal}
 use Rattle.snb_schema.specs.declared.key.Key.{Key}
 use Rattle.snb_schema.specs.declared.key.Key.TheVariants.{Node}
 use Rattle.snb_schema.specs.declared.op.Line.{Line}
-use Rattle.snb_schema.specs.declared.person.Person.{Person}
 use Rattle.snb_schema.specs.declared.row.Row.{Row}
-use Rattle.snb_schema.specs.declared.row.Row.TheVariants as row
-use Rattle.snb_schema.specs.declared.table.Kind.{Kind}
 use Rattle.snb_schema.specs.declared.table.Kind.TheVariants as kind
-use Rattle.snb_schema.specs.declared.table.Table.{Table}
-use Rattle.snb_schema.specs.declared.table.Table.TheVariants as table
 use Rattle.snb_schema.specs.Closed.{key_of, persons_of, IsTaken, IsMet, IsFirstLacking, IsWrong, IsFirstWrong, IsClosed}
-use Rattle.snb_schema.specs.Graph.{Graph, HasGained, HoldsKey, HoldsRows, IsHeldIn, all_rows, dated_key, key_of_row}
+use Rattle.snb_schema.specs.Graph.{Graph, HasGained, HoldsKey, HoldsRows, IsHeldIn, all_rows}
 
 -- rows in another order hold the same keys
 held_moved : (rows others : List Row) (key : Key) → IsPermutation rows others → IsHeldIn rows key → IsHeldIn others key
@@ -35,21 +29,6 @@ holds_gained g new dataset r h gained = record {
   graph = gained.graph;
   same = IsPermutation-trans _ _ _ gained.rows (IsPermutation-append_left (r ∷ []) (all_rows g) dataset h.same);
 }
-
--- the key of an edge is no node's
-edge_apart : (t : Table) (from to id : ℕ) (k : Kind) → dated_key t from to ≡ Node k id → ⊥
-edge_apart table.PersonLikesPost from to id k e = cc
-edge_apart table.PersonLikesComment from to id k e = cc
-edge_apart table.ForumHasMemberPerson from to id k e = cc
-edge_apart _ from to id k e = cc
-
--- a row under a person's key is a person of this id
-person_row : (rows : List Row) (id : ℕ) (r : Row) → Contains rows r → key_of_row r ≡ Node kind.Person id → (q : Person) × Contains rows (row.Person q) × (q.id ≡ id)
-person_row rows id (row.Person q) c e = (q, c, cc)
-person_row rows id (row.Dated t from to date) c e = absurd (edge_apart t from to id kind.Person e)
-
-pub held_person : (rows : List Row) (id : ℕ) → IsHeldIn rows (Node kind.Person id) → (q : Person) × Contains rows (row.Person q) × (q.id ≡ id)
-held_person rows id held = person_row rows id held.0 held.1 held.2
 
 -- what is true of one list of keys is true of another that holds the same
 pub closed_moved : (P Q : Key → Type 0) (xs : List Line) → ((k : Key) → P k → Q k) → ((k : Key) → Q k → P k) → IsClosed P xs → IsClosed Q xs

@@ -7,11 +7,11 @@ use Rattle.snb_schema.specs.Closed.{IsClosed, IsFirstWrong}
 use Rattle.snb_schema.specs.Graph.{Graph, HoldsKey, IsHeldIn}
 use Rattle.snb_schema.specs.Input.{FilesRefuse, FirstFault, NoFault, Refuses, RefusesHeld, held_in, person_file, person_stream, stream_of}
 use Rattle.snb_schema.specs.Lines.{data_lines, lines}
-use Rattle.snb_tool.specs.Loading.{PersonsBad, PersonsLoaded, PersonsRefused, StreamBad, StreamOf}
+use Rattle.snb_loader.specs.Loading.{PersonsBad, PersonsLoaded, PersonsRefused, StreamBad, StreamOf}
 use Rattle.snb_tool.specs.Outcome.{IsLoaded}
 use Rattle.snb_plan.proofs.ClosedLemmas.{not_wrong}
 use Rattle.snb_tool.proofs.GraphLemmas.{closed_moved, first_wrong_moved, held_by, held_in_graph}
-use Rattle.snb_tool.proofs.RefusalLemmas.{over_one}
+use Rattle.snb_tool.proofs.RefusalLemmas.{Laws, over_one}
 
 -- without a fault there is no first one
 none_first : (F : List (List ℕ) → List ℕ → Refusal → Type 0) (ls : List (List ℕ)) (r : Refusal) → NoFault F ls → ¬ FirstFault F ls r
@@ -78,9 +78,9 @@ wrong_refuses folder files graph size count xs r p s wrong =
     ))
 
 -- files of which nothing is refused are loaded
-pub files_loaded : (folder : List ℕ) (files : Files) (graph : Graph) (size count : ℕ) (xs : List Line) → PersonsLoaded folder files graph size count → StreamOf (stream_of folder files) size count xs
+pub files_loaded : Laws → (folder : List ℕ) (files : Files) (graph : Graph) (size count : ℕ) (xs : List Line) → PersonsLoaded folder files graph size count → StreamOf (stream_of folder files) size count xs
     → IsClosed (HoldsKey graph) xs → IsLoaded folder files graph xs
-files_loaded folder files graph size count xs p s closed = record {
+files_loaded laws folder files graph size count xs p s closed = record {
   accepted = λ r f. accept r (refuses_held folder files p.0 r p.1 f);
   dataset = p.2.dataset;
   input = record { persons = p.0; held = p.1; rows = p.2.read; stream = s.read };
@@ -96,5 +96,5 @@ files_loaded folder files graph size count xs p s closed = record {
     accept r (inr (n, inl h)) = p.2.headed h.0
     accept r (inr (n, inr (m, inl f))) = none_stream folder files graph size count xs r p s f
     accept r (inr (n, inr (m, inr f))) =
-        let w = over_one p.0 (stream_of folder files) p.2.dataset xs r p.2.read s.read f.1 in
+        let w = over_one laws p.0 (stream_of folder files) p.2.dataset xs r p.2.read s.read f.1 in
         not_wrong (IsHeldIn p.2.dataset) person_stream xs w.before w.insert r (over_dataset.each w.before w.insert w.after w.splits) w.wrong

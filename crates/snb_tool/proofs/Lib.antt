@@ -1,14 +1,7 @@
 pub mod FieldLemmas
-pub mod LineLemmas
-pub mod PersonReaderLemmas
-pub mod LoaderLemmas
 pub mod OutcomeLemmas
-pub mod Progress
 pub mod RefusalLemmas
 pub mod RowLemmas
-pub mod SpellingLemmas
-pub mod StreamReaderLemmas
-pub mod TakeLemmas
 pub mod GraphLemmas
 pub mod Writing
 pub mod InputLemmas

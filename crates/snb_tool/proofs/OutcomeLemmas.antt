@@ -14,7 +14,7 @@ use Rattle.snb_schema.specs.ScreenTexts.{refusal_text, summary_text, usage_text}
 use Rattle.snb_tool.specs.Outcome.{IsCut, IsLoaded, IsOtherLine, IsRun, IsRunOutput, Wrote, run_texts}
 use Rattle.snb_tool.specs.Output.{IsFront, on_screen, size_of}
 use Rattle.snb_tool.specs.Words.{IsRunLine}
-use Rattle.snb_tool.proofs.TakeLemmas.{if_some}
+use Rattle.snb_loader.proofs.TakeLemmas.{if_some}
 
 -- what holds of all files holds of those that are told
 if_some_always : (contents : Option Files) (P : Files → Type 0) → ((files : Files) → P files) → IfSome contents P

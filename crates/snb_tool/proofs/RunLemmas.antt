@@ -1,5 +1,5 @@
 -- Facts on the rows and keys of a run.
-use Rattle.std.proofs.Common.{◌≡◌, ℕ, ◌+◌, ◌<◌, List, [], ◌∷◌, ◌++◌, length, take, drop, get_or, true, false, inl, inr, sym, ap, ◌∙◌, subst, arith, append-nil, append_assoc}
+use Rattle.std.proofs.Common.{◌≡◌, ℕ, ◌+◌, ◌<◌, Some, Result, Err, List, [], ◌∷◌, ◌++◌, length, take, drop, get_or, true, false, inl, inr, sym, ap, ◌∙◌, subst, arith, append-nil, append_assoc}
 use Rattle.std.specs.List.{Contains}
 use Rattle.std.specs.List.Sorted.{IsPermutation}
 use Rattle.std.proofs.lemmas.Bool.{cases_lt, not-true}
@@ -10,7 +10,7 @@ use Rattle.std.proofs.lemmas.List.Sorted.{Contains-permutation, IsPermutation-ap
 use Rattle.snb_schema.specs.declared.key.Key.{Key}
 use Rattle.snb_schema.specs.declared.op.Line.{Line}
 use Rattle.snb_schema.specs.declared.op.Op.{Op}
-use Rattle.snb_schema.specs.declared.op.Op.TheVariants.{AddPerson, AddFriend}
+use Rattle.snb_schema.specs.declared.op.Op.TheVariants.{AddPerson, LikePost, LikeComment, AddForum, AddMember, AddPost, AddComment, AddFriend}
 use Rattle.snb_schema.specs.declared.row.Row.{Row}
 use Rattle.snb_schema.specs.declared.step.Step.{Step}
 use Rattle.snb_schema.specs.Closed.{key_of, IsTaken, IsClosed}
@@ -20,16 +20,35 @@ use Rattle.snb_schema.specs.Schedule.{IsTimely, no_step, step_of}
 use Rattle.snb_schema.proofs.Planned.{planned_is_timely}
 use Rattle.snb_plan.proofs.ClosedLemmas.{split_here}
 use Rattle.snb_plan.proofs.PlanLemmas.{plan_length, plan_times, planned_plan}
+use Rattle.snb_tables.specs.declared.graph.Insert.{Insert}
+use Rattle.snb_tables.specs.declared.graph.Insert.TheVariants.{Duplicate}
 use Rattle.snb_tool.specs.Running.{rows_of_all}
 use Rattle.snb_tool.specs.Turns.{IsAdded}
 use Rattle.snb_tool.proofs.RowLemmas.{contains_cases, contains_here, contains_there}
 
 -- the key of an insert is that of its row
-key_of_rows : (op : Op) (r : Row) → Contains (rows_of op) r → key_of_row r ≡ key_of op
+key_of_rows : (op : Op) (r : Row) → Contains (rows_of op) r → key_of_row r ≡ Some (key_of op)
 key_of_rows (AddPerson id first last gender birthday created ip browser city languages emails tags study work) r c =
     elim (contains_cases _ [] r c) [ inl e ↦ sym (ap key_of_row e) | inr none ↦ absurd (let l = none.1 in omega arith) ]
 key_of_rows (AddFriend one other date) r c =
     elim (contains_cases _ [] r c) [ inl e ↦ sym (ap key_of_row e) | inr none ↦ absurd (let l = none.1 in omega arith) ]
+key_of_rows (LikePost a b d) r c = absurd (let l = c.1 in omega arith)
+key_of_rows (LikeComment a b d) r c = absurd (let l = c.1 in omega arith)
+key_of_rows (AddForum a b d e f) r c = absurd (let l = c.1 in omega arith)
+key_of_rows (AddMember a b d) r c = absurd (let l = c.1 in omega arith)
+key_of_rows (AddPost a b d e f g h i j k l m) r c = absurd (let l = c.1 in omega arith)
+key_of_rows (AddComment a b d e f g h i j k) r c = absurd (let l = c.1 in omega arith)
+
+-- the key of the one row of an insert
+pub key_of_one : (op : Op) (r : Row) → rows_of op ≡ r ∷ [] → key_of_row r ≡ Some (key_of op)
+key_of_one op r e = key_of_rows op r (subst (λ (rs : List Row). Contains rs r) (sym e) (contains_here r []))
+
+-- an answer that is a duplicate's
+pub refused_twice : (res : Result (Unit {0}) Insert) (e : Insert) → res ≡ Err e → e ≡ Duplicate → res ≡ Err Duplicate
+refused_twice res e is same = is ∙ ap Err same
+
+same_key : {a b : Key} → Some a ≡ Some b → a ≡ b
+same_key e = cc
 
 -- a row of the inserts is that of one of them
 row_of_one : (xs : List Line) (r : Row) → Contains (rows_of_all xs) r → (y : Line) × Contains xs y × Contains (rows_of y.op) r
@@ -45,7 +64,7 @@ pub taken_after : (old new : Graph) (before : List Line) (x : Line) → IsPermut
 taken_after old new before x same held =
     elim (Contains-append_cases (all_rows old) (rows_of_all before) held.0 (Contains-permutation (all_rows new) (all_rows old ++ rows_of_all before) held.0 same held.1)) [
       | inl first ↦ inl (held.0, first, held.2)
-      | inr added ↦ let y = row_of_one before held.0 added in inr (y.0, y.1, sym (key_of_rows y.0.op held.0 y.2) ∙ held.2)
+      | inr added ↦ let y = row_of_one before held.0 added in inr (y.0, y.1, same_key (sym (key_of_rows y.0.op held.0 y.2) ∙ held.2))
     ]
 
 -- the key of the next insert is new to the graph

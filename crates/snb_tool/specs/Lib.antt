@@ -1,13 +1,7 @@
-pub mod Fields
-pub mod Loading
 pub mod InputLaws
 pub mod LogLaws
 pub mod Outcome
 pub mod Output
-pub mod PersonLines
-pub mod Pieces
-pub mod Reading
 pub mod Running
-pub mod StreamLines
 pub mod Turns
 pub mod Words

@@ -3,7 +3,7 @@
 ghost use Rattle.std.specs.Prelude.{◌≡◌, ◌≢◌, ◌∷◌, [], true, max, min, IfOk, OnOk};
 ghost use Rattle.snb_schema.specs.Closed.{key_of, IsClosed};
 ghost use Rattle.snb_schema.specs.Graph.{Graph as Rows, rows_of, HoldsKey, IsBuilt, IsGraph};
-ghost use Rattle.snb_schema.specs.Plan.{adds_person, plan_of, ArePlanned};
+ghost use Rattle.snb_schema.specs.Plan.{adds_person, plan_of, ArePlanned, IsOfPersonStream};
 ghost use Rattle.snb_schema.specs.UpdateLines.{IsOfTwo};
 ghost use Rattle.snb_schema.specs.declared.row.Row.TheVariants as row;
 ghost use Rattle.snb_schema.specs.declared.table.Table.TheVariants as table;
@@ -56,13 +56,14 @@ fn person_of(op: &Op) -> Result<Person, AllocError>
             location_ip: location_ip.try_copy()?,
             browser_used: browser_used.try_copy()?,
         }),
-        Op::AddFriend { .. } => unreachable!(),
+        _ => unreachable!(),
     }
 }
 
 // The row that an insert adds.
 fn row_of(op: &Op) -> Result<Row, AllocError>
-    requires { IsOfTwo op.now }
+    requires of_persons { IsOfPersonStream op.now }
+    requires of_two { IsOfTwo op.now }
     ensures row { IfOk result (λ r. rows_of op.now ≡ r ∷ []) }
     ensures built { IfOk result IsBuilt }
 {
@@ -75,6 +76,7 @@ fn row_of(op: &Op) -> Result<Row, AllocError>
             person2_id,
             date,
         } => Ok(friendship(*person1_id, *person2_id, *date)),
+        _ => unreachable!(),
     }
 }
 
@@ -94,6 +96,7 @@ fn friendship(one: u64, other: u64, date: u64) -> Row
 
 // Adds the row of an insert, whose key is new.
 fn add_row(op: &Op, graph: &mut Graph) -> Result<(), AllocError>
+    requires of_persons { IsOfPersonStream op.now }
     requires of_two { IsOfTwo op.now }
     requires new { ¬ HoldsKey graph.old (key_of op.now) }
     ensures { OnOk result (IsAdded op.now graph.old graph.new) }

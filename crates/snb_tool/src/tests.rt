@@ -203,31 +203,40 @@ fn refuses_persons(rt: HostRuntime) -> Result<(), Fail> {
     let marked_header =
         b"\xef\xbb\xbfid|firstName|lastName|gender|birthday|creationDate|locationIP|browserUsed".as_slice();
     let bad = b"11|Bo".as_slice();
+    let bad_day = b"11|Bo|Ray|male|2010-02-29|x|1.1.1.1|Firefox".as_slice();
     is_refused(&rt, None, Some(&[CY]), "refused: person_0_0.csv: absent\n")?;
     for (lines, line) in [
-        ([].as_slice(), "refused: person_0_0.csv:1: column 0\n"),
+        ([].as_slice(), "refused: person_0_0.csv: no header\n"),
         (
             [b"".as_slice()].as_slice(),
-            "refused: person_0_0.csv:1: column 0\n",
+            "refused: person_0_0.csv: no header\n",
         ),
         (
             [marked_header, ANN].as_slice(),
+            "refused: person_0_0.csv:1: column 1\n",
+        ),
+        (
+            [bad, ANN].as_slice(),
             "refused: person_0_0.csv:1: column 0\n",
         ),
         (
             [HEADER, not_utf8].as_slice(),
-            "refused: person_0_0.csv:2: column 0\n",
+            "refused: person_0_0.csv:2: not UTF-8\n",
         ),
         (
             [HEADER, marked].as_slice(),
+            "refused: person_0_0.csv:2: column 1\n",
+        ),
+        (
+            [HEADER, bad, bad_day].as_slice(),
             "refused: person_0_0.csv:2: column 0\n",
         ),
         (
-            [HEADER, bad, bad].as_slice(),
-            "refused: person_0_0.csv:2: column 0\n",
+            [HEADER, bad_day, bad].as_slice(),
+            "refused: person_0_0.csv:2: column 5\n",
         ),
         (
-            [HEADER, ANN, ANN].as_slice(),
+            [HEADER, ANN, ANN, bad].as_slice(),
             "refused: person_0_0.csv:3: duplicate\n",
         ),
     ] {
@@ -237,30 +246,48 @@ fn refuses_persons(rt: HostRuntime) -> Result<(), Fail> {
 }
 
 #[test]
+fn takes_texts_as_they_stand(rt: HostRuntime) -> Result<(), Fail> {
+    let header =
+        b"id|firstName|lastName|gender|birthday|creationDate|locationIP|browserUsed|".as_slice();
+    let ann =
+        b"10|\"Ann\"|Lee|female|1984-02-29|2010-01-01T00:00:00.000+0000|1.1.1.1|Firefox\r".as_slice();
+    let cy = b"12|Cy|Fox|male|0|5000|1.1.1.3|Opera|".as_slice();
+    let mut shelf = shelf_of(rt.alloc(), Some(&[header, ann, cy]), None)?;
+    let mut out = MemoryOutbox::new(rt.alloc(), ROOM)?;
+    assert_eq!(rt; run(&rt, &mut shelf, &mut out), 0);
+    let texts = Texts {
+        log: "snblog|1|1\n",
+        answers: ANSWERS,
+        finals: "final|1\nperson|2\n10|\"Ann\"|Lee|female|446860800000|1262304000000|1.1.1.1|Firefox\r\n12|Cy|Fox|male|0|5000|1.1.1.3|Opera\nperson_knows_person|0\n",
+        screen: "operations 0\nupdates 0\nreads 0\nrows 2\n",
+    };
+    are_written(&rt, &out, texts);
+    Ok(())
+}
+
+#[test]
 fn refuses_inserts(rt: HostRuntime) -> Result<(), Fail> {
-    for (lines, line) in [
-        (
-            [CY_AS_ANN].as_slice(),
-            "refused: updateStream_0_0_person.csv:1: duplicate\n",
-        ),
-        (
-            [CY, CY].as_slice(),
-            "refused: updateStream_0_0_person.csv:2: duplicate\n",
-        ),
-        (
-            [CY_CUT].as_slice(),
-            "refused: updateStream_0_0_person.csv:1: column 0\n",
-        ),
-        (
-            [CY_AS_ANN, CY_CUT].as_slice(),
-            "refused: updateStream_0_0_person.csv:2: column 0\n",
-        ),
-        (
-            [CY, CY_EARLIER].as_slice(),
-            "refused: updateStream_0_0_person.csv:2: column 0\n",
-        ),
+    let language = b"5000|0|1|12|Cy|Fox|male|0|5000|1.1.1.3|Opera|1|en||||".as_slice();
+    let study = b"5000|0|1|12|Cy|Fox|male|0|5000|1.1.1.3|Opera|1||||1,2006|".as_slice();
+    let work = b"5000|0|1|12|Cy|Fox|male|0|5000|1.1.1.3|Opera|1|en||||0,2011;0,2012".as_slice();
+    let member = b"9000|2000|5|11|21|9000".as_slice();
+    let broken = b"5000|0|1|12|C\xff|Fox|male|0|5000|1.1.1.3|Opera|1|||||".as_slice();
+    let longer = b"5000|0|1|12|Cy|Fox|male|0|5000|1.1.1.3|Opera|1||||||".as_slice();
+    for (lines, cause) in [
+        ([CY_AS_ANN].as_slice(), "1: duplicate"),
+        ([CY, CY].as_slice(), "2: duplicate"),
+        ([CY_CUT].as_slice(), "1: column 0"),
+        ([longer].as_slice(), "1: column 0"),
+        ([CY_AS_ANN, CY_CUT].as_slice(), "2: column 0"),
+        ([CY, CY_EARLIER].as_slice(), "2: out of order"),
+        ([language].as_slice(), "1: column 13"),
+        ([study, CY_CUT].as_slice(), "1: column 16"),
+        ([work].as_slice(), "1: column 17"),
+        ([member].as_slice(), "1: column 3"),
+        ([broken].as_slice(), "1: not UTF-8"),
     ] {
-        is_refused(&rt, Some(&[HEADER, ANN]), Some(lines), line)?;
+        let text = format!(in rt.alloc(); "refused: updateStream_0_0_person.csv:{cause}\n")?;
+        is_refused(&rt, Some(&[HEADER, ANN]), Some(lines), text.as_str())?;
     }
     Ok(())
 }
@@ -273,6 +300,7 @@ fn runs_a_friendship(rt: HostRuntime) -> Result<(), Fail> {
     for line in [
         b"9000|8000|8|10|12|9000".as_slice(),
         b"9000|8999|8|12|10|9000",
+        b"9000|8999|8|12|10|1970-01-01T00:00:09.000+0000",
     ] {
         let mut shelf = shelf_of(rt.alloc(), Some(&[HEADER, ANN]), Some(&[CY_AT_8000, line]))?;
         let mut out = MemoryOutbox::new(rt.alloc(), ROOM)?;
@@ -298,11 +326,11 @@ fn refuses_friendships(rt: HostRuntime) -> Result<(), Fail> {
         (b"9000|8000|8|13|12|9000", "unmet person 13"),
         (b"9000|9000|8|10|12|9000", "late dependency"),
         (b"9000|9000|8|13|14|9000", "late dependency"),
-        (b"9000|8000|8|10|10|9000", "column 0"),
+        (b"9000|8000|8|10|10|9000", "column 5"),
         (b"9000|8000|8|10|12", "column 0"),
         (b"9000|8000|8|10|12|9000|", "column 0"),
-        (b"9000|8000|7|10|12|9000", "column 0"),
-        (b"7999|7998|8|10|12|9000", "column 0"),
+        (b"9000|8000|7|10|12|9000", "column 3"),
+        (b"7999|7998|8|10|12|9000", "out of order"),
     ] {
         let text = format!(in rt.alloc(); "refused: updateStream_0_0_person.csv:2: {cause}\n")?;
         is_refused(

@@ -8,7 +8,7 @@ ghost use Rattle.snb_schema.specs.declared.refusal.Refusal.{Refusal as Refused};
 ghost use Rattle.snb_schema.specs.ScreenTexts.{refusal_text};
 ghost use Rattle.snb_schema.specs.Closed.{IsClosed};
 ghost use Rattle.snb_schema.specs.Graph.{HoldsKey, IsGraph};
-ghost use Rattle.snb_tool.specs.Loading.{OnReadFault, OnRefused};
+ghost use Rattle.snb_loader.specs.Loading.{OnReadFault, OnRefused};
 ghost use Rattle.snb_tool.specs.Outcome.{IsCut, IsLoaded, IsOtherLine, IsRefusal, IsRun, IsRunOutput, IsUsage, Wrote};
 ghost use Rattle.snb_tool.specs.Output.{IsFront, bytes_of, on_screen, size_of};
 ghost use Rattle.snb_schema.specs.Plan.{ArePlanned};
@@ -16,20 +16,21 @@ ghost use Rattle.snb_tool.specs.Words.{IsRunLine, texts_of};
 
 use crate::deliver::{Output, deliver, show};
 use crate::final_lines::{final_lines, summary_lines};
-use crate::load::Load;
-use crate::loader::{load_inserts, load_of, load_persons};
 use crate::log_lines::log_lines;
 use crate::refusal_text::refusal_line;
 use crate::run::run_alone;
-use crate::stream_reader::PERSON_STREAM;
 use crate::words::run_folder;
 use snb_base::clock::Clock;
 use snb_base::gate::Gate;
 use snb_base::outbox::Outbox;
 use snb_base::shelf::Shelf;
+use snb_csv::laws::{one_column, one_row};
+use snb_loader::load::{Load, load_of};
+use snb_loader::loader::{PERSON_STREAM, load_inserts, load_persons};
 use snb_plan::closed::check_closed;
 use snb_schema::op::Line;
 use snb_schema::refusal::Refusal;
+use snb_streams::laws::{one_fault, one_insert};
 use snb_tables::graph::Graph;
 use std::alloc::{AllocError, Global};
 use std::sync::Wait;
@@ -56,6 +57,10 @@ fn load_input<S: Shelf>(alloc: Global, shelf: &mut S, folder: &str) -> Result<In
     ensures later { S.faults shelf.old ≤ S.faults shelf.new }
     ensures same { S.contents shelf.new ≡ S.contents shelf.old }
 {
+    one_row();
+    one_column();
+    one_insert();
+    one_fault();
     let persons = match load_persons(alloc, shelf, folder) {
         Ok(persons) => persons,
         Err(load) => return Err(load),

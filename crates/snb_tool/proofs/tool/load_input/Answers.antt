@@ -6,13 +6,13 @@ use Rattle.snb_schema.specs.Closed.{IsClosed, IsFirstWrong}
 use Rattle.snb_schema.specs.Graph.{HoldsKey}
 use Rattle.snb_schema.specs.declared.op.Line.{Line}
 use Rattle.std.specs.declared.alloc.Global.{Global}
-use Rattle.snb_tool.specs.declared.person_reader.Persons.{Persons}
+use Rattle.snb_loader.specs.declared.persons.Persons.{Persons}
 use Rattle.snb_tool.specs.declared.tool.Input.{Input}
-use Rattle.snb_tool.specs.Loading.{PersonsLoaded, PersonsRefused, StreamBad, StreamOf}
+use Rattle.snb_loader.specs.Loading.{PersonsLoaded, PersonsRefused, StreamBad, StreamOf}
 use Rattle.snb_tool.specs.Outcome.{IsLoaded}
 use Rattle.snb_tool.proofs.InputLemmas.{files_loaded, persons_refuse, stream_refuses, wrong_refuses}
-use Rattle.snb_tool.proofs.LoaderLemmas.{refused_bad, refused_weaker}
-use Rattle.snb_tool.proofs.TakeLemmas.{if_some, if_some_both}
+use Rattle.snb_loader.proofs.LoaderLemmas.{refused_bad, refused_weaker}
+use Rattle.snb_loader.proofs.TakeLemmas.{if_some, if_some_both}
 use Rattle.snb_tool.proofs.tool.load_input.Goals as goal
 
 pub returns-in-Err-clause-refused : goal.returns-in-Err-clause-refused
@@ -36,7 +36,7 @@ returns-in-Ok-check_closed-clause-ok g c =
     if_some_both (g.S.Shelf.contents c.args.shelf.now) (λ files. PersonsLoaded c.args.folder.now files c.in-Ok.persons.graph c.in-Ok.persons.bytes c.in-Ok.persons.rows)
     (λ files. StreamOf (stream_of c.args.folder.now files) c.in-Ok.persons.bytes c.in-Ok.persons.rows c.in-Ok-load_inserts.inserts.items)
     (λ files. IsLoaded c.args.folder.now files c.in-Ok.persons.graph c.in-Ok-load_inserts.inserts.items)
-    (λ files p s. files_loaded c.args.folder.now files c.in-Ok.persons.graph c.in-Ok.persons.bytes c.in-Ok.persons.rows c.in-Ok-load_inserts.inserts.items p s
+    (λ files p s. files_loaded (record { row = c.one_row.ensures; column = c.one_column.ensures.one; insert = c.one_insert.ensures; fault = c.one_fault.ensures.one }) c.args.folder.now files c.in-Ok.persons.graph c.in-Ok.persons.bytes c.in-Ok.persons.rows c.in-Ok-load_inserts.inserts.items p s
     (subst (λ (xs : List Line). IsClosed (HoldsKey c.in-Ok.persons.graph) xs) c.deref.ensures.value c.in-Ok-check_closed.ensures.ok))
     c.in-Ok.ensures.ok
     (subst (λ (o : Option Files). IfSome o (λ files. StreamOf (stream_of c.args.folder.now files) c.in-Ok.persons.bytes c.in-Ok.persons.rows c.in-Ok-load_inserts.inserts.items)) c.in-Ok.ensures.same c.in-Ok-load_inserts.ensures.ok)

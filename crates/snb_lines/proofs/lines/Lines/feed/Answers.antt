@@ -1,6 +1,7 @@
 use Rattle.std.proofs.Common.{arith, sym, ◌≡◌, ◌≤◌, ◌+◌, ◌++◌, ap, subst, length, length-append, List, ℕ}
 use Rattle.snb_schema.specs.declared.limits.TheConstants.{MAX_BYTES}
-use Rattle.snb_lines.specs.Cut.{HasNoEnd, rest_of, whole_lines}
+use Rattle.snb_lines.specs.Cut.{rest_of, whole_lines}
+use Rattle.snb_schema.specs.Lines.{HasNoEnd}
 use Rattle.snb_lines.proofs.CutFacts.{cut_counts, rest_no_end}
 use Rattle.snb_lines.proofs.lines.Lines.feed.Goals as goal
 

@@ -1,0 +1,113 @@
+-- Fields spell one row at most, or have one bad column.
+use Rattle.std.proofs.Common.{◌≡◌, ◌≢◌, ◌∙◌, ◌+◌, ℕ, zero, suc, Bool, true, false, List, [], ◌∷◌, ◌++◌, length, take, refl, sym, ap, subst, inl, inr, arith}
+use Rattle.std.proofs.Math.Seq.{take-append_seam}
+use Rattle.snb_schema.specs.declared.column.Column.{Column}
+use Rattle.snb_schema.specs.declared.column.Column.TheVariants.{Date}
+use Rattle.snb_schema.specs.declared.column.Value.{Value}
+use Rattle.snb_schema.specs.declared.row.Row.{Row}
+use Rattle.snb_schema.specs.declared.row.Row.TheVariants as row
+use Rattle.snb_schema.specs.declared.table.Table.{Table}
+use Rattle.snb_schema.specs.declared.table.Table.TheVariants as table
+use Rattle.snb_schema.specs.Columns.{SpellsAll, StopsAfter}
+use Rattle.snb_schema.specs.Layouts.{columns, has_no_direction}
+use Rattle.snb_schema.specs.RowLines.{Differ, IsLoop, IsWide, SpellsRow, in_order, is_turned, row_shape, table_of, values}
+use Rattle.snb_fields.specs.Laws.{OneList}
+use Rattle.snb_csv.specs.Laws.{OneColumn, OneRow, RowsAreRight}
+use Rattle.snb_csv.specs.Make.{row_by}
+use Rattle.snb_csv.proofs.RowFacts.{IsPair, pair_of}
+
+-- fields that spell values are as many as the columns
+all_long : (cs : List Column) (xs : List (List ℕ)) (vs : List Value) → SpellsAll cs xs vs → length xs ≡ length cs
+all_long [] [] [] s = refl
+all_long (c ∷ cs) (x ∷ xs) (v ∷ vs) s = omega (arith, all_long cs xs vs s.1)
+all_long cs xs vs s = absurd s
+
+-- the fields of a row are wide
+row_wide : (t : Table) (fs : List (List ℕ)) (r : Row) (turned : Bool) → SpellsRow t fs r turned → IsWide (length (columns t)) fs
+row_wide t fs r turned s = record { own = s.own; extra = s.extra; split = s.split; size = all_long (columns t) s.own s.said s.spelled; no_more = s.no_more }
+
+-- and its own are the first
+first_own : (t : Table) (fs : List (List ℕ)) (r : Row) (turned : Bool) (s : SpellsRow t fs r turned) → take (length (columns t)) fs ≡ s.own
+first_own t fs r turned s =
+    ap (take (length (columns t))) s.split ∙ subst (λ k. take k (s.own ++ s.extra) ≡ s.own) (all_long (columns t) s.own s.said s.spelled) (take-append_seam s.own s.extra)
+
+-- so they spell one list of values
+one_said : OneList → (t : Table) (fs : List (List ℕ)) (r q : Row) (a b : Bool) (s : SpellsRow t fs r a) (u : SpellsRow t fs q b) → s.said ≡ u.said
+one_said list t fs r q a b s u =
+    list (columns t) s.own s.said u.said s.spelled (subst (λ (xs : List (List ℕ)). SpellsAll (columns t) xs u.said) (sym (first_own t fs q b u) ∙ first_own t fs r a s) u.spelled)
+
+-- a row is what its shape, its table and its values make
+row_again : (r : Row) → row_by (row_shape r) (table_of r) (values r) ≡ r
+row_again (row.Place p) = refl
+row_again (row.TagClass c) = refl
+row_again (row.Tag g) = refl
+row_again (row.Organisation o) = refl
+row_again (row.Person p) = refl
+row_again (row.Forum f) = refl
+row_again (row.Post p) = refl
+row_again (row.Comment c) = refl
+row_again (row.Link t from to) = refl
+row_again (row.Dated t from to date) = refl
+row_again (row.Yeared t from to year) = refl
+row_again (row.Word t person text) = refl
+
+-- so fields spell one row
+pub one_row : OneList → OneRow
+one_row list t fs r q a b s u =
+    let said = one_said list t fs r q a b s u in
+    let shaped : row_shape r ≡ row_shape q = s.shaped ∙ sym u.shaped in
+    let tabled : table_of r ≡ table_of q = s.table ∙ sym u.table in
+    let valued : values r ≡ values q = s.kept ∙ ap (in_order (has_no_direction t)) said ∙ sym u.kept in
+    (sym (row_again r) ∙ (λ i. row_by (shaped i) (tabled i) (valued i)) ∙ row_again q, s.turns ∙ ap (is_turned (has_no_direction t)) said ∙ sym u.turns)
+
+-- fields that spell values, and others after them, stop nowhere
+stops_nowhere : (cs : List Column) (xs more : List (List ℕ)) (vs : List Value) (n : ℕ) → SpellsAll cs xs vs → ¬ StopsAfter cs (xs ++ more) n
+stops_nowhere [] [] more [] n s stop = absurd stop
+stops_nowhere (c ∷ cs) (x ∷ xs) more (v ∷ vs) zero s stop = stop v s.0
+stops_nowhere (c ∷ cs) (x ∷ xs) more (v ∷ vs) (suc n) s stop = stops_nowhere cs xs more vs n s.1 stop.1
+stops_nowhere cs xs more vs n s stop = absurd s
+
+-- fields stop in one place
+one_stop : (cs : List Column) (fs : List (List ℕ)) (m n : ℕ) → StopsAfter cs fs m → StopsAfter cs fs n → m ≡ n
+one_stop (c ∷ cs) (x ∷ xs) zero zero s u = refl
+one_stop (c ∷ cs) (x ∷ xs) zero (suc n) s u = absurd (s u.0.0 u.0.1)
+one_stop (c ∷ cs) (x ∷ xs) (suc m) zero s u = absurd (u s.0.0 s.0.1)
+one_stop (c ∷ cs) (x ∷ xs) (suc m) (suc n) s u = ap suc (one_stop cs xs m n s.1 u.1)
+one_stop cs fs m n s u = absurd s
+
+-- only a friendship has no direction
+pub only_friends : (t : Table) → has_no_direction t ≡ true → t ≡ table.PersonKnowsPerson
+only_friends table.PersonKnowsPerson e = refl
+only_friends t e = cc
+
+-- two ids that differ don't lead back
+pair_differs : (own extra : List (List ℕ)) (vs : List Value) → IsPair (Date ∷ []) own vs → Differ true vs → ¬ IsLoop true (own ++ extra)
+pair_differs own extra vs p d l =
+    let unlike : p.one ≢ p.other = subst (Differ true) p.is d in
+    let loop : IsLoop true (p.x ∷ p.y ∷ p.more ++ extra) = subst (λ (xs : List (List ℕ)). IsLoop true (xs ++ extra)) p.said l in
+    unlike (p.first.value ∙ sym loop.1.value ∙ loop.2.value ∙ sym p.second.value)
+
+-- nor do the fields of a row
+no_loop : (t : Table) (own extra : List (List ℕ)) (vs : List Value) (undirected : Bool) → has_no_direction t ≡ undirected → SpellsAll (columns t) own vs → Differ undirected vs → ¬ IsLoop undirected (own ++ extra)
+no_loop t own extra vs false e s d l = l
+no_loop t own extra vs true e s d l = pair_differs own extra vs (pair_of (Date ∷ []) own vs (subst (λ (u : Table). SpellsAll (columns u) own vs) (only_friends t e) s)) d l
+
+-- fields that spell a row have no bad column
+pub rows_are_right : RowsAreRight
+rows_are_right t fs r turned column s (inl narrow) = narrow.0 (row_wide t fs r turned s)
+rows_are_right t fs r turned column s (inr (inl loop)) =
+    no_loop t s.own s.extra s.said (has_no_direction t) refl s.spelled s.differ (subst (IsLoop (has_no_direction t)) s.split loop.1)
+rows_are_right t fs r turned column s (inr (inr stop)) =
+    stops_nowhere (columns t) s.own s.extra s.said stop.2.0 s.spelled (subst (λ (xs : List (List ℕ)). StopsAfter (columns t) xs stop.2.0) s.split stop.2.1)
+
+-- and others have one
+pub one_column : OneColumn
+one_column t fs a b (inl p) (inl q) = p.1 ∙ sym q.1
+one_column t fs a b (inl p) (inr (inl q)) = absurd (p.0 q.0)
+one_column t fs a b (inl p) (inr (inr q)) = absurd (p.0 q.0)
+one_column t fs a b (inr (inl p)) (inl q) = absurd (q.0 p.0)
+one_column t fs a b (inr (inl p)) (inr (inl q)) = p.2 ∙ sym q.2
+one_column t fs a b (inr (inl p)) (inr (inr q)) = absurd (q.1 p.1)
+one_column t fs a b (inr (inr p)) (inl q) = absurd (q.0 p.0)
+one_column t fs a b (inr (inr p)) (inr (inl q)) = absurd (p.1 q.1)
+one_column t fs a b (inr (inr p)) (inr (inr q)) = p.2.2 ∙ ap (λ n. n + 1) (one_stop (columns t) fs p.2.0 q.2.0 p.2.1 q.2.1) ∙ sym q.2.2

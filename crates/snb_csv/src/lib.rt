@@ -1,0 +1,10 @@
+//! The rows of the tables: read out of the pieces of a file, and written as lines.
+#![tactic(auto)]
+
+pub mod laws;
+mod make;
+mod read;
+pub mod rows;
+#[cfg(test)]
+mod tests;
+pub mod write;

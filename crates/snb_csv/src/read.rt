@@ -1,0 +1,82 @@
+//! The row that the fields of a line spell.
+
+ghost use Rattle.std.specs.Prelude.{◌≡◌, ◌&&◌, ℕ, List, All, IfOk, IsUtf8, if◌then◌else◌, true};
+ghost use Rattle.csv.specs.Records.{fields_of};
+ghost use Rattle.snb_schema.specs.Columns.{SpellsAll};
+ghost use Rattle.snb_schema.specs.Faults.{OnBadColumn};
+ghost use Rattle.snb_schema.specs.declared.table.Table.TheVariants as tables;
+ghost use Rattle.snb_schema.specs.Layouts.{columns};
+ghost use Rattle.snb_schema.specs.RowLines.{IsBadColumn, SpellsRow};
+ghost use Rattle.snb_csv.specs.Make.{IsRowOf, starts_twice};
+
+use crate::make::{make_row, put_in_order, starts_twice};
+use csv::ByteRecord;
+use snb_fields::read::{is_wide, read_values};
+use snb_fields::values::Values;
+use snb_schema::column::Value;
+use snb_schema::fault::LineFault;
+use snb_schema::layout::{columns_of, is_undirected};
+use snb_schema::row::Row;
+use snb_schema::table::Table;
+use std::alloc::Global;
+
+/// A row, and whether its line has its two ends the other way round.
+#[derive(Drop)]
+pub struct Spelled {
+    pub row: Row,
+    pub turned: bool,
+}
+
+// The bad column of fields that stop before this one, where these are the values before it: an edge
+// without direction may lead back already.
+fn first_bad(undirected: bool, values: &[Value], column: u32) -> u32
+    ensures { result ≡ (if undirected && starts_twice values.now then 2 else column) }
+{
+    if undirected && starts_twice(values) {
+        2
+    } else {
+        column
+    }
+}
+
+// The row of the table whose line has these values, unless it is an edge that leads back.
+fn row_of(alloc: Global, table: Table, mut values: Vec<Value>) -> Result<Spelled, LineFault>
+    requires { (xs : List (List ℕ)) × SpellsAll (columns table) xs values.items }
+    ensures ok { IfOk result (λ read. IsRowOf table values.items read.row read.turned) }
+    ensures bad { OnBadColumn result (λ column. (table ≡ tables.PersonKnowsPerson) × (starts_twice values.items ≡ true) × (column ≡ 2)) }
+{
+    if !is_undirected(table) {
+        return Ok(Spelled {
+            row: make_row(table, &mut Values::new(alloc, values)),
+            turned: false,
+        });
+    }
+    if starts_twice(&values) {
+        return Err(LineFault::Bad { column: 2 });
+    }
+    let turned = put_in_order(&mut values);
+    Ok(Spelled {
+        row: make_row(table, &mut Values::new(alloc, values)),
+        turned,
+    })
+}
+
+/// The row of the table that the fields spell.
+pub fn read_row(alloc: Global, table: Table, fields: &ByteRecord) -> Result<Spelled, LineFault>
+    requires { All IsUtf8 (fields_of fields.now) }
+    ensures ok { IfOk result (λ read. SpellsRow table (fields_of fields.now) read.row read.turned) }
+    ensures bad { OnBadColumn result (IsBadColumn table (fields_of fields.now)) }
+{
+    let columns = columns_of(table);
+    if !is_wide(columns.len(), fields) {
+        return Err(LineFault::Bad { column: 0 });
+    }
+    let mut values = Vec::new(alloc);
+    match read_values(alloc, columns, fields, &mut values) {
+        Ok(()) => row_of(alloc, table, values),
+        Err(LineFault::Bad { column }) => Err(LineFault::Bad {
+            column: first_bad(is_undirected(table), &values, column),
+        }),
+        Err(LineFault::Memory) => Err(LineFault::Memory),
+    }
+}

@@ -1,0 +1,10 @@
+//! The fields of a line, read by columns: what each spells, the first that spells nothing, and how a
+//! value is spelled on its own.
+#![tactic(auto)]
+
+pub mod laws;
+mod lists;
+pub mod read;
+#[cfg(test)]
+mod tests;
+pub mod values;

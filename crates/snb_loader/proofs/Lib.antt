@@ -1,0 +1,13 @@
+pub mod ComingFacts
+pub mod FileReading
+pub mod InsertsFaults
+pub mod InsertsReading
+pub mod InsertsSplit
+pub mod InsertsTakable
+pub mod LineLemmas
+pub mod LoaderLemmas
+pub mod PersonsFaults
+pub mod PersonsGraph
+pub mod PersonsReading
+pub mod SplitFacts
+pub mod TakeLemmas

@@ -1,0 +1,67 @@
+-- The rows of the person file are persons'.
+use Rattle.std.proofs.Common.{◌≡◌, ◌∙◌, ◌+◌, ◌≤◌, arith, ℕ, Bool, true, false, List, [], ◌∷◌, ◌++◌, All, refl, sym, ap, subst}
+use Rattle.std.proofs.lemmas.List.Elements.{All-append, All-cons, All-nil}
+use Rattle.snb_schema.specs.declared.layout.Shape.TheVariants as shapes
+use Rattle.snb_schema.specs.declared.limits.TheConstants.{MAX_BYTES}
+use Rattle.snb_schema.specs.declared.person.Person.{Person}
+use Rattle.snb_schema.specs.declared.row.Placed.{Placed}
+use Rattle.snb_schema.specs.declared.row.Row.{Row}
+use Rattle.snb_schema.specs.declared.row.Row.TheVariants as row
+use Rattle.snb_schema.specs.declared.table.Table.{Table}
+use Rattle.snb_schema.specs.declared.table.Table.TheVariants as table
+use Rattle.snb_schema.specs.Input.{person_file}
+use Rattle.snb_schema.specs.Layouts.{shape}
+use Rattle.snb_schema.specs.RowLines.{row_shape}
+use Rattle.snb_lines.specs.Reading.{Reader, Reads}
+use Rattle.snb_csv.specs.Rows.{Gives, Passed, TakesRow}
+use Rattle.snb_loader.specs.Persons.{IsPersonRow, at_first, row_meanings}
+use Rattle.snb_loader.proofs.FileReading.{Took, fresh}
+
+-- nothing is read before the person file
+pub none_used : 0 ≤ MAX_BYTES
+none_used = omega arith
+
+-- what a row of the shape of persons is
+person_shape : (r : Row) → row_shape r ≡ shapes.Person → (q : Person) × (r ≡ row.Person q)
+person_shape (row.Person q) e = (q, refl)
+person_shape (row.Place q) e = absurd cc
+person_shape (row.TagClass q) e = absurd cc
+person_shape (row.Tag q) e = absurd cc
+person_shape (row.Organisation q) e = absurd cc
+person_shape (row.Forum q) e = absurd cc
+person_shape (row.Post q) e = absurd cc
+person_shape (row.Comment q) e = absurd cc
+person_shape (row.Link t a b) e = absurd cc
+person_shape (row.Dated t a b c) e = absurd cc
+person_shape (row.Yeared t a b c) e = absurd cc
+person_shape (row.Word t a b) e = absurd cc
+
+-- the rows that a line of the person file gives are persons'
+line_persons : (headed : Bool) (t : Table) (number : ℕ) (fs : List (List ℕ)) (items : List Placed) → t ≡ table.Person → Gives headed t number fs items → All IsPersonRow items
+line_persons false t number fs items e g = subst (All IsPersonRow) (sym g.1) (All-nil IsPersonRow)
+line_persons true t number fs items e g =
+    let is = person_shape g.0 (g.2.shaped ∙ ap shape e) in
+    subst (All IsPersonRow) (sym g.3) (All-cons IsPersonRow (record { line = number; row = g.0; turned = g.1 }) [] is (All-nil IsPersonRow))
+
+-- so are those of all lines
+pub reads_persons : (ls : List (List ℕ)) (s new : Passed) (n : ℕ) (items : List Placed) → s.table ≡ table.Person → Reads TakesRow s n ls items new → All IsPersonRow items
+reads_persons [] s new n items e r = subst (All IsPersonRow) (sym r.0) (All-nil IsPersonRow)
+reads_persons ([] ∷ ls) s new n items e r =
+    subst (All IsPersonRow) (sym (r.5 ∙ ap (λ (xs : List Placed). xs ++ r.1) r.3.0)) (reads_persons ls r.2 new (n + 1) r.1 (ap (λ (p : Passed). p.table) r.3.1 ∙ e) r.4)
+reads_persons ((b ∷ bs) ∷ ls) s new n items e r =
+    subst (All IsPersonRow) (sym r.5)
+    (All-append IsPersonRow r.0 r.1 (line_persons s.headed s.table (n + 1) _ r.0 e r.3.2.0) (reads_persons ls r.2 new (n + 1) r.1 (ap (λ (p : Passed). p.table) r.3.2.1 ∙ e) r.4))
+
+-- so persons' rows stay persons' rows
+pub took_persons : (s : Passed) (old new : List Placed) → s.table ≡ table.Person → All IsPersonRow old → Took row_meanings person_file at_first 0 none_used s old new → All IsPersonRow new
+took_persons s old new e all t = subst (All IsPersonRow) (sym t.5) (All-append IsPersonRow old t.2 all (reads_persons t.0 s t.3 t.1 t.2 e t.4))
+
+-- a fresh reader's table
+pub fresh_table : (s : Reader Passed) → s ≡ fresh row_meanings person_file at_first 0 none_used → s.meaning.table ≡ table.Person
+fresh_table s is = ap (λ (z : Reader Passed). z.meaning.table) is
+
+-- and that of one that has read
+pub kept_table : (ls : List (List ℕ)) (s new : Passed) (n : ℕ) (items : List Placed) → s.table ≡ table.Person → Reads TakesRow s n ls items new → new.table ≡ table.Person
+kept_table [] s new n items e r = ap (λ (p : Passed). p.table) r.1 ∙ e
+kept_table ([] ∷ ls) s new n items e r = kept_table ls r.2 new (n + 1) r.1 (ap (λ (p : Passed). p.table) r.3.1 ∙ e) r.4
+kept_table ((b ∷ bs) ∷ ls) s new n items e r = kept_table ls r.2 new (n + 1) r.1 (ap (λ (p : Passed). p.table) r.3.2.1 ∙ e) r.4

@@ -1,0 +1,5 @@
+pub mod Coming
+pub mod Inserts
+pub mod Loading
+pub mod Persons
+pub mod Pieces

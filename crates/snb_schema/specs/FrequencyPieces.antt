@@ -1,0 +1,24 @@
+-- A text of frequencies, read piece by piece.
+use Rattle.std.specs.Prelude.{◌≡◌, ◌≢◌, ℕ, ◌<◌, ◌==◌, List, [], ◌∷◌, ◌++◌, All}
+use Rattle.std.specs.List.{slice_split}
+use Rattle.snb_base.specs.Spellings.{EachSpells}
+use Rattle.snb_schema.specs.Frequencies.{SpellsFrequency}
+
+-- no byte is c
+abbrev pub HasNo : ℕ → List ℕ → Type 0
+HasNo c text = All (λ b. b ≢ c) text
+
+-- a text is cut at its first c
+pub record IsCut (c : ℕ) (text front back : List ℕ) : Type 0 where
+  pub first : HasNo c front
+  pub joined : text ≡ front ++ c ∷ back
+
+-- the queries rise, and the first is above `last`
+abbrev pub RisesAfter : ℕ → List (ℕ × ℕ) → Type 0
+RisesAfter last [] = Unit {0}
+RisesAfter last (pair ∷ pairs) = (last < pair.0) × RisesAfter pair.0 pairs
+
+-- the pieces spell these pairs, whose queries rise from above `last`
+pub record SpellsAfter (last : ℕ) (x : List ℕ) (pairs : List (ℕ × ℕ)) : Type 0 where
+  pub spelled : EachSpells SpellsFrequency (slice_split (λ b. b == 44) x) pairs
+  pub rising : RisesAfter last pairs

@@ -1,0 +1,88 @@
+//! The parameters of the complex queries.
+
+ghost use Rattle.std.specs.Prelude.{◌≡◌, ◌≢◌, ℕ, ◌++◌, ◌∷◌, [], OnOk, OnErr};
+ghost use Rattle.snb_schema.specs.Queries.{IsComplex, number_of_query};
+ghost use Rattle.snb_schema.specs.QueryLists.{list_of, AreOf};
+
+use crate::query::Query;
+use std::alloc::{AllocError, Global};
+use std::marker::Model;
+
+/// A list of parameters for each of the complex queries 1, 2, 7, 8, 9, 11 and 13.
+///
+/// A contract sees the seven lists. Each has queries of its kind alone.
+#[derive(Drop)]
+pub struct Lists {
+    one: Vec<Query>,
+    two: Vec<Query>,
+    seven: Vec<Query>,
+    eight: Vec<Query>,
+    nine: Vec<Query>,
+    eleven: Vec<Query>,
+    thirteen: Vec<Query>,
+}
+
+impl Model for Lists {
+    ghost use Rattle.snb_schema.specs.QueryLists.{QueryLists, AreSorted};
+
+    ghost Value = { QueryLists };
+
+    ghost view = { λ l. record { one = l.one.items; two = l.two.items; seven = l.seven.items; eight = l.eight.items; nine = l.nine.items; eleven = l.eleven.items; thirteen = l.thirteen.items } };
+
+    ghost invariant = { λ l. AreSorted (record { one = l.one.items; two = l.two.items; seven = l.seven.items; eight = l.eight.items; nine = l.nine.items; eleven = l.eleven.items; thirteen = l.thirteen.items }) };
+}
+
+impl Lists {
+    /// Seven empty lists. Takes no memory.
+    pub fn new(alloc: Global) -> Lists
+        ensures { (query : ℕ) → list_of result query ≡ [] }
+    {
+        Lists {
+            one: Vec::new(alloc),
+            two: Vec::new(alloc),
+            seven: Vec::new(alloc),
+            eight: Vec::new(alloc),
+            nine: Vec::new(alloc),
+            eleven: Vec::new(alloc),
+            thirteen: Vec::new(alloc),
+        }
+    }
+
+    /// Appends to the list of the query of this number, which has to be the number of `one`. Want of
+    /// memory leaves all lists as they were, and drops `one`.
+    pub fn push(&mut self, query: u32, one: Query) -> Result<(), AllocError>
+        requires complex { IsComplex query }
+        requires kind { number_of_query one ≡ query }
+        ensures appended { OnOk result (list_of self.new query ≡ list_of self.old query ++ one ∷ []) }
+        ensures others { OnOk result ((other : ℕ) → other ≢ query → list_of self.new other ≡ list_of self.old other) }
+        ensures err { OnErr result (self.new ≡ self.old) }
+    {
+        match query {
+            1 => self.one.push(one)?,
+            2 => self.two.push(one)?,
+            7 => self.seven.push(one)?,
+            8 => self.eight.push(one)?,
+            9 => self.nine.push(one)?,
+            11 => self.eleven.push(one)?,
+            _ => self.thirteen.push(one)?,
+        }
+        Ok(())
+    }
+
+    /// The list of the query of this number, in the order in which its items were appended.
+    pub fn of(&self, query: u32) -> &[Query]
+        requires { IsComplex query }
+        ensures value { result.now ≡ list_of self.now query }
+        ensures kind { AreOf query result.now }
+    {
+        match query {
+            1 => &self.one,
+            2 => &self.two,
+            7 => &self.seven,
+            8 => &self.eight,
+            9 => &self.nine,
+            11 => &self.eleven,
+            _ => &self.thirteen,
+        }
+    }
+}

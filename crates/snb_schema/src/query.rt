@@ -1,0 +1,81 @@
+//! The reads of the workload.
+
+ghost use Rattle.std.specs.Prelude.{◌↔◌, IsTrue};
+ghost use Rattle.snb_schema.specs.Queries.{IsComplex};
+
+use snb_base::text::Text;
+
+/// A read of the Interactive workload of LDBC's Social Network Benchmark: the short reads are IS1 to
+/// IS7, and the complex ones are named IC. Dates are in milliseconds since 1970-01-01 UTC.
+#[derive(Drop)]
+pub enum Query {
+    /// Short read 1: the profile of a person.
+    Is1 {
+        person: u64,
+    },
+    /// Short read 2: the recent messages of a person.
+    Is2 {
+        person: u64,
+    },
+    /// Short read 3: the friends of a person.
+    Is3 {
+        person: u64,
+    },
+    /// Short read 4: the content of a message.
+    Is4 {
+        message: u64,
+    },
+    /// Short read 5: the creator of a message.
+    Is5 {
+        message: u64,
+    },
+    /// Short read 6: the forum of a message.
+    Is6 {
+        message: u64,
+    },
+    /// Short read 7: the replies of a message.
+    Is7 {
+        message: u64,
+    },
+    /// Complex read 1: persons of a first name around a person.
+    Ic1 {
+        person: u64,
+        first_name: Text,
+    },
+    /// Complex read 2: the messages of friends up to a date.
+    Ic2 {
+        person: u64,
+        max_date: u64,
+    },
+    /// Complex read 7: who liked the messages of a person.
+    Ic7 {
+        person: u64,
+    },
+    /// Complex read 8: the replies to the messages of a person.
+    Ic8 {
+        person: u64,
+    },
+    /// Complex read 9: the messages of friends and their friends before a date.
+    Ic9 {
+        person: u64,
+        max_date: u64,
+    },
+    /// Complex read 11: friends and their friends who began to work in a country before a year.
+    Ic11 {
+        person: u64,
+        country: Text,
+        year: u32,
+    },
+    /// Complex read 13: the length of the shortest path between two persons.
+    Ic13 {
+        from: u64,
+        to: u64,
+    },
+}
+
+/// Whether this is the number of one of the seven complex queries.
+pub fn is_complex(query: u32) -> bool
+    ensures { IsTrue result ↔ IsComplex query }
+{
+    matches!(query, 1 | 2 | 7 | 8 | 9 | 11 | 13)
+}

@@ -1,0 +1,87 @@
+-- One line and its insert.
+use Rattle.std.proofs.Common.{◌≡◌, ◌≢◌, ◌==◌, ◌∙◌, ℕ, Bool, true, false, List, [], ◌∷◌, ◌++◌, length, drop, get_or, refl, sym, ap, subst, inl, inr, arith}
+use Rattle.std.specs.Prelude.{IsUtf8}
+use Rattle.std.proofs.lemmas.Bool.{eqb-true}
+use Rattle.std.proofs.lemmas.List.Elements.{All-head, All-nil, All-tail}
+use Rattle.std.proofs.lemmas.Str.{IsUtf8-nil}
+use Rattle.snb_schema.specs.declared.column.Value.{Value}
+use Rattle.snb_schema.specs.declared.op.Op.{Op}
+use Rattle.snb_schema.specs.declared.op.OpKind.{OpKind}
+use Rattle.snb_schema.specs.Columns.{SpellsAll}
+use Rattle.snb_schema.specs.Lines.{HasNoEnd, begins_with_mark, fields}
+use Rattle.snb_schema.specs.UpdateLines.{IsBadInsert, IsBadLine, IsLine, all_inserts, kind_of, line_columns, line_values, op_values}
+use Rattle.snb_lines.specs.Cut.{IsCutAtEnd}
+use Rattle.snb_lines.specs.Reading.{IsPlain}
+use Rattle.snb_fields.specs.Laws.{HasPlainFields, OneList, OwnLine}
+use Rattle.snb_streams.specs.Laws.{OneInsert}
+use Rattle.snb_streams.specs.Laws as laws
+use Rattle.snb_streams.specs.Make.{op_by}
+use Rattle.snb_streams.specs.Spelled.{IsSplit, SpellsInsert}
+use Rattle.snb_streams.proofs.InsertFacts.{made_again}
+use Rattle.snb_streams.proofs.KindFacts.{one_name, third_field}
+
+-- a line with fields that spell an insert
+pub is_line : (line : List ℕ) (fs : List (List ℕ)) (t t_d : ℕ) (op : Op) (allowed : List OpKind) → IsSplit line fs → SpellsInsert allowed fs t t_d op → IsLine line t t_d op
+is_line line fs t t_d op allowed is s =
+    record { text = is.utf8; unmarked = is.unmarked; one_line = is.one_line; spelled = subst (λ (xs : List (List ℕ)). SpellsAll (line_columns (kind_of op)) xs (line_values t t_d op)) is.split s.1; of_two = s.2 }
+
+-- the times of two inserts of equal values
+same_time : (t t_d : ℕ) (op : Op) (u u_d : ℕ) (oq : Op) → line_values t t_d op ≡ line_values u u_d oq → (t ≡ u) × (t_d ≡ u_d)
+same_time t t_d op u u_d oq e = (cc, cc)
+
+-- a text is the line of one insert
+pub one_insert : OneList → OneInsert
+one_insert one line t t_d op u u_d oq p q =
+    let kind : kind_of op ≡ kind_of oq = one_name (get_or (fields line) 2 []) (kind_of op) (kind_of oq) (third_field (fields line) t t_d op p.spelled) (third_field (fields line) u u_d oq q.spelled) in
+    let other : SpellsAll (line_columns (kind_of op)) (fields line) (line_values u u_d oq) = subst (λ (k : OpKind). SpellsAll (line_columns k) (fields line) (line_values u u_d oq)) (sym kind) q.spelled in
+    let same = one (line_columns (kind_of op)) (fields line) (line_values t t_d op) (line_values u u_d oq) p.spelled other in
+    let values : op_values op ≡ op_values oq = ap (λ (vs : List Value). drop 3 vs) same in
+    let times = same_time t t_d op u u_d oq same in
+    (times.0, times.1, sym (made_again op) ∙ (λ i. op_by (kind i) (values i)) ∙ made_again oq)
+
+-- the canonical line of an insert is one of its lines
+pub own_line : ((line : List ℕ) → HasPlainFields line) → OwnLine → laws.OwnLine
+own_line plain own line t t_d op p =
+    let is = own (line_columns (kind_of op)) (fields line) (line_values t t_d op) (λ e. cc) p.spelled (plain line).no_bars in
+    record {
+      text = is.text ((plain line).texts p.text);
+      unmarked = is.unmarked t (drop 1 (line_values t t_d op)) refl;
+      one_line = is.one_line ((plain line).no_ends p.one_line);
+      spelled = subst (λ (xs : List (List ℕ)). SpellsAll (line_columns (kind_of op)) xs (line_values t t_d op)) (sym is.split) is.spelled;
+      of_two = p.of_two;
+    }
+
+-- a text that isn't one line of UTF-8
+pub broken_bad : (line : List ℕ) → begins_with_mark line ≡ false → (IsUtf8 line → ¬ HasNoEnd line) → IsBadLine line 0
+broken_bad line e none = inr (inl (e, none, refl))
+
+-- the empty text has one field
+pub empty_bad : (line : List ℕ) → line ≡ [] → IsBadLine line 0
+empty_bad line e = subst (λ (t : List ℕ). IsBadLine t 0) (sym e) (inr (inr (refl, IsUtf8-nil, All-nil _, inl (omega arith, refl))))
+
+-- a line with fields that spell no insert
+pub split_bad : (line : List ℕ) (fs : List (List ℕ)) (column : ℕ) → IsSplit line fs → IsBadInsert all_inserts fs column → IsBadLine line column
+split_bad line fs column is bad = inr (inr (is.unmarked, is.utf8, is.one_line, subst (λ (xs : List (List ℕ)). IsBadInsert all_inserts xs column) is.split bad))
+
+-- a text whose length is nothing
+pub tested_empty : (line : List ℕ) (empty : Bool) → empty ≡ length line == 0 → empty ≡ true → line ≡ []
+tested_empty [] empty is e = refl
+tested_empty (b ∷ bs) empty is e = (let none = eqb-true (length (b ∷ bs)) 0 (sym is ∙ e) in absurd (omega arith))
+
+-- and one whose length isn't nothing
+tested_filled : (line : List ℕ) (empty : Bool) → empty ≡ length line == 0 → empty ≡ false → line ≢ []
+tested_filled [] empty is e same = cc
+tested_filled (b ∷ bs) empty is e same = cc
+
+-- a line that is split
+pub plain_line : (line : List ℕ) (empty : Bool) → begins_with_mark line ≡ false → empty ≡ length line == 0 → empty ≡ false → IsPlain line
+plain_line line empty unmarked is e = record { filled = tested_filled line empty is e; unmarked = unmarked }
+
+-- a text with a line end has one
+ends_in : (front rest : List ℕ) → ¬ HasNoEnd (front ++ 10 ∷ rest)
+ends_in [] rest h = All-head (λ b. b ≢ 10) 10 rest h refl
+ends_in (b ∷ front) rest h = ends_in front rest (All-tail (λ b. b ≢ 10) b (front ++ 10 ∷ rest) h)
+
+-- a text that is cut at a line end isn't one line
+pub cut_ends : {text front back : List ℕ} → IsCutAtEnd text front back → ¬ HasNoEnd text
+cut_ends {text} {front} {back} cut one = ends_in front cut.rest (subst HasNoEnd cut.joined one)

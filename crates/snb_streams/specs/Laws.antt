@@ -1,0 +1,22 @@
+-- Laws of the lines of the update streams.
+use Rattle.std.specs.Prelude.{◌≡◌, ℕ, List}
+use Rattle.snb_schema.specs.declared.op.Op.{Op}
+use Rattle.snb_schema.specs.declared.op.OpKind.{OpKind}
+use Rattle.snb_schema.specs.UpdateLines.{IsBadInsert, IsLine, canonical_line}
+use Rattle.snb_streams.specs.Spelled.{SpellsInsert}
+
+-- a text is the line of one insert at most
+abbrev pub OneInsert : Type 0
+OneInsert = (line : List ℕ) (t t_d : ℕ) (op : Op) (u u_d : ℕ) (oq : Op) → IsLine line t t_d op → IsLine line u u_d oq → (t ≡ u) × (t_d ≡ u_d) × (op ≡ oq)
+
+-- the canonical line of an insert that has a line is one of its lines
+abbrev pub OwnLine : Type 0
+OwnLine = (line : List ℕ) (t t_d : ℕ) (op : Op) → IsLine line t t_d op → IsLine (canonical_line t t_d op) t t_d op
+
+-- fields are bad in one column at most
+abbrev pub OneFault : Type 0
+OneFault = (allowed : List OpKind) (fs : List (List ℕ)) (a b : ℕ) → IsBadInsert allowed fs a → IsBadInsert allowed fs b → a ≡ b
+
+-- and in none where they spell an insert
+abbrev pub NoFault : Type 0
+NoFault = (allowed : List OpKind) (fs : List (List ℕ)) (t t_d : ℕ) (op : Op) (c : ℕ) → SpellsInsert allowed fs t t_d op → ¬ IsBadInsert allowed fs c

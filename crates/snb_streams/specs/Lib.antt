@@ -1,0 +1,5 @@
+pub mod Cells
+pub mod Laws
+pub mod Make
+pub mod Spelled
+pub mod Updates

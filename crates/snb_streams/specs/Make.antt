@@ -1,0 +1,68 @@
+-- The insert that has these values.
+use Rattle.std.specs.Prelude.{◌==◌, ℕ, Bool, true, false, List, ◌∷◌, drop, Option, Some, None}
+use Rattle.snb_schema.specs.declared.column.Value.{Value}
+use Rattle.snb_schema.specs.declared.column.Value.TheVariants.{Digits, NoId}
+use Rattle.snb_schema.specs.declared.op.Op.{Op}
+use Rattle.snb_schema.specs.declared.op.Op.TheVariants.{AddPerson, LikePost, LikeComment, AddForum, AddMember, AddPost, AddComment, AddFriend}
+use Rattle.snb_schema.specs.declared.op.OpKind.{OpKind}
+use Rattle.snb_schema.specs.declared.op.OpKind.TheVariants as kinds
+use Rattle.snb_schema.specs.declared.op.Parent.{Parent}
+use Rattle.snb_schema.specs.declared.op.Parent.TheVariants as parents
+use Rattle.snb_fields.specs.Values.{first_ids, first_number, first_optional, first_pairs, first_small, first_text, first_texts}
+
+-- the parent that a post and a comment are, of which there is one
+abbrev pub parent_by : Option ℕ → Option ℕ → Parent
+parent_by (Some post) comment = parents.Post post
+parent_by None (Some comment) = parents.Comment comment
+parent_by None None = parents.Post 0
+
+-- the insert of this kind that has these values
+abbrev pub op_by : OpKind → List Value → Op
+op_by kinds.AddPerson vs =
+    AddPerson (first_number vs) (first_text (drop 1 vs)) (first_text (drop 1 (drop 1 vs))) (first_text (drop 1 (drop 1 (drop 1 vs)))) (first_number (drop 1 (drop 1 (drop 1 (drop 1 vs)))))
+    (first_number (drop 1 (drop 1 (drop 1 (drop 1 (drop 1 vs)))))) (first_text (drop 1 (drop 1 (drop 1 (drop 1 (drop 1 (drop 1 vs)))))))
+    (first_text (drop 1 (drop 1 (drop 1 (drop 1 (drop 1 (drop 1 (drop 1 vs)))))))) (first_number (drop 1 (drop 1 (drop 1 (drop 1 (drop 1 (drop 1 (drop 1 (drop 1 vs)))))))))
+    (first_texts (drop 1 (drop 1 (drop 1 (drop 1 (drop 1 (drop 1 (drop 1 (drop 1 (drop 1 vs)))))))))) (first_texts (drop 1 (drop 1 (drop 1 (drop 1 (drop 1 (drop 1 (drop 1 (drop 1 (drop 1 (drop 1 vs)))))))))))
+    (first_ids (drop 1 (drop 1 (drop 1 (drop 1 (drop 1 (drop 1 (drop 1 (drop 1 (drop 1 (drop 1 (drop 1 vs))))))))))))
+    (first_pairs (drop 1 (drop 1 (drop 1 (drop 1 (drop 1 (drop 1 (drop 1 (drop 1 (drop 1 (drop 1 (drop 1 (drop 1 vs)))))))))))))
+    (first_pairs (drop 1 (drop 1 (drop 1 (drop 1 (drop 1 (drop 1 (drop 1 (drop 1 (drop 1 (drop 1 (drop 1 (drop 1 (drop 1 vs))))))))))))))
+op_by kinds.LikePost vs = LikePost (first_number vs) (first_number (drop 1 vs)) (first_number (drop 1 (drop 1 vs)))
+op_by kinds.LikeComment vs = LikeComment (first_number vs) (first_number (drop 1 vs)) (first_number (drop 1 (drop 1 vs)))
+op_by kinds.AddForum vs =
+    AddForum (first_number vs) (first_text (drop 1 vs)) (first_number (drop 1 (drop 1 vs))) (first_number (drop 1 (drop 1 (drop 1 vs)))) (first_ids (drop 1 (drop 1 (drop 1 (drop 1 vs)))))
+op_by kinds.AddMember vs = AddMember (first_number vs) (first_number (drop 1 vs)) (first_number (drop 1 (drop 1 vs)))
+op_by kinds.AddPost vs =
+    AddPost (first_number vs) (first_text (drop 1 vs)) (first_number (drop 1 (drop 1 vs))) (first_text (drop 1 (drop 1 (drop 1 vs)))) (first_text (drop 1 (drop 1 (drop 1 (drop 1 vs)))))
+    (first_text (drop 1 (drop 1 (drop 1 (drop 1 (drop 1 vs)))))) (first_text (drop 1 (drop 1 (drop 1 (drop 1 (drop 1 (drop 1 vs)))))))
+    (first_small (drop 1 (drop 1 (drop 1 (drop 1 (drop 1 (drop 1 (drop 1 vs)))))))) (first_number (drop 1 (drop 1 (drop 1 (drop 1 (drop 1 (drop 1 (drop 1 (drop 1 vs)))))))))
+    (first_number (drop 1 (drop 1 (drop 1 (drop 1 (drop 1 (drop 1 (drop 1 (drop 1 (drop 1 vs)))))))))) (first_number (drop 1 (drop 1 (drop 1 (drop 1 (drop 1 (drop 1 (drop 1 (drop 1 (drop 1 (drop 1 vs)))))))))))
+    (first_ids (drop 1 (drop 1 (drop 1 (drop 1 (drop 1 (drop 1 (drop 1 (drop 1 (drop 1 (drop 1 (drop 1 vs))))))))))))
+op_by kinds.AddComment vs =
+    AddComment (first_number vs) (first_number (drop 1 vs)) (first_text (drop 1 (drop 1 vs))) (first_text (drop 1 (drop 1 (drop 1 vs)))) (first_text (drop 1 (drop 1 (drop 1 (drop 1 vs)))))
+    (first_small (drop 1 (drop 1 (drop 1 (drop 1 (drop 1 vs)))))) (first_number (drop 1 (drop 1 (drop 1 (drop 1 (drop 1 (drop 1 vs)))))))
+    (first_number (drop 1 (drop 1 (drop 1 (drop 1 (drop 1 (drop 1 (drop 1 vs))))))))
+    (parent_by (first_optional (drop 1 (drop 1 (drop 1 (drop 1 (drop 1 (drop 1 (drop 1 (drop 1 vs))))))))) (first_optional (drop 1 (drop 1 (drop 1 (drop 1 (drop 1 (drop 1 (drop 1 (drop 1 (drop 1 vs)))))))))))
+    (first_ids (drop 1 (drop 1 (drop 1 (drop 1 (drop 1 (drop 1 (drop 1 (drop 1 (drop 1 (drop 1 vs)))))))))))
+op_by kinds.AddFriend vs = AddFriend (first_number vs) (first_number (drop 1 vs)) (first_number (drop 1 (drop 1 vs)))
+
+-- the first two values are one number
+abbrev pub starts_twice : List Value → Bool
+starts_twice (Digits one ∷ Digits other ∷ rest) = one == other
+starts_twice _ = false
+
+-- the first two values are two ids or none
+abbrev pub are_no_parent : List Value → Bool
+are_no_parent (Digits post ∷ Digits comment ∷ rest) = true
+are_no_parent (NoId ∷ NoId ∷ rest) = true
+are_no_parent _ = false
+
+-- two of the first values of a line with an insert of this kind don't go together
+abbrev pub clash : OpKind → List Value → Bool
+clash kinds.AddFriend vs = starts_twice (drop 3 vs)
+clash kinds.AddComment vs = are_no_parent (drop 11 vs)
+clash _ vs = false
+
+-- the column of the second of them
+abbrev pub clash_column : OpKind → ℕ
+clash_column kinds.AddFriend = 5
+clash_column _ = 13

@@ -1,0 +1,26 @@
+//! Laws of the lines of the update streams, over every line.
+
+ghost use Rattle.snb_streams.specs.Laws.{NoFault, OneFault, OneInsert, OwnLine};
+
+use snb_fields::laws::{one_value, own_line as own_fields, plain_fields};
+
+/// A text is the line of one insert at most, at one pair of times.
+pub fn one_insert()
+    ensures { OneInsert }
+{
+    one_value();
+}
+
+/// What is read can be written: the canonical line of an insert that has a line is one of its lines.
+pub fn own_line()
+    ensures { OwnLine }
+{
+    plain_fields();
+    own_fields();
+}
+
+/// Fields are bad in one column at most, and in none where they spell an insert.
+pub fn one_fault()
+    ensures one { OneFault }
+    ensures none { NoFault }
+{}

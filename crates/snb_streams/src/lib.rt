@@ -1,0 +1,12 @@
+//! The lines of the update streams: read out of their fields or out of one line, and written.
+#![tactic(auto)]
+
+mod kinds;
+pub mod laws;
+pub mod line;
+mod make;
+#[cfg(test)]
+mod tests;
+mod text;
+pub mod updates;
+pub mod write;

@@ -1,0 +1,152 @@
+//! Inserts out of the values of their columns.
+
+ghost use Rattle.std.specs.Prelude.{◌≡◌, drop};
+ghost use Rattle.snb_streams.specs.Make.{clash, clash_column, are_no_parent, op_by, parent_by, starts_twice};
+ghost use Rattle.snb_fields.specs.Values.{first_optional};
+
+use snb_fields::values::Values;
+use snb_schema::column::Value;
+use snb_schema::op::{Op, OpKind, Parent};
+
+fn parent(values: &mut Values) -> Parent
+    ensures value { result ≡ parent_by (first_optional values.old) (first_optional (drop 1 values.old)) }
+    ensures left { values.new ≡ drop 1 (drop 1 values.old) }
+{
+    let post = values.optional_id();
+    let comment = values.optional_id();
+    match (post, comment) {
+        (Some(id), _) => Parent::Post { id },
+        (None, Some(id)) => Parent::Comment { id },
+        (None, None) => Parent::Post { id: 0 },
+    }
+}
+
+/// The insert of this kind that has these values.
+pub fn make_op(kind: OpKind, values: &mut Values) -> Op
+    ensures { result ≡ op_by kind values.old }
+{
+    match kind {
+        OpKind::AddPerson => Op::AddPerson {
+            person_id: values.number(),
+            first_name: values.text(),
+            last_name: values.text(),
+            gender: values.text(),
+            birthday: values.number(),
+            creation_date: values.number(),
+            location_ip: values.text(),
+            browser_used: values.text(),
+            city_id: values.number(),
+            languages: values.texts(),
+            emails: values.texts(),
+            tag_ids: values.ids(),
+            study_at: values.pairs(),
+            work_at: values.pairs(),
+        },
+        OpKind::LikePost => Op::LikePost {
+            person_id: values.number(),
+            post_id: values.number(),
+            date: values.number(),
+        },
+        OpKind::LikeComment => Op::LikeComment {
+            person_id: values.number(),
+            comment_id: values.number(),
+            date: values.number(),
+        },
+        OpKind::AddForum => Op::AddForum {
+            forum_id: values.number(),
+            title: values.text(),
+            date: values.number(),
+            moderator_id: values.number(),
+            tag_ids: values.ids(),
+        },
+        OpKind::AddMember => Op::AddMember {
+            person_id: values.number(),
+            forum_id: values.number(),
+            join_date: values.number(),
+        },
+        OpKind::AddPost => Op::AddPost {
+            post_id: values.number(),
+            image_file: values.text(),
+            date: values.number(),
+            location_ip: values.text(),
+            browser_used: values.text(),
+            language: values.text(),
+            content: values.text(),
+            length: values.small(),
+            author_id: values.number(),
+            forum_id: values.number(),
+            country_id: values.number(),
+            tag_ids: values.ids(),
+        },
+        OpKind::AddComment => Op::AddComment {
+            comment_id: values.number(),
+            date: values.number(),
+            location_ip: values.text(),
+            browser_used: values.text(),
+            content: values.text(),
+            length: values.small(),
+            author_id: values.number(),
+            country_id: values.number(),
+            parent: parent(values),
+            tag_ids: values.ids(),
+        },
+        OpKind::AddFriend => Op::AddFriend {
+            person1_id: values.number(),
+            person2_id: values.number(),
+            date: values.number(),
+        },
+    }
+}
+
+// The values after so many.
+fn after(values: &[Value], count: usize) -> &[Value]
+    ensures { result.now ≡ drop count values.now }
+{
+    if count < values.len() {
+        &values[count..]
+    } else {
+        &[]
+    }
+}
+
+// Whether the first two values are one number.
+fn starts_twice(values: &[Value]) -> bool
+    ensures { result ≡ starts_twice values.now }
+{
+    match values {
+        [Value::Digits { n: one }, Value::Digits { n: other }, ..] => *one == *other,
+        _ => false,
+    }
+}
+
+// Whether the first two values are two ids or none.
+fn are_no_parent(values: &[Value]) -> bool
+    ensures { result ≡ are_no_parent values.now }
+{
+    match values {
+        [Value::Digits { .. }, Value::Digits { .. }, ..] => true,
+        [Value::NoId, Value::NoId, ..] => true,
+        _ => false,
+    }
+}
+
+/// Whether two of the first values of a line with an insert of this kind don't go together.
+pub fn is_clash(kind: OpKind, values: &[Value]) -> bool
+    ensures { result ≡ clash kind values.now }
+{
+    match kind {
+        OpKind::AddFriend => starts_twice(after(values, 3)),
+        OpKind::AddComment => are_no_parent(after(values, 11)),
+        _ => false,
+    }
+}
+
+/// The column of the second of them.
+pub fn clash_column(kind: OpKind) -> u32
+    ensures { result ≡ clash_column kind }
+{
+    match kind {
+        OpKind::AddFriend => 5,
+        _ => 13,
+    }
+}

@@ -1,0 +1,46 @@
+//! The fields of a text that is one line.
+
+ghost use Rattle.std.specs.Prelude.{◌↔◌, IfOk, IsTrue, IsUtf8};
+ghost use Rattle.csv.specs.Records.{fields_of};
+ghost use Rattle.snb_schema.specs.Faults.{OnBadColumn};
+ghost use Rattle.snb_schema.specs.Lines.{HasNoEnd};
+ghost use Rattle.snb_schema.specs.UpdateLines.{IsBadLine};
+ghost use Rattle.snb_streams.specs.Spelled.{IsSplit};
+
+use csv::ByteRecord;
+use snb_fields::laws::plain_fields;
+use snb_lines::split::{cut_at_end, is_marked, split_line};
+use snb_schema::fault::LineFault;
+use std::alloc::Global;
+use std::str;
+
+// Whether the text is one line of UTF-8.
+fn is_one_line(text: &[u8]) -> bool
+    ensures { IsTrue result ↔ (IsUtf8 text.now × HasNoEnd text.now) }
+{
+    match cut_at_end(text) {
+        Some(_) => false,
+        None => str::from_utf8(text).is_ok(),
+    }
+}
+
+/// Splits a text at its bars, where it is one line of UTF-8 that has a byte and doesn't begin with a
+/// byte order mark.
+pub fn fields_in(alloc: Global, text: &[u8]) -> Result<ByteRecord, LineFault>
+    ensures ok { IfOk result (λ row. IsSplit text.now (fields_of row)) }
+    ensures bad { OnBadColumn result (IsBadLine text.now) }
+{
+    if is_marked(text) {
+        return Err(LineFault::Bad { column: 1 });
+    }
+    if !is_one_line(text) {
+        return Err(LineFault::Bad { column: 0 });
+    }
+    if text.is_empty() {
+        return Err(LineFault::Bad { column: 0 });
+    }
+    plain_fields();
+    let mut fields = ByteRecord::new(alloc);
+    split_line(alloc, text, &mut fields)?;
+    Ok(fields)
+}
