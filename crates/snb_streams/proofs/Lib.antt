@@ -4,5 +4,6 @@ pub mod InsertFacts
 pub mod JoinFacts
 pub mod KindFacts
 pub mod LineFacts
+pub mod ParameterFacts
 pub mod PlaceFacts
 pub mod UpdateFacts

@@ -2,7 +2,10 @@
 use Rattle.std.specs.Prelude.{◌≡◌, ℕ, List}
 use Rattle.snb_schema.specs.declared.op.Op.{Op}
 use Rattle.snb_schema.specs.declared.op.OpKind.{OpKind}
+use Rattle.snb_schema.specs.declared.query.Query.{Query}
+use Rattle.snb_schema.specs.Queries.{IsComplex}
 use Rattle.snb_schema.specs.UpdateLines.{IsBadInsert, IsLine, canonical_line}
+use Rattle.snb_streams.specs.Parameters.{IsBadQuery, SpellsQuery}
 use Rattle.snb_streams.specs.Spelled.{SpellsInsert}
 
 -- a text is the line of one insert at most
@@ -20,3 +23,11 @@ OneFault = (allowed : List OpKind) (fs : List (List ℕ)) (a b : ℕ) → IsBadI
 -- and in none where they spell an insert
 abbrev pub NoFault : Type 0
 NoFault = (allowed : List OpKind) (fs : List (List ℕ)) (t t_d : ℕ) (op : Op) (c : ℕ) → SpellsInsert allowed fs t t_d op → ¬ IsBadInsert allowed fs c
+
+-- fields are those of one complex query at most
+abbrev pub OneQuery : Type 0
+OneQuery = (q : ℕ) (fs : List (List ℕ)) (a b : Query) → IsComplex q → SpellsQuery q fs a → SpellsQuery q fs b → a ≡ b
+
+-- and have no bad column where they are one's
+abbrev pub NoBadQuery : Type 0
+NoBadQuery = (q : ℕ) (fs : List (List ℕ)) (one : Query) (c : ℕ) → SpellsQuery q fs one → ¬ IsBadQuery q fs c

@@ -1,6 +1,6 @@
-//! Laws of the lines of the update streams, over every line.
+//! Laws of the lines of update streams and parameter files, over every line.
 
-ghost use Rattle.snb_streams.specs.Laws.{NoFault, OneFault, OneInsert, OwnLine};
+ghost use Rattle.snb_streams.specs.Laws.{NoBadQuery, NoFault, OneFault, OneInsert, OneQuery, OwnLine};
 
 use snb_fields::laws::{one_value, own_line as own_fields, plain_fields};
 
@@ -24,3 +24,11 @@ pub fn one_fault()
     ensures one { OneFault }
     ensures none { NoFault }
 {}
+
+/// Fields are the parameters of one query of a number at most, and have no bad column where they are.
+pub fn one_query()
+    ensures one { OneQuery }
+    ensures none { NoBadQuery }
+{
+    one_value();
+}

@@ -5,6 +5,9 @@ mod kinds;
 pub mod laws;
 pub mod line;
 mod make;
+pub mod params;
+#[cfg(test)]
+mod params_tests;
 #[cfg(test)]
 mod tests;
 mod text;
