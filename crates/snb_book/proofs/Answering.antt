@@ -13,7 +13,7 @@ use Rattle.snb_schema.specs.Rules.{IsComplete, IsNotBusy}
 use Rattle.snb_schema.proofs.Times.{completion_decides, time_left-same}
 use Rattle.snb_completion.specs.Progress.{Progress, flag}
 use Rattle.snb_book.specs.Kept.{Kept}
-use Rattle.snb_book.specs.Book.{IsOfPersons, IsKept, IsTold, IsNext}
+use Rattle.snb_book.specs.Book.{IsOfPersons, IsSoundBook, IsTold, IsNext}
 use Rattle.snb_book.specs.Heads.{IsWithin}
 use Rattle.snb_book.specs.declared.claim.Claim.TheVariants.{Busy, Blocked}
 use Rattle.snb_book.specs.Claims.{IsPlanHead, IsDueHead, IsAdmitted, IsFirst, IsUnderWay, IsClaim}
@@ -37,7 +37,7 @@ TellsFirst-same s s' heads heads' limit limit' first schedules places limits tol
 
 -- within the greatest limit: where there is none all is started, and else the first head
 pub unstarted_told : (b : Kept) (capacity : ℕ) (times : Progress) (heads : List ℕ) (held : List (Option ℕ)) (latest : ℕ) (stopped : Bool) (first : Option ℕ)
-    → IsKept b capacity → IsTold b times heads held latest stopped → TellsFirst b.schedule heads (pos MAX_TIME) first
+    → IsSoundBook b capacity → IsTold b times heads held latest stopped → TellsFirst b.schedule heads (pos MAX_TIME) first
     → MatchOption first ((k : ℕ) → IsOperation b.schedule k → started b.history k ≡ true) (λ op. IsFirst b.schedule (IsPlanHead b.schedule b.history) op)
 unstarted_told b capacity times heads held latest stopped None kept told none =
     all_begun b.schedule b.history heads kept.planned told.begun (λ j next. none j next (within_all b.schedule kept.planned j next.0))
@@ -53,27 +53,27 @@ not_busy : (s : Schedule) (h : List Event) → IsPlanned s → IsOfPersons s →
 not_busy s h planned persons k within = λ forum. absurd (let p = persons.persons (step_of s k).lane (planned.in_lanes k within) in cc)
 
 -- there a head may start exactly where it is within the completion time
-admitted_within : (b : Kept) (capacity k : ℕ) → IsKept b capacity → IsOperation b.schedule k → IsWithin b.schedule (completion b.schedule b.history) k
+admitted_within : (b : Kept) (capacity k : ℕ) → IsSoundBook b capacity → IsOperation b.schedule k → IsWithin b.schedule (completion b.schedule b.history) k
     → IsAdmitted b.schedule b.history k
 admitted_within b capacity k kept operation within = (
   not_busy b.schedule b.history kept.planned kept.persons k operation,
   (completion_decides b.schedule b.history k (kept.planned.needs_timed k operation)).1 within,
 )
 
-within_admitted : (b : Kept) (capacity k : ℕ) → IsKept b capacity → IsOperation b.schedule k → IsAdmitted b.schedule b.history k
+within_admitted : (b : Kept) (capacity k : ℕ) → IsSoundBook b capacity → IsOperation b.schedule k → IsAdmitted b.schedule b.history k
     → IsWithin b.schedule (completion b.schedule b.history) k
 within_admitted b capacity k kept operation admitted = (completion_decides b.schedule b.history k (kept.planned.needs_timed k operation)).0 admitted.1
 
 -- within the completion time: where there is none, no due head may start
 pub none_ready : (b : Kept) (capacity : ℕ) (times : Progress) (heads : List ℕ) (held : List (Option ℕ)) (latest : ℕ) (stopped : Bool) (at : ℕ)
-    → IsKept b capacity → IsTold b times heads held latest stopped → TellsFirst b.schedule heads (completion b.schedule b.history) None
+    → IsSoundBook b capacity → IsTold b times heads held latest stopped → TellsFirst b.schedule heads (completion b.schedule b.history) None
     → (j : ℕ) → IsDueHead b.schedule b.history at j → ¬ IsAdmitted b.schedule b.history j
 none_ready b capacity times heads held latest stopped at kept told none j head admitted =
     none j (next_from_head b.schedule b.history heads kept.planned told.begun j (head.0, head.1)) (within_admitted b capacity j kept head.0 admitted)
 
 -- nor where the first is due later
 pub late_ready : (b : Kept) (capacity : ℕ) (times : Progress) (heads : List ℕ) (held : List (Option ℕ)) (latest : ℕ) (stopped : Bool) (at op : ℕ)
-    → IsKept b capacity → IsTold b times heads held latest stopped → TellsFirst b.schedule heads (completion b.schedule b.history) (Some op)
+    → IsSoundBook b capacity → IsTold b times heads held latest stopped → TellsFirst b.schedule heads (completion b.schedule b.history) (Some op)
     → at < (step_of b.schedule op).due → (j : ℕ) → IsDueHead b.schedule b.history at j → ¬ IsAdmitted b.schedule b.history j
 late_ready b capacity times heads held latest stopped at op kept told first late j head admitted =
     let next : IsNext b.schedule heads j = next_from_head b.schedule b.history heads kept.planned told.begun j (head.0, head.1) in
@@ -82,7 +82,7 @@ late_ready b capacity times heads held latest stopped at op kept told first late
     omega arith
 
 pub first_ready : (b : Kept) (capacity : ℕ) (times : Progress) (heads : List ℕ) (held : List (Option ℕ)) (latest : ℕ) (stopped : Bool) (at op : ℕ)
-    → IsKept b capacity → IsTold b times heads held latest stopped → TellsFirst b.schedule heads (completion b.schedule b.history) (Some op)
+    → IsSoundBook b capacity → IsTold b times heads held latest stopped → TellsFirst b.schedule heads (completion b.schedule b.history) (Some op)
     → (step_of b.schedule op).due ≤ at → IsFirst b.schedule (λ j. IsDueHead b.schedule b.history at j × IsAdmitted b.schedule b.history j) op
 first_ready b capacity times heads held latest stopped at op kept told first due =
     let head = head_from_next b.schedule b.history heads kept.planned told.begun op first.0.0 in (

@@ -19,7 +19,7 @@ use Rattle.snb_schema.proofs.Times.{completion_rises}
 use Rattle.snb_schema.proofs.Short.{halted-push, last-push, legal_is_short, last_is_bounded}
 use Rattle.snb_completion.specs.Progress.{Progress, nothing_started, IsNextInLane, IsOpen}
 use Rattle.snb_book.specs.Kept.{Kept, IsAdding, moment_after}
-use Rattle.snb_book.specs.Book.{IsOfPersons, IsKept, IsTold}
+use Rattle.snb_book.specs.Book.{IsOfPersons, IsSoundBook, IsTold}
 use Rattle.snb_book.proofs.Places.{same_place}
 use Rattle.snb_book.proofs.Heads.{next_from_head}
 
@@ -28,23 +28,23 @@ abbrev pub with_event : Kept → Event → Kept
 with_event b e = record { schedule = b.schedule; workers = b.workers; history = b.history ++ e ∷ [] }
 
 -- there is room for an event that fits
-pub has_room : (b : Kept) (capacity : ℕ) (e : Event) → IsKept b capacity → Fits b.schedule b.workers b.history e → moment e ≤ MAX_AT → length b.history < capacity
+pub has_room : (b : Kept) (capacity : ℕ) (e : Event) → IsSoundBook b capacity → Fits b.schedule b.workers b.history e → moment e ≤ MAX_AT → length b.history < capacity
 has_room b capacity e kept fits small =
     let short = legal_is_short b.schedule b.workers (b.history ++ e ∷ []) (IsLegal-push b.schedule b.workers b.history e kept.legal fits small) in
     let size = length-append b.history (e ∷ []) in
     let room = kept.room in
     omega arith
 
-pub history_short : (b : Kept) (capacity : ℕ) → IsKept b capacity → length b.history < 4294967296
+pub history_short : (b : Kept) (capacity : ℕ) → IsSoundBook b capacity → length b.history < 4294967296
 history_short b capacity kept =
     let short = legal_is_short b.schedule b.workers b.history kept.legal in
     let few = kept.few in
     let steps = kept.planned.few_steps in
     omega arith
 
-pub IsKept-push : (b : Kept) (capacity capacity' : ℕ) (e : Event) → IsKept b capacity → Fits b.schedule b.workers b.history e → moment e ≤ MAX_AT
-    → capacity ≤ capacity' → IsKept (with_event b e) capacity'
-IsKept-push b capacity capacity' e kept fits small more = record {
+pub IsSoundBook-push : (b : Kept) (capacity capacity' : ℕ) (e : Event) → IsSoundBook b capacity → Fits b.schedule b.workers b.history e → moment e ≤ MAX_AT
+    → capacity ≤ capacity' → IsSoundBook (with_event b e) capacity'
+IsSoundBook-push b capacity capacity' e kept fits small more = record {
   planned = kept.planned;
   persons = kept.persons;
   few = kept.few;
@@ -53,10 +53,10 @@ IsKept-push b capacity capacity' e kept fits small more = record {
 }
 
 -- one more event adds, and so does none
-pub adds_one : (b : Kept) (capacity worker : ℕ) (e : Event) → IsKept b capacity → Fits b.schedule b.workers b.history e → moment e ≤ MAX_AT
+pub adds_one : (b : Kept) (capacity worker : ℕ) (e : Event) → IsSoundBook b capacity → Fits b.schedule b.workers b.history e → moment e ≤ MAX_AT
     → is_by worker e ≡ true → IsAdding worker b (with_event b e)
 adds_one b capacity worker e kept fits small by_worker =
-    let more : IsKept (with_event b e) capacity = IsKept-push b capacity capacity e kept fits small (omega arith) in
+    let more : IsSoundBook (with_event b e) capacity = IsSoundBook-push b capacity capacity e kept fits small (omega arith) in
     record {
       schedule = refl;
       workers = refl;
@@ -73,7 +73,7 @@ adds_one b capacity worker e kept fits small by_worker =
 
 -- the same of a book that is seen otherwise
 pub adds_event : (now inside : Kept) (s : Schedule) (h : List Event) (capacity worker : ℕ) (e : Event) → inside ≡ now → s ≡ inside.schedule
-    → h ≡ inside.history ++ e ∷ [] → IsKept inside capacity → Fits inside.schedule inside.workers inside.history e → moment e ≤ MAX_AT
+    → h ≡ inside.history ++ e ∷ [] → IsSoundBook inside capacity → Fits inside.schedule inside.workers inside.history e → moment e ≤ MAX_AT
     → is_by worker e ≡ true → IsAdding worker now (record { schedule = s; workers = inside.workers; history = h })
 adds_event now inside s h capacity worker e same of_plan appended kept fits small by_worker =
     subst (λ (b : Kept). IsAdding worker b (record { schedule = s; workers = inside.workers; history = h })) same
@@ -136,8 +136,8 @@ begun_after one k lane_one lane_k place_one place_k head begun same one_place at
 abbrev pub of_nothing : Schedule → ℕ → Kept
 of_nothing s workers = record { schedule = s; workers = workers; history = [] }
 
-pub IsKept-none : (s : Schedule) (workers capacity : ℕ) → IsPlanned s → IsOfPersons s → workers ≤ 8 → 2 * length s.steps + workers ≤ capacity → IsKept (of_nothing s workers) capacity
-IsKept-none s workers capacity planned persons few room = record {
+pub IsSoundBook-none : (s : Schedule) (workers capacity : ℕ) → IsPlanned s → IsOfPersons s → workers ≤ 8 → 2 * length s.steps + workers ≤ capacity → IsSoundBook (of_nothing s workers) capacity
+IsSoundBook-none s workers capacity planned persons few room = record {
   planned = planned;
   persons = persons;
   few = few;
@@ -171,7 +171,7 @@ abbrev pub with_finished : Progress → ℕ → Progress
 with_finished times op = record { schedule = times.schedule; started = times.started; finished = set times.finished op true }
 
 pub IsTold-start : (b : Kept) (capacity : ℕ) (times : Progress) (heads : List ℕ) (held : List (Option ℕ)) (latest : ℕ) (stopped : Bool) (op worker at : ℕ)
-    → IsKept b capacity → IsTold b times heads held latest stopped → Fits b.schedule b.workers b.history (Start op worker at)
+    → IsSoundBook b capacity → IsTold b times heads held latest stopped → Fits b.schedule b.workers b.history (Start op worker at)
     → IsTold (with_event b (Start op worker at)) (with_started times op)
     (set heads (step_of b.schedule op).lane ((step_of b.schedule op).place + 1)) (set held worker (Some op)) at stopped
 IsTold-start b capacity times heads held latest stopped op worker at kept told fits =
@@ -207,7 +207,7 @@ IsTold-start b capacity times heads held latest stopped op worker at kept told f
     }
 
 -- what is in hand is an operation
-pub held_within : (b : Kept) (capacity w k : ℕ) → IsKept b capacity → hand b.history w ≡ Some k → IsOperation b.schedule k
+pub held_within : (b : Kept) (capacity w k : ℕ) → IsSoundBook b capacity → hand b.history w ≡ Some k → IsOperation b.schedule k
 held_within b capacity w k kept held =
     let p = hand_has_start w k b.history held in
     ((kept.legal.fits p.0 (Start k w p.2) p.1 p.3).obeys V1).0
@@ -270,7 +270,7 @@ next_in_lane b times heads held latest stopped op worker at of_plan told fits =
 
 -- the operation of a Finish that fits is started and unfinished
 pub open_yet : (b : Kept) (capacity : ℕ) (times : Progress) (heads : List ℕ) (held : List (Option ℕ)) (latest : ℕ) (stopped : Bool) (op worker at front : ℕ)
-    → times.schedule ≡ b.schedule → IsKept b capacity → IsTold b times heads held latest stopped → Fits b.schedule b.workers b.history (Finish op worker at front) → IsOpen times op
+    → times.schedule ≡ b.schedule → IsSoundBook b capacity → IsTold b times heads held latest stopped → Fits b.schedule b.workers b.history (Finish op worker at front) → IsOpen times op
 open_yet b capacity times heads held latest stopped op worker at front of_plan kept told fits =
     let within : IsOperation b.schedule op = (fits.obeys V1).0 in
     let keeps = keeps_legal b.schedule b.workers b.history kept.legal in
@@ -280,14 +280,14 @@ open_yet b capacity times heads held latest stopped op worker at front of_plan k
       unfinished = told.over op within ∙ keeps.held_open worker op (fits.obeys V7);
     }
 
-pub moment_bounded : (b : Kept) (capacity now : ℕ) → IsKept b capacity → moment_after b.history now ≤ MAX_AT
+pub moment_bounded : (b : Kept) (capacity now : ℕ) → IsSoundBook b capacity → moment_after b.history now ≤ MAX_AT
 moment_bounded b capacity now kept = let l = last_is_bounded b.schedule b.workers b.history kept.legal in omega arith
 
 pub moment_later : (h : List Event) (now : ℕ) → last h ≤ moment_after h now
 moment_later h now = omega arith
 
 -- the Finish of what is in hand fits
-pub finish_fits : (b : Kept) (capacity op worker now front : ℕ) → IsKept b capacity → hand b.history worker ≡ Some op → MayAct b.workers b.history worker
+pub finish_fits : (b : Kept) (capacity op worker now front : ℕ) → IsSoundBook b capacity → hand b.history worker ≡ Some op → MayAct b.workers b.history worker
     → IsFront b.schedule b.history op front → Fits b.schedule b.workers b.history (Finish op worker (moment_after b.history now) front)
 finish_fits b capacity op worker now front kept held may at_front = record { obeys = by_rule }
   where

@@ -1,5 +1,6 @@
 -- What a book keeps beside its history, to answer without reading it.
 use Rattle.std.specs.Prelude.{◌≡◌, ℕ, ◌+◌, ◌*◌, ◌<◌, ◌≤◌, nat_lt, List, length, Bool, true, false, Option, Some, None, slice_get, slice_index, slice_index_or}
+use Rattle.snb_schema.specs.declared.limits.TheConstants.{MAX_WORKERS}
 use Rattle.snb_schema.specs.declared.step.LaneKind.TheVariants.{Person}
 use Rattle.snb_schema.specs.Schedule.{Schedule, step_of, IsOperation, IsPlanned}
 use Rattle.snb_schema.specs.History.{started, finished, halted, hand, last}
@@ -30,9 +31,9 @@ pub record IsTold (b : Kept) (times : Progress) (heads : List ℕ) (held : List 
   pub runs : stopped ≡ false → (w : ℕ) → halted b.history w ≡ false
 
 -- what is true of every book, whose log has this capacity
-pub record IsKept (b : Kept) (capacity : ℕ) : Type 0 where
+pub record IsSoundBook (b : Kept) (capacity : ℕ) : Type 0 where
   pub planned : IsPlanned b.schedule
   pub persons : IsOfPersons b.schedule
-  pub few : b.workers ≤ 8
+  pub few : b.workers ≤ MAX_WORKERS
   pub legal : IsLegal b.schedule b.workers b.history
   pub room : 2 * length b.schedule.steps + b.workers ≤ capacity

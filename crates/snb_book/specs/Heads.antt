@@ -26,10 +26,10 @@ pub record HasNoneWithin (s : Schedule) (lane place : ℕ) (limit : ℤ) : Type 
   pub none : (k : ℕ) → IsAtPlace s lane place k → ¬ IsWithin s limit k
 
 -- when an operation is due
-abbrev pub due_of : List Step → ℕ → ℕ
-due_of steps k = (slice_index_or steps k no_step).due
+abbrev pub due_at : List Step → ℕ → ℕ
+due_at steps k = (slice_index_or steps k no_step).due
 
 -- the one that is due earlier
 abbrev pub earlier_of : List Step → Option ℕ → ℕ → ℕ
 earlier_of steps None op = op
-earlier_of steps (Some best) op = if nat_lt (due_of steps op) (due_of steps best) then op else best
+earlier_of steps (Some best) op = if nat_lt (due_at steps op) (due_at steps best) then op else best

@@ -45,12 +45,12 @@ impl Model for Book {
 
     ghost Value = { Kept };
 
-    ghost use Rattle.snb_book.specs.Book.{IsKept, IsTold};
+    ghost use Rattle.snb_book.specs.Book.{IsSoundBook, IsTold};
 
     ghost view = { λ b. record { schedule = b.times.schedule; workers = b.workers; history = b.events.items } };
 
     ghost invariant = { λ b.
-        IsKept (record { schedule = b.times.schedule; workers = b.workers; history = b.events.items }) (vec_capacity b.events)
+        IsSoundBook (record { schedule = b.times.schedule; workers = b.workers; history = b.events.items }) (vec_capacity b.events)
         × IsTold (record { schedule = b.times.schedule; workers = b.workers; history = b.events.items })
         b.times b.heads.items b.held.items b.last b.halted };
 }
@@ -168,7 +168,7 @@ impl Book {
     /// It has room for all that can happen, so that no later call takes memory.
     pub fn make(alloc: Global, schedule: &Schedule, workers: u32) -> Result<Book, AllocError>
         requires some { 1 ≤ workers }
-        requires few { workers ≤ 8 }
+        requires few { workers ≤ MAX_WORKERS }
         requires persons { IsOfPersons schedule.now }
         ensures { IfOk result (λ b. b ≡ record { schedule = schedule.now; workers = workers; history = [] }) }
     {

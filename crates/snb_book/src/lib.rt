@@ -3,6 +3,6 @@
 
 pub mod book;
 pub mod claim;
-pub mod laws;
+pub mod law;
 #[cfg(test)]
 mod tests;

@@ -2,7 +2,7 @@
 #![tactic(auto)]
 
 pub mod date;
-pub mod laws;
+pub mod law;
 pub mod ratio;
 #[cfg(test)]
 mod tests;

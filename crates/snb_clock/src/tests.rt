@@ -1,7 +1,7 @@
 //! Dates, days and ratios with values known from elsewhere, and one use of each public function.
 
 use crate::date::{read_date, read_day};
-use crate::laws::due_rises;
+use crate::law::due_rises;
 use crate::ratio::Ratio;
 
 #[test]

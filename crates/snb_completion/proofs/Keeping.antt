@@ -13,7 +13,7 @@ use Rattle.snb_schema.specs.Schedule.{Schedule, step_of, IsOperation, IsPlanned,
 use Rattle.snb_schema.specs.Completion.{is_left, least_t, time_before, time_left_in}
 use Rattle.snb_completion.specs.declared.times.LaneTimes.{LaneTimes}
 use Rattle.snb_completion.specs.Progress.{Progress, flag, nothing_started}
-use Rattle.snb_completion.specs.Waiting.{has, HasThose, is_left_in, IsLaneOf, IsKept}
+use Rattle.snb_completion.specs.Waiting.{has, HasThose, is_left_in, IsLaneOf, AreTimesOf}
 use Rattle.snb_completion.proofs.Waits.{HasThose-same, HasThose-remove, least_t-none}
 use Rattle.snb_schema.proofs.Times.{least_of-same}
 
@@ -124,12 +124,12 @@ each_lane P lanes lane new within here others l d lt =
           (others l d (rw length-set at lt) other)
     ]
 
-pub IsKept-start : (p : Progress) (waits unstarted : BTreeSet ℕ) (lanes : List LaneTimes) (old : LaneTimes) (op : ℕ) → IsKept p waits lanes
+pub AreTimesOf-start : (p : Progress) (waits unstarted : BTreeSet ℕ) (lanes : List LaneTimes) (old : LaneTimes) (op : ℕ) → AreTimesOf p waits lanes
     → IsOperation p.schedule op → old ≡ get_or lanes (step_of p.schedule op).lane old
     → ((k : ℕ) → has unstarted k ≡ cond (is_at (nat_cmp op) k) false (has old.unstarted k))
-    → IsKept (record { schedule = p.schedule; started = set p.started op true; finished = p.finished }) waits
+    → AreTimesOf (record { schedule = p.schedule; started = set p.started op true; finished = p.finished }) waits
     (set lanes (step_of p.schedule op).lane (record { unstarted = unstarted; unfinished = old.unfinished }))
-IsKept-start p waits unstarted lanes old op kept within is updates =
+AreTimesOf-start p waits unstarted lanes old op kept within is updates =
     let s : Schedule = p.schedule in
     let lane : ℕ = (step_of s op).lane in
     let new : LaneTimes = record { unstarted = unstarted; unfinished = old.unfinished } in
@@ -148,13 +148,13 @@ IsKept-start p waits unstarted lanes old op kept within is updates =
           (λ l d lt other. let k = kept.lane l d lt in record { unstarted = lane_apart s p.started (get_or lanes l d).unstarted op l flag_in other k.unstarted; unfinished = k.unfinished });
     }
 
-pub IsKept-finish : (p : Progress) (waits waits' unfinished : BTreeSet ℕ) (lanes : List LaneTimes) (old : LaneTimes) (op : ℕ) → IsKept p waits lanes
+pub AreTimesOf-finish : (p : Progress) (waits waits' unfinished : BTreeSet ℕ) (lanes : List LaneTimes) (old : LaneTimes) (op : ℕ) → AreTimesOf p waits lanes
     → IsOperation p.schedule op → old ≡ get_or lanes (step_of p.schedule op).lane old
     → ((k : ℕ) → has waits' k ≡ cond (is_at (nat_cmp op) k) false (has waits k))
     → ((k : ℕ) → has unfinished k ≡ cond (is_at (nat_cmp op) k) false (has old.unfinished k))
-    → IsKept (record { schedule = p.schedule; started = p.started; finished = set p.finished op true }) waits'
+    → AreTimesOf (record { schedule = p.schedule; started = p.started; finished = set p.finished op true }) waits'
     (set lanes (step_of p.schedule op).lane (record { unstarted = old.unstarted; unfinished = unfinished }))
-IsKept-finish p waits waits' unfinished lanes old op kept within is updates updates_in =
+AreTimesOf-finish p waits waits' unfinished lanes old op kept within is updates updates_in =
     let s : Schedule = p.schedule in
     let lane : ℕ = (step_of s op).lane in
     let new : LaneTimes = record { unstarted = old.unstarted; unfinished = unfinished } in
@@ -193,10 +193,10 @@ time_past s done lane planned past =
     omega (arith, ints, top)
 
 -- what the times of a plan keep at first
-pub IsKept-new : (s : Schedule) (waits : BTreeSet ℕ) (lanes : List LaneTimes) → IsPlanned s → HasThose waits (length s.steps) (is_dependency s)
+pub AreTimesOf-new : (s : Schedule) (waits : BTreeSet ℕ) (lanes : List LaneTimes) → IsPlanned s → HasThose waits (length s.steps) (is_dependency s)
     → length lanes ≡ length s.kinds → ((l : ℕ) (d : LaneTimes) → l < length lanes → IsLaneOf (nothing_started s) l (get_or lanes l d))
-    → IsKept (nothing_started s) waits lanes
-IsKept-new s waits lanes planned those counted each = record {
+    → AreTimesOf (nothing_started s) waits lanes
+AreTimesOf-new s waits lanes planned those counted each = record {
   planned = planned;
   started_each = length-replicate (length s.steps) false;
   finished_each = length-replicate (length s.steps) false;

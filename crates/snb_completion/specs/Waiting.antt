@@ -25,7 +25,7 @@ pub record IsLaneOf (p : Progress) (lane : ℕ) (times : LaneTimes) : Type 0 whe
   pub unfinished : HasThose times.unfinished (length p.schedule.steps) (is_left_in p.schedule (flag p.finished) lane)
 
 -- the steps are a plan's, and there are a flag for each operation, the set of the dependencies that aren't finished, and the two sets of each lane
-pub record IsKept (p : Progress) (unfinished : BTreeSet ℕ) (lanes : List LaneTimes) : Type 0 where
+pub record AreTimesOf (p : Progress) (unfinished : BTreeSet ℕ) (lanes : List LaneTimes) : Type 0 where
   pub planned : IsPlanned p.schedule
   pub started_each : length p.started ≡ length p.schedule.steps
   pub finished_each : length p.finished ≡ length p.schedule.steps

@@ -1,7 +1,7 @@
 //! The completion time of a run, kept while its operations start and finish.
 #![tactic(auto)]
 
-pub mod laws;
+pub mod law;
 #[cfg(test)]
 mod tests;
 pub mod times;

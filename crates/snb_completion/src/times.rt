@@ -38,12 +38,12 @@ impl Model for Times {
 
     ghost Value = { Progress };
 
-    ghost use Rattle.snb_completion.specs.Waiting.{IsKept};
+    ghost use Rattle.snb_completion.specs.Waiting.{AreTimesOf};
 
     ghost view = { λ t. record { schedule = t.schedule; started = t.started.items; finished = t.finished.items } };
 
     ghost invariant = { λ t.
-        IsKept (record { schedule = t.schedule; started = t.started.items; finished = t.finished.items }) t.unfinished t.lanes.items };
+        AreTimesOf (record { schedule = t.schedule; started = t.started.items; finished = t.finished.items }) t.unfinished t.lanes.items };
 }
 
 ghost use Rattle.snb_completion.specs.Waiting.{has, HasThose, IsLaneOf};

@@ -15,11 +15,11 @@ use Rattle.snb_schema.specs.declared.table.Table.{Table}
 use Rattle.snb_schema.specs.declared.table.Table.TheVariants as table
 use Rattle.snb_schema.specs.Columns.{SpellsAll, canonical_field}
 use Rattle.snb_schema.specs.Layouts.{columns, has_no_direction, shape, shape_columns}
-use Rattle.snb_schema.specs.Lines.{HasNoEnd, fields}
+use Rattle.snb_schema.specs.Lines.{HasNoBar, HasNoEnd, fields}
 use Rattle.snb_schema.specs.RowLines.{Differ, IsRow, SpellsRow, canonical, in_order, is_turned, values}
-use Rattle.snb_fields.specs.Laws.{HasNoBar, HasPlainFields, OneList}
+use Rattle.snb_fields.specs.Laws.{HasPlainFields, OneList}
 use Rattle.snb_fields.specs.Laws as lines
-use Rattle.snb_csv.specs.Laws.{OwnLine, OwnLineHasNoEnd}
+use Rattle.snb_csv.specs.Laws.{OwnRowLine, OwnRowLineHasNoEnd}
 use Rattle.snb_csv.proofs.OneFacts.{one_row, only_friends}
 use Rattle.snb_csv.proofs.RowFacts.{pair_of}
 
@@ -123,13 +123,13 @@ own_of : (t : Table) (fs : List (List ℕ)) (r : Row) (turned : Bool) (s : Spell
 own_of t fs r turned s = subst (IsOwn t s.own) (sym s.kept) (row_own t s.own s.said (has_no_direction t) refl s.spelled)
 
 -- the line that is written for a row
-written : lines.OwnLine → ((line : List ℕ) → HasPlainFields line) → (t : Table) (line : List ℕ) (r : Row) (h : IsRow t line r) → lines.IsOwnLine (columns t) (own_of t (fields line) r h.turned h.spelled).given (values r) (canonical r)
+written : lines.OwnLineOfValues → ((line : List ℕ) → HasPlainFields line) → (t : Table) (line : List ℕ) (r : Row) (h : IsRow t line r) → lines.IsOwnLineOfValues (columns t) (own_of t (fields line) r h.turned h.spelled).given (values r) (canonical r)
 written law plain t line r h =
     let own = own_of t (fields line) r h.turned h.spelled in
     law (columns t) own.given (values r) (some_columns (shape t)) own.spelled (fields_kept HasNoBar t (fields line) r h.turned h.spelled (plain line).no_bars own)
 
 -- it spells the row
-written_again : lines.OwnLine → ((line : List ℕ) → HasPlainFields line) → (t : Table) (line : List ℕ) (r : Row) → IsRow t line r → IsRow t (canonical r) r
+written_again : lines.OwnLineOfValues → ((line : List ℕ) → HasPlainFields line) → (t : Table) (line : List ℕ) (r : Row) → IsRow t line r → IsRow t (canonical r) r
 written_again law plain t line r h =
     let s = h.spelled in
     let undirected = has_no_direction t in
@@ -156,14 +156,14 @@ written_again law plain t line r h =
     }
 
 -- and no other
-pub own_line : OneList → lines.OwnLine → ((line : List ℕ) → HasPlainFields line) → OwnLine
+pub own_line : OneList → lines.OwnLineOfValues → ((line : List ℕ) → HasPlainFields line) → OwnRowLine
 own_line list law plain t line r h =
     let again = written_again law plain t line r h in
     let other = λ (q : Row) (g : IsRow t (canonical r) q). (one_row list t (fields (canonical r)) q r g.turned again.turned g.spelled again.spelled).0 in
     record { again = again; no_other = other; same = λ q g. ap canonical (other q g) }
 
 -- it has no line end
-pub own_line_no_end : lines.OwnLine → ((line : List ℕ) → HasPlainFields line) → OwnLineHasNoEnd
+pub own_line_no_end : lines.OwnLineOfValues → ((line : List ℕ) → HasPlainFields line) → OwnRowLineHasNoEnd
 own_line_no_end law plain t line r h none =
     let own = own_of t (fields line) r h.turned h.spelled in
     (written law plain t line r h).one_line (fields_kept HasNoEnd t (fields line) r h.turned h.spelled ((plain line).no_ends none) own)

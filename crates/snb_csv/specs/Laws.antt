@@ -11,17 +11,17 @@ OneRow = (t : Table) (fs : List (List ℕ)) (r q : Row) (a b : Bool) → SpellsR
 
 -- the line that is written for a row of a line spells that row again, is one line, and spells no other row; and it is the same for each
 -- line of the row, so what is read from it is written as it stands
-pub record IsOwnLine (t : Table) (r : Row) : Type 0 where
+pub record IsOwnRowLine (t : Table) (r : Row) : Type 0 where
   pub again : IsRow t (canonical r) r
   pub no_other : (q : Row) → IsRow t (canonical r) q → q ≡ r
   pub same : (q : Row) → IsRow t (canonical r) q → canonical q ≡ canonical r
 
-abbrev pub OwnLine : Type 0
-OwnLine = (t : Table) (line : List ℕ) (r : Row) → IsRow t line r → IsOwnLine t r
+abbrev pub OwnRowLine : Type 0
+OwnRowLine = (t : Table) (line : List ℕ) (r : Row) → IsRow t line r → IsOwnRowLine t r
 
 -- and it has no line end where the line has none
-abbrev pub OwnLineHasNoEnd : Type 0
-OwnLineHasNoEnd = (t : Table) (line : List ℕ) (r : Row) → IsRow t line r → HasNoEnd line → HasNoEnd (canonical r)
+abbrev pub OwnRowLineHasNoEnd : Type 0
+OwnRowLineHasNoEnd = (t : Table) (line : List ℕ) (r : Row) → IsRow t line r → HasNoEnd line → HasNoEnd (canonical r)
 
 -- fields that spell a row have no bad column
 abbrev pub RowsAreRight : Type 0

@@ -1,7 +1,7 @@
 //! The rows of the tables: read out of the pieces of a file, and written as lines.
 #![tactic(auto)]
 
-pub mod laws;
+pub mod law;
 mod make;
 mod read;
 pub mod rows;

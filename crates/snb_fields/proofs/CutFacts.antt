@@ -7,12 +7,8 @@ use Rattle.std.proofs.lemmas.List.Splits.{slice_split_at, slice_split_none}
 use Rattle.std.proofs.lemmas.Str.{IsCharBoundary-after_ascii, IsCharBoundary-before_ascii, IsUtf8-drop, IsUtf8-take}
 use Rattle.std.specs.List.{join_with_byte, slice_split}
 use Rattle.std.specs.Str.{IsUtf8}
-use Rattle.snb_schema.specs.Lines.{HasNoEnd}
+use Rattle.snb_schema.specs.Lines.{HasNo, HasNoEnd}
 use Rattle.snb_fields.specs.Laws.{HasPlainFields}
-
--- the byte c is not in the text
-abbrev pub HasNo : ℕ → List ℕ → Type 0
-HasNo c text = All (λ b. b ≢ c) text
 
 -- the parts of a text between the bytes c
 abbrev pub parts : ℕ → List ℕ → List (List ℕ)

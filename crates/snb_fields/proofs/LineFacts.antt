@@ -12,8 +12,8 @@ use Rattle.snb_schema.specs.declared.column.Column.{Column}
 use Rattle.snb_schema.specs.declared.column.Value.{Value}
 use Rattle.snb_schema.specs.declared.column.Value.TheVariants.{Digits}
 use Rattle.snb_schema.specs.Columns.{Spells, canonical_field}
-use Rattle.snb_schema.specs.Lines.{HasNoEnd, begins_with_mark}
-use Rattle.snb_fields.specs.Laws.{HasNoBar, OwnLine}
+use Rattle.snb_schema.specs.Lines.{HasNoBar, HasNoEnd, begins_with_mark}
+use Rattle.snb_fields.specs.Laws.{OwnLineOfValues}
 use Rattle.snb_fields.proofs.CutFacts.{around_all, around_ascii, joined_all, joined_parts}
 use Rattle.snb_fields.proofs.SpellingFacts.{IsKept, OwnDigits, digits_number, kept_fields, own_fields}
 
@@ -81,7 +81,7 @@ unmarked_values own c x v vs s n rest e =
     subst (λ (w : Value). begins_with_mark (join_with_byte 124 (canonical_field w ∷ map canonical_field vs)) ≡ false) (sym same) line
 
 -- values that are spelled have a line of their own
-pub own_line : OwnDigits → OwnLine
+pub own_line : OwnDigits → OwnLineOfValues
 own_line own [] xs vs some s h = absurd (some refl)
 own_line own (c ∷ cs) (x ∷ xs) (v ∷ vs) some s h =
     let each = λ (P : List ℕ → Type 0) (k : IsKept P). kept_fields own P k (c ∷ cs) (x ∷ xs) (v ∷ vs) s in

@@ -13,7 +13,7 @@ use Rattle.snb_schema.specs.declared.column.Value.{Value}
 use Rattle.snb_schema.specs.declared.column.Value.TheVariants.{Digits, SmallDigits, NoId, Letters, Texts, Ids, Pairs}
 use Rattle.snb_schema.specs.Columns.{Spells, SpellsAll, canonical_field, no_id, pair_text}
 use Rattle.snb_fields.specs.Laws.{OneList, OneValue}
-use Rattle.snb_fields.proofs.CutFacts.{HasNo}
+use Rattle.snb_schema.specs.Lines.{HasNo}
 use Rattle.snb_fields.proofs.ListFacts.{IsElement, kept_listed, one_listed, own_listed}
 use Rattle.snb_fields.proofs.PairFacts.{OneNumber, one_pair}
 

@@ -5,12 +5,8 @@ use Rattle.snb_schema.specs.declared.column.Column.{Column}
 use Rattle.snb_schema.specs.declared.column.Value.{Value}
 use Rattle.snb_schema.specs.declared.column.Value.TheVariants.{Digits}
 use Rattle.snb_schema.specs.Columns.{Spells, SpellsAll, canonical_field}
-use Rattle.snb_schema.specs.Lines.{HasNoEnd, begins_with_mark, fields}
+use Rattle.snb_schema.specs.Lines.{HasNoBar, HasNoEnd, begins_with_mark, fields}
 use Rattle.snb_fields.specs.Values.{taken}
-
--- no byte ends a field
-abbrev pub HasNoBar : List ℕ → Type 0
-HasNoBar field = All (λ b. b ≢ 124) field
 
 -- what the fields of a line are like
 pub record HasPlainFields (line : List ℕ) : Type 0 where
@@ -27,7 +23,7 @@ abbrev pub OneList : Type 0
 OneList = (columns : List Column) (xs : List (List ℕ)) (vs ws : List Value) → SpellsAll columns xs vs → SpellsAll columns xs ws → vs ≡ ws
 
 -- the line of the values that these fields spell: it has a field for each, which spells it, and is a text of one line where the fields are
-pub record IsOwnLine (columns : List Column) (xs : List (List ℕ)) (vs : List Value) (written : List ℕ) : Type 0 where
+pub record IsOwnLineOfValues (columns : List Column) (xs : List (List ℕ)) (vs : List Value) (written : List ℕ) : Type 0 where
   pub split : fields written ≡ map canonical_field vs
   pub spelled : SpellsAll columns (map canonical_field vs) vs
   pub text : All IsUtf8 xs → IsUtf8 written
@@ -35,9 +31,9 @@ pub record IsOwnLine (columns : List Column) (xs : List (List ℕ)) (vs : List V
   pub unmarked : (n : ℕ) (rest : List Value) → vs ≡ Digits n ∷ rest → begins_with_mark written ≡ false
 
 -- values that are spelled have a line of their own, of their canonical spellings
-abbrev pub OwnLine : Type 0
-OwnLine = (columns : List Column) (xs : List (List ℕ)) (vs : List Value) → columns ≢ [] → SpellsAll columns xs vs → All HasNoBar xs
-    → IsOwnLine columns xs vs (join_with_byte 124 (map canonical_field vs))
+abbrev pub OwnLineOfValues : Type 0
+OwnLineOfValues = (columns : List Column) (xs : List (List ℕ)) (vs : List Value) → columns ≢ [] → SpellsAll columns xs vs → All HasNoBar xs
+    → IsOwnLineOfValues columns xs vs (join_with_byte 124 (map canonical_field vs))
 
 -- values that are taken as their columns say are the values that the fields of these columns spell
 abbrev pub TakenAgain : Type 0

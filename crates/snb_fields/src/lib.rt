@@ -2,7 +2,7 @@
 //! value is spelled on its own.
 #![tactic(auto)]
 
-pub mod laws;
+pub mod law;
 mod lists;
 pub mod read;
 #[cfg(test)]

@@ -1,6 +1,6 @@
 //! Fields of each column with values known from the description, and one use of each public function.
 
-use crate::laws::{one_value, own_line, plain_fields, taken_again};
+use crate::law::{one_value, own_line, plain_fields, taken_again};
 use crate::read::{is_wide, read_value};
 use crate::values::Values;
 use csv::ByteRecord;

@@ -2,7 +2,7 @@
 //! logs, which differ in what a line means.
 #![tactic(auto)]
 
-pub mod laws;
+pub mod law;
 pub mod lines;
 pub mod meaning;
 mod progress;

@@ -160,7 +160,7 @@ text_right number line r unmarked text (inl bad) = let p = bad.0 in cc
 text_right number line r unmarked text (inr bad) = bad.1 text
 
 -- a line that spells an insert isn't refused by itself
-spelled_right : laws.NoFault → (number : ℕ) (line : List ℕ) (t t_d : ℕ) (op : Op) (r : Refusal) → begins_with_mark line ≡ false → IsUtf8 line → SpellsInsert person_inserts (fields line) t t_d op → RefusesInsertLine person_inserts person_stream number line r → ⊥
+spelled_right : laws.InsertsAreRight → (number : ℕ) (line : List ℕ) (t t_d : ℕ) (op : Op) (r : Refusal) → begins_with_mark line ≡ false → IsUtf8 line → SpellsInsert person_inserts (fields line) t t_d op → RefusesInsertLine person_inserts person_stream number line r → ⊥
 spelled_right none number line t t_d op r unmarked text s (inl bad) = text_right number line r unmarked text bad
 spelled_right none number line t t_d op r unmarked text s (inr bad) = none person_inserts (fields line) t t_d op bad.2.0 s bad.2.1
 
@@ -178,7 +178,7 @@ record Own (before : List (List ℕ)) (line : List ℕ) (old : List Line) (x : L
   in_order : (r : Refusal) → ¬ IsOutOfOrder before line r
 
 -- a line with a byte that is read is such a line
-own_line : laws.OneInsert → laws.NoFault → (before : List (List ℕ)) (b : ℕ) (bs : List ℕ) (s past : Followed) (old items : List Line) → AreEnded before → HasNoEnd (b ∷ bs) → Reads TakesInsert at_start 0 before old s
+own_line : laws.OneInsert → laws.InsertsAreRight → (before : List (List ℕ)) (b : ℕ) (bs : List ℕ) (s past : Followed) (old items : List Line) → AreEnded before → HasNoEnd (b ∷ bs) → Reads TakesInsert at_start 0 before old s
     → ReadsLine TakesInsert s (0 + length before + 1) (b ∷ bs) items past → (x : Line) × (items ≡ x ∷ []) × Own before (b ∷ bs) old x
 own_line one none before b bs s past old items ended_before ended old_read line_read = (
   g.item,
@@ -213,7 +213,7 @@ own_line one none before b bs s past old items ended_before ended old_read line_
         omega (arith, same, below, falls, at, later)
 
 -- nothing is wrong with lines that are read, where their inserts can be taken
-module _ (one : laws.OneInsert) (none : laws.NoFault) (rows : ℕ) (items : List Line) (new : Followed) (takable : AreTakable rows items) where
+module _ (one : laws.OneInsert) (none : laws.InsertsAreRight) (rows : ℕ) (items : List Line) (new : Followed) (takable : AreTakable rows items) where
   -- a line among them that has a fault
   no_fault_at : (before : List (List ℕ)) (line : List ℕ) (after : List (List ℕ)) (r : Refusal) → AreEnded before → HasNoEnd line → Parts TakesInsert at_start 0 before line after items new → StreamFault rows before line r → ⊥
   no_fault_at before [] after r ended_before ended p (filled_line, bad) = cc
@@ -250,7 +250,7 @@ module _ (one : laws.OneInsert) (none : laws.NoFault) (rows : ℕ) (items : List
   }
 
 -- the line of an insert, as a line with a byte
-own_place : laws.OneInsert → laws.NoFault → (before : List (List ℕ)) (line : List ℕ) (s past : Followed) (old : List Line) (x : Line) → AreEnded before → HasNoEnd line → Reads TakesInsert at_start 0 before old s
+own_place : laws.OneInsert → laws.InsertsAreRight → (before : List (List ℕ)) (line : List ℕ) (s past : Followed) (old : List Line) (x : Line) → AreEnded before → HasNoEnd line → Reads TakesInsert at_start 0 before old s
     → ReadsLine TakesInsert s (0 + length before + 1) line (x ∷ []) past → Own before line old x
 own_place one none before [] s past old x ended_before ended old_read line_read = let q = line_read.0 in absurd cc
 own_place one none before (b ∷ bs) s past old x ended_before ended old_read line_read =
@@ -264,7 +264,7 @@ counted_stays : (count : ℕ) (r q : Refusal) → ((line : ℕ) → ¬ (r ≡ Ou
 counted_stays count r q other (inl h) = absurd (other h.1.0 h.1.1)
 counted_stays count r q other (inr h) = h.1
 
-module _ (one : laws.OneInsert) (none : laws.NoFault) (used rows : ℕ) (whole : List ℕ) (items : List Line) (stop : Option Refusal) (comes : Comes insert_meanings person_stream at_start used whole items stop) where
+module _ (one : laws.OneInsert) (none : laws.InsertsAreRight) (used rows : ℕ) (whole : List ℕ) (items : List Line) (stop : Option Refusal) (comes : Comes insert_meanings person_stream at_start used whole items stop) where
   -- no byte of a line of the stream ends a line
   ended_all : AreEnded (comes.done ++ comes.left)
   ended_all = subst AreEnded comes.splits (ended_lines whole)
@@ -395,19 +395,19 @@ is_read (Err Memory) used bytes items ne ok bad = absurd (ne refl)
 is_read (Err (Bad r)) used bytes items ne ok bad = λ whole t. (Some r, bad whole t)
 
 -- the first insert that can't be taken is what is wrong with the stream
-pub excess_refused : (used rows : ℕ) (bytes : List ℕ) (items : List Line) (r : Refusal) → laws.OneInsert → laws.NoFault → IsRead used bytes items → IsFirstExcess rows items r
+pub excess_refused : (used rows : ℕ) (bytes : List ℕ) (items : List Line) (r : Refusal) → laws.OneInsert → laws.InsertsAreRight → IsRead used bytes items → IsFirstExcess rows items r
     → (whole : List ℕ) → bytes ≡ take (MAX_BYTES - used + 1) whole → StreamBad whole used rows r
 excess_refused used rows bytes items r one none read first whole t = let far = read whole t in excess_fault one none used rows whole items far.0 far.1 r first
 
 -- what the reading stopped at is what is wrong with the stream
-pub stop_refused : (used rows count : ℕ) (bytes : List ℕ) (items : List Line) (r q : Refusal) → laws.OneInsert → laws.NoFault → AreTakable rows items → (MAX_ROWS ≤ count → MAX_ROWS ≤ rows + length items) → (count < MAX_ROWS → rows + length items < MAX_ROWS)
+pub stop_refused : (used rows count : ℕ) (bytes : List ℕ) (items : List Line) (r q : Refusal) → laws.OneInsert → laws.InsertsAreRight → AreTakable rows items → (MAX_ROWS ≤ count → MAX_ROWS ≤ rows + length items) → (count < MAX_ROWS → rows + length items < MAX_ROWS)
     → ReadsTo used bytes items r → counted_as count r q → (whole : List ℕ) → bytes ≡ take (MAX_BYTES - used + 1) whole → StreamBad whole used rows q
 stop_refused used rows count bytes items r q one none takable many few read told whole t =
     let comes = read whole t in
     stop_fault one none used rows whole items (Some r) comes count r q takable many few comes.stops told
 
 -- nothing stopped it
-pub whole_good : (used rows : ℕ) (bytes : List ℕ) (items : List Line) → laws.OneInsert → laws.NoFault → AreTakable rows items → ReadsWhole used bytes items → (whole : List ℕ) → bytes ≡ take (MAX_BYTES - used + 1) whole → StreamOf whole used rows items
+pub whole_good : (used rows : ℕ) (bytes : List ℕ) (items : List Line) → laws.OneInsert → laws.InsertsAreRight → AreTakable rows items → ReadsWhole used bytes items → (whole : List ℕ) → bytes ≡ take (MAX_BYTES - used + 1) whole → StreamOf whole used rows items
 whole_good used rows bytes items one none takable read whole t =
     let told = read whole t in
     stream_good one none used rows whole items None told.1 takable told.1.stops

@@ -6,7 +6,7 @@ use Rattle.std.proofs.Math.Seq.{take-add}
 use Rattle.std.specs.declared.alloc.Global.{Global}
 use Rattle.std.specs.Prelude.{Vec}
 use Rattle.snb_base.specs.Shelf.{Files, IsPiece}
-use Rattle.snb_loader.specs.Loading.{IsBegun, IsTaken}
+use Rattle.snb_loader.specs.Loading.{IsBegun, IsFileHead}
 
 -- two facts of what there is, if there is something
 pub if_some_both : {A : Type 0} (o : Option A) (P Q R : A → Type 0) → ((a : A) → P a → Q a → R a) → IfSome o P → IfSome o Q → IfSome o R
@@ -91,5 +91,5 @@ piece_some contents name bytes new buffer at count room kept here fits cut is to
 
 -- bytes that are one more than is allowed are taken
 pub taken_full : (contents : Option Files) (name : List ℕ) (bytes : Vec ℕ Global) (most : ℕ) → most < length bytes.items → length bytes.items ≤ most + 1 → IfSome contents (λ files. IsBegun files name bytes.items) →
-    IfSome contents (λ files. IsTaken files name most (Some bytes))
+    IfSome contents (λ files. IsFileHead files name most (Some bytes))
 taken_full contents name bytes most more few told = if_some contents _ _ (λ files b. begun_full files name bytes.items most b (omega arith)) told

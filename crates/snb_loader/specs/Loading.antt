@@ -30,9 +30,9 @@ OnReadFault (Err ReadFault) P = P
 OnReadFault (Err Memory) P = Unit {0}
 
 -- the file isn't held, or these are its first bytes, one more than is allowed at most
-abbrev pub IsTaken : Files → List ℕ → ℕ → Option (Vec ℕ Global) → Type 0
-IsTaken files name most None = files name ≡ None
-IsTaken files name most (Some bytes) = (file : List ℕ) × (files name ≡ Some file) × (bytes.items ≡ take (most + 1) file)
+abbrev pub IsFileHead : Files → List ℕ → ℕ → Option (Vec ℕ Global) → Type 0
+IsFileHead files name most None = files name ≡ None
+IsFileHead files name most (Some bytes) = (file : List ℕ) × (files name ≡ Some file) × (bytes.items ≡ take (most + 1) file)
 
 -- these are the first bytes of the file, and it is held where there are some
 pub record IsBegun (files : Files) (name bytes : List ℕ) : Type 0 where

@@ -15,7 +15,7 @@ use snb_schema::file::{FileId, FileKind};
 use snb_schema::limits::{MAX_BYTES, MAX_ROWS};
 use snb_schema::op::{Line, Op};
 use snb_schema::refusal::Refusal;
-use snb_streams::laws::{one_fault, one_insert};
+use snb_streams::law::{one_fault, one_insert};
 use snb_streams::updates::Updates;
 use std::alloc::Global;
 

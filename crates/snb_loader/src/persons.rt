@@ -10,7 +10,7 @@ ghost use Rattle.snb_loader.specs.Loading.{OnReadFault, OnRefused, PersonsBad, P
 ghost use Rattle.snb_loader.specs.Persons.{AreApart, IsFirstClash, IsPersonRow, at_first, row_meanings, rows_of};
 
 use crate::load::{Load, load_of};
-use snb_csv::laws::{one_column, one_row};
+use snb_csv::law::{one_column, one_row};
 use snb_csv::rows::Rows;
 use snb_schema::fault::Fault;
 use snb_schema::file::{FileId, FileKind};

@@ -3,7 +3,7 @@
 ghost use Rattle.std.specs.Prelude.{◌≡◌, ℕ, ◌<◌, ◌≤◌, IfOk, IfSome, length, vec_len};
 ghost use Rattle.snb_base.specs.Shelf.{Rose};
 ghost use Rattle.snb_schema.specs.declared.limits.TheConstants.{MAX_BYTES};
-ghost use Rattle.snb_loader.specs.Loading.{IsTaken, OnReadFault, OnRefused};
+ghost use Rattle.snb_loader.specs.Loading.{IsFileHead, OnReadFault, OnRefused};
 ghost use Rattle.snb_loader.specs.Pieces.{Advances, GivesPiece};
 
 use crate::load::Load;
@@ -82,7 +82,7 @@ pub fn take_file<S: Shelf>(
     most: u64,
 ) -> Result<Option<Vec<u8>>, Load>
     requires { most ≤ MAX_BYTES }
-    ensures taken { IfOk result (λ taken. IfSome (S.contents shelf.old) (λ files. IsTaken files name.now most taken)) }
+    ensures taken { IfOk result (λ taken. IfSome (S.contents shelf.old) (λ files. IsFileHead files name.now most taken)) }
     ensures fault { OnReadFault result (Rose (S.faults shelf.old) (S.faults shelf.new)) }
     ensures refused { OnRefused result (λ _. ⊥) }
     ensures later { S.faults shelf.old ≤ S.faults shelf.new }

@@ -9,9 +9,10 @@ use Rattle.std.specs.List.Sorted.{IsStrictlyIncreasing}
 use Rattle.snb_base.specs.Calendar.{IsDigit}
 use Rattle.snb_base.specs.Spellings.{Num, EachSpells}
 use Rattle.snb_schema.specs.Frequencies.{FrequencyTable, frequency_at, SpellsFrequency, SpellsFrequencies, HasFrequencies}
-use Rattle.snb_schema.specs.FrequencyPieces.{HasNo, IsCut, RisesAfter, SpellsAfter}
+use Rattle.snb_schema.specs.FrequencyPieces.{IsCutAtFirst, RisesAfter, SpellsAfter}
+use Rattle.snb_schema.specs.Lines.{HasNo}
 use Rattle.snb_schema.specs.Queries.{IsComplex}
-use Rattle.snb_schema.specs.declared.frequencies.TheConstants.{MAX_FREQUENCY}
+use Rattle.snb_schema.specs.declared.limits.TheConstants.{MAX_FREQUENCY}
 
 -- digits are no colons
 no_colon : (x : List ℕ) → AllByRecursion IsDigit x → HasNo 58 x
@@ -39,7 +40,7 @@ no_pair x h pair s =
     h (length s.query) 0 within (ap (λ (t : List ℕ). get_or t (length s.query) 0) s.splits ∙ get_or-append_seam s.query 58 s.frequency 0)
 
 -- a piece spells what its parts before and after the colon spell
-pub parts_spell : (x before after : List ℕ) (pair : ℕ × ℕ) → IsCut 58 x before after → SpellsFrequency x pair → Num before pair.0 13 × Num after pair.1 MAX_FREQUENCY
+pub parts_spell : (x before after : List ℕ) (pair : ℕ × ℕ) → IsCutAtFirst 58 x before after → SpellsFrequency x pair → Num before pair.0 13 × Num after pair.1 MAX_FREQUENCY
 parts_spell x before after pair h s =
     let same = one_cut 58 before after s.query s.frequency h.first (no_colon s.query s.numbered.digits) (sym h.joined ∙ s.splits) in (
       subst (λ (t : List ℕ). Num t pair.0 13) (sym same.0) s.numbered,
@@ -47,7 +48,7 @@ parts_spell x before after pair h s =
     )
 
 -- a piece spells one pair
-pub one_pair : (x before after : List ℕ) (q f : ℕ) (pair : ℕ × ℕ) → IsCut 58 x before after → Num before q 13 → Num after f MAX_FREQUENCY → SpellsFrequency x pair → (q ≡ pair.0) × (f ≡ pair.1)
+pub one_pair : (x before after : List ℕ) (q f : ℕ) (pair : ℕ × ℕ) → IsCutAtFirst 58 x before after → Num before q 13 → Num after f MAX_FREQUENCY → SpellsFrequency x pair → (q ≡ pair.0) × (f ≡ pair.1)
 one_pair x before after q f pair h n m s =
     let parts = parts_spell x before after pair h s in
     (n.value ∙ sym parts.0.value, m.value ∙ sym parts.1.value)
@@ -60,7 +61,7 @@ whole : (x : List ℕ) → HasNo 44 x → slice_split (λ b. b == 44) x ≡ x �
 whole x h = slice_split_none (λ b. b == 44) x (uncut 44 x h)
 
 -- the first piece of a text, and the pieces after it
-pieces : (x front back : List ℕ) → IsCut 44 x front back → slice_split (λ b. b == 44) x ≡ front ∷ slice_split (λ b. b == 44) back
+pieces : (x front back : List ℕ) → IsCutAtFirst 44 x front back → slice_split (λ b. b == 44) x ≡ front ∷ slice_split (λ b. b == 44) back
 pieces x front back h = ap (slice_split (λ b. b == 44)) h.joined ∙ slice_split_at (λ b. b == 44) front 44 back (uncut 44 front h.first) refl
 
 -- pieces that spell pairs, where they begin with this one
@@ -87,7 +88,7 @@ last_some x last pair h s above = record {
 }
 
 -- where the first piece spells no pair, the text spells none
-pub first_none : (x front back : List ℕ) (last : ℕ) → IsCut 44 x front back → ((pair : ℕ × ℕ) → last < pair.0 → ¬ SpellsFrequency front pair) → (pairs : List (ℕ × ℕ)) → ¬ SpellsAfter last x pairs
+pub first_none : (x front back : List ℕ) (last : ℕ) → IsCutAtFirst 44 x front back → ((pair : ℕ × ℕ) → last < pair.0 → ¬ SpellsFrequency front pair) → (pairs : List (ℕ × ℕ)) → ¬ SpellsAfter last x pairs
 first_none x front back last h none pairs s =
     let first = first_spells (slice_split (λ b. b == 44) x) front (slice_split (λ b. b == 44) back) last pairs (pieces x front back h) s.spelled s.rising in
     none first.0 first.3 first.2
@@ -98,14 +99,14 @@ one_query x one other s t =
     (one_pair x s.query s.frequency one.0 one.1 other (record { first = no_colon s.query s.numbered.digits; joined = s.splits }) s.numbered s.counted t).0
 
 -- where what follows the first piece spells no pairs, the text spells none
-pub rest_none : (x front back : List ℕ) (last : ℕ) (pair : ℕ × ℕ) → IsCut 44 x front back → SpellsFrequency front pair → ((pairs : List (ℕ × ℕ)) → ¬ SpellsAfter pair.0 back pairs) → (pairs : List (ℕ × ℕ)) → ¬ SpellsAfter last x pairs
+pub rest_none : (x front back : List ℕ) (last : ℕ) (pair : ℕ × ℕ) → IsCutAtFirst 44 x front back → SpellsFrequency front pair → ((pairs : List (ℕ × ℕ)) → ¬ SpellsAfter pair.0 back pairs) → (pairs : List (ℕ × ℕ)) → ¬ SpellsAfter last x pairs
 rest_none x front back last pair h own none pairs s =
     let first = first_spells (slice_split (λ b. b == 44) x) front (slice_split (λ b. b == 44) back) last pairs (pieces x front back h) s.spelled s.rising in
     let same = one_query front first.0 pair first.2 own in
     none first.1 (record { spelled = first.4; rising = subst (λ (q : ℕ). RisesAfter q first.1) same first.5 })
 
 -- the first piece's pair before those of what follows
-pub more_some : (x front back : List ℕ) (last : ℕ) (pair : ℕ × ℕ) (pairs : List (ℕ × ℕ)) → IsCut 44 x front back → SpellsFrequency front pair → last < pair.0 → SpellsAfter pair.0 back pairs → SpellsAfter last x (pair ∷ pairs)
+pub more_some : (x front back : List ℕ) (last : ℕ) (pair : ℕ × ℕ) (pairs : List (ℕ × ℕ)) → IsCutAtFirst 44 x front back → SpellsFrequency front pair → last < pair.0 → SpellsAfter pair.0 back pairs → SpellsAfter last x (pair ∷ pairs)
 more_some x front back last pair pairs h own above s = record {
   spelled = subst (λ (xs : List (List ℕ)). EachSpells SpellsFrequency xs (pair ∷ pairs)) (sym (pieces x front back h)) (own, s.spelled);
   rising = (above, s.rising);

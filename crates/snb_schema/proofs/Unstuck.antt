@@ -30,7 +30,7 @@ pub never_stuck : NeverStuck
 never_stuck s workers h timely legal idle running k within fresh =
     elim (least_failing (started h) (length s.steps)) [
       | inl all ↦ absurd (let e : started h k ≡ true = all k within in cc)
-      | inr found ↦ (found.0, earliest found.0 found.1, fits found.0 found.1)
+      | inr found ↦ (found.0, found.1.within, found.1.fails, earliest found.0 found.1, fits found.0 found.1)
     ]
   where
     keeps : KeepsAt h

@@ -3,7 +3,7 @@ use Rattle.std.specs.Prelude.{◌≡◌, ℕ, ◌<◌, ◌==◌, List, [], ◌�
 use Rattle.std.specs.List.{slice_split}
 use Rattle.std.specs.List.Sorted.{IsStrictlyIncreasing}
 use Rattle.snb_base.specs.Spellings.{Num, EachSpells}
-use Rattle.snb_schema.specs.declared.frequencies.TheConstants.{MAX_FREQUENCY}
+use Rattle.snb_schema.specs.declared.limits.TheConstants.{MAX_FREQUENCY}
 use Rattle.snb_schema.specs.Queries.{IsComplex}
 
 -- the frequency of each of the seven queries, 0 where it has none

@@ -1,15 +1,12 @@
 -- A text of frequencies, read piece by piece.
-use Rattle.std.specs.Prelude.{◌≡◌, ◌≢◌, ℕ, ◌<◌, ◌==◌, List, [], ◌∷◌, ◌++◌, All}
+use Rattle.std.specs.Prelude.{◌≡◌, ℕ, ◌<◌, ◌==◌, List, [], ◌∷◌, ◌++◌}
 use Rattle.std.specs.List.{slice_split}
 use Rattle.snb_base.specs.Spellings.{EachSpells}
 use Rattle.snb_schema.specs.Frequencies.{SpellsFrequency}
-
--- no byte is c
-abbrev pub HasNo : ℕ → List ℕ → Type 0
-HasNo c text = All (λ b. b ≢ c) text
+use Rattle.snb_schema.specs.Lines.{HasNo}
 
 -- a text is cut at its first c
-pub record IsCut (c : ℕ) (text front back : List ℕ) : Type 0 where
+pub record IsCutAtFirst (c : ℕ) (text front back : List ℕ) : Type 0 where
   pub first : HasNo c front
   pub joined : text ≡ front ++ c ∷ back
 

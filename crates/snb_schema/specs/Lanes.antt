@@ -4,7 +4,7 @@ use Rattle.std.specs.declared.alloc.Global.{Global}
 use Rattle.snb_schema.specs.Schedule.{Schedule, IsLane, IsPlanned}
 
 -- the steps and kinds are a plan's, and there is a list for each lane
-pub record IsKept (s : Schedule) (lanes : List (Vec ℕ Global)) : Type 0 where
+pub record AreLanesOf (s : Schedule) (lanes : List (Vec ℕ Global)) : Type 0 where
   pub planned : IsPlanned s
   pub counted : length lanes ≡ length s.kinds
   pub each : (l : ℕ) (d : Vec ℕ Global) → l < length lanes → IsLane s l (slice_index_or lanes l d).items

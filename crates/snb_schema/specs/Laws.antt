@@ -72,6 +72,8 @@ NeverStuck =
     (s : Schedule) (workers : ℕ) (h : List Event) → IsTimely s → IsLegal s workers h →
     ((w : ℕ) → hand h w ≡ None) → ((w : ℕ) → halted h w ≡ false) → (k : ℕ) → IsOperation s k → started h k ≡ false →
     (op : ℕ)
+    × IsOperation s op
+    × (started h op ≡ false)
     × ((j : ℕ) → IsOperation s j → started h j ≡ false → (step_of s op).due ≤ (step_of s j).due)
     × ((worker at : ℕ) → worker < workers → (step_of s op).due ≤ at → last h ≤ at → Fits s workers h (Start op worker at))
 

@@ -14,6 +14,7 @@ pub mod Laws
 pub mod LineFaults
 pub mod LineLanes
 pub mod Lines
+pub mod ParameterLines
 pub mod Plan
 pub mod Queries
 pub mod QueryLists

@@ -29,6 +29,14 @@ abbrev pub begins_with_mark : List ℕ → Bool
 begins_with_mark (a ∷ b ∷ c ∷ rest) = (a == 239) && (b == 187) && (c == 191)
 begins_with_mark _ = false
 
+-- no byte of a text is this one
+abbrev pub HasNo : ℕ → List ℕ → Type 0
+HasNo byte text = All (λ b. b ≢ byte) text
+
 -- no byte ends a line
 abbrev pub HasNoEnd : List ℕ → Type 0
-HasNoEnd line = All (λ b. b ≢ 10) line
+HasNoEnd line = HasNo 10 line
+
+-- no byte ends a field
+abbrev pub HasNoBar : List ℕ → Type 0
+HasNoBar field = HasNo 124 field

@@ -12,7 +12,7 @@ use Rattle.snb_schema.specs.declared.table.Table.{Table}
 use Rattle.snb_schema.specs.declared.table.Table.TheVariants as table
 use Rattle.snb_schema.specs.Columns.{SpellsAll, StopsAfter, canonical_field}
 use Rattle.snb_schema.specs.Layouts.{columns, has_no_direction, shape}
-use Rattle.snb_schema.specs.Lines.{fields, begins_with_mark}
+use Rattle.snb_schema.specs.Lines.{HasNoEnd, fields, begins_with_mark}
 
 -- the table that a row stands in
 abbrev pub table_of : Row → Table
@@ -107,17 +107,19 @@ pub record SpellsRow (t : Table) (fs : List (List ℕ)) (r : Row) (turned : Bool
   pub kept : values r ≡ in_order (has_no_direction t) said
   pub turns : turned ≡ is_turned (has_no_direction t) said
 
--- the line is the row's: UTF-8, without a byte order mark, and its fields spell the row
+-- the line is the row's: one line of UTF-8, without a byte order mark, and its fields spell the row
 pub record IsRow (t : Table) (line : List ℕ) (r : Row) : Type 0 where
   pub text : IsUtf8 line
   pub unmarked : begins_with_mark line ≡ false
+  pub one_line : HasNoEnd line
   pub turned : Bool
   pub spelled : SpellsRow t (fields line) r turned
 
--- the line is a header of the table: only its number of fields counts
+-- the line is a header of the table: one line of UTF-8, without a byte order mark, of which only the number of fields counts
 pub record IsHeader (t : Table) (line : List ℕ) : Type 0 where
   pub text : IsUtf8 line
   pub unmarked : begins_with_mark line ≡ false
+  pub one_line : HasNoEnd line
   pub wide : IsWide (length (columns t)) (fields line)
 
 -- the first two fields spell one id, where an edge has no direction

@@ -1,10 +1,10 @@
 -- A plan as the scheduler sees it.
-use Rattle.std.specs.Prelude.{◌≡◌, ℕ, ◌<◌, ◌≤◌, ◌==◌, ◌⊎◌, List, length, take, count_by, Bool, true, false, Some, slice_get, slice_index, slice_index_or, Contains, ◌↔◌}
+use Rattle.std.specs.Prelude.{◌≡◌, ℕ, ◌+◌, ◌*◌, ◌<◌, ◌≤◌, ◌==◌, ◌⊎◌, List, length, take, count_by, Bool, true, false, Some, slice_get, slice_index, slice_index_or, Contains, ◌↔◌}
 use Rattle.std.specs.List.Sorted.{IsStrictlyIncreasing}
 use Rattle.snb_schema.specs.declared.step.Step.{Step}
 use Rattle.snb_schema.specs.declared.step.LaneKind.{LaneKind}
 use Rattle.snb_schema.specs.declared.step.LaneKind.TheVariants.{Forum, Query}
-use Rattle.snb_schema.specs.declared.limits.TheConstants.{MAX_TIME, MAX_AT}
+use Rattle.snb_schema.specs.declared.limits.TheConstants.{MAX_AT, MAX_LANES, MAX_READS, MAX_ROWS, MAX_TIME}
 
 -- the operations in the order of their numbers, and the kind of each lane
 pub record Schedule : Type 0 where
@@ -61,10 +61,18 @@ ComesBefore one other =
 abbrev pub count_before : Schedule → ℕ → ℕ → ℕ
 count_before s lane k = count_by (λ step. step.lane == lane) (take k s.steps)
 
+-- the most lanes of a plan: those of persons, those of the other inserts, and the lane of reads
+abbrev pub max_lanes : ℕ
+max_lanes = 2 * MAX_LANES + 1
+
+-- the most operations of a plan: its inserts and its reads
+abbrev pub max_steps : ℕ
+max_steps = MAX_ROWS + MAX_READS
+
 -- what is true of the steps and kinds of every schedule: its limits, and the order and lanes of its steps
 pub record IsPlanned (s : Schedule) : Type 0 where
-  pub few_lanes : length s.kinds ≤ 129
-  pub few_steps : length s.steps ≤ 2100000
+  pub few_lanes : length s.kinds ≤ max_lanes
+  pub few_steps : length s.steps ≤ max_steps
   pub in_lanes : (k : ℕ) → IsOperation s k → (step_of s k).lane < length s.kinds
   pub ordered : (j k : ℕ) → j < k → IsOperation s k → ComesBefore (step_of s j) (step_of s k)
   pub placed : (k : ℕ) → IsOperation s k → (step_of s k).place ≡ count_before s (step_of s k).lane k

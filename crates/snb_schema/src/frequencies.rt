@@ -3,14 +3,13 @@
 ghost use Rattle.std.specs.Prelude.{◌≡◌, ℕ, ◌<◌, ◌==◌, List, if◌then◌else◌, MatchOption};
 ghost use Rattle.snb_schema.specs.Queries.{IsComplex};
 ghost use Rattle.snb_schema.specs.Frequencies.{frequency_at, SpellsFrequency, SpellsFrequencies, HasFrequencies};
-ghost use Rattle.snb_schema.specs.FrequencyPieces.{HasNo, IsCut, SpellsAfter};
+ghost use Rattle.snb_schema.specs.FrequencyPieces.{IsCutAtFirst, SpellsAfter};
+ghost use Rattle.snb_schema.specs.Lines.{HasNo};
 
+use crate::limits::MAX_FREQUENCY;
 use crate::query::is_complex;
 use snb_base::number::read_number;
 use std::marker::Model;
-
-/// The greatest frequency.
-pub const MAX_FREQUENCY: u32 = 1000000;
 
 /// How often each of the complex queries 1, 2, 7, 8, 9, 11 and 13 is asked, where it is: the k-th
 /// instance of a query of frequency f is due with every f-th update.
@@ -102,7 +101,7 @@ impl Frequencies {
 
 // The parts of the text before and after the first byte `at`.
 fn cut<'a>(text: &'a [u8], at: u8) -> Option<(&'a [u8], &'a [u8])>
-    ensures { MatchOption result (HasNo at text.entry.now) (λ parts. IsCut at text.entry.now parts.0.now parts.1.now) }
+    ensures { MatchOption result (HasNo at text.entry.now) (λ parts. IsCutAtFirst at text.entry.now parts.0.now parts.1.now) }
 {
     let place = text.iter().position(|b| *b == at)?;
     Some((&text[..place], &text[place + 1..]))

@@ -9,7 +9,7 @@ pub mod file;
 pub mod frequencies;
 pub mod key;
 pub mod lanes;
-pub mod laws;
+pub mod law;
 pub mod layout;
 pub mod limits;
 pub mod lists;

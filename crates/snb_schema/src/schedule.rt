@@ -1,8 +1,8 @@
 //! Schedules: the steps of a plan in the order of their numbers, and its lanes.
 
 ghost use Rattle.std.specs.Prelude.{◌≡◌, ◌<◌, ◌≤◌, IfOk, length};
-ghost use Rattle.snb_schema.specs.Schedule.{IsLane, IsPlanned};
-ghost use Rattle.snb_schema.specs.Lanes.{IsKept};
+ghost use Rattle.snb_schema.specs.Schedule.{IsLane, IsPlanned, max_lanes};
+ghost use Rattle.snb_schema.specs.Lanes.{AreLanesOf};
 
 use crate::step::{LaneKind, Step};
 use std::alloc::{AllocError, Global};
@@ -23,11 +23,11 @@ impl Model for Schedule {
 
     ghost Value = { Timetable };
 
-    ghost use Rattle.snb_schema.specs.Lanes.{IsKept};
+    ghost use Rattle.snb_schema.specs.Lanes.{AreLanesOf};
 
     ghost view = { λ s. record { steps = s.steps.items; kinds = s.kinds.items } };
 
-    ghost invariant = { λ s. IsKept (record { steps = s.steps.items; kinds = s.kinds.items }) s.lanes.items };
+    ghost invariant = { λ s. AreLanesOf (record { steps = s.steps.items; kinds = s.kinds.items }) s.lanes.items };
 }
 
 /// The numbers of the lane's steps, in order.
@@ -52,7 +52,7 @@ fn lane_of(
 /// The numbers of each lane's steps, lane by lane.
 fn lanes_of(alloc: Global, steps: &[Step], kinds: &[LaneKind]) -> Result<Vec<Vec<u32>>, AllocError>
     requires { IsPlanned (record { steps = steps.now; kinds = kinds.now }) }
-    ensures { IfOk result (λ v. IsKept (record { steps = steps.now; kinds = kinds.now }) v.items) }
+    ensures { IfOk result (λ v. AreLanesOf (record { steps = steps.now; kinds = kinds.now }) v.items) }
 {
     let mut lanes = Vec::with_capacity(alloc, kinds.len())?;
     for lane in 0..kinds.len() {
@@ -88,7 +88,7 @@ impl Schedule {
     /// The kind of each lane.
     pub fn kinds(&self) -> &[LaneKind]
         ensures value { result.now ≡ self.now.kinds }
-        ensures few { length result.now ≤ 129 }
+        ensures few { length result.now ≤ max_lanes }
     {
         &self.kinds
     }

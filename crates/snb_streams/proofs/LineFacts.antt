@@ -12,7 +12,7 @@ use Rattle.snb_schema.specs.Lines.{HasNoEnd, begins_with_mark, fields}
 use Rattle.snb_schema.specs.UpdateLines.{IsBadInsert, IsBadLine, IsLine, all_inserts, kind_of, line_columns, line_values, op_values}
 use Rattle.snb_lines.specs.Cut.{IsCutAtEnd}
 use Rattle.snb_lines.specs.Reading.{IsPlain}
-use Rattle.snb_fields.specs.Laws.{HasPlainFields, OneList, OwnLine}
+use Rattle.snb_fields.specs.Laws.{HasPlainFields, OneList, OwnLineOfValues}
 use Rattle.snb_streams.specs.Laws.{OneInsert}
 use Rattle.snb_streams.specs.Laws as laws
 use Rattle.snb_streams.specs.Make.{op_by}
@@ -40,7 +40,7 @@ one_insert one line t t_d op u u_d oq p q =
     (times.0, times.1, sym (made_again op) ∙ (λ i. op_by (kind i) (values i)) ∙ made_again oq)
 
 -- the canonical line of an insert is one of its lines
-pub own_line : ((line : List ℕ) → HasPlainFields line) → OwnLine → laws.OwnLine
+pub own_line : ((line : List ℕ) → HasPlainFields line) → OwnLineOfValues → laws.OwnInsertLine
 own_line plain own line t t_d op p =
     let is = own (line_columns (kind_of op)) (fields line) (line_values t t_d op) (λ e. cc) p.spelled (plain line).no_bars in
     record {

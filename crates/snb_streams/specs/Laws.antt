@@ -13,16 +13,16 @@ abbrev pub OneInsert : Type 0
 OneInsert = (line : List ℕ) (t t_d : ℕ) (op : Op) (u u_d : ℕ) (oq : Op) → IsLine line t t_d op → IsLine line u u_d oq → (t ≡ u) × (t_d ≡ u_d) × (op ≡ oq)
 
 -- the canonical line of an insert that has a line is one of its lines
-abbrev pub OwnLine : Type 0
-OwnLine = (line : List ℕ) (t t_d : ℕ) (op : Op) → IsLine line t t_d op → IsLine (canonical_line t t_d op) t t_d op
+abbrev pub OwnInsertLine : Type 0
+OwnInsertLine = (line : List ℕ) (t t_d : ℕ) (op : Op) → IsLine line t t_d op → IsLine (canonical_line t t_d op) t t_d op
 
 -- fields are bad in one column at most
 abbrev pub OneFault : Type 0
 OneFault = (allowed : List OpKind) (fs : List (List ℕ)) (a b : ℕ) → IsBadInsert allowed fs a → IsBadInsert allowed fs b → a ≡ b
 
 -- and in none where they spell an insert
-abbrev pub NoFault : Type 0
-NoFault = (allowed : List OpKind) (fs : List (List ℕ)) (t t_d : ℕ) (op : Op) (c : ℕ) → SpellsInsert allowed fs t t_d op → ¬ IsBadInsert allowed fs c
+abbrev pub InsertsAreRight : Type 0
+InsertsAreRight = (allowed : List OpKind) (fs : List (List ℕ)) (t t_d : ℕ) (op : Op) (c : ℕ) → SpellsInsert allowed fs t t_d op → ¬ IsBadInsert allowed fs c
 
 -- fields are those of one complex query at most
 abbrev pub OneQuery : Type 0

@@ -2,7 +2,7 @@
 #![tactic(auto)]
 
 mod kinds;
-pub mod laws;
+pub mod law;
 pub mod line;
 mod make;
 pub mod params;

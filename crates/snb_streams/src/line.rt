@@ -14,7 +14,7 @@ use crate::make::{clash_column, is_clash, make_op};
 use crate::text::fields_in;
 use csv::ByteRecord;
 use snb_base::number::read_number;
-use snb_fields::laws::taken_again;
+use snb_fields::law::taken_again;
 use snb_fields::read::read_values;
 use snb_fields::values::Values;
 use snb_schema::column::Value;

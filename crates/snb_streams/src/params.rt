@@ -14,7 +14,7 @@ ghost use Rattle.snb_lines.specs.Reading.{EndsBad, OnMemory, Reads, ReadsSome, S
 ghost use Rattle.snb_streams.specs.Parameters.{IsBadQuery, RefusesQuery, SpellsQuery, TakesQuery, ends_without, query_by, query_columns};
 
 use csv::ByteRecord;
-use snb_fields::laws::taken_again;
+use snb_fields::law::taken_again;
 use snb_fields::read::read_values;
 use snb_fields::values::Values;
 use snb_lines::lines::Lines;

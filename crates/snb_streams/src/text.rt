@@ -8,7 +8,7 @@ ghost use Rattle.snb_schema.specs.UpdateLines.{IsBadLine};
 ghost use Rattle.snb_streams.specs.Spelled.{IsSplit};
 
 use csv::ByteRecord;
-use snb_fields::laws::plain_fields;
+use snb_fields::law::plain_fields;
 use snb_lines::split::{cut_at_end, is_marked, split_line};
 use snb_schema::fault::LineFault;
 use std::alloc::Global;

@@ -38,9 +38,9 @@ pub struct Graph {
 }
 
 impl Model for Graph {
-    ghost use Rattle.snb_schema.specs.Graph.{Graph as Rows, IsGraph};
+    ghost use Rattle.snb_schema.specs.Graph.{Graph as AnyGraph, IsGraph};
 
-    ghost Value = { Rows };
+    ghost Value = { AnyGraph };
 
     ghost view = { λ g. record { persons = g.persons.entries; knows = g.knows.entries } };
 

@@ -11,8 +11,8 @@ use Rattle.snb_schema.specs.Graph.{Graph, all_rows, final_text}
 use Rattle.snb_schema.specs.RunTexts.{log_text, no_answers_text}
 use Rattle.snb_schema.specs.Input.{Refuses}
 use Rattle.snb_schema.specs.ScreenTexts.{refusal_text, summary_text, usage_text}
-use Rattle.snb_tool.specs.Outcome.{IsCut, IsLoaded, IsOtherLine, IsRun, IsRunOutput, Wrote, run_texts}
-use Rattle.snb_tool.specs.Output.{IsFront, on_screen, size_of}
+use Rattle.snb_tool.specs.Outcome.{IsRunCut, IsLoaded, IsOtherLine, IsRun, IsRunOutput, Wrote, run_texts}
+use Rattle.snb_tool.specs.Output.{IsWrittenSoFar, on_screen, size_of}
 use Rattle.snb_tool.specs.Words.{IsRunLine}
 use Rattle.snb_loader.proofs.TakeLemmas.{if_some}
 
@@ -51,17 +51,17 @@ shown_size text n h = omega (arith, h)
 
 -- a call that was cut at the usage
 pub cut_usage : (words : List (List ℕ)) (contents : Option Files) (fixed : Option ℕ) (ready : ℕ → Type 0) (old new : Option Written)
-    → IsOtherLine words → (part : Written) × IsFront part (on_screen usage_text) × Wrote old new part → ((n : ℕ) → ready n → n < length usage_text) → IfSome contents (λ files. IsCut words files fixed ready old new)
+    → IsOtherLine words → (part : Written) × IsWrittenSoFar part (on_screen usage_text) × Wrote old new part → ((n : ℕ) → ready n → n < length usage_text) → IfSome contents (λ files. IsRunCut words files fixed ready old new)
 cut_usage words contents fixed ready old new other p short =
-    if_some_always contents (λ files. IsCut words files fixed ready old new)
+    if_some_always contents (λ files. IsRunCut words files fixed ready old new)
     (λ files. record { status = 2; texts = on_screen usage_text; part = p.0; belongs = inr (inl (refl, record { other = other; shown = refl })); front = p.1; wrote = p.2; unsure = short })
 
 -- a call that was cut at a refusal
 pub cut_refusal : (words : List (List ℕ)) (folder : List ℕ) (r : Refusal) (contents : Option Files) (fixed : Option ℕ) (ready : ℕ → Type 0) (old new : Option Written)
-    → IsRunLine words folder → IfSome contents (λ files. Refuses folder files r) → (part : Written) × IsFront part (on_screen (refusal_text r)) × Wrote old new part
-    → ((n : ℕ) → ready n → n < length (refusal_text r)) → IfSome contents (λ files. IsCut words files fixed ready old new)
+    → IsRunLine words folder → IfSome contents (λ files. Refuses folder files r) → (part : Written) × IsWrittenSoFar part (on_screen (refusal_text r)) × Wrote old new part
+    → ((n : ℕ) → ready n → n < length (refusal_text r)) → IfSome contents (λ files. IsRunCut words files fixed ready old new)
 cut_refusal words folder r contents fixed ready old new line refused p short =
-    if_some contents (λ files. Refuses folder files r) (λ files. IsCut words files fixed ready old new)
+    if_some contents (λ files. Refuses folder files r) (λ files. IsRunCut words files fixed ready old new)
     (λ files b. record {
       status = 3;
       texts = on_screen (refusal_text r);
@@ -75,9 +75,9 @@ cut_refusal words folder r contents fixed ready old new line refused p short =
 -- a call that was cut at the texts of a run
 pub cut_run : (words : List (List ℕ)) (folder : List ℕ) (contents : Option Files) (fixed : Option ℕ) (graph : Graph) (inserts : List Line) (ready : ℕ → Type 0) (old new : Option Written)
     → IsRunLine words folder → IfSome contents (λ files. IsLoaded folder files graph inserts)
-    → (texts : Written) × (part : Written) × IsRunOutput inserts fixed graph texts × IsFront part texts × Wrote old new part × ((n : ℕ) → ready n → n < size_of texts) → IfSome contents (λ files. IsCut words files fixed ready old new)
+    → (texts : Written) × (part : Written) × IsRunOutput inserts fixed graph texts × IsWrittenSoFar part texts × Wrote old new part × ((n : ℕ) → ready n → n < size_of texts) → IfSome contents (λ files. IsRunCut words files fixed ready old new)
 cut_run words folder contents fixed graph inserts ready old new line loaded p =
-    if_some contents (λ files. IsLoaded folder files graph inserts) (λ files. IsCut words files fixed ready old new)
+    if_some contents (λ files. IsLoaded folder files graph inserts) (λ files. IsRunCut words files fixed ready old new)
     (λ files l. record {
       status = 0;
       texts = p.0;

@@ -5,7 +5,7 @@ use Rattle.std.proofs.lemmas.List.{append_assoc, append-nil, take-append-drop, t
 use Rattle.snb_base.specs.declared.outbox.Channel.{Channel}
 use Rattle.snb_base.specs.declared.outbox.Channel.TheVariants.{Screen, Log, Answers, Final, Cases}
 use Rattle.snb_base.specs.Outbox.{Written, nothing, appended, joined}
-use Rattle.snb_tool.specs.Output.{IsPrefix, IsFront, on_screen}
+use Rattle.snb_tool.specs.Output.{IsPrefix, IsWrittenSoFar, on_screen}
 
 -- two pieces on one channel are one
 pub appended-appended : (w : Written) (channel : Channel) (a b : List ℕ) → appended (appended w channel a) channel b ≡ appended w channel (a ++ b)
@@ -78,7 +78,7 @@ prefix-take n bytes whole e = (drop n bytes, take-append-drop n bytes ∙ e)
 
 -- a front of the whole was written
 abbrev pub HasFront : Written → Option Written → Option Written → Type 0
-HasFront whole old new = (part : Written) × IsFront part whole × (new ≡ option_map (λ w. joined w part) old)
+HasFront whole old new = (part : Written) × IsWrittenSoFar part whole × (new ≡ option_map (λ w. joined w part) old)
 
 -- the log alone was begun
 pub stopped_in_log : (whole : Written) (log : List ℕ) (n : ℕ) (old new : Option Written)

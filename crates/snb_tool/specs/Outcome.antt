@@ -15,7 +15,7 @@ use Rattle.snb_schema.specs.Plan.{plan_of}
 use Rattle.snb_schema.specs.Rules.{IsComplete, IsLegal}
 use Rattle.snb_schema.specs.RunTexts.{log_text, no_answers_text}
 use Rattle.snb_schema.specs.ScreenTexts.{refusal_text, summary_text, usage_text}
-use Rattle.snb_tool.specs.Output.{IsFront, on_screen, size_of}
+use Rattle.snb_tool.specs.Output.{IsWrittenSoFar, on_screen, size_of}
 use Rattle.snb_tool.specs.Running.{HasRun, IsAt}
 use Rattle.snb_tool.specs.Words.{IsRunLine}
 
@@ -90,11 +90,11 @@ abbrev pub Wrote : Option Written → Option Written → Written → Type 0
 Wrote old new texts = new ≡ option_map (λ w. joined w texts) old
 
 -- a front of the texts that belong to some status was added to the channels, and an outbox that was sure to take so many bytes wasn't sure of all of the texts
-pub record IsCut (words : List (List ℕ)) (files : Files) (fixed : Option ℕ) (ready : ℕ → Type 0) (old new : Option Written) : Type 0 where
+pub record IsRunCut (words : List (List ℕ)) (files : Files) (fixed : Option ℕ) (ready : ℕ → Type 0) (old new : Option Written) : Type 0 where
   pub status : ℕ
   pub texts : Written
   pub part : Written
   pub belongs : Belongs words files fixed status texts
-  pub front : IsFront part texts
+  pub front : IsWrittenSoFar part texts
   pub wrote : Wrote old new part
   pub unsure : (n : ℕ) → ready n → n < size_of texts

@@ -20,7 +20,7 @@ abbrev pub IsPrefix : List ℕ → List ℕ → Type 0
 IsPrefix front whole = (rest : List ℕ) × (front ++ rest ≡ whole)
 
 -- each channel has a prefix of its text, and in the order log, answers, final, cases, screen nothing follows a text that isn't whole
-pub record IsFront (part whole : Written) : Type 0 where
+pub record IsWrittenSoFar (part whole : Written) : Type 0 where
   pub log : IsPrefix part.log whole.log
   pub answers : IsPrefix part.answers whole.answers
   pub finals : IsPrefix part.finals whole.finals

@@ -4,7 +4,7 @@ ghost use Rattle.std.specs.Prelude.{◌≡◌, ℕ, ◌-◌, ◌<◌, ◌≤◌,
 ghost use Rattle.std.specs.Option.{option_map};
 ghost use Rattle.snb_base.specs.Outbox.{Written as Bytes, appended, joined};
 ghost use Rattle.snb_base.specs.Shelf.{Rose};
-ghost use Rattle.snb_tool.specs.Output.{bytes_of, on_screen, size_of, IsFront};
+ghost use Rattle.snb_tool.specs.Output.{bytes_of, on_screen, size_of, IsWrittenSoFar};
 
 use snb_base::outbox::{Channel, Outbox, Put};
 
@@ -44,7 +44,7 @@ fn write_all<O: Outbox>(out: &mut O, channel: Channel, bytes: &[u8]) -> Result<(
 /// fails.
 pub fn deliver<O: Outbox>(out: &mut O, output: &Output) -> Result<(), WriteFault>
     ensures ok { OnOk result (O.written out.new ≡ option_map (λ w. joined w (bytes_of output.now)) (O.written out.old)) }
-    ensures err { OnErr result ((part : Bytes) × IsFront part (bytes_of output.now) × (O.written out.new ≡ option_map (λ w. joined w part) (O.written out.old))) }
+    ensures err { OnErr result ((part : Bytes) × IsWrittenSoFar part (bytes_of output.now) × (O.written out.new ≡ option_map (λ w. joined w part) (O.written out.old))) }
     ensures failed { OnErr result (Rose (O.faults out.old) (O.faults out.new)) }
     ensures later { O.faults out.old ≤ O.faults out.new }
     ensures sure { (n : ℕ) → O.ready out.old n → size_of (bytes_of output.now) ≤ n → OnErr result ⊥ }
@@ -64,7 +64,7 @@ pub fn deliver<O: Outbox>(out: &mut O, output: &Output) -> Result<(), WriteFault
 /// Writes a text on the screen alone.
 pub fn show<O: Outbox>(out: &mut O, text: &[u8]) -> Result<(), WriteFault>
     ensures ok { OnOk result (O.written out.new ≡ option_map (λ w. joined w (on_screen text.now)) (O.written out.old)) }
-    ensures err { OnErr result ((part : Bytes) × IsFront part (on_screen text.now) × (O.written out.new ≡ option_map (λ w. joined w part) (O.written out.old))) }
+    ensures err { OnErr result ((part : Bytes) × IsWrittenSoFar part (on_screen text.now) × (O.written out.new ≡ option_map (λ w. joined w part) (O.written out.old))) }
     ensures failed { OnErr result (Rose (O.faults out.old) (O.faults out.new)) }
     ensures later { O.faults out.old ≤ O.faults out.new }
     ensures sure { (n : ℕ) → O.ready out.old n → length text.now ≤ n → OnErr result ⊥ }

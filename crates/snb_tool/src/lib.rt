@@ -3,7 +3,7 @@
 
 mod deliver;
 mod final_lines;
-pub mod laws;
+pub mod law;
 mod log_lines;
 mod refusal_text;
 mod run;

@@ -2,7 +2,7 @@
 
 ghost use Rattle.std.specs.Prelude.{◌≡◌, ◌≢◌, ◌∷◌, [], true, max, min, IfOk, OnOk};
 ghost use Rattle.snb_schema.specs.Closed.{key_of, IsClosed};
-ghost use Rattle.snb_schema.specs.Graph.{Graph as Rows, rows_of, HoldsKey, IsBuilt, IsGraph};
+ghost use Rattle.snb_schema.specs.Graph.{Graph as AnyGraph, rows_of, HoldsKey, IsBuilt, IsGraph};
 ghost use Rattle.snb_schema.specs.Plan.{adds_person, plan_of, ArePlanned, IsOfPersonStream};
 ghost use Rattle.snb_schema.specs.UpdateLines.{IsOfTwo};
 ghost use Rattle.snb_schema.specs.declared.row.Row.TheVariants as row;
@@ -120,8 +120,8 @@ fn take_turn<R: Wait, C: Clock, G: Gate>(
     gate: &G,
 ) -> Result<Turn, AllocError>
     requires planned { ArePlanned inserts.now }
-    requires under_way { (first : Rows) × HasDone inserts.now (C.fixed clock.now) first graph.old book.old }
-    ensures { IfOk result (λ turn. (first : Rows) → HasDone inserts.now (C.fixed clock.now) first graph.old book.old →
+    requires under_way { (first : AnyGraph) × HasDone inserts.now (C.fixed clock.now) first graph.old book.old }
+    ensures { IfOk result (λ turn. (first : AnyGraph) → HasDone inserts.now (C.fixed clock.now) first graph.old book.old →
         TurnsTo inserts.now (C.fixed clock.now) first graph.new book.new turn) }
 {
     match book.claim(0, clock.now()) {

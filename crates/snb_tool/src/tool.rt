@@ -9,8 +9,8 @@ ghost use Rattle.snb_schema.specs.ScreenTexts.{refusal_text};
 ghost use Rattle.snb_schema.specs.Closed.{IsClosed};
 ghost use Rattle.snb_schema.specs.Graph.{HoldsKey, IsGraph};
 ghost use Rattle.snb_loader.specs.Loading.{OnReadFault, OnRefused};
-ghost use Rattle.snb_tool.specs.Outcome.{IsCut, IsLoaded, IsOtherLine, IsRefusal, IsRun, IsRunOutput, IsUsage, Wrote};
-ghost use Rattle.snb_tool.specs.Output.{IsFront, bytes_of, on_screen, size_of};
+ghost use Rattle.snb_tool.specs.Outcome.{IsRunCut, IsLoaded, IsOtherLine, IsRefusal, IsRun, IsRunOutput, IsUsage, Wrote};
+ghost use Rattle.snb_tool.specs.Output.{IsWrittenSoFar, bytes_of, on_screen, size_of};
 ghost use Rattle.snb_schema.specs.Plan.{ArePlanned};
 ghost use Rattle.snb_tool.specs.Words.{IsRunLine, texts_of};
 
@@ -24,13 +24,13 @@ use snb_base::clock::Clock;
 use snb_base::gate::Gate;
 use snb_base::outbox::Outbox;
 use snb_base::shelf::Shelf;
-use snb_csv::laws::{one_column, one_row};
+use snb_csv::law::{one_column, one_row};
 use snb_loader::load::{Load, load_of};
 use snb_loader::loader::{PERSON_STREAM, load_inserts, load_persons};
 use snb_plan::closed::check_closed;
 use snb_schema::op::Line;
 use snb_schema::refusal::Refusal;
-use snb_streams::laws::{one_fault, one_insert};
+use snb_streams::law::{one_fault, one_insert};
 use snb_tables::graph::Graph;
 use std::alloc::{AllocError, Global};
 use std::sync::Wait;
@@ -111,7 +111,7 @@ fn refuse<O: Outbox>(alloc: Global, refusal: Refusal, out: &mut O) -> u8
     ensures status { (result ≡ 3) ⊎ (result ≡ 5) ⊎ (result ≡ 6) }
     ensures shown { result ≡ 3 → Wrote (O.written out.old) (O.written out.new) (on_screen (refusal_text refusal)) }
     ensures fault { result ≡ 5 → Rose (O.faults out.old) (O.faults out.new) }
-    ensures part { result ≡ 5 → (part : Bytes) × IsFront part (on_screen (refusal_text refusal)) × Wrote (O.written out.old) (O.written out.new) part }
+    ensures part { result ≡ 5 → (part : Bytes) × IsWrittenSoFar part (on_screen (refusal_text refusal)) × Wrote (O.written out.old) (O.written out.new) part }
     ensures short { result ≡ 5 → (n : ℕ) → O.ready out.old n → n < length (refusal_text refusal) }
     ensures memory { result ≡ 6 → O.written out.new ≡ O.written out.old }
     ensures later { O.faults out.old ≤ O.faults out.new }
@@ -141,7 +141,7 @@ fn run_input<R: Wait, O: Outbox, C: Clock, G: Gate>(
     ensures status { (result ≡ 0) ⊎ (result ≡ 5) ⊎ (result ≡ 6) }
     ensures shown { result ≡ 0 → (texts : Bytes) × IsRunOutput input.inserts.items (C.fixed clock.now) input.graph texts × Wrote (O.written out.old) (O.written out.new) texts }
     ensures fault { result ≡ 5 → Rose (O.faults out.old) (O.faults out.new) }
-    ensures part { result ≡ 5 → (texts : Bytes) × (part : Bytes) × IsRunOutput input.inserts.items (C.fixed clock.now) input.graph texts × IsFront part texts × Wrote (O.written out.old) (O.written out.new) part
+    ensures part { result ≡ 5 → (texts : Bytes) × (part : Bytes) × IsRunOutput input.inserts.items (C.fixed clock.now) input.graph texts × IsWrittenSoFar part texts × Wrote (O.written out.old) (O.written out.new) part
         × ((n : ℕ) → O.ready out.old n → n < size_of texts) }
     ensures memory { result ≡ 6 → O.written out.new ≡ O.written out.old }
     ensures later { O.faults out.old ≤ O.faults out.new }
@@ -188,7 +188,7 @@ pub fn snb<R: AllocGlobal + Wait, S: Shelf, O: Outbox, C: Clock + Sync, G: Gate 
     ensures refused { result ≡ 3 → IfSome (S.contents shelf.old) (λ files. (texts : Bytes) × IsRefusal (texts_of words.now) files texts × Wrote (O.written out.old) (O.written out.new) texts) }
     ensures read_fault { result ≡ 4 → Rose (S.faults shelf.old) (S.faults shelf.new) × (O.written out.new ≡ O.written out.old) }
     ensures write_fault { result ≡ 5 → Rose (O.faults out.old) (O.faults out.new) }
-    ensures cut { result ≡ 5 → IfSome (S.contents shelf.old) (λ files. IsCut (texts_of words.now) files (C.fixed clock.now) (O.ready out.old) (O.written out.old) (O.written out.new)) }
+    ensures cut { result ≡ 5 → IfSome (S.contents shelf.old) (λ files. IsRunCut (texts_of words.now) files (C.fixed clock.now) (O.ready out.old) (O.written out.old) (O.written out.new)) }
     ensures memory { result ≡ 6 → O.written out.new ≡ O.written out.old }
     ensures complete { IfSome (S.contents shelf.old) (λ files. (folder : List ℕ) → IsRunLine (texts_of words.now) folder → ((r : Refused) → ¬ Refuses folder files r)
         → ¬ Rose (S.faults shelf.old) (S.faults shelf.new) → ¬ Rose (O.faults out.old) (O.faults out.new) → (result ≡ 0) ⊎ (result ≡ 6)) }

@@ -1,6 +1,6 @@
 use Rattle.std.proofs.Common.{subst, List, ℕ, ◌<◌, length}
 use Rattle.snb_base.specs.Outbox.{Written}
-use Rattle.snb_tool.specs.Output.{IsFront, on_screen}
+use Rattle.snb_tool.specs.Output.{IsWrittenSoFar, on_screen}
 use Rattle.snb_tool.specs.Outcome.{Wrote}
 use Rattle.snb_tool.specs.Words.{texts_of}
 use Rattle.snb_tool.proofs.OutcomeLemmas.{above, cut_refusal, cut_run, cut_usage, done_run}
@@ -8,7 +8,7 @@ use Rattle.snb_tool.proofs.tool.snb.Goals as goal
 
 pub returns-in-Err-clause-cut : goal.returns-in-Err-clause-cut
 returns-in-Err-clause-cut g c = λ five. cut_usage (texts_of c.args.words.now) (g.S.Shelf.contents c.args.shelf.now) (g.C.Clock.fixed c.args.clock.now) (g.O.Outbox.ready c.args.out.now) _ _ c.in_default.ensures
-    (subst (λ (text : List ℕ). (part : Written) × IsFront part (on_screen text) × Wrote (g.O.Outbox.written c.args.out.now) (g.O.Outbox.written c.show.new.out) part) c.as_bytes.ensures.value c.in-Err.ensures.err)
+    (subst (λ (text : List ℕ). (part : Written) × IsWrittenSoFar part (on_screen text) × Wrote (g.O.Outbox.written c.args.out.now) (g.O.Outbox.written c.show.new.out) part) c.as_bytes.ensures.value c.in-Err.ensures.err)
     (subst (λ (text : List ℕ). (n : ℕ) → g.O.Outbox.ready c.args.out.now n → n < length text) c.as_bytes.ensures.value (λ n r. above n _ (c.in-Err.ensures.sure n r)))
 
 pub returns-in-Ok-load_input-clause-done : goal.returns-in-Ok-load_input-clause-done

@@ -5,12 +5,12 @@ use Rattle.snb_schema.specs.History.{hand}
 use Rattle.snb_schema.specs.Rules.{Fits, IsFront, MayAct}
 use Rattle.snb_completion.specs.Progress.{Progress}
 use Rattle.snb_book.specs.Kept.{Kept, moment_after}
-use Rattle.snb_book.specs.Book.{IsKept}
-use Rattle.snb_book.proofs.Telling.{has_room, finish_fits, open_yet, IsKept-push, IsTold-finish, adds_event, adding_rises}
+use Rattle.snb_book.specs.Book.{IsSoundBook}
+use Rattle.snb_book.proofs.Telling.{has_room, finish_fits, open_yet, IsSoundBook-push, IsTold-finish, adds_event, adding_rises}
 use Rattle.snb_book.proofs.book.Book.finish.Goals as goal
 
 -- the Finish fits the fields, by what the value is asked for
-fits_fields : (now inside : Kept) (capacity op worker shown at front : ℕ) → inside ≡ now → IsKept inside capacity → hand now.history worker ≡ Some op
+fits_fields : (now inside : Kept) (capacity op worker shown at front : ℕ) → inside ≡ now → IsSoundBook inside capacity → hand now.history worker ≡ Some op
     → MayAct now.workers now.history worker → IsFront now.schedule now.history op front → at ≡ moment_after now.history shown
     → Fits inside.schedule inside.workers inside.history (Finish op worker at front)
 fits_fields now inside capacity op worker shown at front same kept held may at_front is =
@@ -37,7 +37,7 @@ invariant_of-self c =
     let fits =
     fits_fields _ _ _ _ _ c.args.now _ _ c.self.view_is c.self.invariant.0 c.requires.held.held c.requires.acts c.requires.front c.moment-at.ensures.value in
     rw (c.append.ensures.items, c.finish.ensures) (
-      IsKept-push _ _ _ _ c.self.invariant.0 fits c.moment-at.ensures.bounded c.append.ensures.capacity,
+      IsSoundBook-push _ _ _ _ c.self.invariant.0 fits c.moment-at.ensures.bounded c.append.ensures.capacity,
       IsTold-finish _ _ _ _ _ _ _ _ _ _ c.self.invariant.1 fits,
     )
 

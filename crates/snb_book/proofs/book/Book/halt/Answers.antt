@@ -4,7 +4,7 @@ use Rattle.snb_schema.specs.declared.event.Event.TheVariants.{Halt}
 use Rattle.snb_schema.specs.Rules.{Fits, MayAct}
 use Rattle.snb_schema.proofs.Histories.{Fits-halt}
 use Rattle.snb_book.specs.Kept.{Kept}
-use Rattle.snb_book.proofs.Telling.{has_room, IsKept-push, IsTold-halt, adds_event, adding_rises}
+use Rattle.snb_book.proofs.Telling.{has_room, IsSoundBook-push, IsTold-halt, adds_event, adding_rises}
 use Rattle.snb_book.proofs.book.Book.halt.Goals as goal
 
 -- the Halt fits the fields
@@ -19,7 +19,7 @@ append-requires c = has_room _ _ _ c.self.invariant.0 (fits_fields _ _ _ c.self.
 pub invariant_of-self : goal.invariant_of-self
 invariant_of-self c =
     rw c.append.ensures.items (
-      IsKept-push _ _ _ _ c.self.invariant.0 (fits_fields _ _ _ c.self.view_is c.requires) (omega arith) c.append.ensures.capacity,
+      IsSoundBook-push _ _ _ _ c.self.invariant.0 (fits_fields _ _ _ c.self.view_is c.requires) (omega arith) c.append.ensures.capacity,
       IsTold-halt _ _ _ _ _ _ c.args.worker c.self.invariant.1,
     )
 

@@ -6,7 +6,7 @@ use Rattle.snb_schema.specs.Schedule.{no_step, step_of}
 use Rattle.snb_schema.specs.Rules.{Fits, V1}
 use Rattle.snb_completion.specs.Progress.{Progress}
 use Rattle.snb_book.specs.Kept.{Kept}
-use Rattle.snb_book.proofs.Telling.{has_room, IsKept-push, IsTold-start, next_in_lane, adds_event}
+use Rattle.snb_book.proofs.Telling.{has_room, IsSoundBook-push, IsTold-start, next_in_lane, adds_event}
 use Rattle.snb_book.proofs.book.Book.start.Goals as goal
 
 -- what fits the value fits the fields
@@ -47,7 +47,7 @@ invariant_of-self c =
     let fits = fits_fields _ _ _ _ _ c.self.view_is c.requires.fits in
     let of_plan : c.steps.result.now ≡ c.self.inside.times.schedule.steps = (let a = c.steps.ensures.value in let b = c.schedule.ensures in cc) in
     rw (c.append.ensures.items, of_plan, c.start.ensures) (
-      IsKept-push _ _ _ _ c.self.invariant.0 fits c.requires.bounded c.append.ensures.capacity,
+      IsSoundBook-push _ _ _ _ c.self.invariant.0 fits c.requires.bounded c.append.ensures.capacity,
       IsTold-start _ _ _ _ _ _ _ _ _ _ c.self.invariant.0 c.self.invariant.1 fits,
     )
 

@@ -1,5 +1,0 @@
-use Rattle.snb_book.proofs.SomeClaim.{claim_exists}
-use Rattle.snb_book.proofs.laws.claim_exists.Goals as goal
-
-pub returns : goal.returns
-returns c = claim_exists

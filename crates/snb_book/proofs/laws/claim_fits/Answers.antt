@@ -1,5 +1,0 @@
-use Rattle.snb_book.proofs.Claiming.{claim_fits}
-use Rattle.snb_book.proofs.laws.claim_fits.Goals as goal
-
-pub returns : goal.returns
-returns c = claim_fits

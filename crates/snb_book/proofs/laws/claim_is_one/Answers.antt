@@ -1,5 +1,0 @@
-use Rattle.snb_book.proofs.OneClaim.{claim_is_one}
-use Rattle.snb_book.proofs.laws.claim_is_one.Goals as goal
-
-pub returns : goal.returns
-returns c = claim_is_one
