@@ -5,6 +5,7 @@
 pub mod law;
 pub mod lines;
 pub mod meaning;
+pub mod open;
 mod progress;
 pub mod split;
 #[cfg(test)]
