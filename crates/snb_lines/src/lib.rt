@@ -2,6 +2,7 @@
 //! logs, which differ in what a line means.
 #![tactic(auto)]
 
+pub mod headed;
 pub mod law;
 pub mod lines;
 pub mod meaning;
