@@ -23,6 +23,10 @@ IsBad B = B → List (List ℕ) → ℕ → Type 0
 abbrev pub unpassed : {B : Type 0} → FileId → B → Passed B
 unpassed file body = record { file = file; headed = false; body = body }
 
+-- so a file of this name is begun, where its body is begun so
+abbrev pub BeginsHeaded : {N B : Type 0} → (N → FileId) → (N → B → Type 0) → N → Passed B → Type 0
+BeginsHeaded file_of begins named new = begins named new.body × (new ≡ unpassed (file_of named) new.body)
+
 -- the fields are the header, which gives nothing, or past it those of a line of the body
 abbrev pub GivesAs : {B T : Type 0} → Heads B → Takes B T → Bool → B → ℕ → List (List ℕ) → List T → B → Type 0
 GivesAs heads gives false body number fs items new = heads body fs new × (items ≡ [])

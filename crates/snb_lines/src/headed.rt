@@ -6,10 +6,12 @@ ghost use Rattle.snb_schema.specs.Faults.{OnBadColumn};
 ghost use Rattle.snb_lines.specs.Headed.{unpassed};
 
 use crate::meaning::Meaning;
+use crate::open::Open;
 use csv::ByteRecord;
 use snb_schema::fault::{Fault, LineFault};
 use snb_schema::file::FileId;
 use snb_schema::refusal::Refusal;
+use std::alloc::Global;
 use std::marker::Model;
 
 /// What the header of a file and the lines after it mean, each line by its fields.
@@ -99,6 +101,26 @@ impl<B> Headed<B> {
         ensures { result.now ≡ self.now.body }
     {
         &self.body
+    }
+}
+
+impl<B: Open> Open for Headed<B> {
+    type Named = B::Named;
+
+    ghost use Rattle.snb_lines.specs.Headed.{BeginsHeaded};
+
+    ghost can_open = { B.can_open };
+
+    ghost file_of = { B.file_of };
+
+    ghost begins = { BeginsHeaded B.file_of B.begins };
+
+    fn file(named: B::Named) -> FileId {
+        B::file(named)
+    }
+
+    fn open(alloc: Global, named: B::Named) -> Headed<B> {
+        Headed::new(B::file(named), B::open(alloc, named))
     }
 }
 
