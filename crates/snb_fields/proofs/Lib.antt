@@ -1,4 +1,5 @@
 pub mod CutFacts
+pub mod DecidedFacts
 pub mod LineFacts
 pub mod ListFacts
 pub mod PairFacts
