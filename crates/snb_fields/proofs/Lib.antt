@@ -1,5 +1,6 @@
 pub mod CutFacts
 pub mod DecidedFacts
+pub mod JoinFacts
 pub mod LineFacts
 pub mod ListFacts
 pub mod PairFacts

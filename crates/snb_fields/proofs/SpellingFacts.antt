@@ -99,7 +99,7 @@ own_pair own x pair h (id, year, e, a, b) =
     }
 
 -- texts are their own spellings
-each_itself : (texts : List (List ℕ)) → map (λ t. t) texts ≡ texts
+pub each_itself : (texts : List (List ℕ)) → map (λ t. t) texts ≡ texts
 each_itself [] = refl
 each_itself (t ∷ texts) = ap (λ (ts : List (List ℕ)). t ∷ ts) (each_itself texts)
 
