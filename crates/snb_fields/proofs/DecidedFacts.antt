@@ -1,19 +1,19 @@
 -- Whether a text spells a value of a column is decided.
-use Rattle.std.proofs.Common.{◌≡◌, ◌≢◌, ◌++◌, ◌∷◌, ◌∙◌, ◌+◌, ◌*◌, ◌<◌, ◌≤◌, ◌⊎◌, [], ℕ, zero, suc, List, Bool, true, false, refl, sym, ap, subst, inl, inr, length, take, arith, nat_eq, All}
+use Rattle.std.proofs.Common.{◌≡◌, ◌≢◌, ◌++◌, ◌∷◌, ◌∙◌, ◌+◌, ◌*◌, ◌<◌, ◌≤◌, ◌⊎◌, [], ℕ, zero, suc, List, Bool, true, false, refl, sym, ap, subst, inl, inr, length, arith, nat_eq, All}
 use Rattle.std.proofs.lemmas.Bool.{cases_Bool, cases_eq, cases_lt}
 use Rattle.std.proofs.lemmas.Bool.Decides.{not_from_Decides}
 use Rattle.std.proofs.lemmas.List.Elements.{All-nil, All-cons}
 use Rattle.std.proofs.lemmas.Slice.Eq.{bytes_eq-Decides}
 use Rattle.std.specs.List.{AllByRecursion, Contains, list_any, slice_index}
 use Rattle.std.specs.Str.{bytes_eq}
-use Rattle.snb_base.specs.Calendar.{IsDigit, IsRealDay, IsRealTime, SpellsDay, SpellsMoment, day_number, day_text, month_length, time_number, time_text}
+use Rattle.snb_base.specs.Calendar.{IsDigit, IsRealDay, IsRealTime, day_number, day_text, month_length, time_number, time_text}
 use Rattle.snb_base.specs.Spellings.{EachSpells, HasOneYear, IdList, Listed, Num, PairList, SpellsId, SpellsPair, SpellsWord, WordList, elements, last_id, last_time, once_after, pair_eq, value_after}
 use Rattle.snb_base.specs.Spellings as spellings
 use Rattle.snb_schema.specs.declared.column.Column.{Column}
 use Rattle.snb_schema.specs.declared.column.Column.TheVariants.{Number, Small, OptionalId, Date, Day, Words, Word, TextList, IdList as Ids_, PairList as Pairs_}
 use Rattle.snb_schema.specs.declared.column.Value.{Value}
 use Rattle.snb_schema.specs.declared.column.Value.TheVariants.{Digits, SmallDigits, NoId, Letters, Texts, Ids, Pairs}
-use Rattle.snb_schema.specs.Columns.{Spells, SpellsAll, StopsAfter, no_id}
+use Rattle.snb_schema.specs.Columns.{Spells, no_id}
 use Rattle.snb_schema.specs.Lines.{HasNo}
 use Rattle.snb_fields.specs.Laws.{EachIsSpelled, EachLineIsRead}
 use Rattle.snb_fields.proofs.PairFacts.{differs, no_comma, not_listed, one_year, pair_parts, two_years}
@@ -137,16 +137,22 @@ date_found x = elim moment [
   | inl f ↦
       let day = f.1.1.1 in
       let said = day.1.1.1.1 in
-      inl (86400000 * day_number f.0 f.1.0 f.1.1.0 + time_number day.0 day.1.0 day.1.1.0 day.1.1.1.0, (said.1.1.1, inl (
-        day_text f.0 f.1.0 f.1.1.0,
-        time_text day.0 day.1.0 day.1.1.0 day.1.1.1.0,
-        86400000 * day_number f.0 f.1.0 f.1.1.0,
-        time_number day.0 day.1.0 day.1.1.0 day.1.1.1.0,
-        said.1.1.0,
-        (f.0, f.1.0, f.1.1.0, said.0, refl, refl),
-        (day.0, day.1.0, day.1.1.0, day.1.1.1.0, said.1.0, refl, refl),
-        refl,
-      )))
+      inl (
+        86400000 * day_number f.0 f.1.0 f.1.1.0 + time_number day.0 day.1.0 day.1.1.0 day.1.1.1.0,
+        (
+          said.1.1.1,
+          inl (
+            day_text f.0 f.1.0 f.1.1.0,
+            time_text day.0 day.1.0 day.1.1.0 day.1.1.1.0,
+            86400000 * day_number f.0 f.1.0 f.1.1.0,
+            time_number day.0 day.1.0 day.1.1.0 day.1.1.1.0,
+            said.1.1.0,
+            (f.0, f.1.0, f.1.1.0, said.0, refl, refl),
+            (day.0, day.1.0, day.1.1.0, day.1.1.1.0, said.1.0, refl, refl),
+            refl,
+          ),
+        ),
+      )
   | inr none ↦ elim (number_found x last_time) [
     | inl n ↦ inl (n.0, (n.1.small, inr n.1))
     | inr never ↦ inr (λ n s. elim s.1 [

@@ -1,7 +1,7 @@
 -- An id and a year with a comma between them.
-use Rattle.std.proofs.Common.{◌≡◌, ◌≢◌, ◌++◌, ◌∷◌, ◌∙◌, ◌<◌, ◌&&◌, [], ℕ, zero, suc, List, Bool, true, false, refl, sym, subst, arith, length, get_or, nat_eq, not, inl, inr, All}
+use Rattle.std.proofs.Common.{◌≡◌, ◌≢◌, ◌++◌, ◌∷◌, ◌∙◌, ◌&&◌, [], ℕ, zero, suc, List, Bool, true, false, refl, sym, subst, arith, nat_eq, not, inl, inr, All}
 use Rattle.std.proofs.lemmas.Bool.{and_from, and_parts, cases_Bool, eq-eqb, eqb-false, eqb-true, not-true, not_from_false, or_cases}
-use Rattle.std.proofs.lemmas.List.Elements.{All-from_recursion, All-head, All-tail, All-weaker, Contains-get_or}
+use Rattle.std.proofs.lemmas.List.Elements.{All-from_recursion, All-head, All-tail, All-weaker}
 use Rattle.std.proofs.lemmas.List.Folds.{list_any_at}
 use Rattle.std.specs.List.{Contains, list_any}
 use Rattle.snb_base.specs.Calendar.{IsDigit}
