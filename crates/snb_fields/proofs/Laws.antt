@@ -1,5 +1,6 @@
 -- What another crate may cite of this one: values that are taken, and fields read by columns.
-use Rattle.std.proofs.Common.{◌≡◌, ◌≢◌, ◌∷◌, ◌∙◌, [], ℕ, zero, suc, List, false, length, take, refl, ap, subst, arith}
+use Rattle.std.proofs.Common.{◌≡◌, ◌≢◌, ◌∷◌, ◌∙◌, ◌+◌, ◌⊎◌, [], ℕ, zero, suc, List, Option, Some, None, false, length, take, refl, ap, subst, inl, inr, arith}
+use Rattle.std.proofs.lemmas.Bool.{cases_eq}
 use Rattle.std.specs.List.{AllByRecursion}
 use Rattle.snb_base.specs.Calendar.{IsDigit}
 use Rattle.snb_base.specs.Spellings.{Num}
@@ -8,8 +9,11 @@ use Rattle.snb_schema.specs.declared.column.Column.TheVariants.{Number, Small, O
 use Rattle.snb_schema.specs.declared.column.Value.{Value}
 use Rattle.snb_schema.specs.declared.column.Value.TheVariants.{Digits, SmallDigits, NoId, Letters, Texts, Ids, Pairs}
 use Rattle.snb_schema.specs.Columns.{Spells, SpellsAll, StopsAfter, no_id}
+use Rattle.snb_schema.specs.RowLines.{IsWide}
+use Rattle.csv.specs.Records.{field_at}
 use Rattle.snb_fields.specs.Laws.{TakenAgain}
 use Rattle.snb_fields.specs.Values.{starts_twice, taken}
+use Rattle.snb_fields.proofs.WideFacts.{wide_none, wide_some}
 
 -- what is taken first of a value that is spelled is this value
 one_taken : (c : Column) (x : List ℕ) (v : Value) (cs : List Column) (vs : List Value) → Spells c x v → taken (c ∷ cs) (v ∷ vs) ≡ v ∷ taken cs vs
@@ -67,3 +71,16 @@ no_stop (c ∷ cs) [] vs s n t = t
 no_stop (c ∷ cs) (x ∷ fs) [] s n t = s
 no_stop (c ∷ cs) (x ∷ fs) (v ∷ vs) s zero t = t v s.0
 no_stop (c ∷ cs) (x ∷ fs) (v ∷ vs) s (suc n) t = no_stop cs fs vs s.1 n t.1
+
+-- there are so many fields, or one more that is empty; or there aren't
+pub wide_or_not : (count : ℕ) (fs : List (List ℕ)) → IsWide count fs ⊎ ¬ IsWide count fs
+wide_or_not count fs = go (field_at fs count) refl
+  where
+    go : (o : Option (List ℕ)) → field_at fs count ≡ o → IsWide count fs ⊎ ¬ IsWide count fs
+    go None e =
+        let (there, back) = wide_none count fs e in
+        elim (cases_eq (length fs) count) [ inl same ↦ inl (there same) | inr other ↦ inr (λ w. other (back w)) ]
+    go (Some []) e =
+        let (there, back) = wide_some count fs [] e in
+        elim (cases_eq (length fs) (count + 1)) [ inl same ↦ inl (there same refl) | inr other ↦ inr (λ w. other (back w).0) ]
+    go (Some (b ∷ bs)) e = inr (λ w. (let empty : b ∷ bs ≡ [] = ((wide_some count fs (b ∷ bs) e).1 w).1 in cc))
