@@ -1,5 +1,6 @@
 -- Days and moments of the proleptic Gregorian calendar from 1970 on, and how they are spelled.
 use Rattle.std.specs.Prelude.{◌≡◌, ◌==◌, ◌&&◌, ◌||◌, ◌+◌, ◌-◌, ◌*◌, ◌/◌, ◌%◌, ◌≤◌, ℕ, zero, suc, Bool, not, List, [], ◌∷◌, ◌++◌, if◌then◌else◌}
+use Rattle.snb_base.specs.declared.bounds.TheConstants.{LAST_YEAR}
 
 -- each fourth year, but of the years that end a century only each fourth
 abbrev pub is_leap : ℕ → Bool
@@ -21,10 +22,10 @@ unfoldable pub days_of_months : ℕ → ℕ → ℕ
 days_of_months y zero = 0
 days_of_months y (suc n) = days_of_months y n + month_length y (suc n)
 
--- the calendar has this day, from 1970 to 9999
+-- the calendar has this day, from 1970 to the greatest year
 pub record IsRealDay (y m d : ℕ) : Type 0 where
   pub first_year : 1970 ≤ y
-  pub last_year : y ≤ 9999
+  pub last_year : y ≤ LAST_YEAR
   pub first_month : 1 ≤ m
   pub last_month : m ≤ 12
   pub first_day : 1 ≤ d

@@ -2,15 +2,16 @@
 use Rattle.std.specs.Prelude.{◌≡◌, ◌≢◌, ℕ, ◌+◌, ◌-◌, ◌*◌, ◌<◌, ◌≤◌, ◌⊎◌, ◌==◌, ◌&&◌, Bool, List, [], ◌∷◌, ◌++◌, length, slice_index, if◌then◌else◌, nat_eq, Contains}
 use Rattle.std.specs.List.{slice_split, list_any, AllByRecursion}
 use Rattle.std.specs.Str.{bytes_eq}
+use Rattle.snb_base.specs.declared.bounds.TheConstants.{LAST_ID, LAST_TIME, LAST_YEAR}
 use Rattle.snb_base.specs.Calendar.{IsDigit, SpellsDay, SpellsMoment}
 
 -- the greatest date and time, in milliseconds since 1970-01-01 UTC
 abbrev pub last_time : ℕ
-last_time = 253402300799999
+last_time = LAST_TIME
 
 -- the greatest id
 abbrev pub last_id : ℕ
-last_id = 9223372036854775807
+last_id = LAST_ID
 
 -- the value of decimal digits that follow those of `before`
 abbrev pub value_after : ℕ → List ℕ → ℕ
@@ -65,7 +66,7 @@ SpellsId x id = Num x id last_id
 
 -- `id,year`
 abbrev pub SpellsPair : List ℕ → ℕ × ℕ → Type 0
-SpellsPair x pair = (id : List ℕ) × (year : List ℕ) × (x ≡ id ++ 44 ∷ year) × Num id pair.0 last_id × Num year pair.1 9999
+SpellsPair x pair = (id : List ℕ) × (year : List ℕ) × (x ≡ id ++ 44 ∷ year) × Num id pair.0 last_id × Num year pair.1 LAST_YEAR
 
 -- whether two pairs are equal
 abbrev pub pair_eq : ℕ × ℕ → ℕ × ℕ → Bool

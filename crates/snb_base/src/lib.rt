@@ -2,6 +2,7 @@
 //! owned lists and texts; and the spelling of numbers.
 #![tactic(auto)]
 
+pub mod bounds;
 mod calls;
 pub mod clock;
 pub mod folder_outbox;

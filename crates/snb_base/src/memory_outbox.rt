@@ -145,7 +145,8 @@ impl MemoryOutbox {
         Ok(())
     }
 
-    /// Lowers the room of one channel. Takes no memory.
+    /// Lowers the room of one channel: the new room is no greater than the old one, and no less than
+    /// the bytes that the channel holds. Takes no memory.
     pub fn limit(&mut self, channel: Channel, room: usize)
         requires lowers { room ≤ room_of self.old.rooms channel }
         requires holds { length (bytes_on self.old.written channel) ≤ room }

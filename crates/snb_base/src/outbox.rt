@@ -45,7 +45,8 @@ pub trait Outbox {
     /// It takes so many bytes more, on whatever channels, and doesn't fail.
     ghost ready: { Self → ℕ → Type 0 };
 
-    /// Appends a prefix of the piece to the channel, and nothing to another.
+    /// Appends a prefix of the piece to the channel, and nothing to another. The piece has one byte at
+    /// least.
     fn write(&mut self, channel: Channel, piece: &[u8]) -> Put
         requires { 0 < length piece.now }
         ensures took { IsWriting channel piece.now (written self.old) (written self.new) result }

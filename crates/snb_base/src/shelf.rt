@@ -29,7 +29,7 @@ pub trait Shelf {
     ghost faults: { Self → ℕ };
 
     /// Reads bytes of the file `name` from the byte `at` on into the front of `into`, as many as the
-    /// shelf likes. The contents stay as they are.
+    /// shelf likes. The buffer has room for one byte at least. The contents stay as they are.
     fn read(&mut self, name: &str, at: u64, into: &mut [u8]) -> Got
         requires { 0 < length into.old }
         ensures room { FitsBuffer (length into.old) result }

@@ -3,7 +3,8 @@ use Rattle.std.proofs.Common.{◌≡◌, ℕ, zero, suc, ◌<◌, ◌≤◌, inl
 use Rattle.snb_schema.specs.Schedule.{step_of, ComesBefore, IsPlanned}
 use Rattle.snb_schema.specs.Worked.{tie}
 use Rattle.snb_book.specs.Worked.{one_person, two_persons}
-use Rattle.snb_book.specs.Book.{IsOfPersons}
+use Rattle.snb_book.specs.Kept.{IsOfPersons}
+use Rattle.snb_base.proofs.Laws.{by_two}
 
 -- what is true of 0
 by_one : (P : ℕ → Type 0) → P 0 → (k : ℕ) → k < 1 → P k
@@ -27,12 +28,6 @@ planned_one due small = record {
 
 pub persons_one : (due : ℕ) → IsOfPersons (one_person due)
 persons_one due = record { persons = by_one (λ k. _) refl }
-
--- what is true of 0 and 1
-by_two : (P : ℕ → Type 0) → P 0 → P 1 → (k : ℕ) → k < 2 → P k
-by_two P at_zero at_one zero lt = at_zero
-by_two P at_zero at_one (suc zero) lt = at_one
-by_two P at_zero at_one (suc (suc k)) lt = absurd (omega arith)
 
 pub planned_two : IsPlanned two_persons
 planned_two = record {

@@ -1,6 +1,6 @@
 -- What the book's fields answer to a claim.
 use Rattle.std.proofs.Common.{◌≡◌, ℕ, suc, ◌<◌, ◌≤◌, List, [], ◌∷◌, length, get_or, Bool, true, false, inl, inr, refl, sym, ◌∙◌, subst, arith, Option, Some, None}
-use Rattle.std.specs.Prelude.{ℤ, pos, MatchOption}
+use Rattle.std.specs.Prelude.{ℤ, pos, ◌<ℤ◌, MatchOption}
 use Rattle.std.specs.List.{list_all}
 use Rattle.std.proofs.lemmas.Bool.{cases_Bool}
 use Rattle.std.proofs.lemmas.List.Folds.{list_all_at}
@@ -10,14 +10,16 @@ use Rattle.snb_schema.specs.Schedule.{Schedule, step_of, IsOperation, IsPlanned}
 use Rattle.snb_schema.specs.History.{started, finished, halted, hand}
 use Rattle.snb_schema.specs.Completion.{time_left, completion}
 use Rattle.snb_schema.specs.Rules.{IsComplete, IsNotBusy}
-use Rattle.snb_schema.proofs.Times.{completion_decides, time_left-same}
 use Rattle.snb_completion.specs.Progress.{Progress, flag}
 use Rattle.snb_book.specs.Kept.{Kept}
-use Rattle.snb_book.specs.Book.{IsOfPersons, IsSoundBook, IsTold, IsNext}
+use Rattle.snb_book.specs.Book.{IsSoundBook, IsTold, IsNext}
+use Rattle.snb_book.specs.Kept.{IsOfPersons}
 use Rattle.snb_book.specs.Heads.{IsWithin}
 use Rattle.snb_book.specs.declared.claim.Claim.TheVariants.{Busy, Blocked}
 use Rattle.snb_book.specs.Claims.{IsPlanHead, IsDueHead, IsAdmitted, IsFirst, IsUnderWay, IsClaim}
+use Rattle.snb_book.proofs.Blocking.{blocked_below}
 use Rattle.snb_book.proofs.Heads.{head_from_next, next_from_head, all_begun, due_no_later, within_all}
+use Rattle.snb_schema.proofs.Laws.{completion_decides, time_left-same}
 
 -- the completion time is told by the flags of what is finished
 pub completion_is : (b : Kept) (times : Progress) (heads : List ℕ) (held : List (Option ℕ)) (latest : ℕ) (stopped : Bool)
@@ -111,6 +113,8 @@ blocked s h first worker at needs time planned persons idle is due none needed r
   (((is.0.0, is.0.1, due), not_busy s h planned persons first is.0.0), λ j both. is.1 j (both.0.0, both.0.1)),
   needed,
   reached,
+  subst (λ (c : ℤ). c <ℤ pos needs) (sym reached)
+      (subst (λ (n : ℕ). completion s h <ℤ pos n) (sym needed) (blocked_below s h at first none (is.0.0, is.0.1, due) (not_busy s h planned persons first is.0.0))),
 )
 
 all_set-at : (flags : List Bool) (i : ℕ) → i < length flags → list_all (λ flag. flag) flags ≡ true → get_or flags i false ≡ true

@@ -8,18 +8,16 @@ use Rattle.std.proofs.lemmas.Int.{ints}
 use Rattle.snb_schema.specs.declared.event.Event.{Event}
 use Rattle.snb_schema.specs.declared.event.Event.TheVariants.{Start}
 use Rattle.snb_schema.specs.Schedule.{Schedule, step_of, IsOperation}
-use Rattle.snb_schema.proofs.Held.{hand-push}
 use Rattle.snb_book.specs.Kept.{IsInHand}
 use Rattle.snb_schema.specs.History.{started, last}
 use Rattle.snb_schema.specs.Completion.{least_t, is_awaited, completion}
 use Rattle.snb_schema.specs.Rules.{Rule, V1, V2, V3, V4, V5, V6, V7, V8, V9, StartObeys, Fits}
-use Rattle.snb_schema.proofs.Times.{completion_decides}
-use Rattle.snb_schema.proofs.Unstuck.{never_stuck}
 use Rattle.snb_book.specs.declared.claim.Ticket.{Ticket}
 use Rattle.snb_book.specs.declared.claim.Claim.{Claim}
 use Rattle.snb_book.specs.declared.claim.Claim.TheVariants.{Halted, AllStarted, Busy, NotDue, Go, Blocked}
 use Rattle.snb_book.specs.Claims.{IsDueHead, IsAdmitted, IsClaim}
 use Rattle.snb_book.specs.ClaimLaws.{ClaimFits, ClaimIsBlocked, ClaimIsNotStuck}
+use Rattle.snb_schema.proofs.Laws.{completion_decides, hand-push, never_stuck}
 
 pub claim_fits : ClaimFits
 claim_fits s workers h worker at ticket known later claim = record { obeys = by_rule }
@@ -41,16 +39,8 @@ claim_fits s workers h worker at ticket known later claim = record { obeys = by_
     by_rule V8 = tt
     by_rule V9 = later
 
-not_at_most : (c l : ℕ) → (pos c ≤ℤ (pos l -ℤ pos 1) → ⊥) → (pos l -ℤ pos 1) <ℤ pos c
-not_at_most c l no_more = elim (cases_lt c l) [ inl below ↦ absurd (no_more (omega (arith, ints))) | inr above ↦ omega (arith, ints) ]
-
 pub claim_is_blocked : ClaimIsBlocked
-claim_is_blocked s h worker at op needs time small claim =
-    let is : needs ≡ (step_of s op).t_d = claim.3 in
-    let below : completion s h <ℤ pos (step_of s op).t_d =
-    not_at_most (step_of s op).t_d (least_t s (is_awaited s h))
-    (λ reached. claim.1 op claim.2.0.0 (claim.2.0.1, (completion_decides s h op (omega arith)).1 (λ dependent. reached))) in
-    subst (λ (c : ℤ). c <ℤ pos needs) (sym claim.4) (subst (λ (n : ℕ). completion s h <ℤ pos n) (sym is) below)
+claim_is_blocked s h worker at op needs time claim = claim.5
 
 pub claim_is_not_stuck : ClaimIsNotStuck
 claim_is_not_stuck s workers h worker at claim timely legal known later idle running k within fresh = by_claim claim
@@ -59,10 +49,10 @@ claim_is_not_stuck s workers h worker at claim timely legal known later idle run
     op = (never_stuck s workers h timely legal idle running k within fresh).0
 
     earliest : (j : ℕ) → IsOperation s j → started h j ≡ false → (step_of s op).due ≤ (step_of s j).due
-    earliest = (never_stuck s workers h timely legal idle running k within fresh).1
+    earliest = (never_stuck s workers h timely legal idle running k within fresh).3
 
     fits : (w m : ℕ) → w < workers → (step_of s op).due ≤ m → last h ≤ m → Fits s workers h (Start op w m)
-    fits = (never_stuck s workers h timely legal idle running k within fresh).2
+    fits = (never_stuck s workers h timely legal idle running k within fresh).4
 
     -- where a head is due, one is due that is admitted
     ready : (j : ℕ) → IsDueHead s h at j → IsDueHead s h at op × IsAdmitted s h op

@@ -8,11 +8,11 @@ use Rattle.snb_schema.specs.declared.event.Event.{Event}
 use Rattle.snb_schema.specs.declared.limits.TheConstants.{MAX_TIME}
 use Rattle.snb_schema.specs.Schedule.{Schedule, step_of, IsOperation, IsBefore, IsPlanned}
 use Rattle.snb_schema.specs.History.{started}
-use Rattle.snb_schema.proofs.Planned.{planned_is_placed}
 use Rattle.snb_book.specs.Claims.{IsPlanHead, ComesFirst, IsFirst}
 use Rattle.snb_book.specs.Book.{IsNext}
 use Rattle.snb_book.specs.Heads.{IsAtPlace, IsWithin, IsHeadWithin, HasNoneWithin, earlier_of}
 use Rattle.snb_book.proofs.Places.{earlier_place, same_place}
+use Rattle.snb_schema.proofs.Laws.{planned_is_placed}
 
 -- what is started stands before the place that is kept for its lane
 abbrev pub Begins : Schedule → List Event → List ℕ → Type 0

@@ -1,3 +1,5 @@
+pub mod Laws
+pub mod Blocking
 pub mod Claiming
 pub mod Places
 pub mod Heads

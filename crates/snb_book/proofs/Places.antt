@@ -5,7 +5,7 @@ use Rattle.std.proofs.lemmas.Bool.{cases_Bool, cases_lt, cases_order, eqb-true}
 use Rattle.std.proofs.lemmas.List.Sums.{count_by_more_yes, count_by_more_no}
 use Rattle.snb_schema.specs.declared.step.Step.{Step}
 use Rattle.snb_schema.specs.Schedule.{Schedule, no_step, step_of, count_before, IsOperation, IsBefore, IsPlaced, IsPlanned}
-use Rattle.snb_schema.proofs.Planned.{planned_is_placed}
+use Rattle.snb_schema.proofs.Laws.{planned_is_placed}
 
 -- a count above p was once p, where one more passed
 count_passes : (q : Step → Bool) (xs : List Step) (p n : ℕ) → n ≤ length xs → p < count_by q (take n xs)

@@ -8,14 +8,13 @@ use Rattle.snb_schema.specs.Schedule.{Schedule, step_of, IsOperation, IsBefore}
 use Rattle.snb_schema.specs.History.{started, finished, halted, hand, holder}
 use Rattle.snb_schema.specs.Completion.{completion}
 use Rattle.snb_schema.specs.Rules.{V2, V3, V5, IsLegal, IsHead, IsNotBusy, IsCleared}
-use Rattle.snb_schema.proofs.Deciding.{obeys}
-use Rattle.snb_schema.proofs.Held.{keeps_legal}
-use Rattle.snb_schema.proofs.Holding.{holder_holds}
-use Rattle.snb_schema.proofs.Unstuck.{IsLeastFailing, least_failing}
 use Rattle.snb_book.specs.declared.claim.Claim.{Claim}
 use Rattle.snb_book.specs.declared.claim.Claim.TheVariants.{Halted, AllStarted, Busy, NotDue, Go, Blocked}
 use Rattle.snb_book.specs.Claims.{IsPlanHead, IsDueHead, IsAdmitted, ComesFirst, IsFirst, IsUnderWay, IsClaim}
 use Rattle.snb_book.specs.ClaimLaws.{ClaimExists}
+use Rattle.snb_base.proofs.Laws.{IsLeastFailing, least_failing}
+use Rattle.snb_book.proofs.Blocking.{blocked_below}
+use Rattle.snb_schema.proofs.Laws.{holder_holds, keeps_legal, obeys}
 
 abbrev Decided : Type 0 → Type 0
 Decided P = P ⊎ (P → ⊥)
@@ -184,7 +183,7 @@ claim_exists s workers h worker at legal =
         → (c : Claim) × IsClaim s h worker at c
     none_admitted under_way first is none =
         elim (first_such s (λ j. IsDueHead s h at j × IsNotBusy s h j) (λ j. both (is_due_head s h at j) (is_not_busy s h j)) (λ j p. p.0.0)) [
-          | inr found ↦ (Blocked found.0 (step_of s found.0).t_d (completion s h), (under_way, none, found.1, refl, refl))
+          | inr found ↦ (Blocked found.0 (step_of s found.0).t_d (completion s h), (under_way, none, found.1, refl, refl, blocked_below s h at found.0 none found.1.0.0 found.1.0.1))
           | inl all_busy ↦
               let w = waits_for s workers h first legal is.0.1 (λ free. all_busy first (is.0, free)) in (
                 Busy first w.0,

@@ -7,21 +7,18 @@ use Rattle.std.proofs.lemmas.List.{get_or-set_same, get_or-set_other, get_or-rep
 use Rattle.std.proofs.Math.ListN.{length-set}
 use Rattle.snb_schema.specs.declared.event.Event.{Event}
 use Rattle.snb_schema.specs.declared.event.Event.TheVariants.{Start, Finish, Halt}
-use Rattle.snb_schema.specs.declared.limits.TheConstants.{MAX_AT}
+use Rattle.snb_schema.specs.declared.limits.TheConstants.{MAX_AT, MAX_WORKERS}
 use Rattle.snb_schema.specs.Schedule.{Schedule, step_of, IsBefore, IsOperation, IsPlanned}
 use Rattle.snb_schema.specs.History.{is_by, started, hand, moment, last}
 use Rattle.snb_schema.specs.Completion.{completion}
 use Rattle.snb_schema.specs.Rules.{Rule, V1, V2, V3, V4, V5, V6, V7, V8, V9, MayAct, IsFront, FinishObeys, Fits, IsLegal}
-use Rattle.snb_schema.proofs.Histories.{IsLegal-nil, IsLegal-push}
-use Rattle.snb_schema.proofs.Held.{started-push, finished-push, hand-push, keeps_legal}
-use Rattle.snb_schema.proofs.Once.{hand_has_start}
-use Rattle.snb_schema.proofs.Times.{completion_rises}
-use Rattle.snb_schema.proofs.Short.{halted-push, last-push, legal_is_short, last_is_bounded}
 use Rattle.snb_completion.specs.Progress.{Progress, nothing_started, IsNextInLane, IsOpen}
 use Rattle.snb_book.specs.Kept.{Kept, IsAdding, moment_after}
-use Rattle.snb_book.specs.Book.{IsOfPersons, IsSoundBook, IsTold}
+use Rattle.snb_book.specs.Book.{IsSoundBook, IsTold}
+use Rattle.snb_book.specs.Kept.{IsOfPersons}
 use Rattle.snb_book.proofs.Places.{same_place}
 use Rattle.snb_book.proofs.Heads.{next_from_head}
+use Rattle.snb_schema.proofs.Laws.{IsLegal-nil, IsLegal-push, completion_rises, finished-push, halted-push, hand-push, hand_has_start, keeps_legal, last-push, last_is_bounded, legal_is_short, started-push}
 
 -- the book with one more event
 abbrev pub with_event : Kept → Event → Kept
@@ -136,7 +133,7 @@ begun_after one k lane_one lane_k place_one place_k head begun same one_place at
 abbrev pub of_nothing : Schedule → ℕ → Kept
 of_nothing s workers = record { schedule = s; workers = workers; history = [] }
 
-pub IsSoundBook-none : (s : Schedule) (workers capacity : ℕ) → IsPlanned s → IsOfPersons s → workers ≤ 8 → 2 * length s.steps + workers ≤ capacity → IsSoundBook (of_nothing s workers) capacity
+pub IsSoundBook-none : (s : Schedule) (workers capacity : ℕ) → IsPlanned s → IsOfPersons s → workers ≤ MAX_WORKERS → 2 * length s.steps + workers ≤ capacity → IsSoundBook (of_nothing s workers) capacity
 IsSoundBook-none s workers capacity planned persons few room = record {
   planned = planned;
   persons = persons;

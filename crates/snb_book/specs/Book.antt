@@ -1,4 +1,4 @@
--- What a book keeps beside its history, to answer without reading it.
+-- What a book keeps beside its history, to answer without reading it. Cited by contracts of private functions alone.
 use Rattle.std.specs.Prelude.{◌≡◌, ℕ, ◌+◌, ◌*◌, ◌<◌, ◌≤◌, nat_lt, List, length, Bool, true, false, Option, Some, None, slice_get, slice_index, slice_index_or}
 use Rattle.snb_schema.specs.declared.limits.TheConstants.{MAX_WORKERS}
 use Rattle.snb_schema.specs.declared.step.LaneKind.TheVariants.{Person}
@@ -6,11 +6,7 @@ use Rattle.snb_schema.specs.Schedule.{Schedule, step_of, IsOperation, IsPlanned}
 use Rattle.snb_schema.specs.History.{started, finished, halted, hand, last}
 use Rattle.snb_schema.specs.Rules.{IsLegal}
 use Rattle.snb_completion.specs.Progress.{Progress, flag}
-use Rattle.snb_book.specs.Kept.{Kept}
-
--- every lane holds a person stream
-pub record IsOfPersons (s : Schedule) : Type 0 where
-  pub persons : (lane : ℕ) → lane < length s.kinds → slice_get s.kinds lane ≡ Some Person
+use Rattle.snb_book.specs.Kept.{IsOfPersons, Kept}
 
 -- the operation stands at the place that is kept for its lane
 abbrev pub IsNext : Schedule → List ℕ → ℕ → Type 0

@@ -20,8 +20,7 @@ ClaimFits =
 -- where an operation is Blocked, the completion time is below what it needs
 abbrev pub ClaimIsBlocked : Type 0
 ClaimIsBlocked =
-    (s : Schedule) (h : List Event) (worker at op needs : ℕ) (time : ℤ) → needs ≤ MAX_TIME →
-    IsClaim s h worker at (Blocked op needs time) → time <ℤ pos needs
+    (s : Schedule) (h : List Event) (worker at op needs : ℕ) (time : ℤ) → IsClaim s h worker at (Blocked op needs time) → time <ℤ pos needs
 
 -- where nobody has an operation in hand, nobody has halted and not all is started, a claim answers Go, or NotDue where no head is due
 abbrev pub ClaimIsNotStuck : Type 0

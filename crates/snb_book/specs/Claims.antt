@@ -1,5 +1,5 @@
 -- What a claim by a worker answers, at a moment.
-use Rattle.std.specs.Prelude.{◌≡◌, ℕ, ◌<◌, ◌≤◌, ◌⊎◌, List, length, true, false, Some, None}
+use Rattle.std.specs.Prelude.{◌≡◌, ℕ, ◌<◌, ◌≤◌, ◌⊎◌, pos, ◌<ℤ◌, List, length, true, false, Some, None}
 use Rattle.snb_schema.specs.declared.event.Event.{Event}
 use Rattle.snb_schema.specs.Schedule.{Schedule, step_of, IsOperation, IsBefore}
 use Rattle.snb_schema.specs.History.{started, finished, halted, hand, holder}
@@ -69,6 +69,7 @@ IsClaim s h worker at (Blocked op needs time) =
     × IsFirst s (λ j. IsDueHead s h at j × IsNotBusy s h j) op
     × (needs ≡ (step_of s op).t_d)
     × (time ≡ completion s h)
+    × (time <ℤ pos needs)
 
 -- P of the ticket of a Go
 abbrev pub IfGo : Claim → (Ticket → Type 0) → Type 0

@@ -1,4 +1,4 @@
--- The heads of a schedule's lanes.
+-- The heads of a schedule's lanes. Cited by contracts of private functions alone.
 use Rattle.std.specs.Prelude.{◌≡◌, ℕ, ℤ, pos, ◌<◌, ◌≤ℤ◌, nat_lt, true, List, Option, Some, None, slice_index_or, if◌then◌else◌}
 use Rattle.snb_schema.specs.declared.step.Step.{Step}
 use Rattle.snb_schema.specs.Schedule.{Schedule, no_step, step_of, IsOperation}

@@ -8,13 +8,14 @@ ghost use Rattle.snb_schema.specs.Completion.{completion};
 ghost use Rattle.snb_schema.specs.Rules.{Fits, IsComplete, IsFront, IsLegal, MayAct};
 ghost use Rattle.snb_book.specs.Kept.{IsAdding, IsInHand, moment_after};
 ghost use Rattle.snb_book.specs.Claims.{IfGo, IfNotGo, IsAdmitted, IsClaim, IsDueHead, IsFirst, IsPlanHead, IsUnderWay};
-ghost use Rattle.snb_book.specs.Book.{IsNext, IsOfPersons};
+ghost use Rattle.snb_book.specs.Book.{IsNext};
+ghost use Rattle.snb_book.specs.Kept.{IsOfPersons};
 ghost use Rattle.snb_book.specs.Heads.{HasNoneWithin, IsAtPlace, IsHeadWithin, IsPassed, IsWithin, earlier_of};
 
 use crate::claim::{Claim, Ticket};
 use snb_completion::times::Times;
 use snb_schema::event::Event;
-use snb_schema::limits::{MAX_AT, MAX_TIME};
+use snb_schema::limits::{MAX_AT, MAX_TIME, MAX_WORKERS};
 use snb_schema::schedule::Schedule;
 use snb_schema::step::Step;
 use std::alloc::{AllocError, Global};

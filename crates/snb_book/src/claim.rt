@@ -38,8 +38,8 @@ pub enum Claim {
         ticket: Ticket,
     },
     /// The due head `op` waits for dependencies by the dependency rule of Erling et al., SIGMOD
-    /// 2015: it needs all of a date and time up to `needs`, and all up to `completion` are
-    /// finished, both in milliseconds since 1970-01-01 UTC.
+    /// 2015: it needs all of a date and time up to `needs`, and all up to `completion`, which is
+    /// smaller, are finished, both in milliseconds since 1970-01-01 UTC.
     Blocked {
         op: u32,
         needs: u64,

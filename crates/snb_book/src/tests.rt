@@ -4,7 +4,7 @@ ghost use Rattle.std.specs.Prelude.{◌≡◌, ◌<◌, ◌^◌, ◌∷◌, [], 
 ghost use Rattle.snb_schema.specs.Schedule.{IsPlanned};
 ghost use Rattle.snb_schema.specs.Worked.{tie};
 ghost use Rattle.snb_book.specs.Worked.{one_person as one_value, person as person_value, two_persons as two_value, of_tie};
-ghost use Rattle.snb_book.specs.Book.{IsOfPersons};
+ghost use Rattle.snb_book.specs.Kept.{IsOfPersons};
 
 use crate::book::Book;
 use crate::claim::{Claim, Ticket};

@@ -2,7 +2,7 @@
 use Rattle.std.proofs.Common.{◌≡◌, ◌∙◌, ◌<◌, ◌≤◌, ◌⊎◌, ℕ, List, get_or, take, drop, length, inl, inr, sym, arith}
 use Rattle.std.proofs.lemmas.List.{get_or-take, length-take}
 use Rattle.std.specs.Fmt.{decimal}
-use Rattle.snb_base.proofs.Digits.{Num-decimal}
+use Rattle.snb_base.proofs.Laws.{number_spelled}
 use Rattle.snb_base.specs.Calendar.{SpellsDay, SpellsMoment, SpellsTime}
 use Rattle.snb_base.specs.Spellings.{Num, last_time}
 use Rattle.snb_clock.proofs.SpellingFacts.{no_number}
@@ -53,4 +53,4 @@ one_spelled Spells dash one x m n most (inr s) (inr t) = one_number x m n most s
 
 -- the digits of a moment are a number
 pub moment_digits : (n : ℕ) → n ≤ last_time → Num (decimal n) n last_time
-moment_digits n small = Num-decimal n last_time small (omega arith)
+moment_digits n small = number_spelled n last_time small (omega arith)

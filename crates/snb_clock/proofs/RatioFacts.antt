@@ -7,7 +7,7 @@ use Rattle.std.specs.Option.{MatchOption}
 use Rattle.std.specs.List.{AllByRecursion}
 use Rattle.snb_base.specs.Calendar.{IsDigit}
 use Rattle.snb_base.specs.Spellings.{Num, value_after}
-use Rattle.snb_base.proofs.Digits.{own}
+use Rattle.snb_base.proofs.Laws.{own_digits}
 use Rattle.snb_clock.specs.Ratios.{SpellsMillionths, SpellsPart}
 
 -- no point is in the text
@@ -69,7 +69,7 @@ whole_first x whole (Some p) n bare e s = let (units, num, _) = whole_and_part x
 -- a part is small
 pub part_small : (x : List ℕ) (n : ℕ) → SpellsPart x n → n ≤ 10 ^ 12
 part_small x n s =
-    let below : value_after 0 x < 10 ^ 6 = digits_value_short own x 6 s.digits s.few in
+    let below : value_after 0 x < 10 ^ 6 = digits_value_short own_digits x 6 s.digits s.few in
     let scale : 10 ^ (6 - length x) ≤ 10 ^ 6 = pow-le-pow_right {n = 10} (lit< tt) {i = 6 - length x} {j = 6} (omega arith) in
     rw s.value (mul-le (value_after 0 x) (10 ^ (6 - length x)) (10 ^ 6) (10 ^ 6) (omega arith) scale)
 

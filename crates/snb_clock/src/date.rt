@@ -6,13 +6,11 @@ ghost use Rattle.snb_base.specs.Calendar.{IsDigit, IsRealDay, SpellsDay, SpellsM
 ghost use Rattle.snb_base.specs.Spellings.{Date, Day};
 
 use jiff::civil::Date as CivilDate;
+use snb_base::bounds::LAST_TIME;
 use snb_base::number::read_number;
 
-// 9999-12-31T23:59:59.999, in milliseconds since 1970-01-01 UTC.
-const LAST_TIME: u64 = 253_402_300_799_999;
-
 /// The milliseconds from 1970-01-01T00:00:00 UTC to the moment that the text spells, at most
-/// 253402300799999, the last of 9999: either in words, `YYYY-MM-DDThh:mm:ss.mmm+0000` as LDBC SNB's
+/// `LAST_TIME`: either in words, `YYYY-MM-DDThh:mm:ss.mmm+0000` as LDBC SNB's
 /// data format writes a moment of ISO 8601's (the proleptic Gregorian) calendar in UTC, or as that
 /// number. None exactly where the text spells no such moment. Takes no memory.
 pub fn read_date(text: &[u8]) -> Option<u64>
@@ -26,7 +24,7 @@ pub fn read_date(text: &[u8]) -> Option<u64>
 }
 
 /// The milliseconds from 1970-01-01 to the midnight, in UTC, of the day that the text spells, at
-/// most 253402300799999: either in words, `YYYY-MM-DD` as LDBC SNB's data format writes a day of ISO
+/// most `LAST_TIME`: either in words, `YYYY-MM-DD` as LDBC SNB's data format writes a day of ISO
 /// 8601's (the proleptic Gregorian) calendar, or as a number of milliseconds. None exactly where the
 /// text spells neither. Takes no memory.
 pub fn read_day(text: &[u8]) -> Option<u64>
@@ -125,7 +123,7 @@ fn read_spelled_time(text: &[u8]) -> Option<u32>
 
 // The milliseconds from 1970-01-01T00:00:00 UTC to a moment spelled `YYYY-MM-DDThh:mm:ss.mmm+0000`.
 fn read_spelled_moment(text: &[u8]) -> Option<u64>
-    ensures last { IfSome result (λ n. n ≤ 253402300799999) }
+    ensures last { IfSome result (λ n. n ≤ LAST_TIME) }
     ensures spelled { MatchOption result ((n : ℕ) → ¬ SpellsMoment text.now n) (SpellsMoment text.now) }
 {
     if text.len() < 10 {

@@ -3,10 +3,17 @@
 ghost use Rattle.std.specs.Prelude.{◌≡◌, ◌≢◌, ℕ, ◌≤◌, ◌∷◌, ◌++◌, MatchOption};
 ghost use Rattle.std.specs.List.{All};
 ghost use Rattle.snb_base.specs.Spellings.{last_time};
-ghost use Rattle.snb_clock.specs.Ratios.{SpellsPart, SpellsMillionths, SpellsRatio, due_of};
+ghost use Rattle.snb_clock.specs.Ratios.{SpellsPart, SpellsMillionths, SpellsRatio, due_of, most_millionths};
 
+use snb_base::bounds::LAST_AT;
 use snb_base::number::read_number;
 use std::marker::Model;
+
+/// The greatest whole part of a text that is tried as a ratio.
+pub const MOST_UNITS: u64 = 9999;
+
+/// The greatest ratio, in millionths: 1000.
+pub const MOST_MILLIONTHS: u64 = 1000000000;
 
 /// A ratio from 0.000001 to 1000: a run's time for a span of its schedule's time, as the driver of
 /// LDBC SNB has it (its time compression ratio). Its meaning is the number of millionths.
@@ -20,7 +27,7 @@ impl Model for Ratio {
 
     ghost view = { λ r. r.num };
 
-    ghost invariant = { λ r. (1 ≤ r.num) × (r.num ≤ 1000000000) };
+    ghost invariant = { λ r. (1 ≤ r.num) × (r.num ≤ most_millionths) };
 
     ghost inverse = { λ num. record { num = num } };
 }
@@ -40,7 +47,7 @@ impl Ratio {
         ensures { MatchOption result ((num : ℕ) → ¬ SpellsRatio text.now num) (SpellsRatio text.now) }
     {
         let num = read_millionths(text)?;
-        if num == 0 || num > 1_000_000_000 {
+        if num == 0 || num > MOST_MILLIONTHS {
             return None;
         }
         Some(Ratio { num: num as u32 })
@@ -48,12 +55,13 @@ impl Ratio {
 
     /// When an operation is due, in milliseconds after a run's start: it is planned for the moment
     /// `t` of a schedule that begins at `t0`, both in milliseconds since 1970-01-01 UTC. The span
-    /// between them, multiplied by the ratio, is rounded down to whole milliseconds.
+    /// between them, multiplied by the ratio, is rounded down to whole milliseconds. `t` is no earlier
+    /// than `t0`, and at most `LAST_TIME`.
     pub fn due(&self, t0: u64, t: u64) -> u64
         requires order { t0 ≤ t }
         requires last { t ≤ last_time }
         ensures value { result ≡ due_of self.now t0 t }
-        ensures bounded { result ≤ 9223372036854775807 }
+        ensures bounded { result ≤ LAST_AT }
     {
         (u128::from(t - t0) * u128::from(self.num) / 1_000_000) as u64
     }
@@ -64,7 +72,7 @@ fn read_millionths(text: &[u8]) -> Option<u64>
     ensures { MatchOption result ((n : ℕ) → ¬ SpellsMillionths text.now n) (SpellsMillionths text.now) }
 {
     let (whole, part) = at_point(text);
-    let units = read_number(whole, 9999)?;
+    let units = read_number(whole, MOST_UNITS)?;
     match part {
         Some(digits) => {
             let rest = read_part(digits)?;

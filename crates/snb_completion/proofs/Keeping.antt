@@ -15,7 +15,7 @@ use Rattle.snb_completion.specs.declared.times.LaneTimes.{LaneTimes}
 use Rattle.snb_completion.specs.Progress.{Progress, flag, nothing_started}
 use Rattle.snb_completion.specs.Waiting.{has, HasThose, is_left_in, IsLaneOf, AreTimesOf}
 use Rattle.snb_completion.proofs.Waits.{HasThose-same, HasThose-remove, least_t-none}
-use Rattle.snb_schema.proofs.Times.{least_of-same}
+use Rattle.snb_schema.proofs.Laws.{least_of-same}
 
 -- a value at each place, one of them new
 get_or-set : {X : Type 0} (xs : List X) (i k : ℕ) (x d : X) → i < length xs → get_or (set xs i x) k d ≡ cond (eqb i k) x (get_or xs k d)

@@ -11,9 +11,8 @@ use Rattle.std.proofs.lemmas.List.Folds.{list_any_more, Any-from_list_any, list_
 use Rattle.snb_schema.specs.declared.limits.TheConstants.{MAX_TIME}
 use Rattle.snb_schema.specs.Schedule.{Schedule, step_of, IsOperation, IsPlanned, IsLane, is_dependency}
 use Rattle.snb_schema.specs.Completion.{least_t}
-use Rattle.snb_schema.proofs.Planned.{t_rises_along}
-use Rattle.snb_schema.proofs.Times.{least_of-le, le-least_of, least_of-reached}
 use Rattle.snb_completion.specs.Waiting.{has, HasThose}
+use Rattle.snb_schema.proofs.Laws.{le-least_of, least_of-le, least_of-reached, t_rises_along}
 
 -- a number finds itself alone
 pub finds-eqb : (j k : ℕ) → is_at (nat_cmp j) k ≡ eqb j k

@@ -17,9 +17,7 @@ use Rattle.snb_schema.specs.Layouts.{columns, has_no_direction, id_column, shape
 use Rattle.snb_schema.specs.RowLines.{IsBadColumn, IsLoop, IsWide, NoneOrEmpty, SpellsRow, in_order, is_turned, row_shape, table_of, values}
 use Rattle.snb_fields.proofs.Laws.{starts_alone, taken_again}
 use Rattle.snb_fields.specs.Values.{starts_twice, taken}
-use Rattle.snb_schema.specs.declared.refusal.Refusal.TheVariants.{BadLine}
 use Rattle.snb_csv.specs.Make.{IsRowOf, row_by}
-use Rattle.snb_csv.specs.Rows.{Passed, RefusesAs, RefusesRow}
 
 -- a row that is made of values has them
 made_values : (s : Shape) (t : Table) (vs : List Value) → values (row_by s t vs) ≡ taken (shape_columns s) vs
@@ -279,8 +277,3 @@ pub bad_stop : (t : Table) (cs : List Column) (fs : List (List ℕ)) (vs : List 
     → IsWide (length cs) fs → StopsAfter cs fs n → SpellsAll (take n cs) (take n fs) vs → column ≡ n + 1 → answer ≡ cond (undirected && starts_twice vs) 2 column → IsBadColumn t fs answer
 bad_stop t cs fs vs n column undirected answer e u knows w stops s at is =
     rw is (bad_at t fs vs n column undirected u knows (subst (λ (ds : List Column). IsWide (length ds) fs) e w) (subst (λ (ds : List Column). StopsAfter ds fs n) e stops, subst (λ (ds : List Column). SpellsAll (take n ds) (take n fs) vs) e s) at)
-
--- a bad column is refused past the header
-pub refuses_column : (s : Passed) (number : ℕ) (fs : List (List ℕ)) (column : ℕ) (t : Table) (headed : Bool) → t ≡ s.table → headed ≡ s.headed → headed ≡ true → IsBadColumn t fs column → RefusesRow s number fs (BadLine s.file number column)
-refuses_column s number fs column t headed e f h bad =
-    subst (λ b. RefusesAs b s.table s.file number fs (BadLine s.file number column)) (sym h ∙ f) (column, subst (λ (u : Table). IsBadColumn u fs column) e bad, refl)

@@ -86,10 +86,12 @@ few_takable rows (x ∷ xs) all =
 -- inserts that were read and can be taken are planned
 pub planned : (rows : ℕ) (xs : List Line) → AreReadInserts xs → AreTakable rows xs → ArePlanned xs
 planned rows xs read all = record {
-  few = few_takable rows xs all;
-  of_persons = λ k d h. (read.each k d h).of_persons;
-  timed = λ k d h. (read.each k d h).timed;
-  needs_timed = λ k d h. (read.each k d h).needs_timed;
-  rises = read.rises;
+  of_stream = record { of_persons = λ k d h. (read.each k d h).of_persons; rises = read.rises };
+  with_times = record {
+    few = few_takable rows xs all;
+    timed = λ k d h. (read.each k d h).timed;
+    needs_timed = λ k d h. (read.each k d h).needs_timed;
+    rises = read.rises;
+  };
   of_two = λ k d h. (read.each k d h).of_two;
 }

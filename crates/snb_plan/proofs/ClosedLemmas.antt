@@ -14,10 +14,11 @@ use Rattle.snb_schema.specs.declared.op.Op.TheVariants.{AddPerson}
 use Rattle.snb_schema.specs.declared.refusal.Refusal.{Refusal}
 use Rattle.snb_schema.specs.declared.table.Kind.TheVariants.{Person}
 use Rattle.snb_schema.specs.Closed.{key_of, persons_of, IsLate, IsTaken, IsMet, IsFirstLacking, IsWrongBy, IsWrong, IsFirstWrong, IsClosedAt, IsClosed}
-use Rattle.snb_schema.specs.Plan.{adds_person, ArePlanned}
+use Rattle.snb_schema.specs.Plan.{adds_person, AreOfPersonStream}
 use Rattle.snb_plan.proofs.Adding.{same_key}
 use Rattle.snb_plan.specs.declared.closed.Added.{Added}
 use Rattle.snb_plan.specs.Added.{time_of, HasAdded, IsTakenBy, IsMetBy, IsFine}
+use Rattle.snb_base.proofs.Laws.{push_split, split_here}
 
 -- the inserts so far are closed, and of each the t is kept for its key, and nothing else is kept
 pub record Stands (holds : Key → Type 0) (all before : List Line) (added : Added) : Type 0 where
@@ -25,24 +26,8 @@ pub record Stands (holds : Key → Type 0) (all before : List Line) (added : Add
   pub kept : (key : Key) (t : ℕ) → time_of added key ≡ Some t → (y : Line) × Contains before y × (key_of y.op ≡ key) × (y.t ≡ t)
   pub has : (y : Line) → Contains before y → time_of added (key_of y.op) ≡ Some y.t
 
--- an element of a list with one more at its end is that one, or stands in the list
-push_split : {X : Type 0} (g : List X) (x : X) (rest h : List X) (e : X) → g ++ x ∷ rest ≡ h ++ e ∷ [] → ((g ≡ h) × (x ≡ e)) ⊎ ((after : List X) × (g ++ x ∷ after ≡ h))
-push_split [] x rest [] e q = inl (refl, cc)
-push_split [] x rest (y ∷ h) e q = inr (h, cc)
-push_split (y ∷ []) x rest [] e q = absurd cc
-push_split (y ∷ z ∷ g) x rest [] e q = absurd cc
-push_split (y ∷ g) x rest (z ∷ h) e q =
-    let same : y ≡ z = cc in
-    elim (push_split g x rest h e cc) [ inl p ↦ inl (cc, p.1) | inr p ↦ inr (p.0, let deeper : g ++ x ∷ p.0 ≡ h = p.1 in cc) ]
-
--- a list is what stands before a place, what stands there, and what stands after it
-pub split_here : {X : Type 0} (xs : List X) (i : ℕ) (x : X) → i < length xs → x ≡ get_or xs i x → take i xs ++ x ∷ drop (i + 1) xs ≡ xs
-split_here {X} xs i x l e =
-    ap (λ (y : X). take i xs ++ y ∷ drop (i + 1) xs) e
-    ∙ (ap (λ (ys : List X). take i xs ++ ys) (rw add-one (sym (drop-cons xs i x l))) ∙ take-append-drop i xs)
-
 -- an insert that is earlier than the one at a place stands before it
-before_by_t : (xs : List Line) (i : ℕ) (x y : Line) → ArePlanned xs → i < length xs → x ≡ get_or xs i x → Contains xs y → y.t < x.t → Contains (take i xs) y
+before_by_t : (xs : List Line) (i : ℕ) (x y : Line) → AreOfPersonStream xs → i < length xs → x ≡ get_or xs i x → Contains xs y → y.t < x.t → Contains (take i xs) y
 before_by_t xs i x y planned lt is at earlier =
     elim (cases_lt at.0 i) [
       | inl below ↦ (at.0, omega (arith, length-take i xs), get_or-take i xs at.0 y below ∙ at.2)
@@ -73,7 +58,7 @@ by_met holds xs i t_d id added s (inr t) =
     let y = s.kept (Node Person id) t.0 t.1 in
     inr (y.0, among_all xs i y.0 y.1, y.2, let same = y.3 in let le = t.2 in omega arith)
 
-met_by : (holds : Key → Type 0) (xs : List Line) (i id : ℕ) (x : Line) (added : Added) → ArePlanned xs → i < length xs → x ≡ get_or xs i x → x.t_d < x.t
+met_by : (holds : Key → Type 0) (xs : List Line) (i id : ℕ) (x : Line) (added : Added) → AreOfPersonStream xs → i < length xs → x ≡ get_or xs i x → x.t_d < x.t
     → Stands holds xs (take i xs) added → IsMet holds xs x.t_d id → IsMetBy holds added x.t_d id
 met_by holds xs i id x added planned lt is timely s (inl held) = inl held
 met_by holds xs i id x added planned lt is timely s (inr y) =
@@ -164,7 +149,7 @@ not_wrong holds file all before x r closed (inr (inr unmet)) =
         subst P (get_or-append_seam front id rest id) (a (length front) id (omega (arith, length-append front (id ∷ rest))))
 
 -- what is wrong with an insert by what is kept is wrong with it
-pub first_wrong : (holds : Key → Type 0) (file : FileId) (xs : List Line) (i : ℕ) (x : Line) (added : Added) (r : Refusal) → ArePlanned xs → i < length xs → x ≡ get_or xs i x
+pub first_wrong : (holds : Key → Type 0) (file : FileId) (xs : List Line) (i : ℕ) (x : Line) (added : Added) (r : Refusal) → AreOfPersonStream xs → i < length xs → x ≡ get_or xs i x
     → Stands holds xs (take i xs) added → IsWrongBy (λ z. IsTakenBy holds added (key_of z.op)) (IsMetBy holds added) file x r → IsFirstWrong holds file xs r
 first_wrong holds file xs i x added r planned lt is s wrong = record {
   before = take i xs;

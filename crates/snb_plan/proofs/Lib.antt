@@ -1,3 +1,4 @@
+pub mod Laws
 pub mod Adding
 pub mod ClosedLemmas
 pub mod PlanLemmas

@@ -7,7 +7,7 @@ use Rattle.std.proofs.lemmas.List.Sums.{count_by_more_yes}
 use Rattle.snb_schema.specs.declared.op.Line.{Line}
 use Rattle.snb_schema.specs.declared.step.Step.{Step}
 use Rattle.snb_schema.specs.declared.step.LaneKind.TheVariants.{Person, Query}
-use Rattle.snb_schema.specs.Plan.{adds_person, insert_step, insert_steps, first_t, plan_of, ArePlanned}
+use Rattle.snb_schema.specs.Plan.{adds_person, insert_step, insert_steps, first_t, plan_of, AreTimed}
 use Rattle.snb_schema.specs.Schedule.{Schedule, no_step, step_of, ComesBefore, count_before, IsPlanned}
 
 -- there is a step for each insert
@@ -100,7 +100,7 @@ comes_before : (one other : Step) → one.t ≤ other.t → one.lane ≡ other.l
 comes_before one other t lane place = elim (cases_lt one.t other.t) [ inl lt ↦ inl lt | inr ge ↦ inr ((let e : one.t ≡ other.t = omega arith in e), inr (lane, place)) ]
 
 -- the plan of some inserts is a schedule's
-some_planned : (x : Line) (xs : List Line) → ArePlanned (x ∷ xs) → IsPlanned (plan_of (x ∷ xs))
+some_planned : (x : Line) (xs : List Line) → AreTimed (x ∷ xs) → IsPlanned (plan_of (x ∷ xs))
 some_planned x xs a =
     let all : List Line = x ∷ xs in
     let s : Schedule = plan_of (x ∷ xs) in
@@ -134,7 +134,7 @@ some_planned x xs a =
     }
 
 -- the plan of inserts that may be planned is a schedule's
-pub planned_plan : (xs : List Line) → ArePlanned xs → IsPlanned (plan_of xs)
+pub planned_plan : (xs : List Line) → AreTimed xs → IsPlanned (plan_of xs)
 planned_plan [] a = record {
   few_lanes = omega arith;
   few_steps = omega arith;
@@ -156,6 +156,6 @@ lane_of_persons zero lt = refl
 lane_of_persons (suc lane) lt = absurd (omega arith)
 
 -- no t of the inserts is below that of the first
-pub first_least : (xs : List Line) (k : ℕ) (d : Line) → ArePlanned xs → k < length xs → first_t xs ≤ (get_or xs k d).t
+pub first_least : (xs : List Line) (k : ℕ) (d : Line) → AreTimed xs → k < length xs → first_t xs ≤ (get_or xs k d).t
 first_least [] k d a lt = absurd (omega arith)
 first_least (x ∷ xs) k d a lt = a.rises 0 k d (omega arith) lt

@@ -3,7 +3,7 @@
 ghost use Rattle.std.specs.Prelude.{◌≡◌, ◌↔◌, max, min, IsTrue, MatchOption, OnOk, All};
 ghost use Rattle.snb_schema.specs.Closed.{key_of, persons_of, IsClosed, IsFirstLacking, IsFirstWrong, IsLate, IsWrongBy};
 ghost use Rattle.snb_schema.specs.Faults.{OnBad};
-ghost use Rattle.snb_schema.specs.Plan.{ArePlanned, IsOfPersonStream};
+ghost use Rattle.snb_schema.specs.Plan.{AreOfPersonStream, IsOfPersonStream};
 ghost use Rattle.snb_plan.specs.Added.{time_of, HasAdded, IsFine, IsMetBy, IsTakenBy};
 
 use crate::plan::adds_person;
@@ -215,15 +215,14 @@ fn wrong_with<H: Held>(held: &H, added: &Added, file: FileId, line: &Line) -> Op
 /// held nor added by an insert whose t is at most its t_d.
 ///
 /// `file` is the stream, and `held` tells the keys of the dataset. The inserts are of persons and
-/// friendships, in order of t, `MAX_ROWS` at most, with no moment above `MAX_TIME` and no friendship
-/// with oneself.
+/// friendships, in order of t.
 pub fn check_closed<H: Held>(
     alloc: Global,
     held: &H,
     file: FileId,
     inserts: &[Line],
 ) -> Result<(), Fault>
-    requires { ArePlanned inserts.now }
+    requires { AreOfPersonStream inserts.now }
     ensures ok { OnOk result (IsClosed (H.holds held.now) inserts.now) }
     ensures bad { OnBad result (IsFirstWrong (H.holds held.now) file inserts.now) }
 {

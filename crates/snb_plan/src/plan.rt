@@ -1,7 +1,7 @@
 //! The plan of the inserts of a stream.
 
 ghost use Rattle.std.specs.Prelude.{◌≡◌, ◌≤◌, IfOk};
-ghost use Rattle.snb_schema.specs.Plan.{adds_person, first_t, insert_step, insert_steps, plan_of, ArePlanned};
+ghost use Rattle.snb_schema.specs.Plan.{adds_person, first_t, insert_step, insert_steps, plan_of, AreTimed};
 
 use snb_schema::op::{Line, Op};
 use snb_schema::schedule::Schedule;
@@ -47,7 +47,7 @@ fn insert_step(first: u64, place: u32, line: &Line) -> Step
 // The steps of the inserts, all in one lane: each is due as long after the run's start as its t is
 // after that of the first.
 fn steps_of(alloc: Global, first: u64, inserts: &[Line]) -> Result<Vec<Step>, AllocError>
-    requires planned { ArePlanned inserts.now }
+    requires planned { AreTimed inserts.now }
     requires first { first ≡ first_t inserts.now }
     ensures { IfOk result (λ steps. steps.items ≡ insert_steps first 0 inserts.now) }
 {
@@ -59,10 +59,10 @@ fn steps_of(alloc: Global, first: u64, inserts: &[Line]) -> Result<Vec<Step>, Al
     Ok(steps)
 }
 
-/// The schedule of the inserts of a stream, which are of persons and friendships, in order of t,
-/// `MAX_ROWS` at most, with no moment above `MAX_TIME` and no friendship with oneself.
+/// The schedule of the inserts of a stream, which are in order of t, `MAX_ROWS` at most, with no
+/// moment above `MAX_TIME`.
 pub fn make_schedule(alloc: Global, inserts: &[Line]) -> Result<Schedule, AllocError>
-    requires { ArePlanned inserts.now }
+    requires { AreTimed inserts.now }
     ensures { IfOk result (λ schedule. schedule ≡ plan_of inserts.now) }
 {
     let steps = steps_of(alloc, t_of_first(inserts), inserts)?;

@@ -1,7 +1,7 @@
 //! A stream of one friendship, over datasets that hold both of its persons or one.
 
 ghost use Rattle.std.specs.Prelude.{◌≤◌, IfOk};
-ghost use Rattle.snb_schema.specs.Plan.{ArePlanned};
+ghost use Rattle.snb_schema.specs.Plan.{AreOfPersonStream, AreTimed};
 
 use crate::closed::check_closed;
 use crate::plan::{adds_person, make_schedule};
@@ -45,7 +45,8 @@ impl Held for Persons {
 // A friendship of the persons 0 and 1 at 9000.
 fn friendship(alloc: Global, t_d: u64) -> Result<Vec<Line>, AllocError>
     requires { t_d ≤ 253402300799999 }
-    ensures { IfOk result (λ lines. ArePlanned lines.items) }
+    ensures stream { IfOk result (λ lines. AreOfPersonStream lines.items) }
+    ensures times { IfOk result (λ lines. AreTimed lines.items) }
 {
     let mut lines = Vec::new(alloc);
     lines.push(Line {

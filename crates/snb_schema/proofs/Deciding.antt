@@ -13,7 +13,7 @@ use Rattle.snb_schema.specs.Rules.{Rule, V1, V2, V3, V4, V5, V6, V7, V8, V9, num
 use Rattle.snb_schema.specs.Violation.{told_at}
 use Rattle.snb_schema.specs.Laws.{FitsOrBreaks, BreaksOne}
 use Rattle.snb_schema.proofs.Times.{is_dependency-within}
-use Rattle.snb_schema.proofs.Unstuck.{IsLeastFailing, least_failing}
+use Rattle.snb_base.proofs.Laws.{IsLeastFailing, least_failing}
 
 abbrev Decided : Type 0 → Type 0
 Decided P = P ⊎ (P → ⊥)

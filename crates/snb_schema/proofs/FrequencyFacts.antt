@@ -7,8 +7,9 @@ use Rattle.std.proofs.lemmas.List.Splits.{slice_split_at, slice_split_none}
 use Rattle.std.specs.List.{slice_split, AllByRecursion}
 use Rattle.std.specs.List.Sorted.{IsStrictlyIncreasing}
 use Rattle.snb_base.specs.Calendar.{IsDigit}
+use Rattle.snb_base.proofs.Laws.{one_cut}
 use Rattle.snb_base.specs.Spellings.{Num, EachSpells}
-use Rattle.snb_schema.specs.Frequencies.{FrequencyTable, frequency_at, SpellsFrequency, SpellsFrequencies, HasFrequencies}
+use Rattle.snb_schema.specs.Frequencies.{FrequenciesAreOne, FrequencyTable, frequency_at, SpellsFrequency, SpellsFrequencies, HasFrequencies}
 use Rattle.snb_schema.specs.FrequencyPieces.{IsCutAtFirst, RisesAfter, SpellsAfter}
 use Rattle.snb_schema.specs.Lines.{HasNo}
 use Rattle.snb_schema.specs.Queries.{IsComplex}
@@ -20,18 +21,6 @@ no_colon [] h = All-nil (λ b. b ≢ 58)
 no_colon (b ∷ bs) h =
     let other : b ≢ 58 = λ e. absurd (let low = h.0 in omega (arith, e)) in
     All-cons (λ b. b ≢ 58) b bs other (no_colon bs h.1)
-
--- a text has one first c
-one_cut : (c : ℕ) (a b x y : List ℕ) → HasNo c a → HasNo c x → a ++ c ∷ b ≡ x ++ c ∷ y → (a ≡ x) × (b ≡ y)
-one_cut c [] b [] y h k e = (refl, cc)
-one_cut c [] b (z ∷ x) y h k e = absurd (All-head (λ d. d ≢ c) z x k (cc))
-one_cut c (z ∷ a) b [] y h k e = absurd (All-head (λ d. d ≢ c) z a h (cc))
-one_cut c (z ∷ a) b (w ∷ x) y h k e =
-    let rest : a ++ c ∷ b ≡ x ++ c ∷ y = cc in
-    let same = one_cut c a b x y (All-tail (λ d. d ≢ c) z a h) (All-tail (λ d. d ≢ c) w x k) rest in
-    let first : z ≡ w = cc in
-    let front : a ≡ x = same.0 in
-    (cc, same.1)
 
 -- a piece without a colon spells no pair
 pub no_pair : (x : List ℕ) → HasNo 58 x → (pair : ℕ × ℕ) → ¬ SpellsFrequency x pair
@@ -161,3 +150,22 @@ pub read_whole : (x : List ℕ) (found : Option FrequencyTable)
     → MatchOption found ((pairs : List (ℕ × ℕ)) → ¬ SpellsFrequencies x pairs) (λ table. (pairs : List (ℕ × ℕ)) × SpellsFrequencies x pairs × HasFrequencies table pairs)
 read_whole x None h = λ pairs s. h pairs (spelled_after x pairs s)
 read_whole x (Some table) h = (h.0, spelled_whole x h.0 h.1, h.2)
+
+-- a piece spells one pair at most
+same_pair : (x : List ℕ) (one other : ℕ × ℕ) → SpellsFrequency x one → SpellsFrequency x other → one ≡ other
+same_pair x one other s t =
+    let same = one_pair x s.query s.frequency one.0 one.1 other (record { first = no_colon s.query s.numbered.digits; joined = s.splits }) s.numbered s.counted t in
+    λ i. (same.0 i, same.1 i)
+
+-- and so do pieces, one after another
+same_pairs : (xs : List (List ℕ)) (pairs others : List (ℕ × ℕ)) → EachSpells SpellsFrequency xs pairs → EachSpells SpellsFrequency xs others → pairs ≡ others
+same_pairs [] [] [] s t = refl
+same_pairs [] [] (b ∷ bs) s t = absurd t
+same_pairs [] (a ∷ more) others s t = absurd s
+same_pairs (x ∷ xs) [] others s t = absurd s
+same_pairs (x ∷ xs) (a ∷ more) [] s t = absurd t
+same_pairs (x ∷ xs) (a ∷ more) (b ∷ bs) s t = λ i. same_pair x a b s.0 t.0 i ∷ same_pairs xs more bs s.1 t.1 i
+
+-- a text says one list of frequencies at most
+pub frequencies_are_one : FrequenciesAreOne
+frequencies_are_one x pairs others s t = same_pairs (slice_split (λ b. b == 44) x) pairs others s.spelled t.spelled

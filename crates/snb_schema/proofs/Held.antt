@@ -7,8 +7,9 @@ use Rattle.snb_schema.specs.declared.event.Event.TheVariants.{Start, Finish, Hal
 use Rattle.snb_schema.specs.Schedule.{Schedule}
 use Rattle.snb_schema.specs.History.{starts, finishes, acts, started, finished, hand}
 use Rattle.snb_schema.specs.Rules.{Fits, IsLegal, V2, V6, V7}
-use Rattle.snb_schema.proofs.Pushes.{by_push, list_any-push, find-reverse_push}
+use Rattle.snb_schema.proofs.Pushes.{list_any-push, find-reverse_push}
 use Rattle.snb_schema.proofs.Histories.{IsLegal-front, Fits-last}
+use Rattle.snb_base.proofs.Laws.{by_push}
 
 pub started-push : (h : List Event) (e : Event) (k : ℕ) → started (h ++ e ∷ []) k ≡ cond (starts k e) true (started h k)
 started-push h e k = list_any-push (starts k) h e

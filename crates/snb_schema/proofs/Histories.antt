@@ -6,7 +6,7 @@ use Rattle.snb_schema.specs.declared.limits.TheConstants.{MAX_AT}
 use Rattle.snb_schema.specs.Schedule.{Schedule}
 use Rattle.snb_schema.specs.History.{moment}
 use Rattle.snb_schema.specs.Rules.{Rule, V1, V2, V3, V4, V5, V6, V7, V8, V9, MayAct, HaltObeys, Fits, IsLegal}
-use Rattle.snb_schema.proofs.Pushes.{push_split}
+use Rattle.snb_base.proofs.Laws.{push_split}
 
 pub IsLegal-front : (s : Schedule) (w : ℕ) (g h : List Event) → IsLegal s w (g ++ h) → IsLegal s w g
 IsLegal-front s w g h l =

@@ -10,10 +10,11 @@ use Rattle.snb_schema.specs.Schedule.{Schedule}
 use Rattle.snb_schema.specs.History.{starts, moves, started, hand, holder}
 use Rattle.snb_schema.specs.Rules.{Fits, IsLegal, V2, V6, V7}
 use Rattle.snb_schema.specs.Laws.{HandIsTheirs, HolderHolds}
-use Rattle.snb_schema.proofs.Pushes.{by_push, find-reverse_push, same_list_split}
+use Rattle.snb_schema.proofs.Pushes.{find-reverse_push, same_list_split}
 use Rattle.snb_schema.proofs.Histories.{IsLegal-front, Fits-last}
 use Rattle.snb_schema.proofs.Held.{KeepsAt, keeps_legal, hand-push}
 use Rattle.snb_schema.proofs.Once.{hand_has_start}
+use Rattle.snb_base.proofs.Laws.{by_push}
 
 started-mid : (g : List Event) (k w at : ℕ) (r : List Event) → started (g ++ Start k w at ∷ r) k ≡ true
 started-mid g k w at r = let a = list_any-append (starts k) g (Start k w at ∷ r) in let e = eq-eqb k k refl in grind arith

@@ -7,9 +7,9 @@ use Rattle.snb_schema.specs.Schedule.{Schedule}
 use Rattle.snb_schema.specs.History.{starts, started, finished}
 use Rattle.snb_schema.specs.Rules.{Fits, IsLegal, IsHead, IsNotBusy, V2, V3}
 use Rattle.snb_schema.specs.Laws.{ForumGoesInTurn, LaneStartsInOrder}
-use Rattle.snb_schema.proofs.Pushes.{by_push}
 use Rattle.snb_schema.proofs.Histories.{IsLegal-front, Fits-last}
 use Rattle.snb_schema.proofs.Held.{started-push, finished-push}
+use Rattle.snb_base.proofs.Laws.{by_push}
 
 -- what is told of an operation where it starts
 at_start : (s : Schedule) (workers : ℕ) (g : List Event) (e : Event) (k : ℕ) → Fits s workers g e → starts k e ≡ true → IsHead s g k × IsNotBusy s g k

@@ -1,3 +1,4 @@
+pub mod Laws
 pub mod Pushes
 pub mod Histories
 pub mod Held

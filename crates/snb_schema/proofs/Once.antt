@@ -10,9 +10,9 @@ use Rattle.snb_schema.specs.Schedule.{Schedule}
 use Rattle.snb_schema.specs.History.{starts, finishes, started, finished, hand}
 use Rattle.snb_schema.specs.Rules.{Fits, IsLegal, V2, V7}
 use Rattle.snb_schema.specs.Laws.{OnceEach, FinishFollows, HandIsOpen}
-use Rattle.snb_schema.proofs.Pushes.{by_push}
 use Rattle.snb_schema.proofs.Histories.{IsLegal-front, Fits-last}
 use Rattle.snb_schema.proofs.Held.{keeps_legal, hand_after, hand-push}
+use Rattle.snb_base.proofs.Laws.{by_push}
 
 count_by-push : (p : Event → Bool) (h : List Event) (e : Event) → count_by p (h ++ e ∷ []) ≡ cond (p e) (1 + count_by p h) (count_by p h)
 count_by-push p h e = let a = sum_by-append (λ x. cond (p x) 1 0) h (e ∷ []) in grind arith

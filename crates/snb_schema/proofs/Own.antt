@@ -9,7 +9,8 @@ use Rattle.snb_schema.specs.declared.event.Event.{Event}
 use Rattle.snb_schema.specs.declared.event.Event.TheVariants.{Start, Finish, Halt}
 use Rattle.snb_schema.specs.History.{acts, halts, is_by, opened}
 use Rattle.snb_schema.specs.Laws.{HandIsOwn}
-use Rattle.snb_schema.proofs.Pushes.{by_push, find-reverse_push}
+use Rattle.snb_schema.proofs.Pushes.{find-reverse_push}
+use Rattle.snb_base.proofs.Laws.{by_push}
 
 -- a filter that keeps all that passes doesn't change the last that passes
 find-reverse_filter : {X : Type 0} (p q : X → Bool) → ((x : X) → p x ≡ true → q x ≡ true) → (h : List X) → find p (reverse (filter q h)) ≡ find p (reverse h)

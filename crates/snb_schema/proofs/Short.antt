@@ -8,9 +8,10 @@ use Rattle.snb_schema.specs.Schedule.{Schedule}
 use Rattle.snb_schema.specs.History.{has_moment, halts, started, finished, halted, moment, last}
 use Rattle.snb_schema.specs.Rules.{Fits, IsLegal, V1, V2, V7}
 use Rattle.snb_schema.specs.Laws.{LegalIsShort, LastIsBounded}
-use Rattle.snb_schema.proofs.Pushes.{by_push, list_any-push, find-reverse_push}
+use Rattle.snb_schema.proofs.Pushes.{list_any-push, find-reverse_push}
 use Rattle.snb_schema.proofs.Histories.{IsLegal-front, Fits-last}
 use Rattle.snb_schema.proofs.Held.{keeps_legal, started-push, finished-push}
+use Rattle.snb_base.proofs.Laws.{by_push}
 
 -- how many of the numbers below n pass the test
 abbrev count_to : (ℕ → Bool) → ℕ → ℕ

@@ -2,12 +2,7 @@
 use Rattle.std.proofs.Common.{◌≡◌, ℕ, zero, suc, ◌<◌, ◌≤◌, inl, refl, subst, arith}
 use Rattle.snb_schema.specs.Schedule.{step_of, ComesBefore, IsPlanned}
 use Rattle.snb_schema.specs.Worked.{tie}
-
--- what is true of 0 and 1
-by_two : (P : ℕ → Type 0) → P 0 → P 1 → (k : ℕ) → k < 2 → P k
-by_two P at_zero at_one zero lt = at_zero
-by_two P at_zero at_one (suc zero) lt = at_one
-by_two P at_zero at_one (suc (suc k)) lt = absurd (omega arith)
+use Rattle.snb_base.proofs.Laws.{by_two}
 
 pub planned_tie : IsPlanned tie
 planned_tie = record {

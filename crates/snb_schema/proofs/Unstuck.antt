@@ -8,23 +8,7 @@ use Rattle.snb_schema.specs.Rules.{Rule, V1, V2, V3, V4, V5, V6, V7, V8, V9, Sta
 use Rattle.snb_schema.specs.Laws.{NeverStuck}
 use Rattle.snb_schema.proofs.Times.{is_dependency-within}
 use Rattle.snb_schema.proofs.Held.{KeepsAt, keeps_legal}
-
--- the least number below n that fails a test, where one does
-pub record IsLeastFailing (p : ℕ → Bool) (n m : ℕ) : Type 0 where
-  pub within : m < n
-  pub fails : p m ≡ false
-  pub before : (j : ℕ) → j < m → p j ≡ true
-
-pub least_failing : (p : ℕ → Bool) (n : ℕ) → ((j : ℕ) → j < n → p j ≡ true) ⊎ ((m : ℕ) × IsLeastFailing p n m)
-least_failing p zero = inl (λ j lt. absurd (omega arith))
-least_failing p (suc n) =
-    elim (least_failing p n) [
-      | inr found ↦ let f : IsLeastFailing p n found.0 = found.1 in inr (found.0, record { within = let w = f.within in omega arith; fails = f.fails; before = f.before })
-      | inl all ↦ elim (cases_Bool (p n)) [
-        | inl passes ↦ inl (λ j lt. elim (cases_lt j n) [ inl below ↦ all j below | inr here ↦ let e : n ≡ j = omega arith in subst (λ (i : ℕ). p i ≡ true) e passes ])
-        | inr fails ↦ inr (n, record { within = omega arith; fails = fails; before = all })
-      ]
-    ]
+use Rattle.snb_base.proofs.Laws.{IsLeastFailing, least_failing}
 
 pub never_stuck : NeverStuck
 never_stuck s workers h timely legal idle running k within fresh =

@@ -16,17 +16,26 @@ no_id = codes "-1"
 -- the text is a spelling of the value; dates and days are in words or digits, and a list has each element once
 abbrev pub Spells : Column → List ℕ → Value → Type 0
 Spells (Number most) x (Digits n) = Num x n most
+Spells (Number most) x _ = ⊥
 Spells (Small most) x (SmallDigits n) = Num x n most
+Spells (Small most) x _ = ⊥
 Spells OptionalId x (Digits n) = SpellsId x n
 Spells OptionalId x NoId = x ≡ no_id
+Spells OptionalId x _ = ⊥
 Spells Date x (Digits n) = spellings.Date x n
+Spells Date x _ = ⊥
 Spells Day x (Digits n) = spellings.Day x n
+Spells Day x _ = ⊥
 Spells Words x (Letters text) = x ≡ text
+Spells Words x _ = ⊥
 Spells Word x (Letters text) = SpellsWord x text
+Spells Word x _ = ⊥
 Spells TextList x (Texts texts) = spellings.WordList x texts
+Spells TextList x _ = ⊥
 Spells IdList x (Ids ids) = spellings.IdList x ids
+Spells IdList x _ = ⊥
 Spells PairList x (Pairs pairs) = spellings.PairList x pairs
-Spells _ x _ = ⊥
+Spells PairList x _ = ⊥
 
 -- there is a field for each column, and it spells the value beside it
 abbrev pub SpellsAll : List Column → List (List ℕ) → List Value → Type 0

@@ -1,5 +1,5 @@
 -- How often each complex query is asked, and the texts that say so.
-use Rattle.std.specs.Prelude.{◌≡◌, ℕ, ◌<◌, ◌==◌, List, [], ◌∷◌, ◌++◌, if◌then◌else◌, map}
+use Rattle.std.specs.Prelude.{◌≡◌, ℕ, ◌<◌, ◌≤◌, ◌==◌, List, [], ◌∷◌, ◌++◌, if◌then◌else◌, map}
 use Rattle.std.specs.List.{slice_split}
 use Rattle.std.specs.List.Sorted.{IsStrictlyIncreasing}
 use Rattle.snb_base.specs.Spellings.{Num, EachSpells}
@@ -15,6 +15,16 @@ pub record FrequencyTable : Type 0 where
   pub nine : ℕ
   pub eleven : ℕ
   pub thirteen : ℕ
+
+-- no frequency is above the greatest
+pub record AreBounded (table : FrequencyTable) : Type 0 where
+  pub one : table.one ≤ MAX_FREQUENCY
+  pub two : table.two ≤ MAX_FREQUENCY
+  pub seven : table.seven ≤ MAX_FREQUENCY
+  pub eight : table.eight ≤ MAX_FREQUENCY
+  pub nine : table.nine ≤ MAX_FREQUENCY
+  pub eleven : table.eleven ≤ MAX_FREQUENCY
+  pub thirteen : table.thirteen ≤ MAX_FREQUENCY
 
 -- the frequency of the query of this number; any other number has none
 abbrev pub frequency_at : FrequencyTable → ℕ → ℕ
@@ -41,6 +51,10 @@ pub record SpellsFrequency (x : List ℕ) (pair : ℕ × ℕ) : Type 0 where
 pub record SpellsFrequencies (x : List ℕ) (pairs : List (ℕ × ℕ)) : Type 0 where
   pub spelled : EachSpells SpellsFrequency (slice_split (λ b. b == 44) x) pairs
   pub rising : IsStrictlyIncreasing (map (λ pair. pair.0) pairs)
+
+-- a text says one list of frequencies at most
+abbrev pub FrequenciesAreOne : Type 0
+FrequenciesAreOne = (x : List ℕ) (pairs others : List (ℕ × ℕ)) → SpellsFrequencies x pairs → SpellsFrequencies x others → pairs ≡ others
 
 -- the frequency beside a query, and 0 where the query isn't there
 abbrev pub frequency_in : List (ℕ × ℕ) → ℕ → ℕ

@@ -1,4 +1,4 @@
--- A text of frequencies, read piece by piece.
+-- A text of frequencies, read piece by piece. Cited by contracts of private functions alone.
 use Rattle.std.specs.Prelude.{◌≡◌, ℕ, ◌<◌, ◌==◌, List, [], ◌∷◌, ◌++◌}
 use Rattle.std.specs.List.{slice_split}
 use Rattle.snb_base.specs.Spellings.{EachSpells}

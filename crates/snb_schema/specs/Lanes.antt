@@ -1,4 +1,4 @@
--- The lists of operations that a schedule keeps for its lanes.
+-- The lists of operations that a schedule keeps for its lanes. Cited by contracts of private functions alone.
 use Rattle.std.specs.Prelude.{◌≡◌, ℕ, ◌<◌, List, length, slice_index_or, Vec}
 use Rattle.std.specs.declared.alloc.Global.{Global}
 use Rattle.snb_schema.specs.Schedule.{Schedule, IsLane, IsPlanned}

@@ -2,7 +2,7 @@
 use Rattle.std.specs.Prelude.{ℕ, ◌+◌, ◌-◌, ◌<◌, ◌≤◌, List, [], ◌∷◌, length, slice_index_or, Bool, true, false, not}
 use Rattle.snb_schema.specs.declared.limits.TheConstants.{MAX_ROWS, MAX_TIME}
 use Rattle.snb_schema.specs.declared.op.Op.{Op}
-use Rattle.snb_schema.specs.declared.op.Op.TheVariants.{AddPerson, AddFriend}
+use Rattle.snb_schema.specs.declared.op.Op.TheVariants.{AddPerson, LikePost, LikeComment, AddForum, AddMember, AddPost, AddComment, AddFriend}
 use Rattle.snb_schema.specs.declared.op.Line.{Line}
 use Rattle.snb_schema.specs.declared.step.Step.{Step}
 use Rattle.snb_schema.specs.declared.step.LaneKind.TheVariants.{Person}
@@ -12,13 +12,24 @@ use Rattle.snb_schema.specs.UpdateLines.{IsOfTwo}
 -- dependents wait for inserts of persons, and every other insert waits for them
 abbrev pub adds_person : Op → Bool
 adds_person (AddPerson id first last gender birthday created ip browser city languages emails tags study work) = true
-adds_person _ = false
+adds_person (LikePost person post date) = false
+adds_person (LikeComment person comment date) = false
+adds_person (AddForum id title date moderator tags) = false
+adds_person (AddMember person forum date) = false
+adds_person (AddPost id image date ip browser language content size author forum country tags) = false
+adds_person (AddComment id date ip browser content size author country parent tags) = false
+adds_person (AddFriend one other date) = false
 
 -- the insert stands in a stream of persons
 abbrev pub IsOfPersonStream : Op → Type 0
 IsOfPersonStream (AddPerson id first last gender birthday created ip browser city languages emails tags study work) = Unit {0}
+IsOfPersonStream (LikePost person post date) = ⊥
+IsOfPersonStream (LikeComment person comment date) = ⊥
+IsOfPersonStream (AddForum id title date moderator tags) = ⊥
+IsOfPersonStream (AddMember person forum date) = ⊥
+IsOfPersonStream (AddPost id image date ip browser language content size author forum country tags) = ⊥
+IsOfPersonStream (AddComment id date ip browser content size author country parent tags) = ⊥
 IsOfPersonStream (AddFriend one other date) = Unit {0}
-IsOfPersonStream _ = ⊥
 
 -- an insert at a place of the one lane, due as long after the run's start as its t is after that of the first
 abbrev pub insert_step : ℕ → ℕ → Line → Step
@@ -43,13 +54,22 @@ abbrev pub first_t : List Line → ℕ
 first_t [] = 0
 first_t (line ∷ lines) = line.t
 
--- the inserts are of a stream of persons and not too many, no date and time is too great, t never falls, and no friendship is with oneself
-pub record ArePlanned (xs : List Line) : Type 0 where
-  pub few : length xs ≤ MAX_ROWS
+-- the inserts are of a stream of persons, and t never falls
+pub record AreOfPersonStream (xs : List Line) : Type 0 where
   pub of_persons : (k : ℕ) (d : Line) → k < length xs → IsOfPersonStream (slice_index_or xs k d).op
+  pub rises : (i j : ℕ) (d : Line) → i ≤ j → j < length xs → (slice_index_or xs i d).t ≤ (slice_index_or xs j d).t
+
+-- the inserts are not too many, no date and time of theirs is too great, and t never falls
+pub record AreTimed (xs : List Line) : Type 0 where
+  pub few : length xs ≤ MAX_ROWS
   pub timed : (k : ℕ) (d : Line) → k < length xs → (slice_index_or xs k d).t ≤ MAX_TIME
   pub needs_timed : (k : ℕ) (d : Line) → k < length xs → (slice_index_or xs k d).t_d ≤ MAX_TIME
   pub rises : (i j : ℕ) (d : Line) → i ≤ j → j < length xs → (slice_index_or xs i d).t ≤ (slice_index_or xs j d).t
+
+-- the inserts are of a stream of persons and not too many, no date and time is too great, t never falls, and no friendship is with oneself
+pub record ArePlanned (xs : List Line) : Type 0 where
+  pub of_stream : AreOfPersonStream xs
+  pub with_times : AreTimed xs
   pub of_two : (k : ℕ) (d : Line) → k < length xs → IsOfTwo (slice_index_or xs k d).op
 
 -- one lane of persons and friendships, with the inserts in order; the ratio is 1

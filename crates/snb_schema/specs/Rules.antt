@@ -55,7 +55,7 @@ pub record IsFront (s : Schedule) (h : List Event) (op front : ℕ) : Type 0 whe
   pub of_read : (step_of s op).query ≡ true → (position_or_len (starts op) h < front) × (front ≤ length h)
   pub of_insert : (step_of s op).query ≡ false → front ≡ 0
 
--- what a rule says of a Start; the rules that aren't named say nothing of it
+-- what a rule says of a Start
 abbrev pub StartObeys : Schedule → ℕ → List Event → ℕ → ℕ → ℕ → Rule → Type 0
 StartObeys s workers h op worker at V1 = IsOperation s op × MayAct workers h worker
 StartObeys s workers h op worker at V2 = IsHead s h op
@@ -63,21 +63,33 @@ StartObeys s workers h op worker at V3 = IsNotBusy s h op
 StartObeys s workers h op worker at V4 = (step_of s op).due ≤ at
 StartObeys s workers h op worker at V5 = IsCleared s h op
 StartObeys s workers h op worker at V6 = hand h worker ≡ None
+StartObeys s workers h op worker at V7 = Unit {0}
+StartObeys s workers h op worker at V8 = Unit {0}
 StartObeys s workers h op worker at V9 = last h ≤ at
-StartObeys s workers h op worker at _ = Unit {0}
 
 -- what a rule says of a Finish
 abbrev pub FinishObeys : Schedule → ℕ → List Event → ℕ → ℕ → ℕ → ℕ → Rule → Type 0
 FinishObeys s workers h op worker at front V1 = IsOperation s op × MayAct workers h worker
+FinishObeys s workers h op worker at front V2 = Unit {0}
+FinishObeys s workers h op worker at front V3 = Unit {0}
+FinishObeys s workers h op worker at front V4 = Unit {0}
+FinishObeys s workers h op worker at front V5 = Unit {0}
+FinishObeys s workers h op worker at front V6 = Unit {0}
 FinishObeys s workers h op worker at front V7 = hand h worker ≡ Some op
 FinishObeys s workers h op worker at front V8 = IsFront s h op front
 FinishObeys s workers h op worker at front V9 = last h ≤ at
-FinishObeys s workers h op worker at front _ = Unit {0}
 
 -- what a rule says of a Halt
 abbrev pub HaltObeys : ℕ → List Event → ℕ → Rule → Type 0
 HaltObeys workers h worker V1 = MayAct workers h worker
-HaltObeys workers h worker _ = Unit {0}
+HaltObeys workers h worker V2 = Unit {0}
+HaltObeys workers h worker V3 = Unit {0}
+HaltObeys workers h worker V4 = Unit {0}
+HaltObeys workers h worker V5 = Unit {0}
+HaltObeys workers h worker V6 = Unit {0}
+HaltObeys workers h worker V7 = Unit {0}
+HaltObeys workers h worker V8 = Unit {0}
+HaltObeys workers h worker V9 = Unit {0}
 
 -- what a rule says of an event at a history
 abbrev pub Obeys : Schedule → ℕ → List Event → Event → Rule → Type 0

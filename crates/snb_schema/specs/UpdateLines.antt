@@ -93,8 +93,14 @@ line_values t t_d op = Digits t ∷ Digits t_d ∷ Digits (op_number op) ∷ op_
 
 -- the two persons of a friendship differ
 abbrev pub IsOfTwo : Op → Type 0
+IsOfTwo (AddPerson id first last gender birthday created ip browser city languages emails tags study work) = Unit {0}
+IsOfTwo (LikePost person post date) = Unit {0}
+IsOfTwo (LikeComment person comment date) = Unit {0}
+IsOfTwo (AddForum id title date moderator tags) = Unit {0}
+IsOfTwo (AddMember person forum date) = Unit {0}
+IsOfTwo (AddPost id image date ip browser language content size author forum country tags) = Unit {0}
+IsOfTwo (AddComment id date ip browser content size author country parent tags) = Unit {0}
 IsOfTwo (AddFriend one other date) = one ≢ other
-IsOfTwo _ = Unit {0}
 
 -- the line is `t|t_d|opId|` and the fields of the insert, and a friendship isn't with oneself
 pub record IsLine (line : List ℕ) (t t_d : ℕ) (op : Op) : Type 0 where
@@ -120,11 +126,16 @@ field k fs = slice_index_or fs k []
 -- two fields of an insert of this kind don't go together, and the second is in this column: a friendship with oneself, or a comment
 -- with no parent or two
 abbrev pub Clashes : OpKind → List (List ℕ) → ℕ → Type 0
+Clashes kinds.AddPerson fs column = ⊥
+Clashes kinds.LikePost fs column = ⊥
+Clashes kinds.LikeComment fs column = ⊥
+Clashes kinds.AddForum fs column = ⊥
+Clashes kinds.AddMember fs column = ⊥
+Clashes kinds.AddPost fs column = ⊥
 Clashes kinds.AddFriend fs column = (column ≡ 5) × ((id : ℕ) × SpellsId (field 3 fs) id × SpellsId (field 4 fs) id)
 Clashes kinds.AddComment fs column =
     (column ≡ 13)
     × (((field 11 fs ≡ no_id) × (field 12 fs ≡ no_id)) ⊎ ((post : ℕ) × (comment : ℕ) × SpellsId (field 11 fs) post × SpellsId (field 12 fs) comment))
-Clashes _ fs column = ⊥
 
 -- the first of the first three fields that isn't in its grammar, where the third names no insert
 abbrev pub IsFirstOfThree : List (List ℕ) → ℕ → Type 0

@@ -1,6 +1,6 @@
 //! How often each complex query is asked.
 
-ghost use Rattle.std.specs.Prelude.{◌≡◌, ℕ, ◌<◌, ◌==◌, List, if◌then◌else◌, MatchOption};
+ghost use Rattle.std.specs.Prelude.{◌≡◌, ℕ, ◌<◌, ◌≤◌, ◌==◌, List, if◌then◌else◌, MatchOption};
 ghost use Rattle.snb_schema.specs.Queries.{IsComplex};
 ghost use Rattle.snb_schema.specs.Frequencies.{frequency_at, SpellsFrequency, SpellsFrequencies, HasFrequencies};
 ghost use Rattle.snb_schema.specs.FrequencyPieces.{IsCutAtFirst, SpellsAfter};
@@ -14,7 +14,7 @@ use std::marker::Model;
 /// How often each of the complex queries 1, 2, 7, 8, 9, 11 and 13 is asked, where it is: the k-th
 /// instance of a query of frequency f is due with every f-th update.
 ///
-/// A contract sees the seven frequencies, of which 0 stands for none.
+/// A contract sees the seven frequencies, of which 0 stands for none; none is above `MAX_FREQUENCY`.
 #[derive(Clone, Copy, Debug, PartialEq, Eq)]
 pub struct Frequencies {
     one: u32,
@@ -27,11 +27,13 @@ pub struct Frequencies {
 }
 
 impl Model for Frequencies {
-    ghost use Rattle.snb_schema.specs.Frequencies.{FrequencyTable};
+    ghost use Rattle.snb_schema.specs.Frequencies.{AreBounded, FrequencyTable};
 
     ghost Value = { FrequencyTable };
 
     ghost view = { λ f. record { one = f.one; two = f.two; seven = f.seven; eight = f.eight; nine = f.nine; eleven = f.eleven; thirteen = f.thirteen } };
+
+    ghost invariant = { λ f. AreBounded (record { one = f.one; two = f.two; seven = f.seven; eight = f.eight; nine = f.nine; eleven = f.eleven; thirteen = f.thirteen }) };
 
     ghost inverse = { λ t. record { one = t.one; two = t.two; seven = t.seven; eight = t.eight; nine = t.nine; eleven = t.eleven; thirteen = t.thirteen } };
 }
@@ -55,7 +57,8 @@ impl Frequencies {
     /// The frequency of the query of this number: 0 where it has none, and at any number that isn't
     /// one of the seven.
     pub fn of(&self, query: u32) -> u32
-        ensures { result ≡ frequency_at self.now query }
+        ensures value { result ≡ frequency_at self.now query }
+        ensures bounded { result ≤ MAX_FREQUENCY }
     {
         match query {
             1 => self.one,
@@ -82,7 +85,8 @@ impl Frequencies {
 
     // With this frequency of this query.
     fn with(self, query: u32, frequency: u32) -> Frequencies
-        requires { IsComplex query }
+        requires complex { IsComplex query }
+        requires bounded { frequency ≤ MAX_FREQUENCY }
         ensures { (other : ℕ) → frequency_at result other ≡ (if other == query then frequency else frequency_at self other) }
     {
         let mut table = self;
@@ -110,7 +114,7 @@ fn cut<'a>(text: &'a [u8], at: u8) -> Option<(&'a [u8], &'a [u8])>
 // The query and the frequency that a piece says, where the query is above `last`.
 fn read_pair(piece: &[u8], last: u32) -> Option<(u32, u32)>
     ensures { MatchOption result ((pair : ℕ × ℕ) → last < pair.0 → ¬ SpellsFrequency piece.now pair)
-        (λ pair. SpellsFrequency piece.now pair × (last < pair.0)) }
+        (λ pair. SpellsFrequency piece.now pair × (last < pair.0) × (pair.1 ≤ MAX_FREQUENCY)) }
 {
     let (before, after) = cut(piece, b':')?;
     let query = read_number(before, 13)? as u32;

@@ -63,7 +63,8 @@ impl Lanes {
         }
     }
 
-    /// Appends a lane of persons, which takes the next number. Want of memory leaves the lanes as they
+    /// Appends a lane of persons, which takes the next number. There are fewer than `MAX_LANES` before.
+    /// Want of memory leaves the lanes as they
     /// were, and drops the lines.
     pub fn push_person(&mut self, lines: Vec<Line>) -> Result<(), AllocError>
         requires { length self.old.persons < MAX_LANES }
@@ -74,8 +75,8 @@ impl Lanes {
         Ok(())
     }
 
-    /// Appends a lane of the other inserts, which takes the next number. Want of memory leaves the
-    /// lanes as they were, and drops the lines.
+    /// Appends a lane of the other inserts, which takes the next number. There are fewer than
+    /// `MAX_LANES` before. Want of memory leaves the lanes as they were, and drops the lines.
     pub fn push_forum(&mut self, lines: Vec<Line>) -> Result<(), AllocError>
         requires { length self.old.forums < MAX_LANES }
         ensures ok { OnOk result (self.new ≡ record { persons = self.old.persons; forums = self.old.forums ++ lines.items ∷ [] }) }
@@ -101,7 +102,7 @@ impl Lanes {
         self.forums.len() as u32
     }
 
-    /// The lines of the lane of persons of this number, counted from 0.
+    /// The lines of the lane of persons of this number, counted from 0. The lane is there.
     pub fn person(&self, lane: u32) -> &[Line]
         requires { lane < length self.now.persons }
         ensures { result.now ≡ slice_index_or self.now.persons lane [] }
@@ -109,7 +110,7 @@ impl Lanes {
         self.persons[lane as usize].as_slice()
     }
 
-    /// The lines of the lane of other inserts of this number, counted from 0.
+    /// The lines of the lane of other inserts of this number, counted from 0. The lane is there.
     pub fn forum(&self, lane: u32) -> &[Line]
         requires { lane < length self.now.forums }
         ensures { result.now ≡ slice_index_or self.now.forums lane [] }

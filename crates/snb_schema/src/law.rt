@@ -7,6 +7,7 @@ ghost use Rattle.snb_schema.specs.Laws.{FitsOrBreaks, BreaksOne, StartStays, Fin
 ghost use Rattle.snb_schema.specs.Laws.{BeforeIsByPlace, PlannedIsPlaced, PlannedIsTimely};
 ghost use Rattle.snb_schema.specs.Laws.{PrefixIsLegal, MoreIsLegal, LegalIsShort, LastIsBounded};
 ghost use Rattle.snb_schema.specs.Laws.{LaneStartsInOrder, ForumGoesInTurn};
+ghost use Rattle.snb_schema.specs.Frequencies.{FrequenciesAreOne};
 
 /// A dependent may start, as far as dependencies go, exactly where its t_d is at most the
 /// completion time: the watermark of Erling et al., SIGMOD 2015.
@@ -49,7 +50,8 @@ pub fn hand_is_own()
     ensures { HandIsOwn }
 {}
 
-/// Where nobody has an operation in hand, some operation may start.
+/// Where nobody has an operation in hand, nobody has halted and some operation is unstarted, some
+/// unstarted operation may start.
 pub fn never_stuck()
     ensures { NeverStuck }
 {}
@@ -132,4 +134,9 @@ pub fn forum_goes_in_turn()
 /// In every lane all before a started operation is started.
 pub fn lane_starts_in_order()
     ensures { LaneStartsInOrder }
+{}
+
+/// A text says one list of frequencies at most.
+pub fn frequencies_are_one()
+    ensures { FrequenciesAreOne }
 {}

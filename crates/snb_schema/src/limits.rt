@@ -1,19 +1,21 @@
 //! The limits of the profile.
 
-/// The greatest date and time, in milliseconds since 1970-01-01 UTC: the last one of the year 9999.
-pub const MAX_TIME: u64 = 253402300799999;
+use snb_base::bounds::{LAST_AT, LAST_ID, LAST_TIME, LAST_YEAR};
+
+/// The greatest date and time, in milliseconds since 1970-01-01 UTC.
+pub const MAX_TIME: u64 = LAST_TIME;
 
 /// The greatest id.
-pub const MAX_ID: u64 = 9223372036854775807;
+pub const MAX_ID: u64 = LAST_ID;
 
 /// The greatest year.
-pub const MAX_YEAR: u32 = 9999;
+pub const MAX_YEAR: u32 = LAST_YEAR;
 
 /// The greatest length of a message.
 pub const MAX_LENGTH: u32 = 2147483647;
 
 /// The greatest moment of an event, in milliseconds since the clock of the run was made.
-pub const MAX_AT: u64 = 9223372036854775807;
+pub const MAX_AT: u64 = LAST_AT;
 
 /// The most bytes of dataset, streams and parameter files together.
 pub const MAX_BYTES: u64 = 268435456;

@@ -48,8 +48,8 @@ impl Lists {
         }
     }
 
-    /// Appends to the list of the query of this number, which has to be the number of `one`. Want of
-    /// memory leaves all lists as they were, and drops `one`.
+    /// Appends to the list of the query of this number, which is one of the seven and the number of
+    /// `one`. Want of memory leaves all lists as they were, and drops `one`.
     pub fn push(&mut self, query: u32, one: Query) -> Result<(), AllocError>
         requires complex { IsComplex query }
         requires kind { number_of_query one ≡ query }
@@ -69,7 +69,8 @@ impl Lists {
         Ok(())
     }
 
-    /// The list of the query of this number, in the order in which its items were appended.
+    /// The list of the query of this number, in the order in which its items were appended. The number
+    /// is one of the seven.
     pub fn of(&self, query: u32) -> &[Query]
         requires { IsComplex query }
         ensures value { result.now ≡ list_of self.now query }

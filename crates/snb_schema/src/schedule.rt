@@ -64,6 +64,13 @@ fn lanes_of(alloc: Global, steps: &[Step], kinds: &[LaneKind]) -> Result<Vec<Vec
 
 impl Schedule {
     /// The schedule of these steps, in lanes of these kinds.
+    ///
+    /// There are at most two times `MAX_LANES` lanes and one more, and at most `MAX_ROWS` and
+    /// `MAX_READS` steps together. The lane of each step is there. The steps are in the order of t, of
+    /// lane and of place, and no step is due earlier than one before it. The place of a step is the
+    /// number of the steps before it in its lane. No t and no t_d is above `MAX_TIME`, and no due time
+    /// above `MAX_AT`. The reads are the steps of the lanes of kind `Query`. No step is both a
+    /// dependency and a dependent.
     pub fn make(alloc: Global, kinds: &[LaneKind], steps: Vec<Step>) -> Result<Schedule, AllocError>
         requires { IsPlanned (record { steps = steps.items; kinds = kinds.now }) }
         ensures { IfOk result (λ s. s ≡ record { steps = steps.items; kinds = kinds.now }) }
@@ -93,7 +100,8 @@ impl Schedule {
         &self.kinds
     }
 
-    /// The numbers of a lane's steps, in order: the step at a place of this list has that place.
+    /// The numbers of a lane's steps, in order: the step at a place of this list has that place. The
+    /// lane is one of the schedule's.
     pub fn lane(&self, lane: u32) -> &[u32]
         requires { lane < length self.now.kinds }
         ensures { IsLane self.now lane result.now }

@@ -8,8 +8,8 @@ use Rattle.snb_schema.specs.Graph.{Graph, HoldsKey, IsHeldIn}
 use Rattle.snb_schema.specs.Input.{FilesRefuse, FirstFault, NoFault, Refuses, RefusesHeld, held_in, person_file, person_stream, stream_of}
 use Rattle.snb_schema.specs.Lines.{data_lines, lines}
 use Rattle.snb_loader.specs.Loading.{PersonsBad, PersonsLoaded, PersonsRefused, StreamBad, StreamOf}
-use Rattle.snb_tool.specs.Outcome.{IsLoaded}
-use Rattle.snb_plan.proofs.ClosedLemmas.{not_wrong}
+use Rattle.snb_tool.specs.Running.{IsLoaded}
+use Rattle.snb_plan.proofs.Laws.{not_wrong}
 use Rattle.snb_tool.proofs.GraphLemmas.{closed_moved, first_wrong_moved, held_by, held_in_graph}
 use Rattle.snb_tool.proofs.RefusalLemmas.{Laws, over_one}
 

@@ -11,7 +11,8 @@ use Rattle.snb_schema.specs.Graph.{Graph, all_rows, final_text}
 use Rattle.snb_schema.specs.RunTexts.{log_text, no_answers_text}
 use Rattle.snb_schema.specs.Input.{Refuses}
 use Rattle.snb_schema.specs.ScreenTexts.{refusal_text, summary_text, usage_text}
-use Rattle.snb_tool.specs.Outcome.{IsRunCut, IsLoaded, IsOtherLine, IsRun, IsRunOutput, Wrote, run_texts}
+use Rattle.snb_tool.specs.Outcome.{IsRunCut, IsOtherLine, IsRun, Wrote, run_texts}
+use Rattle.snb_tool.specs.Running.{IsLoaded, IsRunOutput}
 use Rattle.snb_tool.specs.Output.{IsWrittenSoFar, on_screen, size_of}
 use Rattle.snb_tool.specs.Words.{IsRunLine}
 use Rattle.snb_loader.proofs.TakeLemmas.{if_some}

@@ -1,20 +1,7 @@
 -- Elements of lists.
 use Rattle.std.proofs.Common.{◌≡◌, ℕ, zero, suc, ◌<◌, List, [], ◌∷◌, length, map, refl, subst, inl, inr, ◌⊎◌, arith, get_or}
 use Rattle.std.specs.List.{Contains}
-
--- an element is the first one, or stands after it
-pub contains_cases : {X : Type 0} (y : X) (ys : List X) (x : X) → Contains (y ∷ ys) x → (y ≡ x) ⊎ Contains ys x
-contains_cases y ys x h = by_place h.0 h.1 h.2
-  where
-    by_place : (k : ℕ) → k < length (y ∷ ys) → get_or (y ∷ ys) k x ≡ x → (y ≡ x) ⊎ Contains ys x
-    by_place zero l e = inl e
-    by_place (suc k) l e = inr (k, omega arith, e)
-
-pub contains_here : {X : Type 0} (y : X) (ys : List X) → Contains (y ∷ ys) y
-contains_here y ys = (0, omega arith, refl)
-
-pub contains_there : {X : Type 0} (y : X) (ys : List X) (x : X) → Contains ys x → Contains (y ∷ ys) x
-contains_there y ys x h = (suc h.0, (let l = h.1 in omega arith), h.2)
+use Rattle.snb_base.proofs.Laws.{contains_cases, contains_here, contains_there}
 
 -- what f makes of an element stands in what it makes of the list
 pub contains_map : {X Y : Type 0} (f : X → Y) (xs : List X) (x : X) → Contains xs x → Contains (map f xs) (f x)

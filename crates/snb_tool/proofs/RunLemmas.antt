@@ -17,14 +17,13 @@ use Rattle.snb_schema.specs.Closed.{key_of, IsTaken, IsClosed}
 use Rattle.snb_schema.specs.Graph.{Graph, HoldsKey, all_rows, key_of_row, rows_of}
 use Rattle.snb_schema.specs.Plan.{adds_person, plan_of, ArePlanned}
 use Rattle.snb_schema.specs.Schedule.{IsTimely, no_step, step_of}
-use Rattle.snb_schema.proofs.Planned.{planned_is_timely}
-use Rattle.snb_plan.proofs.ClosedLemmas.{split_here}
-use Rattle.snb_plan.proofs.PlanLemmas.{plan_length, plan_times, planned_plan}
+use Rattle.snb_plan.proofs.Laws.{plan_length, plan_times, planned_plan}
 use Rattle.snb_tables.specs.declared.graph.Insert.{Insert}
 use Rattle.snb_tables.specs.declared.graph.Insert.TheVariants.{Duplicate}
 use Rattle.snb_tool.specs.Running.{rows_of_all}
 use Rattle.snb_tool.specs.Turns.{IsAdded}
-use Rattle.snb_tool.proofs.RowLemmas.{contains_cases, contains_here, contains_there}
+use Rattle.snb_base.proofs.Laws.{contains_cases, contains_here, contains_there, split_here}
+use Rattle.snb_schema.proofs.Laws.{planned_is_timely}
 
 -- the key of an insert is that of its row
 key_of_rows : (op : Op) (r : Row) → Contains (rows_of op) r → key_of_row r ≡ Some (key_of op)

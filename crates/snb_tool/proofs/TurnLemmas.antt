@@ -19,20 +19,19 @@ use Rattle.snb_schema.specs.History.{started, finished, halted, hand, last}
 use Rattle.snb_schema.specs.Plan.{plan_of, ArePlanned}
 use Rattle.snb_schema.specs.Rules.{Fits, IsFront, IsLegal, MayAct, V1}
 use Rattle.snb_schema.specs.Schedule.{Schedule, IsOperation, IsTimely}
-use Rattle.snb_schema.proofs.Held.{started-push, finished-push, hand-push}
-use Rattle.snb_schema.proofs.Histories.{IsLegal-push, IsLegal-nil}
-use Rattle.snb_schema.proofs.Pushes.{by_push}
-use Rattle.snb_schema.proofs.Short.{halted-push, last-push, last_is_bounded}
 use Rattle.snb_book.specs.declared.claim.Claim.{Claim}
 use Rattle.snb_book.specs.declared.claim.Claim.TheVariants.{Halted, AllStarted, Busy, NotDue, Go, Blocked}
 use Rattle.snb_book.specs.declared.claim.Ticket.{Ticket}
 use Rattle.snb_book.specs.Claims.{IsClaim}
 use Rattle.snb_book.specs.Kept.{Kept, moment_after}
-use Rattle.snb_tool.specs.Running.{IsAt, HasRun, rows_of_all}
+use Rattle.snb_tool.specs.Running.{HasRun, rows_of_all}
+use Rattle.snb_tool.specs.Outcome.{IsAt}
 use Rattle.snb_tool.specs.Turns.{IsAdded, HasDone}
-use Rattle.snb_plan.proofs.PlanLemmas.{plan_length, plan_plain}
-use Rattle.snb_book.proofs.Claiming.{claim_is_not_stuck}
+use Rattle.snb_plan.proofs.Laws.{plan_length, plan_plain}
+use Rattle.snb_book.proofs.Laws.{claim_is_not_stuck}
 use Rattle.snb_tool.proofs.RunLemmas.{key_new, plan_timely, rows_after}
+use Rattle.snb_base.proofs.Laws.{by_push}
+use Rattle.snb_schema.proofs.Laws.{IsLegal-nil, IsLegal-push, finished-push, halted-push, hand-push, last-push, last_is_bounded, started-push}
 
 -- what is true of each element is true of those before the last, and of the last
 all_front : {X : Type 0} (P : X → Type 0) (xs : List X) (x : X) → AllByRecursion P (xs ++ x ∷ []) → AllByRecursion P xs × P x

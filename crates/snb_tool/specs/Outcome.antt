@@ -4,6 +4,7 @@ use Rattle.std.specs.Option.{IfSome, option_map}
 use Rattle.snb_base.specs.Outbox.{Written, joined}
 use Rattle.snb_base.specs.Shelf.{Files}
 use Rattle.snb_schema.specs.declared.event.Event.{Event}
+use Rattle.snb_schema.specs.declared.event.Event.TheVariants.{Start, Finish, Halt}
 use Rattle.snb_schema.specs.declared.limits.TheConstants.{MAX_AT}
 use Rattle.snb_schema.specs.declared.op.Line.{Line}
 use Rattle.snb_schema.specs.declared.refusal.Refusal.{Refusal}
@@ -16,7 +17,6 @@ use Rattle.snb_schema.specs.Rules.{IsComplete, IsLegal}
 use Rattle.snb_schema.specs.RunTexts.{log_text, no_answers_text}
 use Rattle.snb_schema.specs.ScreenTexts.{refusal_text, summary_text, usage_text}
 use Rattle.snb_tool.specs.Output.{IsWrittenSoFar, on_screen, size_of}
-use Rattle.snb_tool.specs.Running.{HasRun, IsAt}
 use Rattle.snb_tool.specs.Words.{IsRunLine}
 
 -- the four texts of a run of these inserts, with this history and this final graph
@@ -28,6 +28,12 @@ run_texts inserts h g = record {
   finals = final_text g;
   cases = [];
 }
+
+-- an event's moment, if it has one, is this
+abbrev pub IsAt : ℕ → Event → Type 0
+IsAt moment (Start op worker at) = at ≡ moment
+IsAt moment (Finish op worker at front) = at ≡ moment
+IsAt moment (Halt worker) = Unit {0}
 
 -- the words are no line of the program's
 abbrev pub IsOtherLine : List (List ℕ) → Type 0
@@ -69,21 +75,6 @@ pub record IsRun (words : List (List ℕ)) (files : Files) (fixed : Option ℕ) 
 abbrev pub Belongs : List (List ℕ) → Files → Option ℕ → ℕ → Written → Type 0
 Belongs words files fixed status texts =
     ((status ≡ 0) × IsRun words files fixed texts) ⊎ ((status ≡ 2) × IsUsage words texts) ⊎ ((status ≡ 3) × IsRefusal words files texts)
-
--- nothing is wrong with the files, the graph has the dataset's rows, and these are the inserts
-pub record IsLoaded (folder : List ℕ) (files : Files) (graph : Graph) (inserts : List Line) : Type 0 where
-  pub accepted : (r : Refusal) → ¬ Refuses folder files r
-  pub dataset : List Row
-  pub input : IsInput folder files dataset inserts
-  pub closed : IsClosed (IsHeldIn dataset) inserts
-  pub kept : HoldsRows graph dataset
-
--- the texts of a run of these inserts from this graph on
-pub record IsRunOutput (inserts : List Line) (fixed : Option ℕ) (old : Graph) (texts : Written) : Type 0 where
-  pub history : List Event
-  pub graph : Graph
-  pub ran : HasRun inserts fixed old graph history
-  pub shown : texts ≡ run_texts inserts history graph
 
 -- the texts were added to the channels, where they are told
 abbrev pub Wrote : Option Written → Option Written → Written → Type 0

@@ -1,15 +1,10 @@
 -- What a call writes.
 use Rattle.std.specs.Prelude.{◌≡◌, ℕ, ◌+◌, ◌⊎◌, List, [], ◌++◌, length}
 use Rattle.snb_base.specs.Outbox.{Written}
-use Rattle.snb_tool.specs.declared.deliver.Output.{Output}
 
 -- a text on the screen, and nothing on the other channels
 abbrev pub on_screen : List ℕ → Written
 on_screen text = record { screen = text; log = []; answers = []; finals = []; cases = [] }
-
--- the bytes of each channel
-abbrev pub bytes_of : Output → Written
-bytes_of o = record { screen = o.screen.items; log = o.log.items; answers = o.answers.items; finals = o.finals.items; cases = [] }
 
 -- how many bytes there are on all channels together
 abbrev pub size_of : Written → ℕ

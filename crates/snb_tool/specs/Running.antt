@@ -1,4 +1,4 @@
--- What a run of a plan leaves.
+-- What a run of a plan leaves. Cited by contracts of private functions alone.
 use Rattle.std.specs.Prelude.{◌≡◌, ℕ, min, List, ◌++◌, All, Option}
 use Rattle.std.specs.List.{flat_map}
 use Rattle.std.specs.Option.{IfSome}
@@ -7,15 +7,16 @@ use Rattle.snb_schema.specs.declared.event.Event.TheVariants.{Start, Finish, Hal
 use Rattle.snb_schema.specs.declared.limits.TheConstants.{MAX_AT}
 use Rattle.snb_schema.specs.declared.op.Line.{Line}
 use Rattle.snb_schema.specs.declared.row.Row.{Row}
-use Rattle.snb_schema.specs.Graph.{Graph, HoldsRows, rows_of}
+use Rattle.snb_schema.specs.Graph.{Graph, HoldsRows, IsHeldIn, rows_of}
 use Rattle.snb_schema.specs.Plan.{plan_of}
 use Rattle.snb_schema.specs.Rules.{IsLegal, IsComplete}
-
--- an event's moment, if it has one, is this
-abbrev pub IsAt : ℕ → Event → Type 0
-IsAt moment (Start op worker at) = at ≡ moment
-IsAt moment (Finish op worker at front) = at ≡ moment
-IsAt moment (Halt worker) = Unit {0}
+use Rattle.snb_base.specs.Outbox.{Written}
+use Rattle.snb_base.specs.Shelf.{Files}
+use Rattle.snb_schema.specs.declared.refusal.Refusal.{Refusal}
+use Rattle.snb_schema.specs.Closed.{IsClosed}
+use Rattle.snb_schema.specs.Input.{IsInput, Refuses}
+use Rattle.snb_tool.specs.Outcome.{IsAt, run_texts}
+use Rattle.snb_tool.specs.declared.deliver.Output.{Output}
 
 -- the rows that the inserts add
 abbrev pub rows_of_all : List Line → List Row
@@ -27,3 +28,22 @@ pub record HasRun (lines : List Line) (fixed : Option ℕ) (old new : Graph) (h 
   pub complete : IsComplete (plan_of lines) h
   pub moments : IfSome fixed (λ moment. All (IsAt (min moment MAX_AT)) h)
   pub rows : (dataset : List Row) → HoldsRows old dataset → HoldsRows new (dataset ++ rows_of_all lines)
+
+-- nothing is wrong with the files, the graph has the dataset's rows, and these are the inserts
+pub record IsLoaded (folder : List ℕ) (files : Files) (graph : Graph) (inserts : List Line) : Type 0 where
+  pub accepted : (r : Refusal) → ¬ Refuses folder files r
+  pub dataset : List Row
+  pub input : IsInput folder files dataset inserts
+  pub closed : IsClosed (IsHeldIn dataset) inserts
+  pub kept : HoldsRows graph dataset
+
+-- the texts of a run of these inserts from this graph on
+pub record IsRunOutput (inserts : List Line) (fixed : Option ℕ) (old : Graph) (texts : Written) : Type 0 where
+  pub history : List Event
+  pub graph : Graph
+  pub ran : HasRun inserts fixed old graph history
+  pub shown : texts ≡ run_texts inserts history graph
+
+-- the bytes of each channel
+abbrev pub bytes_of : Output → Written
+bytes_of o = record { screen = o.screen.items; log = o.log.items; answers = o.answers.items; finals = o.finals.items; cases = [] }

@@ -1,4 +1,4 @@
--- How far a run of one worker has come.
+-- How far a run of one worker has come. Cited by contracts of private functions alone.
 use Rattle.std.specs.Prelude.{◌≡◌, ℕ, ◌≤◌, nat_lt, min, List, [], ◌∷◌, ◌++◌, length, take, Option, None, All, IsPermutation, false}
 use Rattle.std.specs.Option.{IfSome}
 use Rattle.snb_schema.specs.declared.limits.TheConstants.{MAX_AT}
@@ -13,7 +13,8 @@ use Rattle.snb_schema.specs.Rules.{IsLegal}
 use Rattle.snb_book.specs.Kept.{Kept}
 use Rattle.snb_tool.specs.declared.run.Turn.{Turn}
 use Rattle.snb_tool.specs.declared.run.Turn.TheVariants.{More, Over}
-use Rattle.snb_tool.specs.Running.{IsAt, HasRun, rows_of_all}
+use Rattle.snb_tool.specs.Running.{HasRun, rows_of_all}
+use Rattle.snb_tool.specs.Outcome.{IsAt}
 
 -- the new graph is the old one with the row of this insert
 pub record IsAdded (op : Op) (old new : Graph) : Type 0 where

@@ -9,8 +9,10 @@ ghost use Rattle.snb_schema.specs.ScreenTexts.{refusal_text};
 ghost use Rattle.snb_schema.specs.Closed.{IsClosed};
 ghost use Rattle.snb_schema.specs.Graph.{HoldsKey, IsGraph};
 ghost use Rattle.snb_loader.specs.Loading.{OnReadFault, OnRefused};
-ghost use Rattle.snb_tool.specs.Outcome.{IsRunCut, IsLoaded, IsOtherLine, IsRefusal, IsRun, IsRunOutput, IsUsage, Wrote};
-ghost use Rattle.snb_tool.specs.Output.{IsWrittenSoFar, bytes_of, on_screen, size_of};
+ghost use Rattle.snb_tool.specs.Outcome.{IsRunCut, IsOtherLine, IsRefusal, IsRun, IsUsage, Wrote};
+ghost use Rattle.snb_tool.specs.Running.{IsLoaded, IsRunOutput};
+ghost use Rattle.snb_tool.specs.Output.{IsWrittenSoFar, on_screen, size_of};
+ghost use Rattle.snb_tool.specs.Running.{bytes_of};
 ghost use Rattle.snb_schema.specs.Plan.{ArePlanned};
 ghost use Rattle.snb_tool.specs.Words.{IsRunLine, texts_of};
 

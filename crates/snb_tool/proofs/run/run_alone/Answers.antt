@@ -1,7 +1,7 @@
 use Rattle.std.proofs.Common.{[], ◌∙◌, ap, subst, sym}
 use Rattle.snb_schema.specs.Schedule.{Schedule}
-use Rattle.snb_book.specs.Book.{IsOfPersons}
-use Rattle.snb_plan.proofs.PlanLemmas.{lane_of_persons}
+use Rattle.snb_book.specs.Kept.{IsOfPersons}
+use Rattle.snb_plan.proofs.Laws.{lane_of_persons}
 use Rattle.snb_tool.specs.declared.run.Turn.{Turn}
 use Rattle.snb_tool.specs.Turns.{TurnsTo}
 use Rattle.snb_tool.proofs.TurnLemmas.{done_none}

@@ -9,7 +9,7 @@ use Rattle.std.specs.declared.alloc.Global.{Global}
 use Rattle.snb_loader.specs.declared.persons.Persons.{Persons}
 use Rattle.snb_tool.specs.declared.tool.Input.{Input}
 use Rattle.snb_loader.specs.Loading.{PersonsLoaded, PersonsRefused, StreamBad, StreamOf}
-use Rattle.snb_tool.specs.Outcome.{IsLoaded}
+use Rattle.snb_tool.specs.Running.{IsLoaded}
 use Rattle.snb_tool.proofs.InputLemmas.{files_loaded, persons_refuse, stream_refuses, wrong_refuses}
 use Rattle.snb_loader.proofs.LoaderLemmas.{refused_bad, refused_weaker}
 use Rattle.snb_loader.proofs.TakeLemmas.{if_some, if_some_both}

@@ -3,7 +3,7 @@ use Rattle.std.proofs.lemmas.Int.{to_z-of_z}
 use Rattle.snb_schema.specs.declared.step.Step.{Step}
 use Rattle.snb_schema.specs.Schedule.{no_step, IsPlanned}
 use Rattle.snb_book.specs.Kept.{Kept}
-use Rattle.snb_book.specs.Book.{IsOfPersons}
+use Rattle.snb_book.specs.Kept.{IsOfPersons}
 use Rattle.snb_book.proofs.Telling.{history_short}
 use Rattle.snb_book.proofs.Answering.{blocked}
 use Rattle.snb_book.proofs.book.Book.answer_idle.Goals as goal
