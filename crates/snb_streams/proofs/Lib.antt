@@ -7,3 +7,4 @@ pub mod ParameterFacts
 pub mod PlaceFacts
 pub mod UpdateFacts
 pub mod SomeFacts
+pub mod TextFacts

@@ -5,7 +5,7 @@ use Rattle.snb_schema.specs.declared.op.OpKind.{OpKind}
 use Rattle.snb_schema.specs.declared.query.Query.{Query}
 use Rattle.snb_schema.specs.ParameterLines.{IsBadQuery, SpellsQuery}
 use Rattle.snb_schema.specs.Queries.{IsComplex}
-use Rattle.snb_schema.specs.UpdateLines.{IsBadInsert, IsLine, canonical_line}
+use Rattle.snb_schema.specs.UpdateLines.{IsBadInsert, IsBadLine, IsLine, canonical_line}
 use Rattle.snb_streams.specs.Spelled.{SpellsInsert}
 
 -- a text is the line of one insert at most
@@ -27,6 +27,18 @@ InsertsAreRight = (allowed : List OpKind) (fs : List (List ℕ)) (t t_d : ℕ) (
 -- fields spell an insert of one of these kinds, or they have a bad column
 abbrev pub InsertOrColumn : Type 0
 InsertOrColumn = (allowed : List OpKind) (fs : List (List ℕ)) → ((t : ℕ) × (t_d : ℕ) × (op : Op) × SpellsInsert allowed fs t t_d op) ⊎ ((column : ℕ) × IsBadInsert allowed fs column)
+
+-- each text is the line of an insert, or it has a bad column
+abbrev pub LineOrColumn : Type 0
+LineOrColumn = (text : List ℕ) → ((t : ℕ) × (t_d : ℕ) × (op : Op) × IsLine text t t_d op) ⊎ ((column : ℕ) × IsBadLine text column)
+
+-- a text is bad in one column at most
+abbrev pub OneBadLine : Type 0
+OneBadLine = (text : List ℕ) (a b : ℕ) → IsBadLine text a → IsBadLine text b → a ≡ b
+
+-- and in none where it is the line of an insert
+abbrev pub LinesAreRight : Type 0
+LinesAreRight = (text : List ℕ) (t t_d : ℕ) (op : Op) (column : ℕ) → IsLine text t t_d op → ¬ IsBadLine text column
 
 -- fields are those of one complex query at most
 abbrev pub OneQuery : Type 0

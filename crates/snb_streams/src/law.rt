@@ -1,6 +1,6 @@
 //! Laws of the lines of update streams and parameter files, over every line.
 
-ghost use Rattle.snb_streams.specs.Laws.{InsertOrColumn, InsertsAreRight, NoBadQuery, OneBadQuery, OneFault, OneInsert, OneQuery, OwnInsertLine, QueryOrColumn};
+ghost use Rattle.snb_streams.specs.Laws.{InsertOrColumn, InsertsAreRight, LineOrColumn, LinesAreRight, NoBadQuery, OneBadLine, OneBadQuery, OneFault, OneInsert, OneQuery, OwnInsertLine, QueryOrColumn};
 
 use snb_fields::law::{one_value, own_line as own_fields, plain_fields, spelled_or_not, taken_again};
 
@@ -28,6 +28,16 @@ pub fn one_fault()
 {
     taken_again();
     spelled_or_not();
+}
+
+/// Each text is the line of an insert, or it has a bad column. Not both; and it has only one bad
+/// column.
+pub fn one_bad_line()
+    ensures some { LineOrColumn }
+    ensures one { OneBadLine }
+    ensures none { LinesAreRight }
+{
+    one_fault();
 }
 
 /// Fields are the parameters of a query, or they have a bad column. Not both; and they are those of
