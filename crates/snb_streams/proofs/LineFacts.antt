@@ -16,7 +16,8 @@ use Rattle.snb_fields.specs.Laws.{HasPlainFields, OneList, OwnLineOfValues}
 use Rattle.snb_streams.specs.Laws.{OneInsert}
 use Rattle.snb_streams.specs.Laws as laws
 use Rattle.snb_streams.specs.Make.{op_by}
-use Rattle.snb_streams.specs.Spelled.{IsSplit, SpellsInsert}
+use Rattle.snb_streams.specs.Spelled.{SpellsInsert}
+use Rattle.snb_streams.specs.Split.{IsSplit}
 use Rattle.snb_streams.proofs.InsertFacts.{made_again}
 use Rattle.snb_streams.proofs.KindFacts.{one_name, third_field}
 
