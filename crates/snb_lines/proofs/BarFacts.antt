@@ -1,5 +1,5 @@
 -- What `csv` reads of one line is its fields.
-use Rattle.std.proofs.Common.{subst, ◌≡◌, ◌≢◌, ◌==◌, ◌++◌, ◌∷◌, ◌∙◌, ◌<◌, [], ℕ, List, Bool, Option, Some, refl, sym, ap, true, false, append_assoc, inl, inr, suc, length, arith, Bor, None, take, drop, ◌-◌}
+use Rattle.std.proofs.Common.{subst, ◌≡◌, ◌≢◌, ◌==◌, ◌++◌, ◌∷◌, ◌∙◌, ◌<◌, [], ℕ, List, Bool, Option, Some, refl, sym, ap, true, false, append_assoc, inl, inr, suc, length, arith, None, take, drop, ◌-◌}
 use Rattle.std.proofs.Math.Seq.{take-length}
 use Rattle.std.proofs.lemmas.List.{append-nil}
 use Rattle.std.proofs.lemmas.Bool.{cases_Bool, eqb-true, ne_eqb}
@@ -11,7 +11,7 @@ use Rattle.csv.specs.declared.reader.Reader.{Reader}
 use Rattle.csv.specs.declared.parser.State.{State}
 use Rattle.csv.specs.declared.parser.State.TheVariants as st
 use Rattle.std.specs.List.{onto_first}
-use Rattle.snb_schema.specs.Lines.{begins_with_mark, fields}
+use Rattle.snb_schema.specs.Lines.{fields}
 use Rattle.snb_lines.specs.Bars.{IsBefore, MayStand, Source, Stands, bar_config, bytes_of}
 use Rattle.snb_lines.specs.Cut.{IsCutAtEnd}
 use Rattle.snb_schema.specs.Lines.{HasNoEnd}

@@ -1,9 +1,8 @@
 -- What the lines of a file with a header are read as.
-use Rattle.std.proofs.Common.{◌≡◌, ◌≢◌, true, false, Bool, ◌++◌, ◌∷◌, ◌∙◌, ◌+◌, [], ℕ, List, All, refl, sym, ap, subst, length, arith, inl, inr}
+use Rattle.std.proofs.Common.{◌≡◌, ◌≢◌, true, false, Bool, ◌++◌, ◌∷◌, ◌∙◌, ◌+◌, [], ℕ, List, All, refl, sym, ap, subst, length, arith}
 use Rattle.std.proofs.lemmas.List.Elements.{All-head, All-tail}
 use Rattle.std.specs.Str.{IsUtf8}
 use Rattle.snb_schema.specs.Lines.{HasNoEnd, begins_with_mark, data_lines, fields, filled}
-use Rattle.snb_schema.specs.declared.refusal.Refusal.{Refusal}
 use Rattle.snb_lines.specs.Files.{AreEach, AreUnder, GivesOne, HeadsOf, ReadsUnder}
 use Rattle.snb_lines.specs.Headed.{GivesAs, Heads, IsBad, IsBadAs, Passed, RefusesHeaded, TakesHeaded, unpassed}
 use Rattle.snb_lines.specs.Laws.{HeadedFiles, HeaderlessFiles, IsExact, IsExactBody, OneHeadedReading}

@@ -1,7 +1,7 @@
 -- What other crates may cite of this one: facts about lines, and about what they are read as.
 use Rattle.std.proofs.Common.{◌≡◌, ◌++◌, ◌∷◌, ◌+◌, ◌≤◌, [], ℕ, List, All, length}
 use Rattle.snb_schema.specs.Lines.{HasNoEnd}
-use Rattle.snb_lines.specs.Cut.{last_lines, rest_of, whole_lines}
+use Rattle.snb_lines.specs.Cut.{rest_of, whole_lines}
 use Rattle.snb_lines.specs.Files.{AreEach, AreUnder, GivesOne, HeadsOf, ReadsUnder}
 use Rattle.snb_lines.specs.Headed.{Heads, IsBad}
 use Rattle.snb_lines.specs.Laws.{CutAnywhere, HeadedFiles, HeaderlessFiles, LinesAreWhole, LinesHaveNoEnd, OneHeadedReading, OneReading}

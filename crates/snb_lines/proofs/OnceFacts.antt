@@ -1,9 +1,9 @@
 -- Lines are read in one way, and none that is read is refused.
-use Rattle.std.proofs.Common.{◌≡◌, ◌≢◌, true, false, ◌++◌, ◌∷◌, ◌∙◌, ◌+◌, ◌⊎◌, [], ℕ, List, refl, sym, ap, subst, length, arith, inl, inr, append_assoc}
+use Rattle.std.proofs.Common.{◌≡◌, ◌++◌, ◌∷◌, ◌∙◌, ◌+◌, [], ℕ, List, refl, sym, ap, subst, length, arith, inl, inr, append_assoc}
 use Rattle.snb_schema.specs.Lines.{fields}
 use Rattle.snb_schema.specs.declared.file.FileId.{FileId}
 use Rattle.snb_schema.specs.declared.refusal.Refusal.{Refusal}
-use Rattle.snb_lines.specs.Laws.{IsExact, OneReading, ReadsOnce}
+use Rattle.snb_lines.specs.Laws.{IsExact, OneReading}
 use Rattle.snb_lines.specs.Reading.{Reads, ReadsLine, Refuses, RefusesLine, Stops, Takes}
 
 module _ {M T : Type 0} (takes : Takes M T) where

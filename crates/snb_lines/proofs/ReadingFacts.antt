@@ -1,5 +1,5 @@
 -- Facts of what lines give.
-use Rattle.std.proofs.Common.{◌≡◌, ◌≢◌, ◌==◌, true, false, drop, ◌++◌, ◌∷◌, ◌∙◌, ◌+◌, ◌<◌, ◌≤◌, [], ℕ, List, refl, sym, ap, subst, length, arith, length-append, append_assoc, append-nil, Result, Ok, Err, OnOk, Option, Some}
+use Rattle.std.proofs.Common.{◌≡◌, ◌≢◌, ◌==◌, true, false, ◌++◌, ◌∷◌, ◌∙◌, ◌+◌, ◌<◌, ◌≤◌, [], ℕ, List, refl, sym, ap, subst, length, arith, length-append, append_assoc, append-nil, Result, Ok, Err, Option, Some}
 use Rattle.snb_schema.specs.declared.file.FileId.{FileId}
 use Rattle.snb_schema.specs.declared.refusal.Refusal.{Refusal}
 use Rattle.snb_lines.specs.Cut.{IsCutAtEnd, last_lines, rest_of, whole_lines}
@@ -42,9 +42,6 @@ module _ {M T : Type 0} (takes : M → ℕ → List (List ℕ) → List T → M 
     pub reads : Reads takes state0 ended0 done items state
     pub grew : into ≡ into0 ++ items
     pub numbered : ended ≡ ended0 + length done
-
-  pub coming_start : (state : M) (ended : ℕ) (text : List ℕ) (into : List T) → Coming state ended text into state ended text into
-  coming_start state ended text into = record { done = []; items = []; split = refl; last = refl; reads = (refl, refl); grew = sym (append-nil into); numbered = sym (none_more ended) }
 
   pub coming_step : (state0 : M) (ended0 : ℕ) (text : List ℕ) (into0 : List T) (state : M) (ended : ℕ) (rest : List ℕ) (into : List T) (line others : List ℕ) (more : List T) (new : M) (to : List T)
       → Coming state0 ended0 text into0 state ended rest into → HasNoEnd line → rest ≡ line ++ 10 ∷ others → ReadsLine takes state (ended + 1) line more new → to ≡ into ++ more
@@ -134,20 +131,6 @@ module _ {M T : Type 0} (takes : M → ℕ → List (List ℕ) → List T → M 
       refused = k.refused;
     }
 
-  -- lines and then some more lines
-  pub some_later : (before after : List (List ℕ)) (state mid : M) (ended : ℕ) (items more : List T) → Reads takes state ended before items mid
-      → ReadsSome takes mid (ended + length before) after more → ReadsSome takes state ended (before ++ after) (items ++ more)
-  some_later before after state mid ended items more h k = record {
-    before = before ++ k.before;
-    after = k.after;
-    new = k.new;
-    split = ap (λ (ls : List (List ℕ)). before ++ ls) k.split ∙ sym (append_assoc before k.before k.after);
-    reads = reads_append before k.before state mid k.new ended items more h k.reads;
-  }
-
-  pub some_none : (state : M) (ended : ℕ) (lines : List (List ℕ)) → ReadsSome takes state ended lines []
-  some_none state ended lines = record { before = []; after = lines; new = state; split = refl; reads = (refl, refl) }
-
 pub joins : {M T : Type 0} (takes : M → ℕ → List (List ℕ) → List T → M → Type 0) (refuses : M → ℕ → List (List ℕ) → Refusal → Type 0) (before after all : List (List ℕ)) → all ≡ before ++ after → Joins takes refuses before after all
 joins takes refuses before after all e = record {
   reads = λ state mid new ended items more h k. subst (λ (ls : List (List ℕ)). Reads takes state ended ls (items ++ more) new) (sym e) (reads_append takes before after state mid new ended items more h k);
@@ -173,20 +156,6 @@ room_step rest line others ended next most e l n = omega (arith, ap length e, le
 
 pub shorter : (rest line others : List ℕ) → rest ≡ line ++ 10 ∷ others → length others < length rest
 shorter rest line others e = omega (arith, ap length e, length-append line (10 ∷ others))
-
-pub on_ok_more : (given : Result (Unit {0}) Fault) (P Q : Type 0) → OnOk given P → (P → Q) → OnOk given Q
-on_ok_more (Ok a) P Q h more = more h
-on_ok_more (Err e) P Q h more = tt
-
-pub on_bad_more : (given : Result (Unit {0}) Fault) (P Q : Refusal → Type 0) → OnBad given P → ((r : Refusal) → P r → Q r) → OnBad given Q
-on_bad_more (Ok a) P Q h more = tt
-on_bad_more (Err Memory) P Q h more = tt
-on_bad_more (Err (Bad r)) P Q h more = more r h
-
-pub on_memory_more : (given : Result (Unit {0}) Fault) (P Q : Type 0) → OnMemory given P → (P → Q) → OnMemory given Q
-on_memory_more (Ok a) P Q h more = tt
-on_memory_more (Err Memory) P Q h more = more h
-on_memory_more (Err (Bad r)) P Q h more = tt
 
 -- a line begun, its last bytes and what follows them are that line and the piece
 pub piece_text : (begun piece head others line text : List ℕ) → IsCutAtEnd piece head others → line ≡ begun ++ head → text ≡ line ++ others → text ≡ begun ++ piece

@@ -14,7 +14,15 @@ use Rattle.snb_schema.specs.Lines.{HasNoEnd}
 
 -- bars between fields, no quoting, lines end at `\n` alone
 abbrev pub bar_config : Config
-bar_config = record { delimiter = 124; quote = 34; escape = None; double_quote = true; quoting = false; comment = None; terminator = term.Any 10 }
+bar_config = record {
+  delimiter = 124;
+  quote = 34;
+  escape = None;
+  double_quote = true;
+  quoting = false;
+  comment = None;
+  terminator = term.Any 10;
+}
 
 -- what is read from: a line end, and two texts after it
 abbrev pub Source : Type 0

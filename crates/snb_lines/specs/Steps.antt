@@ -25,8 +25,8 @@ LinesStopped {M} {T} takes refuses lines old had has r =
     (items : List T) × Stops takes refuses old.file old.meaning old.ended lines items r × (has ≡ had ++ items)
 
 -- one of the last lines is refused so or the file is, and the items of the lines before that are appended
-abbrev pub FileStopped : {M T : Type 0} → Takes M T → Refuses M → (M → Option Refusal) → List (List ℕ) → Progress M → List T → List T → Refusal
-    → Type 0
+abbrev pub FileStopped : {M T : Type 0} → Takes M T → Refuses M → (M → Option Refusal) → List (List ℕ) → Progress M → List T → List T
+    → Refusal → Type 0
 FileStopped {M} {T} takes refuses ends lines old had has r =
     (items : List T)
     × (Stops takes refuses old.file old.meaning old.ended lines items r ⊎ EndsBad takes ends old.meaning old.ended lines items r)

@@ -49,12 +49,10 @@ pub trait Body {
         into: &mut Vec<Self::Item>,
     ) -> Result<(), LineFault>
         requires utf8 { All IsUtf8 (fields_of fields.now) }
-        ensures ok {
-            OnOk result
+        ensures ok { OnOk result
             ((items : List Self.Item)
             × gives self.old number (fields_of fields.now) items self.new
-            × (into.new.items ≡ into.old.items ++ items))
-        }
+            × (into.new.items ≡ into.old.items ++ items)) }
         ensures bad { OnBadColumn result (bad_line self.old (fields_of fields.now)) }
         ensures same { OnErr result (into.new.items ≡ into.old.items) };
 }

@@ -105,19 +105,13 @@ impl<M: Meaning> Lines<M> {
         requires goes_on { self.old.over ≡ false }
         ensures kept { KeepsFault result self.old into.old.items self.new into.new.items }
         ensures was_good { OnOk result (self.old.fault ≡ None) }
-        ensures ok {
-            OnOk result
-            (HasRead M.takes (new_lines self.old piece.now) self.old into.old.items self.new into.new.items)
-        }
+        ensures ok { OnOk result
+            (HasRead M.takes (new_lines self.old piece.now) self.old into.old.items self.new into.new.items) }
         ensures after { OnOk result (self.new ≡ fed_more self.old piece.now self.new.meaning) }
-        ensures bad {
-            self.old.fault ≡ None → OnBad result
-            (HasStopped M.takes M.refuses (new_lines self.old piece.now) self.old into.old.items self.new into.new.items)
-        }
-        ensures memory {
-            self.old.fault ≡ None → OnMemory result
-            (HasRunOut M.takes (new_lines self.old piece.now) self.old into.old.items self.new into.new.items)
-        }
+        ensures bad { self.old.fault ≡ None → OnBad result
+            (HasStopped M.takes M.refuses (new_lines self.old piece.now) self.old into.old.items self.new into.new.items) }
+        ensures memory { self.old.fault ≡ None → OnMemory result
+            (HasRunOut M.takes (new_lines self.old piece.now) self.old into.old.items self.new into.new.items) }
         ensures same { OnErr result (IsSameFile self.old self.new) }
     {
         if let Some(fault) = self.fault {
@@ -140,20 +134,14 @@ impl<M: Meaning> Lines<M> {
         requires goes_on { self.old.over ≡ false }
         ensures kept { KeepsFault result self.old into.old.items self.new into.new.items }
         ensures was_good { OnOk result (self.old.fault ≡ None) }
-        ensures ok {
-            OnOk result
-            (HasRead M.takes (left_lines self.old) self.old into.old.items self.new into.new.items)
-        }
+        ensures ok { OnOk result
+            (HasRead M.takes (left_lines self.old) self.old into.old.items self.new into.new.items) }
         ensures ends { OnOk result (M.ends self.new.meaning ≡ None) }
         ensures after { OnOk result (self.new ≡ at_file_end self.old self.new.meaning) }
-        ensures bad {
-            self.old.fault ≡ None → OnBad result
-            (HasStoppedAtEnd M.takes M.refuses M.ends (left_lines self.old) self.old into.old.items self.new into.new.items)
-        }
-        ensures memory {
-            self.old.fault ≡ None → OnMemory result
-            (HasRunOut M.takes (left_lines self.old) self.old into.old.items self.new into.new.items)
-        }
+        ensures bad { self.old.fault ≡ None → OnBad result
+            (HasStoppedAtEnd M.takes M.refuses M.ends (left_lines self.old) self.old into.old.items self.new into.new.items) }
+        ensures memory { self.old.fault ≡ None → OnMemory result
+            (HasRunOut M.takes (left_lines self.old) self.old into.old.items self.new into.new.items) }
         ensures same { OnErr result (IsSameFile self.old self.new) }
     {
         if let Some(fault) = self.fault {

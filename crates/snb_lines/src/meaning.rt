@@ -33,12 +33,10 @@ pub trait Meaning {
         into: &mut Vec<Self::Item>,
     ) -> Result<(), Fault>
         requires utf8 { All IsUtf8 (fields_of fields.now) }
-        ensures ok {
-            OnOk result
+        ensures ok { OnOk result
             ((items : List Self.Item)
             × takes self.old number (fields_of fields.now) items self.new
-            × (into.new.items ≡ into.old.items ++ items))
-        }
+            × (into.new.items ≡ into.old.items ++ items)) }
         ensures bad { OnBad result (λ r. refuses self.old number (fields_of fields.now) r) }
         ensures same { OnErr result (into.new.items ≡ into.old.items) };
 

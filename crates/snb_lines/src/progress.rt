@@ -85,10 +85,8 @@ impl<M: Meaning> Progress<M> {
     fn take_last(&mut self, into: &mut Vec<M::Item>) -> Result<(), Fault>
         requires room { self.old.ended + 1 < 2 ^ 32 }
         requires one_line { HasNoEnd self.old.begun.items }
-        ensures ok {
-            OnOk result
-            (LineRead M.takes self.old.begun.items self.old into.old.items self.new into.new.items)
-        }
+        ensures ok { OnOk result
+            (LineRead M.takes self.old.begun.items self.old into.old.items self.new into.new.items) }
         ensures bad { OnBad result (LineRefused M.refuses self.old.begun.items self.old) }
         ensures same { OnErr result (into.new.items ≡ into.old.items) }
         ensures file { self.new.file ≡ self.old.file }
@@ -102,11 +100,7 @@ impl<M: Meaning> Progress<M> {
     }
 
     // Takes the lines of a text that are ended, and begins the line that follows them.
-    fn take_lines(
-        &mut self,
-        mut text: EndedLines<'_>,
-        into: &mut Vec<M::Item>,
-    ) -> Result<(), Fault>
+    fn take_lines(&mut self, mut text: EndedLines<'_>, into: &mut Vec<M::Item>) -> Result<(), Fault>
         requires fresh { self.old.begun.items ≡ [] }
         requires room { self.old.ended + length text ≤ MAX_BYTES }
         ensures ok { OnOk result (LinesRead M.takes (whole_lines text.entry) self.old into.old.items self.new into.new.items) }
@@ -128,18 +122,12 @@ impl<M: Meaning> Progress<M> {
     pub fn take_piece(&mut self, piece: &[u8], into: &mut Vec<M::Item>) -> Result<(), Fault>
         requires one_line { HasNoEnd self.old.begun.items }
         requires room { self.old.ended + length self.old.begun.items + length piece.now ≤ MAX_BYTES }
-        ensures ok {
-            OnOk result
-            (LinesRead M.takes (whole_lines (self.old.begun.items ++ piece.now)) self.old into.old.items self.new into.new.items)
-        }
-        ensures bad {
-            OnBad result
-            (LinesStopped M.takes M.refuses (whole_lines (self.old.begun.items ++ piece.now)) self.old into.old.items into.new.items)
-        }
-        ensures memory {
-            OnMemory result
-            (LinesRunOut M.takes (whole_lines (self.old.begun.items ++ piece.now)) self.old into.old.items into.new.items)
-        }
+        ensures ok { OnOk result
+            (LinesRead M.takes (whole_lines (self.old.begun.items ++ piece.now)) self.old into.old.items self.new into.new.items) }
+        ensures bad { OnBad result
+            (LinesStopped M.takes M.refuses (whole_lines (self.old.begun.items ++ piece.now)) self.old into.old.items into.new.items) }
+        ensures memory { OnMemory result
+            (LinesRunOut M.takes (whole_lines (self.old.begun.items ++ piece.now)) self.old into.old.items into.new.items) }
         ensures file { self.new.file ≡ self.old.file }
         ensures ended { OnOk result (self.new.ended ≡ self.old.ended + length (whole_lines (self.old.begun.items ++ piece.now))) }
         ensures begun { OnOk result (self.new.begun.items ≡ rest_of (self.old.begun.items ++ piece.now)) }
@@ -158,19 +146,13 @@ impl<M: Meaning> Progress<M> {
     pub fn finish(&mut self, into: &mut Vec<M::Item>) -> Result<(), Fault>
         requires one_line { HasNoEnd self.old.begun.items }
         requires room { self.old.ended + length self.old.begun.items ≤ MAX_BYTES }
-        ensures ok {
-            OnOk result
-            (LinesRead M.takes (last_lines self.old.begun.items) self.old into.old.items self.new into.new.items)
-        }
+        ensures ok { OnOk result
+            (LinesRead M.takes (last_lines self.old.begun.items) self.old into.old.items self.new into.new.items) }
         ensures ends { OnOk result (M.ends self.new.meaning ≡ None) }
-        ensures bad {
-            OnBad result
-            (FileStopped M.takes M.refuses M.ends (last_lines self.old.begun.items) self.old into.old.items into.new.items)
-        }
-        ensures memory {
-            OnMemory result
-            (LinesRunOut M.takes (last_lines self.old.begun.items) self.old into.old.items into.new.items)
-        }
+        ensures bad { OnBad result
+            (FileStopped M.takes M.refuses M.ends (last_lines self.old.begun.items) self.old into.old.items into.new.items) }
+        ensures memory { OnMemory result
+            (LinesRunOut M.takes (last_lines self.old.begun.items) self.old into.old.items into.new.items) }
         ensures file { self.new.file ≡ self.old.file }
         ensures ended { OnOk result (self.new.ended ≡ self.old.ended + length (last_lines self.old.begun.items)) }
         ensures begun { OnOk result (self.new.begun.items ≡ []) }

@@ -88,10 +88,8 @@ pub fn split_line(alloc: Global, line: &[u8], row: &mut ByteRecord) -> Result<()
 fn next_line<'a>(first: &'a [u8], rest: &'a [u8]) -> Option<(&'a [u8], &'a [u8])>
     requires one_line { HasNoEnd first.now }
     requires ends { first.now ≢ [] → (others : List ℕ) × (rest.now ≡ 10 ∷ others) }
-    ensures {
-        MatchOption result (HasNoEnd (first.entry.now ++ rest.entry.now))
-        (λ parts. IsCutAtEnd (first.entry.now ++ rest.entry.now) parts.0.now parts.1.now)
-    }
+    ensures { MatchOption result (HasNoEnd (first.entry.now ++ rest.entry.now))
+        (λ parts. IsCutAtEnd (first.entry.now ++ rest.entry.now) parts.0.now parts.1.now) }
 {
     if first.is_empty() {
         cut_at_end(rest)
@@ -144,15 +142,11 @@ impl<'a> EndedLines<'a> {
     /// The next line that is ended, which may be empty, and, where it is not, its fields in `row`.
     /// The one error is want of memory.
     pub fn read(&mut self, row: &mut ByteRecord) -> Result<Option<&'a [u8]>, AllocError>
-        ensures line {
-            IfOk result
+        ensures line { IfOk result
             (λ found. MatchOption found (HasNoEnd self.old × (self.new ≡ self.old))
-            (λ line. HasNoEnd line.now × (self.old ≡ line.now ++ 10 ∷ self.new)))
-        }
-        ensures fields {
-            IfOk result
-            (λ found. MatchOption found ⊤ (λ line. line.now ≢ [] → fields_of row.new ≡ fields line.now))
-        }
+            (λ line. HasNoEnd line.now × (self.old ≡ line.now ++ 10 ∷ self.new))) }
+        ensures fields { IfOk result
+            (λ found. MatchOption found ⊤ (λ line. line.now ≢ [] → fields_of row.new ≡ fields line.now)) }
     {
         let Some((line, others)) = next_line(self.first, self.rest) else {
             return Ok(None);

@@ -11,7 +11,6 @@ use Rattle.snb_schema.specs.Columns.{SpellsAll}
 use Rattle.snb_schema.specs.Lines.{HasNoEnd, begins_with_mark, fields}
 use Rattle.snb_schema.specs.UpdateLines.{IsBadInsert, IsBadLine, IsLine, all_inserts, kind_of, line_columns, line_values, op_values}
 use Rattle.snb_lines.specs.Cut.{IsCutAtEnd}
-use Rattle.snb_lines.specs.Reading.{IsPlain}
 use Rattle.snb_fields.specs.Laws.{HasPlainFields, OneList, OwnLineOfValues}
 use Rattle.snb_streams.specs.Laws.{OneInsert}
 use Rattle.snb_streams.specs.Laws as laws
@@ -75,13 +74,9 @@ tested_empty [] empty is e = refl
 tested_empty (b ∷ bs) empty is e = (let none = eqb-true (length (b ∷ bs)) 0 (sym is ∙ e) in absurd (omega arith))
 
 -- and one whose length isn't nothing
-tested_filled : (line : List ℕ) (empty : Bool) → empty ≡ length line == 0 → empty ≡ false → line ≢ []
+pub tested_filled : (line : List ℕ) (empty : Bool) → empty ≡ length line == 0 → empty ≡ false → line ≢ []
 tested_filled [] empty is e same = cc
 tested_filled (b ∷ bs) empty is e same = cc
-
--- a line that is split
-pub plain_line : (line : List ℕ) (empty : Bool) → begins_with_mark line ≡ false → empty ≡ length line == 0 → empty ≡ false → IsPlain line
-plain_line line empty unmarked is e = record { filled = tested_filled line empty is e; unmarked = unmarked }
 
 -- a text with a line end has one
 ends_in : (front rest : List ℕ) → ¬ HasNoEnd (front ++ 10 ∷ rest)

@@ -1,4 +1,4 @@
-use Rattle.std.proofs.Common.{[], append-nil, sym, subst}
+use Rattle.std.proofs.Common.{[], append-nil, subst}
 use Rattle.std.proofs.lemmas.Result.{IfOk-weaker}
 use Rattle.snb_schema.specs.Lines.{fields}
 use Rattle.snb_lines.specs.Bars.{Stands}

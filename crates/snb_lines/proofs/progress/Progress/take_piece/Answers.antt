@@ -33,36 +33,36 @@ new-text-requires-clause-ends g c = (c.in-Some.ensures.rest, c.in-Some.ensures.e
 pub take_lines-requires-clause-room : goal.take_lines-requires-clause-room
 take_lines-requires-clause-room g c =
     let is = piece_text c.args.self.now.begun.items c.args.piece.now c.in-Some.head.now c.in-Some.others.now c.as_slice.result.now c.new-text.result c.in-Some.ensures
-        (c.as_slice.ensures.value ∙ c.in_ok-extend_from_slice-2.ensures.items ∙ ap (λ v. v.items ++ c.in-Some.head.now) c.replace-line.ensures.value) c.new-text.ensures in
+    (c.as_slice.ensures.value ∙ c.in_ok-extend_from_slice-2.ensures.items ∙ ap (λ v. v.items ++ c.in-Some.head.now) c.replace-line.ensures.value) c.new-text.ensures in
     let room = c.requires.room in
     omega (arith, ap length is, room, length-append c.args.self.now.begun.items c.args.piece.now)
 
 pub returns-clause-ok : goal.returns-clause-ok
 returns-clause-ok g c =
     let is = piece_text c.args.self.now.begun.items c.args.piece.now c.in-Some.head.now c.in-Some.others.now c.as_slice.result.now c.new-text.result c.in-Some.ensures
-        (c.as_slice.ensures.value ∙ c.in_ok-extend_from_slice-2.ensures.items ∙ ap (λ v. v.items ++ c.in-Some.head.now) c.replace-line.ensures.value) c.new-text.ensures in
+    (c.as_slice.ensures.value ∙ c.in_ok-extend_from_slice-2.ensures.items ∙ ap (λ v. v.items ++ c.in-Some.head.now) c.replace-line.ensures.value) c.new-text.ensures in
     subst (λ (t : List ℕ). OnOk c.take_lines.result (LinesRead g.M.Meaning.takes (whole_lines t) c.args.self.now c.args.into.now.items c.take_lines.new.self c.take_lines.new.into.items)) is c.take_lines.ensures.ok
 
 pub returns-clause-bad : goal.returns-clause-bad
 returns-clause-bad g c =
     let is = piece_text c.args.self.now.begun.items c.args.piece.now c.in-Some.head.now c.in-Some.others.now c.as_slice.result.now c.new-text.result c.in-Some.ensures
-        (c.as_slice.ensures.value ∙ c.in_ok-extend_from_slice-2.ensures.items ∙ ap (λ v. v.items ++ c.in-Some.head.now) c.replace-line.ensures.value) c.new-text.ensures in
+    (c.as_slice.ensures.value ∙ c.in_ok-extend_from_slice-2.ensures.items ∙ ap (λ v. v.items ++ c.in-Some.head.now) c.replace-line.ensures.value) c.new-text.ensures in
     subst (λ (t : List ℕ). OnBad c.take_lines.result (LinesStopped g.M.Meaning.takes g.M.Meaning.refuses (whole_lines t) c.args.self.now c.args.into.now.items c.take_lines.new.into.items)) is c.take_lines.ensures.bad
 
 pub returns-clause-memory : goal.returns-clause-memory
 returns-clause-memory g c =
     let is = piece_text c.args.self.now.begun.items c.args.piece.now c.in-Some.head.now c.in-Some.others.now c.as_slice.result.now c.new-text.result c.in-Some.ensures
-        (c.as_slice.ensures.value ∙ c.in_ok-extend_from_slice-2.ensures.items ∙ ap (λ v. v.items ++ c.in-Some.head.now) c.replace-line.ensures.value) c.new-text.ensures in
+    (c.as_slice.ensures.value ∙ c.in_ok-extend_from_slice-2.ensures.items ∙ ap (λ v. v.items ++ c.in-Some.head.now) c.replace-line.ensures.value) c.new-text.ensures in
     subst (λ (t : List ℕ). OnMemory c.take_lines.result (LinesRunOut g.M.Meaning.takes (whole_lines t) c.args.self.now c.args.into.now.items c.take_lines.new.into.items)) is c.take_lines.ensures.memory
 
 pub returns-clause-ended : goal.returns-clause-ended
 returns-clause-ended g c =
     let is = piece_text c.args.self.now.begun.items c.args.piece.now c.in-Some.head.now c.in-Some.others.now c.as_slice.result.now c.new-text.result c.in-Some.ensures
-        (c.as_slice.ensures.value ∙ c.in_ok-extend_from_slice-2.ensures.items ∙ ap (λ v. v.items ++ c.in-Some.head.now) c.replace-line.ensures.value) c.new-text.ensures in
+    (c.as_slice.ensures.value ∙ c.in_ok-extend_from_slice-2.ensures.items ∙ ap (λ v. v.items ++ c.in-Some.head.now) c.replace-line.ensures.value) c.new-text.ensures in
     subst (λ (t : List ℕ). OnOk c.take_lines.result (c.take_lines.new.self.ended ≡ c.args.self.now.ended + length (whole_lines t))) is c.take_lines.ensures.ended
 
 pub returns-clause-begun : goal.returns-clause-begun
 returns-clause-begun g c =
     let is = piece_text c.args.self.now.begun.items c.args.piece.now c.in-Some.head.now c.in-Some.others.now c.as_slice.result.now c.new-text.result c.in-Some.ensures
-        (c.as_slice.ensures.value ∙ c.in_ok-extend_from_slice-2.ensures.items ∙ ap (λ v. v.items ++ c.in-Some.head.now) c.replace-line.ensures.value) c.new-text.ensures in
+    (c.as_slice.ensures.value ∙ c.in_ok-extend_from_slice-2.ensures.items ∙ ap (λ v. v.items ++ c.in-Some.head.now) c.replace-line.ensures.value) c.new-text.ensures in
     subst (λ (t : List ℕ). OnOk c.take_lines.result (c.take_lines.new.self.begun.items ≡ rest_of t)) is c.take_lines.ensures.begun

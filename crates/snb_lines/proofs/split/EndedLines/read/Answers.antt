@@ -1,4 +1,4 @@
-use Rattle.std.proofs.Common.{◌≢◌, ◌++◌, ◌∙◌, [], sym, refl}
+use Rattle.std.proofs.Common.{◌≢◌, ◌++◌, ◌∙◌, [], sym}
 use Rattle.snb_schema.specs.Lines.{fields}
 use Rattle.snb_lines.proofs.BarFacts.{before-rest, first-line-read, is-empty, not-empty, stands-past-empty, stands-past-line}
 use Rattle.snb_lines.proofs.split.EndedLines.read.Goals as goal

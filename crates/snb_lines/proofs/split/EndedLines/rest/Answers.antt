@@ -1,4 +1,4 @@
-use Rattle.std.proofs.Common.{◌≡◌, ◌∙◌, sym, subst}
+use Rattle.std.proofs.Common.{◌∙◌, sym, subst}
 use Rattle.snb_schema.specs.Lines.{HasNoEnd}
 use Rattle.snb_lines.proofs.BarFacts.{none-apart}
 use Rattle.snb_lines.proofs.split.EndedLines.rest.Goals as goal
