@@ -99,7 +99,7 @@ rows_after lines old graph new count d lt same added =
 -- the plan of inserts that are closed is timely
 pub plan_timely : (xs : List Line) (holds : Key → Type 0) → ArePlanned xs → IsClosed holds xs → IsTimely (plan_of xs)
 plan_timely xs holds planned closed =
-    planned_is_timely (plan_of xs) (planned_plan xs planned)
+    planned_is_timely (plan_of xs) (planned_plan xs planned.with_times)
     (λ k waits. elim (cases_lt k (length xs)) [
       | inl lt ↦ below xs closed k lt waits
       | inr past ↦ absurd (
