@@ -1,15 +1,12 @@
 -- Worked rows: inserts of each of the eight kinds.
-use Rattle.std.specs.Prelude.{◌≡◌, ℕ, Bool, List, [], ◌∷◌, codes}
-use Rattle.snb_schema.specs.declared.key.Key.{Key}
-use Rattle.snb_schema.specs.declared.layout.Shape.{Shape}
+use Rattle.std.specs.Prelude.{◌≡◌, [], ◌∷◌, codes}
 use Rattle.snb_schema.specs.declared.op.Op.{Op}
 use Rattle.snb_schema.specs.declared.op.Op.TheVariants as ops
 use Rattle.snb_schema.specs.declared.op.Parent.TheVariants as parents
 use Rattle.snb_schema.specs.declared.person.Person.{Person}
 use Rattle.snb_schema.specs.declared.row.Row.{Row}
-use Rattle.snb_schema.specs.declared.table.Table.{Table}
 use Rattle.snb_schema.specs.Layouts.{key_columns, shape}
-use Rattle.snb_schema.specs.RowKeys.{RowKey, column_key, row_key}
+use Rattle.snb_schema.specs.RowKeys.{column_key, row_key}
 use Rattle.snb_schema.specs.RowLines.{row_shape, table_of, values}
 
 -- 8000|0|1|12|Cy|Fox|male|0|8000|1.1.1.3|Opera|1|en|c@x.org|0||0,2011

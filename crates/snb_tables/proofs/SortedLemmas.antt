@@ -1,15 +1,14 @@
 -- Lists in order with the same elements are equal.
 use Rattle.std.proofs.Common.{◌≡◌, ◌↔◌, ℕ, zero, suc, ◌<◌, ◌⊎◌, List, [], ◌∷◌, length, get_or, refl, sym, ap, ◌∙◌, subst, inl, inr, arith}
 use Rattle.std.specs.declared.cmp.Ordering.{Ordering}
-use Rattle.std.specs.declared.cmp.Ordering.TheVariants.{Less, Equal, Greater}
-use Rattle.std.specs.Ordering.{nat_cmp, ordering_reverse, is_lt}
-use Rattle.std.specs.Cmp.{IsTotalOrder, tied_itself, nat_cmp_total, then_total, on_total}
+use Rattle.std.specs.declared.cmp.Ordering.TheVariants.{Less}
+use Rattle.std.specs.Ordering.{ordering_reverse, is_lt}
+use Rattle.std.specs.Cmp.{IsTotalOrder, nat_cmp_total, then_total, on_total}
 use Rattle.std.specs.Cmp.Lexicographic.{nat_list_cmp_total}
 use Rattle.std.specs.List.{Contains, AllByRecursion}
 use Rattle.std.specs.List.Sorted.{IsStrictlySortedBy}
 use mathlib.Core.Bool.{false≢true}
 use Rattle.snb_schema.specs.contracts.table.TableOrd.TheImpl.Laws.{total-law}
-use Rattle.snb_schema.specs.declared.row.Row.{Row}
 use Rattle.snb_tables.specs.Graphs.{key_order, part, row_order}
 use Rattle.snb_schema.specs.RowKeys.{RowKey, row_key}
 use Rattle.snb_schema.specs.TableOrder.{table_order}
@@ -21,7 +20,7 @@ table_total = total-law
 pub key_total : IsTotalOrder key_order
 key_total =
     then_total (on_total (λ (k : RowKey). k.0) table_total)
-      (then_total (on_total (λ (k : RowKey). k.1) nat_cmp_total) (then_total (on_total (λ (k : RowKey). k.2) nat_cmp_total) (on_total (λ (k : RowKey). k.3) nat_list_cmp_total)))
+    (then_total (on_total (λ (k : RowKey). k.1) nat_cmp_total) (then_total (on_total (λ (k : RowKey). k.2) nat_cmp_total) (on_total (λ (k : RowKey). k.3) nat_list_cmp_total)))
 
 pub row_total : IsTotalOrder row_order
 row_total = then_total (on_total part nat_cmp_total) (on_total row_key key_total)

@@ -1,13 +1,11 @@
-use Rattle.std.proofs.Common.{◌≡◌, ◌<◌, ◌≤◌, ◌+◌, ℕ, zero, suc, List, [], ◌∷◌, refl, ap, sym, ◌∙◌, subst, inl, inr, arith}
+use Rattle.std.proofs.Common.{◌≡◌, ◌≤◌, ℕ, zero, suc, [], refl, ap, subst, inl, inr, arith}
 use Rattle.std.proofs.lemmas.Bool.{cases_lt}
-use Rattle.std.specs.List.{AllByRecursion, Contains}
+use Rattle.std.specs.List.{Contains}
 use Rattle.snb_schema.specs.declared.row.Row.{Row}
 use Rattle.snb_schema.specs.declared.row.Row.TheVariants as row
 use Rattle.snb_schema.specs.declared.table.Table.{Table}
 use Rattle.snb_schema.specs.declared.table.Table.TheVariants as table
-use Rattle.snb_schema.specs.declared.table.Kind.TheVariants as kinds
-use Rattle.snb_schema.specs.RowKeys.{RowKey, node_key, row_key}
-use Rattle.snb_tables.specs.Graphs.{HasKey}
+use Rattle.snb_schema.specs.RowKeys.{RowKey, row_key}
 use Rattle.snb_tables.specs.Soundness.{EndsAfter, IsRooted}
 use Rattle.snb_tables.specs.Worked.{circle}
 use Rattle.snb_tables.proofs.SortedLemmas.{of_each}
@@ -20,9 +18,22 @@ to_post c p h = of_each (λ (r : Row). r ≡ row.Link table.CommentReplyOfPost c
 
 -- the others reply to 31 or 32
 to_comment : (c p : ℕ) → Contains circle (row.Link table.CommentReplyOfComment c p) → 30 ≤ p
-to_comment c p h = of_each (λ (r : Row). r ≡ row.Link table.CommentReplyOfComment c p → 30 ≤ p) circle
-    (λ e. absurd cc, (λ e. absurd cc, (λ e. absurd cc, (λ e. absurd cc, (λ e. absurd cc,
-    (λ e. (let q : 32 ≡ p = cc in omega arith), (λ e. (let q : 32 ≡ p = cc in omega arith), (λ e. (let q : 31 ≡ p = cc in omega arith), tt)))))))) _ h refl
+to_comment c p h = of_each (λ (r : Row). r ≡ row.Link table.CommentReplyOfComment c p → 30 ≤ p) circle (
+  λ e. absurd cc,
+  (
+    λ e. absurd cc,
+    (
+      λ e. absurd cc,
+      (
+        λ e. absurd cc,
+        (
+          λ e. absurd cc,
+          (λ e. (let q : 32 ≡ p = cc in omega arith), (λ e. (let q : 32 ≡ p = cc in omega arith), (λ e. (let q : 31 ≡ p = cc in omega arith), tt))),
+        ),
+      ),
+    ),
+  ),
+) _ h refl
 
 -- the id of a key, and its table
 same_id : (t u : Table) (m n : ℕ) → ◌≡◌ {A = RowKey} (t, m, 0, []) (u, n, 0, []) → m ≡ n
@@ -34,24 +45,24 @@ same_table t u m n e = ap (λ (k : RowKey). k.0) e
 -- no comment is below 29
 comments : (c : ℕ) (r : Row) → Contains circle r → row_key r ≡ (table.Comment, c, 0, []) → 29 ≤ c
 comments c r h = of_each (λ (r : Row). row_key r ≡ (table.Comment, c, 0, []) → 29 ≤ c) circle (
-      λ e. omega (arith, same_id table.Comment table.Comment 29 c e),
+  λ e. omega (arith, same_id table.Comment table.Comment 29 c e),
+  (
+    λ e. omega (arith, same_id table.Comment table.Comment 30 c e),
+    (
+      λ e. omega (arith, same_id table.Comment table.Comment 31 c e),
       (
-        λ e. omega (arith, same_id table.Comment table.Comment 30 c e),
+        λ e. omega (arith, same_id table.Comment table.Comment 32 c e),
         (
-          λ e. omega (arith, same_id table.Comment table.Comment 31 c e),
+          λ e. absurd (let q = same_table table.CommentReplyOfPost table.Comment 29 c e in cc),
           (
-            λ e. omega (arith, same_id table.Comment table.Comment 32 c e),
-            (
-              λ e. absurd (let q = same_table table.CommentReplyOfPost table.Comment 29 c e in cc),
-              (
-                λ e. absurd (let q = same_table table.CommentReplyOfComment table.Comment 30 c e in cc),
-                (λ e. absurd (let q = same_table table.CommentReplyOfComment table.Comment 31 c e in cc), (λ e. absurd (let q = same_table table.CommentReplyOfComment table.Comment 32 c e in cc), tt)),
-              ),
-            ),
+            λ e. absurd (let q = same_table table.CommentReplyOfComment table.Comment 30 c e in cc),
+            (λ e. absurd (let q = same_table table.CommentReplyOfComment table.Comment 31 c e in cc), (λ e. absurd (let q = same_table table.CommentReplyOfComment table.Comment 32 c e in cc), tt)),
           ),
         ),
       ),
-    ) r h
+    ),
+  ),
+) r h
 
 -- from 30 on no chain ends at a post
 unrooted : (n c : ℕ) → 30 ≤ c → ¬ EndsAfter circle n c
