@@ -26,3 +26,10 @@ pub mod ScreenTexts
 pub mod UpdateLines
 pub mod Violation
 pub mod Worked
+pub mod Awaiting
+pub mod Inserts
+pub mod References
+pub mod RowKeys
+pub mod TableOrder
+pub mod TableRows
+pub mod WorkedInserts

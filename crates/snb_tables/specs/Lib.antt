@@ -1,0 +1,5 @@
+pub mod FinalText
+pub mod Graphs
+pub mod Laws
+pub mod Soundness
+pub mod Worked
