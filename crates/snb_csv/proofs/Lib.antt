@@ -1,4 +1,4 @@
-pub mod JoinFacts
 pub mod OneFacts
 pub mod OwnFacts
 pub mod RowFacts
+pub mod SomeFacts

@@ -12,24 +12,19 @@ use Rattle.snb_schema.specs.Columns.{SpellsAll, StopsAfter}
 use Rattle.snb_schema.specs.Layouts.{columns, has_no_direction}
 use Rattle.snb_schema.specs.RowLines.{Differ, IsLoop, IsWide, SpellsRow, in_order, is_turned, row_shape, table_of, values}
 use Rattle.snb_fields.specs.Laws.{OneList}
+use Rattle.snb_fields.proofs.Laws.{no_stop, one_stop, spelled_long}
 use Rattle.snb_csv.specs.Laws.{OneColumn, OneRow, RowsAreRight}
 use Rattle.snb_csv.specs.Make.{row_by}
 use Rattle.snb_csv.proofs.RowFacts.{IsPair, pair_of}
 
--- fields that spell values are as many as the columns
-all_long : (cs : List Column) (xs : List (List ℕ)) (vs : List Value) → SpellsAll cs xs vs → length xs ≡ length cs
-all_long [] [] [] s = refl
-all_long (c ∷ cs) (x ∷ xs) (v ∷ vs) s = omega (arith, all_long cs xs vs s.1)
-all_long cs xs vs s = absurd s
-
 -- the fields of a row are wide
 row_wide : (t : Table) (fs : List (List ℕ)) (r : Row) (turned : Bool) → SpellsRow t fs r turned → IsWide (length (columns t)) fs
-row_wide t fs r turned s = record { own = s.own; extra = s.extra; split = s.split; size = all_long (columns t) s.own s.said s.spelled; no_more = s.no_more }
+row_wide t fs r turned s = record { own = s.own; extra = s.extra; split = s.split; size = spelled_long (columns t) s.own s.said s.spelled; no_more = s.no_more }
 
 -- and its own are the first
 first_own : (t : Table) (fs : List (List ℕ)) (r : Row) (turned : Bool) (s : SpellsRow t fs r turned) → take (length (columns t)) fs ≡ s.own
 first_own t fs r turned s =
-    ap (take (length (columns t))) s.split ∙ subst (λ k. take k (s.own ++ s.extra) ≡ s.own) (all_long (columns t) s.own s.said s.spelled) (take-append_seam s.own s.extra)
+    ap (take (length (columns t))) s.split ∙ subst (λ k. take k (s.own ++ s.extra) ≡ s.own) (spelled_long (columns t) s.own s.said s.spelled) (take-append_seam s.own s.extra)
 
 -- so they spell one list of values
 one_said : OneList → (t : Table) (fs : List (List ℕ)) (r q : Row) (a b : Bool) (s : SpellsRow t fs r a) (u : SpellsRow t fs q b) → s.said ≡ u.said
@@ -60,21 +55,6 @@ one_row list t fs r q a b s u =
     let valued : values r ≡ values q = s.kept ∙ ap (in_order (has_no_direction t)) said ∙ sym u.kept in
     (sym (row_again r) ∙ (λ i. row_by (shaped i) (tabled i) (valued i)) ∙ row_again q, s.turns ∙ ap (is_turned (has_no_direction t)) said ∙ sym u.turns)
 
--- fields that spell values, and others after them, stop nowhere
-stops_nowhere : (cs : List Column) (xs more : List (List ℕ)) (vs : List Value) (n : ℕ) → SpellsAll cs xs vs → ¬ StopsAfter cs (xs ++ more) n
-stops_nowhere [] [] more [] n s stop = absurd stop
-stops_nowhere (c ∷ cs) (x ∷ xs) more (v ∷ vs) zero s stop = stop v s.0
-stops_nowhere (c ∷ cs) (x ∷ xs) more (v ∷ vs) (suc n) s stop = stops_nowhere cs xs more vs n s.1 stop.1
-stops_nowhere cs xs more vs n s stop = absurd s
-
--- fields stop in one place
-one_stop : (cs : List Column) (fs : List (List ℕ)) (m n : ℕ) → StopsAfter cs fs m → StopsAfter cs fs n → m ≡ n
-one_stop (c ∷ cs) (x ∷ xs) zero zero s u = refl
-one_stop (c ∷ cs) (x ∷ xs) zero (suc n) s u = absurd (s u.0.0 u.0.1)
-one_stop (c ∷ cs) (x ∷ xs) (suc m) zero s u = absurd (u s.0.0 s.0.1)
-one_stop (c ∷ cs) (x ∷ xs) (suc m) (suc n) s u = ap suc (one_stop cs xs m n s.1 u.1)
-one_stop cs fs m n s u = absurd s
-
 -- only a friendship has no direction
 pub only_friends : (t : Table) → has_no_direction t ≡ true → t ≡ table.PersonKnowsPerson
 only_friends table.PersonKnowsPerson e = refl
@@ -98,9 +78,9 @@ rows_are_right t fs r turned column s (inl narrow) = narrow.0 (row_wide t fs r t
 rows_are_right t fs r turned column s (inr (inl loop)) =
     no_loop t s.own s.extra s.said (has_no_direction t) refl s.spelled s.differ (subst (IsLoop (has_no_direction t)) s.split loop.1)
 rows_are_right t fs r turned column s (inr (inr stop)) =
-    stops_nowhere (columns t) s.own s.extra s.said stop.2.0 s.spelled (subst (λ (xs : List (List ℕ)). StopsAfter (columns t) xs stop.2.0) s.split stop.2.1)
+    no_stop (columns t) fs s.said (subst (λ (xs : List (List ℕ)). SpellsAll (columns t) xs s.said) (sym (first_own t fs r turned s)) s.spelled) stop.2.0 stop.2.1
 
--- and others have one
+-- and others have one at most
 pub one_column : OneColumn
 one_column t fs a b (inl p) (inl q) = p.1 ∙ sym q.1
 one_column t fs a b (inl p) (inr (inl q)) = absurd (p.0 q.0)

@@ -19,7 +19,7 @@ use Rattle.snb_schema.specs.Lines.{HasNoBar, HasNoEnd, fields}
 use Rattle.snb_schema.specs.RowLines.{Differ, IsRow, SpellsRow, canonical, in_order, is_turned, values}
 use Rattle.snb_fields.specs.Laws.{HasPlainFields, OneList}
 use Rattle.snb_fields.specs.Laws as lines
-use Rattle.snb_csv.specs.Laws.{OwnRowLine, OwnRowLineHasNoEnd}
+use Rattle.snb_csv.specs.Laws.{OwnRowLine}
 use Rattle.snb_csv.proofs.OneFacts.{one_row, only_friends}
 use Rattle.snb_csv.proofs.RowFacts.{pair_of}
 
@@ -139,6 +139,7 @@ written_again law plain t line r h =
     record {
       text = w.text (fields_kept IsUtf8 t (fields line) r h.turned s ((plain line).texts h.text) own);
       unmarked = w.unmarked first.0 first.1 first.2;
+      one_line = w.one_line (fields_kept HasNoEnd t (fields line) r h.turned s ((plain line).no_ends h.one_line) own);
       turned = false;
       spelled = record {
         table = s.table;
@@ -161,9 +162,3 @@ own_line list law plain t line r h =
     let again = written_again law plain t line r h in
     let other = λ (q : Row) (g : IsRow t (canonical r) q). (one_row list t (fields (canonical r)) q r g.turned again.turned g.spelled again.spelled).0 in
     record { again = again; no_other = other; same = λ q g. ap canonical (other q g) }
-
--- it has no line end
-pub own_line_no_end : lines.OwnLineOfValues → ((line : List ℕ) → HasPlainFields line) → OwnRowLineHasNoEnd
-own_line_no_end law plain t line r h none =
-    let own = own_of t (fields line) r h.turned h.spelled in
-    (written law plain t line r h).one_line (fields_kept HasNoEnd t (fields line) r h.turned h.spelled ((plain line).no_ends none) own)

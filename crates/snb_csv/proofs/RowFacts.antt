@@ -15,11 +15,9 @@ use Rattle.snb_schema.specs.declared.table.Table.TheVariants as table
 use Rattle.snb_schema.specs.Columns.{SpellsAll, StopsAfter}
 use Rattle.snb_schema.specs.Layouts.{columns, has_no_direction, id_column, shape, shape_columns}
 use Rattle.snb_schema.specs.RowLines.{IsBadColumn, IsLoop, IsWide, NoneOrEmpty, SpellsRow, in_order, is_turned, row_shape, table_of, values}
-use Rattle.snb_fields.proofs.TakenFacts.{taken_again}
-use Rattle.snb_fields.specs.Values.{taken}
-use Rattle.snb_schema.specs.declared.refusal.Refusal.TheVariants.{BadLine}
-use Rattle.snb_csv.specs.Make.{IsRowOf, row_by, starts_twice}
-use Rattle.snb_csv.specs.Rows.{Passed, RefusesAs, RefusesRow}
+use Rattle.snb_fields.proofs.Laws.{starts_alone, taken_again}
+use Rattle.snb_fields.specs.Values.{starts_twice, taken}
+use Rattle.snb_csv.specs.Make.{IsRowOf, row_by}
 
 -- a row that is made of values has them
 made_values : (s : Shape) (t : Table) (vs : List Value) → values (row_by s t vs) ≡ taken (shape_columns s) vs
@@ -184,18 +182,8 @@ row_in_order t xs vs ws r turned knows s apart ordered turns made = subst (λ (u
 abbrev pub Stopping : Table → List (List ℕ) → List Value → ℕ → Type 0
 Stopping t fs vs n = StopsAfter (columns t) fs n × SpellsAll (take n (columns t)) (take n fs) vs
 
--- one value alone isn't one number twice
-one_alone : (v : Value) → starts_twice (v ∷ []) ≡ false
-one_alone (Digits n) = refl
-one_alone (SmallDigits n) = refl
-one_alone NoId = refl
-one_alone (Letters t) = refl
-one_alone (Texts t) = refl
-one_alone (Ids t) = refl
-one_alone (Pairs t) = refl
-
 -- a wide line has so many fields
-wide_long : (n : ℕ) (fs : List (List ℕ)) → IsWide n fs → n ≤ length fs
+pub wide_long : (n : ℕ) (fs : List (List ℕ)) → IsWide n fs → n ≤ length fs
 wide_long n fs w = let e = ap length w.split in let size = w.size in omega (arith, e, size, length-append w.own w.extra)
 
 -- a stop before anything else
@@ -229,7 +217,7 @@ friends_stop (x ∷ []) vs n w s = absurd (omega (arith, wide_long 3 (x ∷ []) 
 friends_stop (x ∷ y ∷ fs) [] zero w s = stop_alone (x ∷ y ∷ fs) [] zero w s.0 refl (λ l. s.0 (Digits l.0) l.1)
 friends_stop (x ∷ y ∷ fs) (v ∷ vs) zero w s = absurd s.1
 friends_stop (x ∷ y ∷ fs) [] (suc zero) w s = absurd s.1
-friends_stop (x ∷ y ∷ fs) (v ∷ []) (suc zero) w s = stop_alone (x ∷ y ∷ fs) (v ∷ []) (suc zero) w s.0 (one_alone v) (λ l. s.0.1 (Digits l.0) l.2)
+friends_stop (x ∷ y ∷ fs) (v ∷ []) (suc zero) w s = stop_alone (x ∷ y ∷ fs) (v ∷ []) (suc zero) w s.0 (starts_alone v) (λ l. s.0.1 (Digits l.0) l.2)
 friends_stop (x ∷ y ∷ fs) (v ∷ u ∷ vs) (suc zero) w s = absurd s.1.1
 friends_stop (x ∷ y ∷ fs) vs (suc (suc n)) w s =
     let p = pair_of (take n (Date ∷ [])) (x ∷ y ∷ take n fs) vs s.1 in
@@ -289,8 +277,3 @@ pub bad_stop : (t : Table) (cs : List Column) (fs : List (List ℕ)) (vs : List 
     → IsWide (length cs) fs → StopsAfter cs fs n → SpellsAll (take n cs) (take n fs) vs → column ≡ n + 1 → answer ≡ cond (undirected && starts_twice vs) 2 column → IsBadColumn t fs answer
 bad_stop t cs fs vs n column undirected answer e u knows w stops s at is =
     rw is (bad_at t fs vs n column undirected u knows (subst (λ (ds : List Column). IsWide (length ds) fs) e w) (subst (λ (ds : List Column). StopsAfter ds fs n) e stops, subst (λ (ds : List Column). SpellsAll (take n ds) (take n fs) vs) e s) at)
-
--- a bad column is refused past the header
-pub refuses_column : (s : Passed) (number : ℕ) (fs : List (List ℕ)) (column : ℕ) (t : Table) (headed : Bool) → t ≡ s.table → headed ≡ s.headed → headed ≡ true → IsBadColumn t fs column → RefusesRow s number fs (BadLine s.file number column)
-refuses_column s number fs column t headed e f h bad =
-    subst (λ b. RefusesAs b s.table s.file number fs (BadLine s.file number column)) (sym h ∙ f) (column, subst (λ (u : Table). IsBadColumn u fs column) e bad, refl)

@@ -1,8 +1,7 @@
 -- Laws of the tables' lines.
-use Rattle.std.specs.Prelude.{◌≡◌, ℕ, Bool, List}
+use Rattle.std.specs.Prelude.{◌≡◌, ◌⊎◌, ℕ, Bool, List}
 use Rattle.snb_schema.specs.declared.row.Row.{Row}
 use Rattle.snb_schema.specs.declared.table.Table.{Table}
-use Rattle.snb_schema.specs.Lines.{HasNoEnd}
 use Rattle.snb_schema.specs.RowLines.{IsBadColumn, IsRow, SpellsRow, canonical}
 
 -- the fields of a line spell one row at most
@@ -19,14 +18,14 @@ pub record IsOwnRowLine (t : Table) (r : Row) : Type 0 where
 abbrev pub OwnRowLine : Type 0
 OwnRowLine = (t : Table) (line : List ℕ) (r : Row) → IsRow t line r → IsOwnRowLine t r
 
--- and it has no line end where the line has none
-abbrev pub OwnRowLineHasNoEnd : Type 0
-OwnRowLineHasNoEnd = (t : Table) (line : List ℕ) (r : Row) → IsRow t line r → HasNoEnd line → HasNoEnd (canonical r)
-
 -- fields that spell a row have no bad column
 abbrev pub RowsAreRight : Type 0
 RowsAreRight = (t : Table) (fs : List (List ℕ)) (r : Row) (turned : Bool) (column : ℕ) → SpellsRow t fs r turned → ¬ IsBadColumn t fs column
 
--- and others have one
+-- fields have one bad column at most
 abbrev pub OneColumn : Type 0
 OneColumn = (t : Table) (fs : List (List ℕ)) (a b : ℕ) → IsBadColumn t fs a → IsBadColumn t fs b → a ≡ b
+
+-- fields spell a row, or they have a bad column
+abbrev pub RowOrColumn : Type 0
+RowOrColumn = (t : Table) (fs : List (List ℕ)) → ((r : Row) × (turned : Bool) × SpellsRow t fs r turned) ⊎ ((column : ℕ) × IsBadColumn t fs column)

@@ -1,4 +1,3 @@
-pub mod Cells
 pub mod Laws
 pub mod Make
 pub mod Rows

@@ -1,7 +1,6 @@
--- The row of a table that has these values.
-use Rattle.std.specs.Prelude.{◌≡◌, ◌==◌, Bool, false, List, ◌∷◌, drop}
+-- The row of a table that has these values. Cited by contracts of private functions alone.
+use Rattle.std.specs.Prelude.{◌≡◌, Bool, List, drop}
 use Rattle.snb_schema.specs.declared.column.Value.{Value}
-use Rattle.snb_schema.specs.declared.column.Value.TheVariants.{Digits}
 use Rattle.snb_schema.specs.declared.layout.Shape.{Shape}
 use Rattle.snb_schema.specs.declared.layout.Shape.TheVariants as shapes
 use Rattle.snb_schema.specs.declared.nodes.Comment.{Comment}
@@ -78,11 +77,6 @@ row_by shapes.Link t vs = row.Link t (first_number vs) (first_number (drop 1 vs)
 row_by shapes.Dated t vs = row.Dated t (first_number vs) (first_number (drop 1 vs)) (first_number (drop 1 (drop 1 vs)))
 row_by shapes.Yeared t vs = row.Yeared t (first_number vs) (first_number (drop 1 vs)) (first_small (drop 1 (drop 1 vs)))
 row_by shapes.Word t vs = row.Word t (first_number vs) (first_text (drop 1 vs))
-
--- the first two values are one number
-abbrev pub starts_twice : List Value → Bool
-starts_twice (Digits one ∷ Digits other ∷ rest) = one == other
-starts_twice _ = false
 
 -- the row of the table whose line has these values, and whether the line has its ends the other way round
 pub record IsRowOf (t : Table) (said : List Value) (r : Row) (turned : Bool) : Type 0 where

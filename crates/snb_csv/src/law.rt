@@ -1,8 +1,8 @@
 //! Laws of the tables' lines, over every line.
 
-ghost use Rattle.snb_csv.specs.Laws.{OneColumn, OneRow, OwnRowLine, OwnRowLineHasNoEnd, RowsAreRight};
+ghost use Rattle.snb_csv.specs.Laws.{OneColumn, OneRow, OwnRowLine, RowOrColumn, RowsAreRight};
 
-use snb_fields::law::{one_value, own_line as own_line_of_values, plain_fields};
+use snb_fields::law::{one_value, own_line as own_line_of_values, plain_fields, spelled_or_not};
 
 /// The fields of a line spell one row of a table at most.
 pub fn one_row()
@@ -11,20 +11,23 @@ pub fn one_row()
     one_value();
 }
 
-/// The canonical line of a row that some line spells, as `write_row` writes it, spells that row and
-/// no other. So reading a line and writing its row gives the canonical line, and doing so twice gives
-/// the same.
+/// The canonical line of a row that some line spells, as `write_row` writes it, is one line, and
+/// spells that row and no other. So reading a line and writing its row gives the canonical line, and
+/// doing so twice gives the same.
 pub fn own_line()
-    ensures line { OwnRowLine }
-    ensures no_end { OwnRowLineHasNoEnd }
+    ensures { OwnRowLine }
 {
     one_value();
     own_line_of_values();
     plain_fields();
 }
 
-/// A line that spells a row has no bad column, and one with a bad column has only this one.
+/// The fields of a line spell a row of a table, or they have a bad column. Not both; and they have
+/// only one bad column.
 pub fn one_column()
+    ensures some { RowOrColumn }
     ensures right { RowsAreRight }
     ensures one { OneColumn }
-{}
+{
+    spelled_or_not();
+}

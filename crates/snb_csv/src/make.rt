@@ -3,7 +3,7 @@
 ghost use Rattle.std.specs.Prelude.{◌≡◌, true};
 ghost use Rattle.snb_schema.specs.Layouts.{shape};
 ghost use Rattle.snb_schema.specs.RowLines.{in_order, is_turned};
-ghost use Rattle.snb_csv.specs.Make.{comment_of, forum_of, named_of, organisation_of, person_of, place_of, post_of, row_by, starts_twice};
+ghost use Rattle.snb_csv.specs.Make.{comment_of, forum_of, named_of, organisation_of, person_of, place_of, post_of, row_by};
 
 use snb_fields::values::Values;
 use snb_schema::column::Value;
@@ -147,16 +147,6 @@ pub fn make_row(table: Table, values: &mut Values) -> Row
             person: values.number(),
             text: values.text(),
         },
-    }
-}
-
-/// Whether the first two values are one number.
-pub fn starts_twice(values: &[Value]) -> bool
-    ensures { result ≡ starts_twice values.now }
-{
-    match values {
-        [Value::Digits { n: one }, Value::Digits { n: other }, ..] => *one == *other,
-        _ => false,
     }
 }
 

@@ -7,12 +7,13 @@ ghost use Rattle.snb_schema.specs.Faults.{OnBadColumn};
 ghost use Rattle.snb_schema.specs.declared.table.Table.TheVariants as tables;
 ghost use Rattle.snb_schema.specs.Layouts.{columns};
 ghost use Rattle.snb_schema.specs.RowLines.{IsBadColumn, SpellsRow};
-ghost use Rattle.snb_csv.specs.Make.{IsRowOf, starts_twice};
+ghost use Rattle.snb_csv.specs.Make.{IsRowOf};
+ghost use Rattle.snb_fields.specs.Values.{starts_twice};
 
-use crate::make::{make_row, put_in_order, starts_twice};
+use crate::make::{make_row, put_in_order};
 use csv::ByteRecord;
 use snb_fields::read::{is_wide, read_values};
-use snb_fields::values::Values;
+use snb_fields::values::{Values, starts_twice};
 use snb_schema::column::Value;
 use snb_schema::fault::LineFault;
 use snb_schema::layout::{columns_of, is_undirected};

@@ -1,50 +1,17 @@
 //! Rows as lines.
 
-ghost use Rattle.std.specs.Prelude.{◌≡◌, ◌++◌, ◌∷◌, [], map, IfOk, OnOk, OnErr, if◌then◌else◌};
-ghost use Rattle.std.specs.List.{join_with_byte};
+ghost use Rattle.std.specs.Prelude.{◌≡◌, ◌++◌, ◌∷◌, [], IfOk, OnOk, OnErr};
 ghost use Rattle.snb_schema.specs.declared.row.Row.TheVariants as rows;
 ghost use Rattle.snb_schema.specs.RowLines.{canonical};
-ghost use Rattle.snb_csv.specs.Cells.{IsLineOf, cell_text};
 
-use snb_base::number::put_number;
+use snb_fields::write::{Cell, line_of};
 use snb_schema::nodes::{Comment, Forum, Named, Organisation, Place, Post};
 use snb_schema::person::Person;
 use snb_schema::row::Row;
 use std::alloc::{AllocError, Global};
 
-// A field of a line that is written.
-#[derive(Clone, Copy)]
-enum Cell<'a> {
-    Digits(u64),
-    Letters(&'a str),
-}
-
-// Appends a cell to a line, with a bar before it where it isn't the first.
-fn put_cell(line: &mut Vec<u8>, barred: bool, cell: Cell<'_>) -> Result<(), AllocError>
-    ensures { OnOk result (line.new.items ≡ line.old.items ++ (if barred then 124 ∷ [] else []) ++ cell_text cell.entry) }
-{
-    if barred {
-        line.push(b'|')?;
-    }
-    match cell {
-        Cell::Digits(n) => put_number(n, line),
-        Cell::Letters(text) => line.extend_from_slice(text.as_bytes()),
-    }
-}
-
-// The line of the cells, without a line end.
-fn line_of(alloc: Global, cells: &[Cell<'_>]) -> Result<Vec<u8>, AllocError>
-    ensures { IfOk result (λ line. line.items ≡ join_with_byte 124 (map cell_text cells.now)) }
-{
-    let mut line = Vec::new(alloc);
-    for i in 0..cells.len() {
-        put_cell(&mut line, i > 0, cells[i])?;
-    }
-    Ok(line)
-}
-
 fn place_line(alloc: Global, place: &Place) -> Result<Vec<u8>, AllocError>
-    ensures { IfOk result (λ line. IsLineOf line.items (rows.Place place.now)) }
+    ensures { IfOk result (λ line. line.items ≡ canonical (rows.Place place.now)) }
 {
     line_of(
         alloc,
@@ -57,21 +24,10 @@ fn place_line(alloc: Global, place: &Place) -> Result<Vec<u8>, AllocError>
     )
 }
 
-fn tag_class_line(alloc: Global, named: &Named) -> Result<Vec<u8>, AllocError>
-    ensures { IfOk result (λ line. IsLineOf line.items (rows.TagClass named.now)) }
-{
-    line_of(
-        alloc,
-        &[
-            Cell::Digits(named.id),
-            Cell::Letters(named.name.as_str()),
-            Cell::Letters(named.url.as_str()),
-        ],
-    )
-}
-
-fn tag_line(alloc: Global, named: &Named) -> Result<Vec<u8>, AllocError>
-    ensures { IfOk result (λ line. IsLineOf line.items (rows.Tag named.now)) }
+// The line of a tag, or of a class of tags.
+fn named_line(alloc: Global, named: &Named) -> Result<Vec<u8>, AllocError>
+    ensures tag { IfOk result (λ line. line.items ≡ canonical (rows.Tag named.now)) }
+    ensures class { IfOk result (λ line. line.items ≡ canonical (rows.TagClass named.now)) }
 {
     line_of(
         alloc,
@@ -84,7 +40,7 @@ fn tag_line(alloc: Global, named: &Named) -> Result<Vec<u8>, AllocError>
 }
 
 fn organisation_line(alloc: Global, organisation: &Organisation) -> Result<Vec<u8>, AllocError>
-    ensures { IfOk result (λ line. IsLineOf line.items (rows.Organisation organisation.now)) }
+    ensures { IfOk result (λ line. line.items ≡ canonical (rows.Organisation organisation.now)) }
 {
     line_of(
         alloc,
@@ -98,7 +54,7 @@ fn organisation_line(alloc: Global, organisation: &Organisation) -> Result<Vec<u
 }
 
 fn person_line(alloc: Global, person: &Person) -> Result<Vec<u8>, AllocError>
-    ensures { IfOk result (λ line. IsLineOf line.items (rows.Person person.now)) }
+    ensures { IfOk result (λ line. line.items ≡ canonical (rows.Person person.now)) }
 {
     line_of(
         alloc,
@@ -116,7 +72,7 @@ fn person_line(alloc: Global, person: &Person) -> Result<Vec<u8>, AllocError>
 }
 
 fn forum_line(alloc: Global, forum: &Forum) -> Result<Vec<u8>, AllocError>
-    ensures { IfOk result (λ line. IsLineOf line.items (rows.Forum forum.now)) }
+    ensures { IfOk result (λ line. line.items ≡ canonical (rows.Forum forum.now)) }
 {
     line_of(
         alloc,
@@ -129,7 +85,7 @@ fn forum_line(alloc: Global, forum: &Forum) -> Result<Vec<u8>, AllocError>
 }
 
 fn post_line(alloc: Global, post: &Post) -> Result<Vec<u8>, AllocError>
-    ensures { IfOk result (λ line. IsLineOf line.items (rows.Post post.now)) }
+    ensures { IfOk result (λ line. line.items ≡ canonical (rows.Post post.now)) }
 {
     line_of(
         alloc,
@@ -141,13 +97,13 @@ fn post_line(alloc: Global, post: &Post) -> Result<Vec<u8>, AllocError>
             Cell::Letters(post.browser_used.as_str()),
             Cell::Letters(post.language.as_str()),
             Cell::Letters(post.content.as_str()),
-            Cell::Digits(u64::from(post.length)),
+            Cell::SmallDigits(post.length),
         ],
     )
 }
 
 fn comment_line(alloc: Global, comment: &Comment) -> Result<Vec<u8>, AllocError>
-    ensures { IfOk result (λ line. IsLineOf line.items (rows.Comment comment.now)) }
+    ensures { IfOk result (λ line. line.items ≡ canonical (rows.Comment comment.now)) }
 {
     line_of(
         alloc,
@@ -157,19 +113,19 @@ fn comment_line(alloc: Global, comment: &Comment) -> Result<Vec<u8>, AllocError>
             Cell::Letters(comment.location_ip.as_str()),
             Cell::Letters(comment.browser_used.as_str()),
             Cell::Letters(comment.content.as_str()),
-            Cell::Digits(u64::from(comment.length)),
+            Cell::SmallDigits(comment.length),
         ],
     )
 }
 
 // The line of a row, without a line end.
 fn row_line(alloc: Global, row: &Row) -> Result<Vec<u8>, AllocError>
-    ensures { IfOk result (λ line. IsLineOf line.items row.now) }
+    ensures { IfOk result (λ line. line.items ≡ canonical row.now) }
 {
     match row {
         Row::Place { place } => place_line(alloc, place),
-        Row::TagClass { named } => tag_class_line(alloc, named),
-        Row::Tag { named } => tag_line(alloc, named),
+        Row::TagClass { named } => named_line(alloc, named),
+        Row::Tag { named } => named_line(alloc, named),
         Row::Organisation { organisation } => organisation_line(alloc, organisation),
         Row::Person { person } => person_line(alloc, person),
         Row::Forum { forum } => forum_line(alloc, forum),
@@ -185,7 +141,7 @@ fn row_line(alloc: Global, row: &Row) -> Result<Vec<u8>, AllocError>
             &[
                 Cell::Digits(*from),
                 Cell::Digits(*to),
-                Cell::Digits(u64::from(*year)),
+                Cell::SmallDigits(*year),
             ],
         ),
         Row::Word { person, text, .. } => line_of(

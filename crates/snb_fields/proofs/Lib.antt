@@ -1,8 +1,10 @@
 pub mod CutFacts
+pub mod DecidedFacts
+pub mod JoinFacts
+pub mod Laws
 pub mod LineFacts
 pub mod ListFacts
 pub mod PairFacts
 pub mod ReadingFacts
 pub mod SpellingFacts
-pub mod TakenFacts
 pub mod WideFacts

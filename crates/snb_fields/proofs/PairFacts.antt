@@ -1,7 +1,7 @@
 -- An id and a year with a comma between them.
-use Rattle.std.proofs.Common.{◌≡◌, ◌≢◌, ◌++◌, ◌∷◌, ◌∙◌, ◌<◌, ◌&&◌, [], ℕ, zero, suc, List, Bool, true, false, refl, sym, subst, arith, length, get_or, nat_eq, not, inl, inr, All}
+use Rattle.std.proofs.Common.{◌≡◌, ◌≢◌, ◌++◌, ◌∷◌, ◌∙◌, ◌&&◌, [], ℕ, zero, suc, List, Bool, true, false, refl, sym, subst, arith, nat_eq, not, inl, inr, All}
 use Rattle.std.proofs.lemmas.Bool.{and_from, and_parts, cases_Bool, eq-eqb, eqb-false, eqb-true, not-true, not_from_false, or_cases}
-use Rattle.std.proofs.lemmas.List.Elements.{All-from_recursion, All-head, All-tail, All-weaker, Contains-get_or}
+use Rattle.std.proofs.lemmas.List.Elements.{All-from_recursion, All-head, All-tail, All-weaker}
 use Rattle.std.proofs.lemmas.List.Folds.{list_any_at}
 use Rattle.std.specs.List.{Contains, list_any}
 use Rattle.snb_base.specs.Calendar.{IsDigit}
@@ -72,13 +72,13 @@ one_year pairs none p q (k, l, at) (j, m, there) same = elim (cases_Bool (nat_eq
 ]
 
 -- and where one is, it has
-pub two_years : (pairs : List (ℕ × ℕ)) (k : ℕ) (d : ℕ × ℕ) → k < length pairs → list_any (differs (get_or pairs k d)) pairs ≡ true → ¬ HasOneYear pairs
-two_years pairs k d l found one =
-    let (q, there, passes) = passes_somewhere (differs (get_or pairs k d)) pairs found in
-    let (same, other) = and_parts (nat_eq (get_or pairs k d).0 q.0) (not (nat_eq (get_or pairs k d).1 q.1)) passes in
-    let year = one (get_or pairs k d) q (Contains-get_or pairs k d l) there (eqb-true (get_or pairs k d).0 q.0 same) in
-    let no : nat_eq (get_or pairs k d).1 q.1 ≡ false = not-true (nat_eq (get_or pairs k d).1 q.1) other in
-    absurd (eqb-false (get_or pairs k d).1 q.1 no year)
+pub two_years : (pairs : List (ℕ × ℕ)) (p : ℕ × ℕ) → Contains pairs p → list_any (differs p) pairs ≡ true → ¬ HasOneYear pairs
+two_years pairs p here found one =
+    let (q, there, passes) = passes_somewhere (differs p) pairs found in
+    let (same, other) = and_parts (nat_eq p.0 q.0) (not (nat_eq p.1 q.1)) passes in
+    let year = one p q here there (eqb-true p.0 q.0 same) in
+    let no : nat_eq p.1 q.1 ≡ false = not-true (nat_eq p.1 q.1) other in
+    absurd (eqb-false p.1 q.1 no year)
 
 -- a text whose pairs have two years for one id spells no list
 pub not_listed : OneNumber → (x : List ℕ) (items pairs : List (ℕ × ℕ)) → Listed SpellsPair pair_eq x items → ¬ HasOneYear items → ¬ PairList x pairs

@@ -61,7 +61,7 @@ made_spell make column x S there back None found none is = subst (λ (o : Option
 made_spell make column x S there back (Some a) found some is = subst (λ (o : Option Value). MatchOption o ((v : Value) → ¬ Spells column x v) (Spells column x)) (sym is) (there a some)
 
 -- what a date spells
-date_of : (x : List ℕ) (v : Value) → Spells column.Date x v → (n : ℕ) × Date x n
+pub date_of : (x : List ℕ) (v : Value) → Spells column.Date x v → (n : ℕ) × Date x n
 date_of x (Digits n) s = (n, s)
 date_of x v s = absurd s
 
@@ -71,7 +71,7 @@ pub date_spells : (c : Column) (x : List ℕ) (read : Option ℕ) (found : Optio
 date_spells c x read found e r f = subst (λ (d : Column). MatchOption found ((v : Value) → ¬ Spells d x v) (Spells d x)) (sym e) (made_spell Digits column.Date x (Date x) (λ n s. s) (date_of x) read found r f)
 
 -- what a day spells
-day_of : (x : List ℕ) (v : Value) → Spells column.Day x v → (n : ℕ) × Day x n
+pub day_of : (x : List ℕ) (v : Value) → Spells column.Day x v → (n : ℕ) × Day x n
 day_of x (Digits n) s = (n, s)
 day_of x v s = absurd s
 
@@ -81,7 +81,7 @@ pub day_spells : (c : Column) (x : List ℕ) (read : Option ℕ) (found : Option
 day_spells c x read found e r f = subst (λ (d : Column). MatchOption found ((v : Value) → ¬ Spells d x v) (Spells d x)) (sym e) (made_spell Digits column.Day x (Day x) (λ n s. s) (day_of x) read found r f)
 
 -- what a list of texts spells
-texts_of : (x : List ℕ) (v : Value) → Spells column.TextList x v → (texts : List (List ℕ)) × WordList x texts
+pub texts_of : (x : List ℕ) (v : Value) → Spells column.TextList x v → (texts : List (List ℕ)) × WordList x texts
 texts_of x (Texts texts) s = (texts, s)
 texts_of x v s = absurd s
 
@@ -91,7 +91,7 @@ pub texts_spells : (c : Column) (x : List ℕ) (read : Option (List (List ℕ)))
 texts_spells c x read found e r f = subst (λ (d : Column). MatchOption found ((v : Value) → ¬ Spells d x v) (Spells d x)) (sym e) (made_spell Texts column.TextList x (WordList x) (λ texts s. s) (texts_of x) read found r f)
 
 -- what a list of ids spells
-ids_of : (x : List ℕ) (v : Value) → Spells column.IdList x v → (ids : List ℕ) × IdList x ids
+pub ids_of : (x : List ℕ) (v : Value) → Spells column.IdList x v → (ids : List ℕ) × IdList x ids
 ids_of x (Ids ids) s = (ids, s)
 ids_of x v s = absurd s
 
@@ -101,7 +101,7 @@ pub ids_spells : (c : Column) (x : List ℕ) (read : Option (List ℕ)) (found :
 ids_spells c x read found e r f = subst (λ (d : Column). MatchOption found ((v : Value) → ¬ Spells d x v) (Spells d x)) (sym e) (made_spell Ids column.IdList x (IdList x) (λ ids s. s) (ids_of x) read found r f)
 
 -- what a list of ids with years spells
-pairs_of : (x : List ℕ) (v : Value) → Spells column.PairList x v → (pairs : List (ℕ × ℕ)) × PairList x pairs
+pub pairs_of : (x : List ℕ) (v : Value) → Spells column.PairList x v → (pairs : List (ℕ × ℕ)) × PairList x pairs
 pairs_of x (Pairs pairs) s = (pairs, s)
 pairs_of x v s = absurd s
 

@@ -11,9 +11,10 @@ use Rattle.snb_schema.specs.declared.column.Column.{Column}
 use Rattle.snb_schema.specs.declared.column.Column.TheVariants.{Number, Small, OptionalId, Date, Day, Words, Word, TextList, IdList, PairList}
 use Rattle.snb_schema.specs.declared.column.Value.{Value}
 use Rattle.snb_schema.specs.declared.column.Value.TheVariants.{Digits, SmallDigits, NoId, Letters, Texts, Ids, Pairs}
-use Rattle.snb_schema.specs.Columns.{Spells, SpellsAll, canonical_field, no_id, pair_text}
+use Rattle.snb_schema.specs.Columns.{Spells, SpellsAll, canonical_field, pair_text}
 use Rattle.snb_fields.specs.Laws.{OneList, OneValue}
 use Rattle.snb_schema.specs.Lines.{HasNo}
+use Rattle.snb_fields.proofs.Laws.{number_some}
 use Rattle.snb_fields.proofs.ListFacts.{IsElement, kept_listed, one_listed, own_listed}
 use Rattle.snb_fields.proofs.PairFacts.{OneNumber, one_pair}
 
@@ -34,17 +35,13 @@ pub record OwnDigits : Type 0 where
 one_word : (x a b : List ℕ) → SpellsWord x a → SpellsWord x b → a ≡ b
 one_word x a b s t = sym s.1 ∙ t.1
 
--- `-1` is no id
-not_none : (x : List ℕ) (n most : ℕ) → Num x n most → x ≢ no_id
-not_none x n most s e = (let digits : AllByRecursion IsDigit no_id = subst (AllByRecursion IsDigit) e s.digits in let low = digits.0 in absurd (omega arith))
-
 -- a text spells one value of a column
 pub one_value : OneEach → OneValue
 one_value one (Number most) x (Digits m) (Digits n) s t = ap Digits (one.number x m n most most s t)
 one_value one (Small most) x (SmallDigits m) (SmallDigits n) s t = ap SmallDigits (one.number x m n most most s t)
 one_value one OptionalId x (Digits m) (Digits n) s t = ap Digits (one.number x m n last_id last_id s t)
-one_value one OptionalId x (Digits n) NoId s t = absurd (not_none x n last_id s t)
-one_value one OptionalId x NoId (Digits n) s t = absurd (not_none x n last_id t s)
+one_value one OptionalId x (Digits n) NoId s t = absurd (number_some x n last_id s t)
+one_value one OptionalId x NoId (Digits n) s t = absurd (number_some x n last_id t s)
 one_value one OptionalId x NoId NoId s t = refl
 one_value one Date x (Digits m) (Digits n) s t = ap Digits (one.date x m n s t)
 one_value one Day x (Digits m) (Digits n) s t = ap Digits (one.day x m n s t)
@@ -99,7 +96,7 @@ own_pair own x pair h (id, year, e, a, b) =
     }
 
 -- texts are their own spellings
-each_itself : (texts : List (List ℕ)) → map (λ t. t) texts ≡ texts
+pub each_itself : (texts : List (List ℕ)) → map (λ t. t) texts ≡ texts
 each_itself [] = refl
 each_itself (t ∷ texts) = ap (λ (ts : List (List ℕ)). t ∷ ts) (each_itself texts)
 

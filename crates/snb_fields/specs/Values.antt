@@ -1,5 +1,5 @@
 -- Values taken from the front of a list. Where the first is of another kind, or there is none, what is taken is 0, none or empty.
-use Rattle.std.specs.Prelude.{ℕ, List, [], ◌∷◌, drop, Option, Some, None}
+use Rattle.std.specs.Prelude.{ℕ, ◌==◌, Bool, false, List, [], ◌∷◌, drop, Option, Some, None}
 use Rattle.snb_schema.specs.declared.column.Column.{Column}
 use Rattle.snb_schema.specs.declared.column.Column.TheVariants.{Number, Small, OptionalId, Date, Day, Words, Word, TextList, IdList, PairList}
 use Rattle.snb_schema.specs.declared.column.Value.{Value}
@@ -39,6 +39,11 @@ first_ids _ = []
 abbrev pub first_pairs : List Value → List (ℕ × ℕ)
 first_pairs (Pairs pairs ∷ vs) = pairs
 first_pairs _ = []
+
+-- the first two values are one number; where one of them is another value, or isn't there, they aren't
+abbrev pub starts_twice : List Value → Bool
+starts_twice (Digits one ∷ Digits other ∷ rest) = one == other
+starts_twice _ = false
 
 -- the value of an id, or of none
 abbrev pub optional_value : Option ℕ → Value

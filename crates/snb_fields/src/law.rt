@@ -1,7 +1,7 @@
 //! Laws of columns and lines, over every line.
 
 ghost use Rattle.std.specs.Prelude.{ℕ, List};
-ghost use Rattle.snb_fields.specs.Laws.{HasPlainFields, OneList, OneValue, OwnLineOfValues, TakenAgain};
+ghost use Rattle.snb_fields.specs.Laws.{EachIsSpelled, EachLineIsRead, HasPlainFields, OneList, OneValue, OwnLineOfValues, TakenAgain};
 
 use snb_base::number::one_spelling;
 use snb_clock::law::one_moment;
@@ -32,4 +32,11 @@ pub fn own_line()
 /// Values that fields spell are what one takes, each as its column says.
 pub fn taken_again()
     ensures { TakenAgain }
+{}
+
+/// A text spells a value of a column or it spells none; so the fields of a line that has enough of
+/// them spell a value of each column, or there is a first that spells none.
+pub fn spelled_or_not()
+    ensures value { EachIsSpelled }
+    ensures line { EachLineIsRead }
 {}

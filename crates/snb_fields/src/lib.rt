@@ -8,3 +8,4 @@ pub mod read;
 #[cfg(test)]
 mod tests;
 pub mod values;
+pub mod write;

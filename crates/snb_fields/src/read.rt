@@ -21,6 +21,9 @@ use snb_schema::fault::LineFault;
 use snb_schema::limits::MAX_ID;
 use std::alloc::{AllocError, Global};
 
+/// A line has fewer columns than so many.
+pub const COLUMNS_END: usize = 1000;
+
 /// Whether there are so many fields, or one more that is empty.
 pub fn is_wide(count: usize, fields: &ByteRecord) -> bool
     ensures { IsTrue result ↔ IsWide count (fields_of fields.now) }
@@ -34,6 +37,8 @@ pub fn is_wide(count: usize, fields: &ByteRecord) -> bool
 
 /// The value that a field spells in a column. None exactly where it spells none. The one error is
 /// want of memory.
+///
+/// The field is UTF-8.
 pub fn read_value(alloc: Global, column: Column, field: &[u8]) -> Result<Option<Value>, AllocError>
     requires { IsUtf8 field.now }
     ensures { IfOk result (λ found. MatchOption found ((v : AnyValue) → ¬ Spells column field.now v) (Spells column field.now)) }
@@ -130,8 +135,11 @@ fn pairs_value(read: Option<Pairs>) -> Option<Value>
 /// Reads the fields of a line by columns, and appends the value of each, up to the first field that
 /// spells none.
 ///
-/// `Bad` has the column of that field, and the values before it are appended. With `Memory` the
-/// values of some first fields are.
+/// `Bad` has the column of that field, counted from 1, and the values before it are appended. With
+/// `Memory` the values of some first fields are.
+///
+/// The fields are UTF-8, and there is one for each column at least; what more there are is passed
+/// over. There are fewer columns than `COLUMNS_END`. The list of values is empty before.
 pub fn read_values(
     alloc: Global,
     columns: &[Column],
@@ -140,7 +148,7 @@ pub fn read_values(
 ) -> Result<(), LineFault>
     requires texts { All IsUtf8 (fields_of fields.now) }
     requires enough { length columns.now ≤ length (fields_of fields.now) }
-    requires few { length columns.now < 1000 }
+    requires few { length columns.now < COLUMNS_END }
     requires fresh { values.old.items ≡ [] }
     ensures ok { OnOk result (SpellsAll columns.now (take (length columns.now) (fields_of fields.now)) values.new.items) }
     ensures bad { OnBadColumn result (λ column. (n : ℕ) × StopsAfter columns.now (fields_of fields.now) n × (column ≡ n + 1)

@@ -1,8 +1,9 @@
 //! Fields of each column with values known from the description, and one use of each public function.
 
-use crate::law::{one_value, own_line, plain_fields, taken_again};
+use crate::law::{one_value, own_line, plain_fields, spelled_or_not, taken_again};
 use crate::read::{is_wide, read_value};
-use crate::values::Values;
+use crate::values::{Values, starts_twice};
+use crate::write::{Cell, line_of};
 use csv::ByteRecord;
 use snb_base::text::Text;
 use snb_schema::column::{Column, Value};
@@ -131,6 +132,7 @@ fn takes_values(rt: HostRuntime) -> Result<(), Fail> {
     one_value();
     own_line();
     plain_fields();
+    spelled_or_not();
     taken_again();
     let alloc = rt.alloc();
     let mut all = Vec::new(alloc);
@@ -150,6 +152,7 @@ fn takes_values(rt: HostRuntime) -> Result<(), Fail> {
             all.push(value)?;
         }
     }
+    assert!(rt; !starts_twice(&all));
     let mut values = Values::new(alloc, all);
     assert_eq!(rt; values.number(), 5);
     assert_eq!(rt; values.small(), 6);
@@ -160,5 +163,34 @@ fn takes_values(rt: HostRuntime) -> Result<(), Fail> {
     assert_eq!(rt; values.ids().as_slice(), [5, 7].as_slice());
     assert_eq!(rt; values.pairs().as_slice(), [(0, 2011)].as_slice());
     assert_eq!(rt; values.number(), 0);
+    Ok(())
+}
+
+#[test]
+fn writes_each_value(rt: HostRuntime) -> Result<(), Fail> {
+    let alloc = rt.alloc();
+    let mut texts = Vec::new(alloc);
+    texts.push(Text::from_str(alloc, "en")?)?;
+    texts.push(Text::from_str(alloc, "fr")?)?;
+    let line = line_of(
+        alloc,
+        &[
+            Cell::Digits(5),
+            Cell::SmallDigits(2011),
+            Cell::NoId,
+            Cell::Letters("To wn"),
+            Cell::Letters(""),
+            Cell::Texts(texts.as_slice()),
+            Cell::Ids(&[7, 5]),
+            Cell::Ids(&[]),
+            Cell::Pairs(&[(0, 2011), (1, 9999)]),
+        ],
+    )?;
+    assert_eq!(rt;
+        str::from_utf8(&line)?,
+        "5|2011|-1|To wn||en;fr|7;5||0,2011;1,9999"
+    );
+    let empty = line_of(alloc, &[])?;
+    assert!(rt; empty.is_empty());
     Ok(())
 }

@@ -1,7 +1,7 @@
 //! The values of a line, taken one after another.
 
 ghost use Rattle.std.specs.Prelude.{◌≡◌, [], drop};
-ghost use Rattle.snb_fields.specs.Values.{first_ids, first_number, first_optional, first_pairs, first_small, first_text, first_texts};
+ghost use Rattle.snb_fields.specs.Values.{first_ids, first_number, first_optional, first_pairs, first_small, first_text, first_texts, starts_twice};
 
 use snb_base::numbers::Numbers;
 use snb_base::pairs::Pairs;
@@ -72,6 +72,7 @@ impl Values {
             _ => Text::new(self.alloc),
         }
     }
+
     /// Takes an id, or gives None where the next value is none.
     pub fn optional_id(&mut self) -> Option<u64>
         ensures value { result ≡ first_optional self.old }
@@ -114,5 +115,16 @@ impl Values {
             Some(Value::Pairs { pairs }) => pairs,
             _ => Pairs::new(self.alloc),
         }
+    }
+}
+
+/// Whether the first two values are one number. Where one of them is another value, or isn't there,
+/// they aren't.
+pub fn starts_twice(values: &[Value]) -> bool
+    ensures { result ≡ starts_twice values.now }
+{
+    match values {
+        [Value::Digits { n: one }, Value::Digits { n: other }, ..] => *one == *other,
+        _ => false,
     }
 }

@@ -1,4 +1,4 @@
--- How `csv` is set up to read the fields of lines, and where it stands.
+-- How `csv` is set up to read the fields of lines, and where it stands. Cited by contracts of private functions alone.
 use Rattle.std.specs.Prelude.{◌≡◌, ℕ, true, false, List, [], None, Some}
 use Rattle.std.specs.Borrow.{Bor}
 use Rattle.csv.specs.declared.parser.Config.{Config}

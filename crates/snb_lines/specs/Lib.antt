@@ -1,5 +1,9 @@
 pub mod Bars
 pub mod Cut
+pub mod Feeding
+pub mod Files
+pub mod Headed
 pub mod Laws
 pub mod Reading
+pub mod Steps
 pub mod View

@@ -18,6 +18,14 @@ pub record Reader (M : Type 0) : Type 0 where
   pub fault : Option Fault
   pub meaning : M
 
+-- from a state the line of this number with these fields gives these items, and leaves a state
+abbrev pub Takes : Type 0 → Type 0 → Type 1
+Takes M T = M → ℕ → List (List ℕ) → List T → M → Type 0
+
+-- in a state the line of this number with these fields is refused so
+abbrev pub Refuses : Type 0 → Type 1
+Refuses M = M → ℕ → List (List ℕ) → Refusal → Type 0
+
 -- a line that has a byte and doesn't begin with a byte order mark
 pub record IsPlain (line : List ℕ) : Type 0 where
   pub filled : line ≢ []
@@ -25,25 +33,31 @@ pub record IsPlain (line : List ℕ) : Type 0 where
 
 -- the line of this number takes the meaning from a state to another, and gives these items; an
 -- empty line changes nothing
-abbrev pub ReadsLine : {M T : Type 0} → (M → ℕ → List (List ℕ) → List T → M → Type 0) → M → ℕ → List ℕ → List T → M → Type 0
+abbrev pub ReadsLine : {M T : Type 0} → Takes M T → M → ℕ → List ℕ → List T → M → Type 0
 ReadsLine takes state number [] items new = (items ≡ []) × (new ≡ state)
 ReadsLine takes state number (b ∷ bs) items new =
     (begins_with_mark (b ∷ bs) ≡ false) × IsUtf8 (b ∷ bs) × takes state number (fields (b ∷ bs)) items new
 
 -- the line of this number is refused, for its bytes or for what it means
-abbrev pub RefusesLine : {M : Type 0} → (M → ℕ → List (List ℕ) → Refusal → Type 0) → FileId → M → ℕ → List ℕ → Refusal → Type 0
+abbrev pub RefusesLine : {M : Type 0} → Refuses M → FileId → M → ℕ → List ℕ → Refusal → Type 0
 RefusesLine refuses file state number line r =
-    (line ≢ []) × (RefusesText file number line r ⊎ (begins_with_mark line ≡ false) × IsUtf8 line × refuses state number (fields line) r)
+    (line ≢ [])
+    × (RefusesText file number line r ⊎ (begins_with_mark line ≡ false) × IsUtf8 line × refuses state number (fields line) r)
 
 -- the lines that follow the first so many of a file take the meaning from a state to another, and
 -- give these items
-abbrev pub Reads : {M T : Type 0} → (M → ℕ → List (List ℕ) → List T → M → Type 0) → M → ℕ → List (List ℕ) → List T → M → Type 0
+abbrev pub Reads : {M T : Type 0} → Takes M T → M → ℕ → List (List ℕ) → List T → M → Type 0
 Reads takes state ended [] items new = (items ≡ []) × (new ≡ state)
 Reads {M} {T} takes state ended (line ∷ lines) items new =
-    (first later : List T) × (between : M) × ReadsLine takes state (ended + 1) line first between × Reads takes between (ended + 1) lines later new × (items ≡ first ++ later)
+    (first later : List T)
+    × (between : M)
+    × ReadsLine takes state (ended + 1) line first between
+    × Reads takes between (ended + 1) lines later new
+    × (items ≡ first ++ later)
 
 -- a first few of the lines give these items
-pub record ReadsSome {M T : Type 0} (takes : M → ℕ → List (List ℕ) → List T → M → Type 0) (state : M) (ended : ℕ) (lines : List (List ℕ)) (items : List T) : Type 0 where
+pub record ReadsSome {M T : Type 0} (takes : Takes M T)
+    (state : M) (ended : ℕ) (lines : List (List ℕ)) (items : List T) : Type 0 where
   pub before : List (List ℕ)
   pub after : List (List ℕ)
   pub new : M
@@ -51,7 +65,7 @@ pub record ReadsSome {M T : Type 0} (takes : M → ℕ → List (List ℕ) → L
   pub reads : Reads takes state ended before items new
 
 -- the lines give these items up to a first one that is refused
-pub record Stops {M T : Type 0} (takes : M → ℕ → List (List ℕ) → List T → M → Type 0) (refuses : M → ℕ → List (List ℕ) → Refusal → Type 0)
+pub record Stops {M T : Type 0} (takes : Takes M T) (refuses : Refuses M)
     (file : FileId) (state : M) (ended : ℕ) (lines : List (List ℕ)) (items : List T) (r : Refusal) : Type 0 where
   pub before : List (List ℕ)
   pub line : List ℕ
@@ -62,7 +76,7 @@ pub record Stops {M T : Type 0} (takes : M → ℕ → List (List ℕ) → List 
   pub refused : RefusesLine refuses file new (ended + length before + 1) line r
 
 -- the lines give these items, and at the end of the file the state that they leave is refused
-pub record EndsBad {M T : Type 0} (takes : M → ℕ → List (List ℕ) → List T → M → Type 0) (ends : M → Option Refusal)
+pub record EndsBad {M T : Type 0} (takes : Takes M T) (ends : M → Option Refusal)
     (state : M) (ended : ℕ) (lines : List (List ℕ)) (items : List T) (r : Refusal) : Type 0 where
   pub new : M
   pub reads : Reads takes state ended lines items new

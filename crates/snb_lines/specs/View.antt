@@ -1,4 +1,4 @@
--- How a contract sees a reader of lines.
+-- How a contract sees a reader of lines. Cited by contracts of private functions alone.
 use Rattle.std.specs.Prelude.{◌≡◌, ◌+◌, ◌≤◌, None, length}
 use Rattle.snb_schema.specs.declared.limits.TheConstants.{MAX_BYTES}
 use Rattle.snb_schema.specs.Lines.{HasNoEnd}

@@ -2,9 +2,11 @@
 //! logs, which differ in what a line means.
 #![tactic(auto)]
 
+pub mod headed;
 pub mod law;
 pub mod lines;
 pub mod meaning;
+pub mod open;
 mod progress;
 pub mod split;
 #[cfg(test)]

@@ -1,14 +1,13 @@
 //! The reader of lines.
 
-ghost use Rattle.std.specs.Prelude.{◌≡◌, ◌+◌, ◌≤◌, ◌++◌, [], List, length, OnOk, OnErr, Some, None, Err, ◌⊎◌, true, false};
-ghost use Rattle.snb_schema.specs.declared.fault.Fault.{Fault as Faulty};
-ghost use Rattle.snb_schema.specs.declared.fault.Fault.TheVariants.{Memory, Bad};
+ghost use Rattle.std.specs.Prelude.{◌≡◌, ◌+◌, ◌≤◌, length, OnOk, OnErr, None, false};
 ghost use Rattle.snb_schema.specs.declared.limits.TheConstants.{MAX_BYTES};
 ghost use Rattle.snb_schema.specs.Faults.{OnBad};
-ghost use Rattle.snb_lines.specs.Cut.{last_lines, rest_of, whole_lines};
-ghost use Rattle.snb_lines.specs.Reading.{EndsBad, OnMemory, Reads, ReadsSome, Stops};
+ghost use Rattle.snb_lines.specs.Feeding.{HasRead, HasRunOut, HasStopped, HasStoppedAtEnd, IsSameFile, KeepsFault, at_begin, at_file_end, fed_more, left_lines, new_lines};
+ghost use Rattle.snb_lines.specs.Reading.{OnMemory};
 
 use crate::meaning::Meaning;
+use crate::open::Open;
 use crate::progress::Progress;
 use snb_schema::fault::Fault;
 use snb_schema::file::FileId;
@@ -41,10 +40,22 @@ impl<M> Model for Lines<M> {
     ghost invariant = { IsSound };
 }
 
-impl<M: Meaning> Lines<M> {
-    /// A reader of the file from its first byte on. Takes no memory.
-    pub fn new(alloc: Global, file: FileId, meaning: M) -> Lines<M>
-        ensures { result ≡ record { file = file; fed = 0; ended = 0; begun = []; over = false; fault = None; meaning = meaning } }
+impl<M: Open> Lines<M> {
+    /// A reader of the file of this name, from its first byte on. There is such a file. Takes no
+    /// memory.
+    pub fn new(alloc: Global, named: M::Named) -> Lines<M>
+        requires { M.can_open named }
+        ensures begins { M.begins named result.meaning }
+        ensures fresh { result ≡ at_begin (M.file_of named) result.meaning }
+    {
+        Lines::of_file(alloc, M::file(named), M::open(alloc, named))
+    }
+}
+
+impl<M> Lines<M> {
+    /// A reader of the file from its first byte on, where its lines mean this. Takes no memory.
+    pub fn of_file(alloc: Global, file: FileId, meaning: M) -> Lines<M>
+        ensures { result ≡ at_begin file meaning }
     {
         Lines {
             progress: Progress {
@@ -80,7 +91,9 @@ impl<M: Meaning> Lines<M> {
     {
         &self.progress.meaning
     }
+}
 
+impl<M: Meaning> Lines<M> {
     /// Takes the next piece of the file, and appends the items of the lines that end in it, each line
     /// at its `\n` and numbered from 1. The pieces may be cut anywhere, and are 268,435,456 bytes at
     /// most together. None follows an `end` that answered Ok.
@@ -90,17 +103,22 @@ impl<M: Meaning> Lines<M> {
     pub fn feed(&mut self, piece: &[u8], into: &mut Vec<M::Item>) -> Result<(), Fault>
         requires bytes { self.old.fed + length piece.now ≤ MAX_BYTES }
         requires goes_on { self.old.over ≡ false }
-        ensures kept { (fault : Faulty) → self.old.fault ≡ Some fault
-            → (result ≡ Err fault) × (self.new ≡ self.old) × (into.new.items ≡ into.old.items) }
+        ensures kept { KeepsFault result self.old into.old.items self.new into.new.items }
         ensures was_good { OnOk result (self.old.fault ≡ None) }
-        ensures ok { OnOk result ((items : List M.Item) × Reads M.takes self.old.meaning self.old.ended (whole_lines (self.old.begun ++ piece.now)) items self.new.meaning
-            × (into.new.items ≡ into.old.items ++ items)) }
-        ensures after { OnOk result (self.new ≡ record self.old { fed = self.old.fed + length piece.now; ended = self.old.ended + length (whole_lines (self.old.begun ++ piece.now)); begun = rest_of (self.old.begun ++ piece.now); meaning = self.new.meaning }) }
-        ensures bad { self.old.fault ≡ None → OnBad result (λ r. (items : List M.Item) × Stops M.takes M.refuses self.old.file self.old.meaning self.old.ended (whole_lines (self.old.begun ++ piece.now)) items r
-            × (into.new.items ≡ into.old.items ++ items) × (self.new.fault ≡ Some (Bad r))) }
-        ensures memory { self.old.fault ≡ None → OnMemory result ((items : List M.Item) × ReadsSome M.takes self.old.meaning self.old.ended (whole_lines (self.old.begun ++ piece.now)) items
-            × (into.new.items ≡ into.old.items ++ items) × (self.new.fault ≡ Some Memory)) }
-        ensures same { OnErr result ((self.new.file ≡ self.old.file) × (self.new.fed ≡ self.old.fed) × (self.new.over ≡ self.old.over)) }
+        ensures ok {
+            OnOk result
+            (HasRead M.takes (new_lines self.old piece.now) self.old into.old.items self.new into.new.items)
+        }
+        ensures after { OnOk result (self.new ≡ fed_more self.old piece.now self.new.meaning) }
+        ensures bad {
+            self.old.fault ≡ None → OnBad result
+            (HasStopped M.takes M.refuses (new_lines self.old piece.now) self.old into.old.items self.new into.new.items)
+        }
+        ensures memory {
+            self.old.fault ≡ None → OnMemory result
+            (HasRunOut M.takes (new_lines self.old piece.now) self.old into.old.items self.new into.new.items)
+        }
+        ensures same { OnErr result (IsSameFile self.old self.new) }
     {
         if let Some(fault) = self.fault {
             return Err(fault);
@@ -113,26 +131,30 @@ impl<M: Meaning> Lines<M> {
         taken
     }
 
-    /// Ends the file, and appends the items of a last line without a `\n`, where it has a byte.
-    /// Once this has answered Ok, the reader is fed and ended no more.
+    /// Ends the file, and appends the items of a last line without a `\n`, where it has a byte. No
+    /// `end` before it answered Ok. Once this has answered Ok, the reader is fed and ended no more.
     ///
     /// The error is that last line, where it is refused, or what the meaning refuses at the end of
     /// the file, or want of memory. It is kept as an error of `feed` is.
     pub fn end(&mut self, into: &mut Vec<M::Item>) -> Result<(), Fault>
         requires goes_on { self.old.over ≡ false }
-        ensures kept { (fault : Faulty) → self.old.fault ≡ Some fault
-            → (result ≡ Err fault) × (self.new ≡ self.old) × (into.new.items ≡ into.old.items) }
+        ensures kept { KeepsFault result self.old into.old.items self.new into.new.items }
         ensures was_good { OnOk result (self.old.fault ≡ None) }
-        ensures ok { OnOk result ((items : List M.Item) × Reads M.takes self.old.meaning self.old.ended (last_lines self.old.begun) items self.new.meaning
-            × (into.new.items ≡ into.old.items ++ items)) }
+        ensures ok {
+            OnOk result
+            (HasRead M.takes (left_lines self.old) self.old into.old.items self.new into.new.items)
+        }
         ensures ends { OnOk result (M.ends self.new.meaning ≡ None) }
-        ensures after { OnOk result (self.new ≡ record self.old { ended = self.old.ended + length (last_lines self.old.begun); begun = []; over = true; meaning = self.new.meaning }) }
-        ensures bad { self.old.fault ≡ None → OnBad result (λ r. (items : List M.Item) × (Stops M.takes M.refuses self.old.file self.old.meaning self.old.ended (last_lines self.old.begun) items r
-            ⊎ EndsBad M.takes M.ends self.old.meaning self.old.ended (last_lines self.old.begun) items r)
-            × (into.new.items ≡ into.old.items ++ items) × (self.new.fault ≡ Some (Bad r))) }
-        ensures memory { self.old.fault ≡ None → OnMemory result ((items : List M.Item) × ReadsSome M.takes self.old.meaning self.old.ended (last_lines self.old.begun) items
-            × (into.new.items ≡ into.old.items ++ items) × (self.new.fault ≡ Some Memory)) }
-        ensures same { OnErr result ((self.new.file ≡ self.old.file) × (self.new.fed ≡ self.old.fed) × (self.new.over ≡ self.old.over)) }
+        ensures after { OnOk result (self.new ≡ at_file_end self.old self.new.meaning) }
+        ensures bad {
+            self.old.fault ≡ None → OnBad result
+            (HasStoppedAtEnd M.takes M.refuses M.ends (left_lines self.old) self.old into.old.items self.new into.new.items)
+        }
+        ensures memory {
+            self.old.fault ≡ None → OnMemory result
+            (HasRunOut M.takes (left_lines self.old) self.old into.old.items self.new into.new.items)
+        }
+        ensures same { OnErr result (IsSameFile self.old self.new) }
     {
         if let Some(fault) = self.fault {
             return Err(fault);

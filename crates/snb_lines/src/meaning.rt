@@ -24,8 +24,8 @@ pub trait Meaning {
     /// What is refused where the file ends in this state, if anything is.
     ghost ends: { Self → Option Refused };
 
-    /// Takes the line of this number, counted from 1, and appends its items. After an error the
-    /// list is as it was, and the state is none that a caller knows.
+    /// Takes the line of this number, counted from 1, and appends its items. Each field is UTF-8. After
+    /// an error the list is as it was, and the state is none that a caller knows.
     fn take(
         &mut self,
         number: u32,
@@ -33,7 +33,12 @@ pub trait Meaning {
         into: &mut Vec<Self::Item>,
     ) -> Result<(), Fault>
         requires utf8 { All IsUtf8 (fields_of fields.now) }
-        ensures ok { OnOk result ((items : List Self.Item) × takes self.old number (fields_of fields.now) items self.new × (into.new.items ≡ into.old.items ++ items)) }
+        ensures ok {
+            OnOk result
+            ((items : List Self.Item)
+            × takes self.old number (fields_of fields.now) items self.new
+            × (into.new.items ≡ into.old.items ++ items))
+        }
         ensures bad { OnBad result (λ r. refuses self.old number (fields_of fields.now) r) }
         ensures same { OnErr result (into.new.items ≡ into.old.items) };
 

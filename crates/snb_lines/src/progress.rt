@@ -9,7 +9,8 @@ ghost use Rattle.snb_schema.specs.Faults.{OnBad};
 ghost use Rattle.snb_schema.specs.Lines.{begins_with_mark, fields};
 ghost use Rattle.snb_lines.specs.Cut.{last_lines, rest_of, whole_lines};
 ghost use Rattle.snb_schema.specs.Lines.{HasNoEnd};
-ghost use Rattle.snb_lines.specs.Reading.{EndsBad, IsPlain, OnMemory, Reads, ReadsLine, ReadsSome, RefusesLine, Stops};
+ghost use Rattle.snb_lines.specs.Reading.{IsPlain, OnMemory};
+ghost use Rattle.snb_lines.specs.Steps.{FileStopped, LineRead, LineRefused, LinesRead, LinesRunOut, LinesStopped};
 ghost use Rattle.snb_schema.specs.LineFaults.{RefusesText};
 
 use crate::meaning::Meaning;
@@ -64,9 +65,8 @@ impl<M: Meaning> Progress<M> {
     ) -> Result<(), Fault>
         requires room { self.old.ended + 1 < 2 ^ 32 }
         requires split { IsPlain line.now → fields_of row.now ≡ fields line.now }
-        ensures ok { OnOk result ((items : List M.Item) × ReadsLine M.takes self.old.meaning (self.old.ended + 1) line.now items self.new.meaning
-            × (into.new.items ≡ into.old.items ++ items)) }
-        ensures bad { OnBad result (λ r. RefusesLine M.refuses self.old.file self.old.meaning (self.old.ended + 1) line.now r) }
+        ensures ok { OnOk result (LineRead M.takes line.now self.old into.old.items self.new into.new.items) }
+        ensures bad { OnBad result (LineRefused M.refuses line.now self.old) }
         ensures same { OnErr result (into.new.items ≡ into.old.items) }
         ensures file { self.new.file ≡ self.old.file }
         ensures ended { OnOk result (self.new.ended ≡ self.old.ended + 1) }
@@ -85,9 +85,11 @@ impl<M: Meaning> Progress<M> {
     fn take_begun(&mut self, head: &[u8], into: &mut Vec<M::Item>) -> Result<(), Fault>
         requires room { self.old.ended + 1 < 2 ^ 32 }
         requires one_line { HasNoEnd (self.old.begun.items ++ head.now) }
-        ensures ok { OnOk result ((items : List M.Item) × ReadsLine M.takes self.old.meaning (self.old.ended + 1) (self.old.begun.items ++ head.now) items self.new.meaning
-            × (into.new.items ≡ into.old.items ++ items)) }
-        ensures bad { OnBad result (λ r. RefusesLine M.refuses self.old.file self.old.meaning (self.old.ended + 1) (self.old.begun.items ++ head.now) r) }
+        ensures ok {
+            OnOk result
+            (LineRead M.takes (self.old.begun.items ++ head.now) self.old into.old.items self.new into.new.items)
+        }
+        ensures bad { OnBad result (LineRefused M.refuses (self.old.begun.items ++ head.now) self.old) }
         ensures same { OnErr result (into.new.items ≡ into.old.items) }
         ensures file { self.new.file ≡ self.old.file }
         ensures ended { OnOk result (self.new.ended ≡ self.old.ended + 1) }
@@ -109,12 +111,18 @@ impl<M: Meaning> Progress<M> {
         requires after_end { (rest : List ℕ) × (text.now ≡ 10 ∷ rest) }
         requires fresh { self.old.begun.items ≡ [] }
         requires room { self.old.ended + length (drop 1 text.now) ≤ MAX_BYTES }
-        ensures ok { OnOk result ((items : List M.Item) × Reads M.takes self.old.meaning self.old.ended (whole_lines (drop 1 text.now)) items self.new.meaning
-            × (into.new.items ≡ into.old.items ++ items)) }
-        ensures bad { OnBad result (λ r. (items : List M.Item) × Stops M.takes M.refuses self.old.file self.old.meaning self.old.ended (whole_lines (drop 1 text.now)) items r
-            × (into.new.items ≡ into.old.items ++ items)) }
-        ensures memory { OnMemory result ((items : List M.Item) × ReadsSome M.takes self.old.meaning self.old.ended (whole_lines (drop 1 text.now)) items
-            × (into.new.items ≡ into.old.items ++ items)) }
+        ensures ok {
+            OnOk result
+            (LinesRead M.takes (whole_lines (drop 1 text.now)) self.old into.old.items self.new into.new.items)
+        }
+        ensures bad {
+            OnBad result
+            (LinesStopped M.takes M.refuses (whole_lines (drop 1 text.now)) self.old into.old.items into.new.items)
+        }
+        ensures memory {
+            OnMemory result
+            (LinesRunOut M.takes (whole_lines (drop 1 text.now)) self.old into.old.items into.new.items)
+        }
         ensures file { self.new.file ≡ self.old.file }
         ensures ended { OnOk result (self.new.ended ≡ self.old.ended + length (whole_lines (drop 1 text.now))) }
         ensures begun { OnOk result (self.new.begun.items ≡ rest_of (drop 1 text.now)) }
@@ -132,12 +140,18 @@ impl<M: Meaning> Progress<M> {
     pub fn take_piece(&mut self, piece: &[u8], into: &mut Vec<M::Item>) -> Result<(), Fault>
         requires one_line { HasNoEnd self.old.begun.items }
         requires room { self.old.ended + length self.old.begun.items + length piece.now ≤ MAX_BYTES }
-        ensures ok { OnOk result ((items : List M.Item) × Reads M.takes self.old.meaning self.old.ended (whole_lines (self.old.begun.items ++ piece.now)) items self.new.meaning
-            × (into.new.items ≡ into.old.items ++ items)) }
-        ensures bad { OnBad result (λ r. (items : List M.Item) × Stops M.takes M.refuses self.old.file self.old.meaning self.old.ended (whole_lines (self.old.begun.items ++ piece.now)) items r
-            × (into.new.items ≡ into.old.items ++ items)) }
-        ensures memory { OnMemory result ((items : List M.Item) × ReadsSome M.takes self.old.meaning self.old.ended (whole_lines (self.old.begun.items ++ piece.now)) items
-            × (into.new.items ≡ into.old.items ++ items)) }
+        ensures ok {
+            OnOk result
+            (LinesRead M.takes (whole_lines (self.old.begun.items ++ piece.now)) self.old into.old.items self.new into.new.items)
+        }
+        ensures bad {
+            OnBad result
+            (LinesStopped M.takes M.refuses (whole_lines (self.old.begun.items ++ piece.now)) self.old into.old.items into.new.items)
+        }
+        ensures memory {
+            OnMemory result
+            (LinesRunOut M.takes (whole_lines (self.old.begun.items ++ piece.now)) self.old into.old.items into.new.items)
+        }
         ensures file { self.new.file ≡ self.old.file }
         ensures ended { OnOk result (self.new.ended ≡ self.old.ended + length (whole_lines (self.old.begun.items ++ piece.now))) }
         ensures begun { OnOk result (self.new.begun.items ≡ rest_of (self.old.begun.items ++ piece.now)) }
@@ -154,14 +168,19 @@ impl<M: Meaning> Progress<M> {
     pub fn finish(&mut self, into: &mut Vec<M::Item>) -> Result<(), Fault>
         requires one_line { HasNoEnd self.old.begun.items }
         requires room { self.old.ended + length self.old.begun.items ≤ MAX_BYTES }
-        ensures ok { OnOk result ((items : List M.Item) × Reads M.takes self.old.meaning self.old.ended (last_lines self.old.begun.items) items self.new.meaning
-            × (into.new.items ≡ into.old.items ++ items)) }
+        ensures ok {
+            OnOk result
+            (LinesRead M.takes (last_lines self.old.begun.items) self.old into.old.items self.new into.new.items)
+        }
         ensures ends { OnOk result (M.ends self.new.meaning ≡ None) }
-        ensures bad { OnBad result (λ r. (items : List M.Item) × (Stops M.takes M.refuses self.old.file self.old.meaning self.old.ended (last_lines self.old.begun.items) items r
-            ⊎ EndsBad M.takes M.ends self.old.meaning self.old.ended (last_lines self.old.begun.items) items r)
-            × (into.new.items ≡ into.old.items ++ items)) }
-        ensures memory { OnMemory result ((items : List M.Item) × ReadsSome M.takes self.old.meaning self.old.ended (last_lines self.old.begun.items) items
-            × (into.new.items ≡ into.old.items ++ items)) }
+        ensures bad {
+            OnBad result
+            (FileStopped M.takes M.refuses M.ends (last_lines self.old.begun.items) self.old into.old.items into.new.items)
+        }
+        ensures memory {
+            OnMemory result
+            (LinesRunOut M.takes (last_lines self.old.begun.items) self.old into.old.items into.new.items)
+        }
         ensures file { self.new.file ≡ self.old.file }
         ensures ended { OnOk result (self.new.ended ≡ self.old.ended + length (last_lines self.old.begun.items)) }
         ensures begun { OnOk result (self.new.begun.items ≡ []) }

@@ -82,7 +82,7 @@ fn read_pieces(alloc: Global, first: &[u8], second: &[u8], third: &[u8]) -> Resu
     requires { length first.now + length second.now + length third.now ≤ 100000 }
 {
     let mut rows = Vec::new(alloc);
-    let mut reader = Lines::new(alloc, FILE, fresh(alloc));
+    let mut reader = Lines::of_file(alloc, FILE, fresh(alloc));
     reader.feed(first, &mut rows)?;
     reader.feed(second, &mut rows)?;
     reader.feed(third, &mut rows)?;
@@ -95,7 +95,7 @@ fn read_bytes(alloc: Global, text: &[u8]) -> Result<Vec<Row>, Fault>
     requires { length text.now ≤ 100000 }
 {
     let mut rows = Vec::new(alloc);
-    let mut reader = Lines::new(alloc, FILE, fresh(alloc));
+    let mut reader = Lines::of_file(alloc, FILE, fresh(alloc));
     for i in 0..text.len() {
         reader.feed(&text[i..i + 1], &mut rows)?;
     }
@@ -214,7 +214,7 @@ fn refuses_the_first_bad_line(rt: HostRuntime) -> Result<(), Fail> {
 #[test]
 fn a_fault_is_kept(rt: HostRuntime) -> Result<(), Fail> {
     let mut rows = Vec::new(rt.alloc());
-    let mut reader = Lines::new(rt.alloc(), FILE, fresh(rt.alloc()));
+    let mut reader = Lines::of_file(rt.alloc(), FILE, fresh(rt.alloc()));
     if reader.feed(b"a\nb", &mut rows).is_err() {
         return Err(AllocError.into());
     }

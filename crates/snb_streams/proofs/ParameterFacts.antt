@@ -5,13 +5,13 @@ use Rattle.snb_schema.specs.declared.column.Column.{Column}
 use Rattle.snb_schema.specs.declared.column.Value.{Value}
 use Rattle.snb_schema.specs.declared.query.Query.{Query}
 use Rattle.snb_schema.specs.declared.query.Query.TheVariants.{Is1, Is2, Is3, Is4, Is5, Is6, Is7, Ic1, Ic2, Ic7, Ic8, Ic9, Ic11, Ic13}
-use Rattle.snb_schema.specs.declared.refusal.Refusal.TheVariants.{BadLine}
 use Rattle.snb_schema.specs.Columns.{SpellsAll, StopsAfter}
+use Rattle.snb_schema.specs.ParameterLines.{IsBadQuery, SpellsQuery, query_columns, query_values}
 use Rattle.snb_schema.specs.Queries.{IsComplex, number_of_query}
 use Rattle.snb_fields.specs.Laws.{OneList, TakenAgain}
 use Rattle.snb_fields.specs.Values.{taken}
 use Rattle.snb_streams.specs.Laws.{NoBadQuery, OneQuery}
-use Rattle.snb_streams.specs.Parameters.{IsBadQuery, Passed, RefusesAs, RefusesQuery, SpellsQuery, query_by, query_columns, query_values}
+use Rattle.snb_streams.specs.Parameters.{query_by}
 use Rattle.snb_streams.proofs.PlaceFacts.{no_stop, spelled_long}
 
 -- what is so of the seven numbers is so of a number that is one of them
@@ -45,11 +45,6 @@ told_query again q cs fs vs one complex e long s made =
 pub told_stop : (q : ℕ) (cs : List Column) (fs : List (List ℕ)) (n column : ℕ) → cs ≡ query_columns q → length fs ≡ length cs → StopsAfter cs fs n → column ≡ n + 1 → IsBadQuery q fs column
 told_stop q cs fs n column e long stop at =
     inr (long ∙ ap (λ (ds : List Column). length ds) e, (n, subst (λ (ds : List Column). StopsAfter ds fs n) e stop, at))
-
--- a bad column is refused past the header
-pub refuses_query : (s : Passed) (number : ℕ) (fs : List (List ℕ)) (column : ℕ) (q : ℕ) (headed : Bool) → q ≡ s.query → headed ≡ s.headed → headed ≡ true → IsBadQuery q fs column → RefusesQuery s number fs (BadLine s.file number column)
-refuses_query s number fs column q headed e f h bad =
-    subst (λ b. RefusesAs b s.query s.file number fs (BadLine s.file number column)) (sym h ∙ f) (column, subst (λ (k : ℕ). IsBadQuery k fs column) e bad, refl)
 
 -- no complex query has the number 0
 no_zero : (q : ℕ) → IsComplex q → 0 ≢ q

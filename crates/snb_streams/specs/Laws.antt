@@ -3,9 +3,9 @@ use Rattle.std.specs.Prelude.{◌≡◌, ℕ, List}
 use Rattle.snb_schema.specs.declared.op.Op.{Op}
 use Rattle.snb_schema.specs.declared.op.OpKind.{OpKind}
 use Rattle.snb_schema.specs.declared.query.Query.{Query}
+use Rattle.snb_schema.specs.ParameterLines.{IsBadQuery, SpellsQuery}
 use Rattle.snb_schema.specs.Queries.{IsComplex}
 use Rattle.snb_schema.specs.UpdateLines.{IsBadInsert, IsLine, canonical_line}
-use Rattle.snb_streams.specs.Parameters.{IsBadQuery, SpellsQuery}
 use Rattle.snb_streams.specs.Spelled.{SpellsInsert}
 
 -- a text is the line of one insert at most

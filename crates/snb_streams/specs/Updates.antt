@@ -10,13 +10,17 @@ use Rattle.snb_schema.specs.declared.refusal.Refusal.{Refusal}
 use Rattle.snb_schema.specs.declared.refusal.Refusal.TheVariants.{OutOfOrder}
 use Rattle.snb_schema.specs.LineFaults.{RefusesInsert}
 use Rattle.snb_schema.specs.UpdateLines.{forum_inserts, person_inserts}
+use Rattle.snb_lines.specs.Reading.{Refuses, Takes}
 use Rattle.snb_streams.specs.Spelled.{SpellsInsert}
 
--- the inserts of a kind of file
+-- the inserts of a kind of file; one that is no stream has none
 abbrev pub allowed_in : FileKind → List OpKind
 allowed_in files.PersonStream = person_inserts
 allowed_in files.ForumStream = forum_inserts
-allowed_in _ = []
+allowed_in (files.Table t) = []
+allowed_in (files.Params q) = []
+allowed_in files.Log = []
+allowed_in files.Cases = []
 
 -- the file is an update stream
 abbrev pub IsStream : FileId → Type 0
@@ -27,8 +31,15 @@ pub record Followed : Type 0 where
   pub file : FileId
   pub last : ℕ
 
+-- before the first line of a stream
+abbrev pub before_stream : FileId → Followed
+before_stream file = record { file = file; last = 0 }
+
+abbrev pub BeginsStream : FileId → Followed → Type 0
+BeginsStream file new = new ≡ before_stream file
+
 -- the line of this number with these fields is an insert whose t is no lower than the last
-abbrev pub TakesInsert : Followed → ℕ → List (List ℕ) → List Line → Followed → Type 0
+abbrev pub TakesInsert : Takes Followed Line
 TakesInsert old number fs items new =
     (t : ℕ)
     × (t_d : ℕ)
@@ -39,10 +50,15 @@ TakesInsert old number fs items new =
     × (new ≡ record old { last = t })
 
 -- the line is no insert of the stream, or its t falls behind
-abbrev pub RefusesUpdate : Followed → ℕ → List (List ℕ) → Refusal → Type 0
+abbrev pub RefusesUpdate : Refuses Followed
 RefusesUpdate old number fs r =
     RefusesInsert (allowed_in old.file.kind) old.file number fs r
-    ⊎ ((t : ℕ) × (t_d : ℕ) × (op : Op) × SpellsInsert (allowed_in old.file.kind) fs t t_d op × (t < old.last) × (r ≡ OutOfOrder old.file number))
+    ⊎ ((t : ℕ)
+    × (t_d : ℕ)
+    × (op : Op)
+    × SpellsInsert (allowed_in old.file.kind) fs t t_d op
+    × (t < old.last)
+    × (r ≡ OutOfOrder old.file number))
 
 -- no end of a stream is refused
 abbrev pub never_ends : Followed → Option Refusal

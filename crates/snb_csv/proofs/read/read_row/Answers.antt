@@ -1,7 +1,7 @@
 use Rattle.std.proofs.Common.{◌&&◌, cond, List, ap, ◌∙◌}
 use Rattle.csv.specs.Records.{fields_of}
 use Rattle.snb_schema.specs.declared.column.Value.{Value}
-use Rattle.snb_csv.specs.Make.{starts_twice}
+use Rattle.snb_fields.specs.Values.{starts_twice}
 use Rattle.snb_csv.proofs.RowFacts.{bad_stop}
 use Rattle.snb_csv.proofs.read.read_row.Goals as goal
 

@@ -1,4 +1,4 @@
-use Rattle.snb_fields.proofs.TakenFacts.{taken_again}
+use Rattle.snb_fields.proofs.Laws.{taken_again}
 use Rattle.snb_fields.proofs.law.taken_again.Goals as goal
 
 pub returns : goal.returns

@@ -1,11 +1,11 @@
 use Rattle.std.proofs.Common.{◌≡◌, ◌∙◌, false, refl, subst, sym, take_all, All}
-use Rattle.std.proofs.lemmas.List.Elements.{All-more}
+use Rattle.std.proofs.lemmas.List.Elements.{All-more, Contains-get_or}
 use Rattle.std.specs.List.{list_any}
 use Rattle.snb_fields.proofs.PairFacts.{differs, one_year, two_years}
 use Rattle.snb_fields.proofs.lists.has_one_year.Goals as goal
 
 pub returns-then-has_other_year : goal.returns-then-has_other_year
-returns-then-has_other_year c = (λ t. absurd cc, λ h. absurd (two_years c.args.pairs.now c.loop-id.id-index _ c.loop-id-test.true (sym c.has_other_year.ensures ∙ c.if-has_other_year.true) h))
+returns-then-has_other_year c = (λ t. absurd cc, λ h. absurd (two_years c.args.pairs.now _ (Contains-get_or c.args.pairs.now c.loop-id.id-index _ c.loop-id-test.true) (sym c.has_other_year.ensures ∙ c.if-has_other_year.true) h))
 
 pub loop-id-preserved : goal.loop-id-preserved
 loop-id-preserved c =
