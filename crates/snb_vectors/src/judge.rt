@@ -101,7 +101,10 @@ fn put_difference(
     let line = ended.saturating_add(1);
     let wanted_line = shown_line(alloc, &wanted[begin..])?;
     let given_line = shown_line(alloc, &given[begin..])?;
-    write!(how, "; {name} line {line}: wanted {wanted_line}, came {given_line}")
+    write!(
+        how,
+        "; {name} line {line}: wanted {wanted_line}, came {given_line}"
+    )
 }
 
 // What is said of the statuses.

@@ -62,7 +62,11 @@ fn call<R: AllocGlobal + Wait, S: Shelf>(
     shelf: &mut S,
     out: &mut MemoryOutbox,
 ) -> Result<u8, Flaw> {
-    let words: Vec<&str> = case.words.iter().map(|word| word.as_str()).collect(rt.alloc())?;
+    let words: Vec<&str> = case
+        .words
+        .iter()
+        .map(|word| word.as_str())
+        .collect(rt.alloc())?;
     let clock = FarClock::new(case.moment);
     Ok(snb(rt, &words, shelf, out, &clock, &OpenGate))
 }

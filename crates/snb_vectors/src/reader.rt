@@ -164,7 +164,9 @@ impl Reader {
 
     // Where the case of this name stands.
     fn place_of_case(&self, name: &str) -> Option<usize> {
-        self.cases.iter().position(|case| case.name.as_str() == name)
+        self.cases
+            .iter()
+            .position(|case| case.name.as_str() == name)
     }
 
     // Begins a case.
