@@ -215,8 +215,8 @@ fn writes_all(out: &mut impl Outbox, channel: Channel, bytes: &[u8]) -> bool {
     false
 }
 
-#[test]
-fn writes_a_large_piece_whole(rt: HostRuntime) -> Result<(), Fail> {
+// A large piece arrives whole.
+fn writes_a_large_piece(rt: HostRuntime) -> Result<(), Fail> {
     let name = "snb.cases";
     let bytes = many_bytes(rt.alloc(), 3_000_000)?;
     let mut out = FolderOutbox::new(rt);
@@ -229,7 +229,7 @@ fn writes_a_large_piece_whole(rt: HostRuntime) -> Result<(), Fail> {
     Ok(())
 }
 
-#[test]
+// A full device and a folder in the place of a file are faults, at each call.
 fn fails_on_a_full_device(rt: HostRuntime) -> Result<(), Fail> {
     let name = "snb.answers";
     symlink(&rt, "/dev/full", name)?;
@@ -246,8 +246,11 @@ fn fails_on_a_full_device(rt: HostRuntime) -> Result<(), Fail> {
     Ok(())
 }
 
+// One test, as all of it writes the same files.
 #[test]
 fn writes_real_files(rt: HostRuntime) -> Result<(), Fail> {
+    writes_a_large_piece(rt)?;
+    fails_on_a_full_device(rt)?;
     let mut out = FolderOutbox::new(rt);
     let channels = [
         (Channel::Log, "snb.log"),
