@@ -1,5 +1,7 @@
 //! What a case says.
 
+ghost use Rattle.std.specs.Prelude.{◌<◌, length, IfSome};
+
 use crate::change::Change;
 use crate::flaw::Flaw;
 use snb_base::outbox::Channel;
@@ -21,7 +23,9 @@ pub struct Named {
 }
 
 /// Where the one of this name stands.
-pub fn place_of(all: &[Named], name: &str) -> Option<usize> {
+pub fn place_of(all: &[Named], name: &str) -> Option<usize>
+    ensures { IfSome result (λ at. at < length all.now) }
+{
     all.iter().position(|named| named.name.as_str() == name)
 }
 
