@@ -42,10 +42,12 @@ row_key (row.Word t person text) = (t, person, 0, text)
 -- the key that a table's key columns give for the values of a row
 abbrev pub column_key : KeyColumns → Table → List Value → RowKey
 column_key First t (Digits one ∷ rest) = (t, one, 0, [])
+column_key First t values = (t, 0, 0, [])
 column_key Second t (one ∷ Digits other ∷ rest) = (t, other, 0, [])
+column_key Second t values = (t, 0, 0, [])
 column_key FirstTwo t (Digits one ∷ Digits other ∷ rest) = (t, one, other, [])
 column_key FirstTwo t (Digits one ∷ Letters text ∷ rest) = (t, one, 0, text)
-column_key columns t values = (t, 0, 0, [])
+column_key FirstTwo t values = (t, 0, 0, [])
 
 -- the table with which a table shares its keys: posts and comments have one id space, and a comment has one parent, be it a post or a comment
 abbrev pub sharing : Table → Table

@@ -1,7 +1,7 @@
 -- The rows that a table can have.
 use Rattle.std.specs.Prelude.{◌≡◌, ◌≢◌, ◌<◌, ◌≤◌, ◌↔◌, ℕ, Bool, true, List, [], ◌∷◌, IsUtf8}
 use Rattle.snb_schema.specs.declared.column.Column.{Column}
-use Rattle.snb_schema.specs.declared.column.Column.TheVariants.{Number, Small, Date, Day, Words, Word}
+use Rattle.snb_schema.specs.declared.column.Column.TheVariants.{Number, Small, OptionalId, Date, Day, Words, Word, TextList, IdList, PairList}
 use Rattle.snb_schema.specs.declared.column.Value.{Value}
 use Rattle.snb_schema.specs.declared.column.Value.TheVariants.{Digits, SmallDigits, Letters}
 use Rattle.snb_schema.specs.declared.limits.TheConstants.{MAX_TIME}
@@ -20,12 +20,21 @@ pub record IsFieldText (text : List ℕ) : Type 0 where
 -- the value is within its column's bounds; no column of a table is a list or an id that may be absent
 abbrev pub IsWithin : Column → Value → Type 0
 IsWithin (Number most) (Digits n) = n ≤ most
+IsWithin (Number most) value = ⊥
 IsWithin (Small most) (SmallDigits n) = n ≤ most
+IsWithin (Small most) value = ⊥
+IsWithin OptionalId value = ⊥
 IsWithin Date (Digits n) = n ≤ MAX_TIME
+IsWithin Date value = ⊥
 IsWithin Day (Digits n) = n ≤ MAX_TIME
+IsWithin Day value = ⊥
 IsWithin Words (Letters text) = IsFieldText text
+IsWithin Words value = ⊥
 IsWithin Word (Letters text) = (text ≢ []) × IsFieldText text
-IsWithin column value = ⊥
+IsWithin Word value = ⊥
+IsWithin TextList value = ⊥
+IsWithin IdList value = ⊥
+IsWithin PairList value = ⊥
 
 -- there is a value for each column, within its bounds
 abbrev pub AreWithin : List Column → List Value → Type 0
