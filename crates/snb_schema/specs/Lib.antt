@@ -5,9 +5,7 @@ pub mod Faults
 pub mod FileNames
 pub mod Frequencies
 pub mod FrequencyPieces
-pub mod Graph
 pub mod History
-pub mod Input
 pub mod Lanes
 pub mod Layouts
 pub mod Laws
@@ -33,3 +31,4 @@ pub mod RowKeys
 pub mod TableOrder
 pub mod TableRows
 pub mod WorkedInserts
+pub mod Pairs

@@ -3,3 +3,4 @@ pub mod Graphs
 pub mod Laws
 pub mod Soundness
 pub mod Worked
+pub mod BuiltTables

@@ -14,7 +14,7 @@ use Rattle.snb_schema.specs.declared.op.Op.TheVariants.{AddPerson, LikePost, Lik
 use Rattle.snb_schema.specs.declared.row.Row.{Row}
 use Rattle.snb_schema.specs.declared.step.Step.{Step}
 use Rattle.snb_schema.specs.Closed.{key_of, IsTaken, IsClosed}
-use Rattle.snb_schema.specs.Graph.{Graph, HoldsKey, all_rows, key_of_row, rows_of}
+use Rattle.snb_tables.specs.BuiltTables.{Graph, HoldsKey, all_rows, key_of_row, rows_of}
 use Rattle.snb_schema.specs.Plan.{adds_person, plan_of, ArePlanned}
 use Rattle.snb_schema.specs.Schedule.{IsTimely, no_step, step_of}
 use Rattle.snb_plan.proofs.Laws.{plan_length, plan_times, planned_plan}

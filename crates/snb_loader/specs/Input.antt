@@ -16,7 +16,7 @@ use Rattle.snb_schema.specs.declared.row.Row.TheVariants as row
 use Rattle.snb_schema.specs.declared.table.Table.TheVariants as table
 use Rattle.snb_schema.specs.Closed.{IsFirstWrong}
 use Rattle.snb_schema.specs.FileNames.{name_of}
-use Rattle.snb_schema.specs.Graph.{Graph, HoldsRows, IsHeldIn, rows_of}
+use Rattle.snb_tables.specs.BuiltTables.{Graph, HoldsRows, IsHeldIn, rows_of}
 use Rattle.snb_schema.specs.Lines.{lines, is_filled, filled, data_lines}
 use Rattle.snb_schema.specs.LineFaults.{RefusesInsertLine, RefusesRowLine}
 use Rattle.snb_schema.specs.RowLines.{IsRow}

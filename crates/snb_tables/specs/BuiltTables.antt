@@ -1,4 +1,4 @@
--- A graph: for each table a finite map from key to row.
+-- The graph of the tables that are built so far: for each a finite map from key to row.
 use Rattle.std.specs.Prelude.{◌≡◌, ℕ, ◌<◌, min, max, List, [], ◌∷◌, ◌++◌, map, length, All, Contains, IsPermutation, Option, Some, None, codes}
 use Rattle.std.specs.Fmt.{decimal}
 use Rattle.std.specs.List.{flat_map}
@@ -17,6 +17,7 @@ use Rattle.snb_schema.specs.declared.table.Kind.TheVariants as kind
 use Rattle.snb_schema.specs.declared.table.Table.{Table}
 use Rattle.snb_schema.specs.declared.table.Table.TheVariants as table
 use Rattle.snb_schema.specs.FileNames.{table_text}
+use Rattle.snb_schema.specs.Pairs.{pair_cmp}
 use Rattle.snb_schema.specs.RowLines.{canonical}
 
 -- the map of each table that is built: its entries in the order of their keys
@@ -41,10 +42,6 @@ built = table.Person ∷ table.PersonKnowsPerson ∷ []
 -- the rows of all tables
 abbrev pub all_rows : Graph → List Row
 all_rows g = flat_map (rows g) built
-
--- the order of pairs: by the first numbers, then by the second
-abbrev pub pair_cmp : ℕ × ℕ → ℕ × ℕ → Ordering
-pair_cmp p q = ordering_then (nat_cmp p.0 q.0) (nat_cmp p.1 q.1)
 
 -- keys rise, a person's is the row's, and a friendship's has the lower id first
 pub record IsGraph (g : Graph) : Type 0 where
