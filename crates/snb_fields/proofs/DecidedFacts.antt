@@ -24,7 +24,7 @@ abbrev Decided : Type 0 → Type 0
 Decided P = P ⊎ ¬ P
 
 -- something has it, or nothing does
-abbrev Found : {A : Type 0} → (A → Type 0) → Type 0
+abbrev pub Found : {A : Type 0} → (A → Type 0) → Type 0
 Found {A} P = ((a : A) × P a) ⊎ ((a : A) → ¬ P a)
 
 both : {P Q : Type 0} → Decided P → Decided Q → Decided (P × Q)
@@ -103,7 +103,7 @@ all_digits [] = inl tt
 all_digits (b ∷ bs) = both (both (is_at_most 48 b) (is_at_most b 57)) (all_digits bs)
 
 -- a text is a number of at most so much, or it isn't
-number_found : (x : List ℕ) (most : ℕ) → Found (λ n. Num x n most)
+pub number_found : (x : List ℕ) (most : ℕ) → Found (λ n. Num x n most)
 number_found x most = elim (both (all_digits x) (both (is_less 0 (length x)) (both (is_at_most (length x) 19) (both (where_so (cases_eq (slice_index x 0) 48) (cases_eq (length x) 1)) (is_at_most (value_after 0 x) most))))) [
   | inl s ↦ inl (value_after 0 x, record { digits = s.0; some = s.1.0; few = s.1.1.0; no_lead = s.1.1.1.0; value = refl; small = s.1.1.1.1 })
   | inr never ↦ inr (λ n s. never (s.digits, (s.some, (s.few, (s.no_lead, subst (λ k. k ≤ most) s.value s.small)))))

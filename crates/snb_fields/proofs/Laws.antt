@@ -13,6 +13,7 @@ use Rattle.snb_schema.specs.RowLines.{IsWide}
 use Rattle.csv.specs.Records.{field_at}
 use Rattle.snb_fields.specs.Laws.{TakenAgain}
 use Rattle.snb_fields.specs.Values.{starts_twice, taken}
+use Rattle.snb_fields.proofs.DecidedFacts.{number_found}
 use Rattle.snb_fields.proofs.WideFacts.{wide_none, wide_some}
 
 -- what is taken first of a value that is spelled is this value
@@ -84,3 +85,7 @@ wide_or_not count fs = go (field_at fs count) refl
         let (there, back) = wide_some count fs [] e in
         elim (cases_eq (length fs) (count + 1)) [ inl same ↦ inl (there same refl) | inr other ↦ inr (λ w. other (back w).0) ]
     go (Some (b ∷ bs)) e = inr (λ w. (let empty : b ∷ bs ≡ [] = ((wide_some count fs (b ∷ bs) e).1 w).1 in cc))
+
+-- a text is a number of at most so much, or it isn't
+pub number_or_not : (x : List ℕ) (most : ℕ) → ((n : ℕ) × Num x n most) ⊎ ((n : ℕ) → ¬ Num x n most)
+number_or_not = number_found

@@ -2,7 +2,7 @@
 use Rattle.std.proofs.Common.{◌≡◌, ◌++◌, ◌∷◌, ◌+◌, ◌≤◌, [], ℕ, List, All, length}
 use Rattle.snb_schema.specs.Lines.{HasNoEnd}
 use Rattle.snb_lines.specs.Cut.{last_lines, rest_of, whole_lines}
-use Rattle.snb_lines.specs.Files.{AreEach, GivesOne}
+use Rattle.snb_lines.specs.Files.{AreEach, AreUnder, GivesOne, HeadsOf, ReadsUnder}
 use Rattle.snb_lines.specs.Headed.{Heads, IsBad}
 use Rattle.snb_lines.specs.Laws.{CutAnywhere, HeadedFiles, HeaderlessFiles, LinesAreWhole, LinesHaveNoEnd, OneHeadedReading, OneReading}
 use Rattle.snb_lines.specs.Reading.{Reads, Refuses, Takes}
@@ -68,3 +68,8 @@ headerless_files heads gives = HeadedFacts.headerless_files heads gives
 pub each_line : {M T : Type 0} (takes : Takes M T) (Of : M → Type 0) (IsItem : ℕ → List ℕ → T → Type 0) → GivesOne takes Of IsItem → (ls : List (List ℕ)) (s new : M) (n : ℕ) (items : List T) → Of s → All HasNoEnd ls
     → Reads takes s n ls items new → AreEach IsItem n ls items
 each_line = HeadedFacts.each_line
+
+-- and those of a file with a header are those of each data line, under a header
+pub are_under : {B T : Type 0} (heads : Heads B) (gives : Takes B T) (body : B) (Of : B → Type 0) (IsHeader : List ℕ → Type 0) (IsItem : ℕ → List ℕ → T → Type 0)
+    → HeadsOf heads body Of IsHeader → GivesOne gives Of IsItem → (ls : List (List ℕ)) (items : List T) (new : B) → All HasNoEnd ls → ReadsUnder heads gives body ls items new → AreUnder IsHeader IsItem ls items
+are_under = HeadedFacts.are_under

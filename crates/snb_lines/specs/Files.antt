@@ -51,3 +51,13 @@ pub record GivesOne {M T : Type 0} (takes : Takes M T) (Of : M → Type 0) (IsIt
       → IsUtf8 line
       → takes state number (fields line) items new
       → ((x : T) × (items ≡ x ∷ []) × IsItem number line x) × Of new
+
+-- a line whose fields are the header is such a header, and leaves a state of a kind
+pub record HeadsOf {B : Type 0} (heads : Heads B) (body : B) (Of : B → Type 0) (IsHeader : List ℕ → Type 0) : Type 0 where
+  pub leads :
+      (known : B) (line : List ℕ)
+      → HasNoEnd line
+      → begins_with_mark line ≡ false
+      → IsUtf8 line
+      → heads body (fields line) known
+      → IsHeader line × Of known

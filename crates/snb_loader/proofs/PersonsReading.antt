@@ -81,8 +81,8 @@ pub took_persons : (s : Passed Table) (old new : List Placed) → s.body ≡ tab
 took_persons s old new e all t = subst (All IsPersonRow) (sym t.5) (All-append IsPersonRow old t.2 all (reads_persons t.0 s t.3 t.1 t.2 e t.4))
 
 -- a fresh reader's table
-pub fresh_table : (s : Reader Passed Table) → s ≡ fresh row_meanings person_file at_first 0 none_used → s.meaning.body ≡ table.Person
-fresh_table s is = ap (λ (z : Reader Passed Table). z.meaning.body) is
+pub fresh_table : (s : Reader (Passed Table)) → s ≡ fresh row_meanings person_file at_first 0 none_used → s.meaning.body ≡ table.Person
+fresh_table s is = ap (λ (z : Reader (Passed Table)). z.meaning.body) is
 
 -- and that of one that has read
 pub kept_table : (ls : List (List ℕ)) (s new : Passed Table) (n : ℕ) (items : List Placed) → s.body ≡ table.Person → Reads TakesRow s n ls items new → new.body ≡ table.Person

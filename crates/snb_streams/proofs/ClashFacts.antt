@@ -1,10 +1,8 @@
 -- Values of a line that don't go together.
-use Rattle.std.proofs.Common.{◌≡◌, ◌≢◌, ◌+◌, ◌-◌, ◌<◌, ◌≤◌, ◌⊎◌, ◌∙◌, ℕ, zero, suc, true, false, List, [], ◌∷◌, take, drop, get_or, refl, sym, ap, subst, inl, inr, arith}
+use Rattle.std.proofs.Common.{◌≡◌, ◌≢◌, ◌+◌, ◌-◌, ◌<◌, ◌≤◌, ◌⊎◌, ◌∙◌, ℕ, zero, suc, Bool, true, false, cond, Option, Some, None, List, [], ◌∷◌, take, drop, get_or, refl, sym, ap, subst, inl, inr, arith}
 use Rattle.std.proofs.lemmas.Bool.{cases_lt, eqb-true, eq-eqb}
 use Rattle.std.proofs.lemmas.List.{get_or-drop}
-use Rattle.std.specs.List.{AllByRecursion}
-use Rattle.snb_base.specs.Calendar.{IsDigit}
-use Rattle.snb_base.specs.Spellings.{SpellsId}
+use Rattle.snb_base.specs.Spellings.{SpellsId, last_id}
 use Rattle.snb_schema.specs.declared.column.Column.{Column}
 use Rattle.snb_schema.specs.declared.column.Column.TheVariants.{Date, IdList, OptionalId}
 use Rattle.snb_schema.specs.declared.column.Value.{Value}
@@ -15,12 +13,20 @@ use Rattle.snb_schema.specs.Columns.{Spells, SpellsAll, StopsAfter, no_id}
 use Rattle.snb_schema.specs.Layouts.{id_column}
 use Rattle.snb_schema.specs.UpdateLines.{Clashes, field, line_columns, parent_comment, parent_post}
 use Rattle.snb_fields.specs.Values.{first_number, first_optional, optional_value}
-use Rattle.snb_streams.specs.Make.{are_no_parent, clash, clash_column, parent_by, starts_twice}
+use Rattle.snb_fields.specs.Values.{starts_twice}
+use Rattle.snb_fields.proofs.Laws.{number_some, starts_alone}
+use Rattle.snb_streams.specs.Make.{are_no_parent, clash_at, parent_by}
 use Rattle.snb_streams.proofs.PlaceFacts.{no_values, none_first, none_second, prefix_from, stop_from}
 
--- `-1` is no id
-not_none : (x : List ℕ) (n : ℕ) → SpellsId x n → x ≢ no_id
-not_none x n s e = (let digits : AllByRecursion IsDigit no_id = subst (AllByRecursion IsDigit) e s.digits in let low = digits.0 in absurd (omega arith))
+-- what is told of a test is so where it passes
+told : (b : Bool) (k column : ℕ) → cond b (Some k) None ≡ Some column → (b ≡ true) × (column ≡ k)
+told true k column e = (refl, cc)
+told false k column e = absurd cc
+
+-- and nothing is told where it fails
+pub untold : (b : Bool) (k : ℕ) → cond b (Some k) None ≡ None → b ≡ false
+untold true k e = absurd cc
+untold false k e = refl
 
 -- two texts are one id
 abbrev OneId : List ℕ → List ℕ → Type 0
@@ -38,16 +44,7 @@ one_id x a b s t = s.value ∙ sym t.value
 pub twice_there : (cs : List Column) (m : ℕ) (fs : List (List ℕ)) (vs : List Value) → SpellsAll (take m (id_column ∷ id_column ∷ cs)) (take m fs) vs → starts_twice vs ≡ true → (2 ≤ m) × OneId (get_or fs 0 []) (get_or fs 1 [])
 twice_there cs (suc (suc m)) (x ∷ y ∷ fs) (Digits a ∷ Digits b ∷ vs) s e = (let same : b ≡ a = sym (eqb-true a b e) in (omega arith, (a, s.0, subst (SpellsId y) same s.1.0)))
 twice_there cs zero fs [] s e = absurd cc
-twice_there cs (suc zero) (x ∷ fs) (v ∷ []) s e = (let none : starts_twice (v ∷ []) ≡ false = one_alone v in absurd cc)
-  where
-    one_alone : (v : Value) → starts_twice (v ∷ []) ≡ false
-    one_alone (Digits n) = refl
-    one_alone (SmallDigits n) = refl
-    one_alone NoId = refl
-    one_alone (Letters t) = refl
-    one_alone (Texts t) = refl
-    one_alone (Ids t) = refl
-    one_alone (Pairs t) = refl
+twice_there cs (suc zero) (x ∷ fs) (v ∷ []) s e = (let none : starts_twice (v ∷ []) ≡ false = starts_alone v in absurd cc)
 twice_there cs (suc zero) [] vs s e = absurd (none_first id_column [] vs s)
 twice_there cs (suc (suc m)) [] vs s e = absurd (none_first id_column (id_column ∷ take m cs) vs s)
 twice_there cs (suc (suc m)) (x ∷ []) vs s e = absurd (none_second id_column id_column (take m cs) x vs s)
@@ -85,10 +82,10 @@ parents_there cs m fs vs s e = absurd assumption
 
 -- and one
 pub parents_not : (cs : List Column) (m : ℕ) (fs : List (List ℕ)) (vs : List Value) → SpellsAll (take (suc (suc m)) (OptionalId ∷ OptionalId ∷ cs)) (take (suc (suc m)) fs) vs → are_no_parent vs ≡ false → ¬ NoneOrBoth (get_or fs 0 []) (get_or fs 1 [])
-parents_not cs m (x ∷ y ∷ fs) (Digits a ∷ NoId ∷ vs) s e (inl o) = not_none x a s.0 o.0
-parents_not cs m (x ∷ y ∷ fs) (Digits a ∷ NoId ∷ vs) s e (inr o) = not_none y o.1 o.3 s.1.0
-parents_not cs m (x ∷ y ∷ fs) (NoId ∷ Digits b ∷ vs) s e (inl o) = not_none y b s.1.0 o.1
-parents_not cs m (x ∷ y ∷ fs) (NoId ∷ Digits b ∷ vs) s e (inr o) = not_none x o.0 o.2 s.0
+parents_not cs m (x ∷ y ∷ fs) (Digits a ∷ NoId ∷ vs) s e (inl o) = number_some x a last_id s.0 o.0
+parents_not cs m (x ∷ y ∷ fs) (Digits a ∷ NoId ∷ vs) s e (inr o) = number_some y o.1 last_id o.3 s.1.0
+parents_not cs m (x ∷ y ∷ fs) (NoId ∷ Digits b ∷ vs) s e (inl o) = number_some y b last_id s.1.0 o.1
+parents_not cs m (x ∷ y ∷ fs) (NoId ∷ Digits b ∷ vs) s e (inr o) = number_some x o.0 last_id o.2 s.0
 parents_not cs m (x ∷ y ∷ fs) (Digits a ∷ Digits b ∷ vs) s e o = cc
 parents_not cs m (x ∷ y ∷ fs) (NoId ∷ NoId ∷ vs) s e o = cc
 parents_not cs m [] vs s e o = none_first OptionalId (OptionalId ∷ take m cs) vs s
@@ -124,34 +121,36 @@ place : (k i : ℕ) (fs : List (List ℕ)) → get_or (drop k fs) i [] ≡ get_o
 place k i fs = get_or-drop k fs i []
 
 -- values that clash are read, and their fields clash
-pub clash_there : (kind : OpKind) (fs : List (List ℕ)) (vs : List Value) (n : ℕ) → SpellsAll (take n (line_columns kind)) (take n fs) vs → clash kind vs ≡ true → Clashes kind fs (clash_column kind) × (clash_column kind ≤ n)
-clash_there kinds.AddFriend fs vs n s e = elim (cases_lt n 3) [
-  | inl low ↦ (let none : starts_twice (drop 3 vs) ≡ false = ap starts_twice (no_values 3 n (line_columns kinds.AddFriend) fs vs (omega arith) s) in absurd cc)
+pub clash_there : (kind : OpKind) (fs : List (List ℕ)) (vs : List Value) (n column : ℕ) → SpellsAll (take n (line_columns kind)) (take n fs) vs → clash_at kind vs ≡ Some column → Clashes kind fs column × (column ≤ n)
+clash_there kinds.AddFriend fs vs n column s e = elim (cases_lt n 3) [
+  | inl low ↦ (let none : starts_twice (drop 3 vs) ≡ false = ap starts_twice (no_values 3 n (line_columns kinds.AddFriend) fs vs (omega arith) s) in let yes = (told (starts_twice (drop 3 vs)) 5 column e).0 in absurd cc)
   | inr high ↦
       let at : n ≡ 3 + (n - 3) = omega arith in
-      let t = twice_there (Date ∷ []) (n - 3) (drop 3 fs) (drop 3 vs) (prefix_from 3 (n - 3) (line_columns kinds.AddFriend) fs vs (subst (λ (k : ℕ). SpellsAll (take k (line_columns kinds.AddFriend)) (take k fs) vs) at s)) e in
-      ((refl, subst (λ (x : List ℕ). OneId x (field 4 fs)) (place 3 0 fs) (subst (λ (y : List ℕ). OneId (get_or (drop 3 fs) 0 []) y) (place 3 1 fs) t.1)), (let far = t.0 in omega arith))
+      let t = twice_there (Date ∷ []) (n - 3) (drop 3 fs) (drop 3 vs) (prefix_from 3 (n - 3) (line_columns kinds.AddFriend) fs vs (subst (λ (k : ℕ). SpellsAll (take k (line_columns kinds.AddFriend)) (take k fs) vs) at s)) (told (starts_twice (drop 3 vs)) 5 column e).0 in
+      let five = (told (starts_twice (drop 3 vs)) 5 column e).1 in
+      ((five, subst (λ (x : List ℕ). OneId x (field 4 fs)) (place 3 0 fs) (subst (λ (y : List ℕ). OneId (get_or (drop 3 fs) 0 []) y) (place 3 1 fs) t.1)), (let far = t.0 in omega arith))
 ]
-clash_there kinds.AddComment fs vs n s e = elim (cases_lt n 11) [
-  | inl low ↦ (let none : are_no_parent (drop 11 vs) ≡ false = ap are_no_parent (no_values 11 n (line_columns kinds.AddComment) fs vs (omega arith) s) in absurd cc)
+clash_there kinds.AddComment fs vs n column s e = elim (cases_lt n 11) [
+  | inl low ↦ (let none : are_no_parent (drop 11 vs) ≡ false = ap are_no_parent (no_values 11 n (line_columns kinds.AddComment) fs vs (omega arith) s) in let yes = (told (are_no_parent (drop 11 vs)) 13 column e).0 in absurd cc)
   | inr high ↦
       let at : n ≡ 11 + (n - 11) = omega arith in
-      let t = parents_there (IdList ∷ []) (n - 11) (drop 11 fs) (drop 11 vs) (prefix_from 11 (n - 11) (line_columns kinds.AddComment) fs vs (subst (λ (k : ℕ). SpellsAll (take k (line_columns kinds.AddComment)) (take k fs) vs) at s)) e in
-      ((refl, subst (λ (x : List ℕ). NoneOrBoth x (field 12 fs)) (place 11 0 fs) (subst (λ (y : List ℕ). NoneOrBoth (get_or (drop 11 fs) 0 []) y) (place 11 1 fs) t.1)), (let far = t.0 in omega arith))
+      let t = parents_there (IdList ∷ []) (n - 11) (drop 11 fs) (drop 11 vs) (prefix_from 11 (n - 11) (line_columns kinds.AddComment) fs vs (subst (λ (k : ℕ). SpellsAll (take k (line_columns kinds.AddComment)) (take k fs) vs) at s)) (told (are_no_parent (drop 11 vs)) 13 column e).0 in
+      let thirteen = (told (are_no_parent (drop 11 vs)) 13 column e).1 in
+      ((thirteen, subst (λ (x : List ℕ). NoneOrBoth x (field 12 fs)) (place 11 0 fs) (subst (λ (y : List ℕ). NoneOrBoth (get_or (drop 11 fs) 0 []) y) (place 11 1 fs) t.1)), (let far = t.0 in omega arith))
 ]
-clash_there kind fs vs n s e = absurd cc
+clash_there kind fs vs n column s e = absurd cc
 
 -- values of all of these fields that don't clash have fields that don't
-pub clash_off : (kind : OpKind) (fs : List (List ℕ)) (vs : List Value) (n column : ℕ) → SpellsAll (take n (line_columns kind)) (take n fs) vs → clash kind vs ≡ false → Clashes kind fs column → column ≤ n → ⊥
+pub clash_off : (kind : OpKind) (fs : List (List ℕ)) (vs : List Value) (n column : ℕ) → SpellsAll (take n (line_columns kind)) (take n fs) vs → clash_at kind vs ≡ None → Clashes kind fs column → column ≤ n → ⊥
 clash_off kinds.AddFriend fs vs n column s e h l =
     let five = h.0 in
     let at : n ≡ 3 + suc (suc (n - 5)) = omega arith in
-    twice_not (Date ∷ []) (n - 5) (drop 3 fs) (drop 3 vs) (prefix_from 3 (suc (suc (n - 5))) (line_columns kinds.AddFriend) fs vs (subst (λ (k : ℕ). SpellsAll (take k (line_columns kinds.AddFriend)) (take k fs) vs) at s)) e
+    twice_not (Date ∷ []) (n - 5) (drop 3 fs) (drop 3 vs) (prefix_from 3 (suc (suc (n - 5))) (line_columns kinds.AddFriend) fs vs (subst (λ (k : ℕ). SpellsAll (take k (line_columns kinds.AddFriend)) (take k fs) vs) at s)) (untold (starts_twice (drop 3 vs)) 5 e)
     (subst (λ (x : List ℕ). OneId x (get_or (drop 3 fs) 1 [])) (sym (place 3 0 fs)) (subst (λ (y : List ℕ). OneId (field 3 fs) y) (sym (place 3 1 fs)) h.1))
 clash_off kinds.AddComment fs vs n column s e h l =
     let thirteen = h.0 in
     let at : n ≡ 11 + suc (suc (n - 13)) = omega arith in
-    parents_not (IdList ∷ []) (n - 13) (drop 11 fs) (drop 11 vs) (prefix_from 11 (suc (suc (n - 13))) (line_columns kinds.AddComment) fs vs (subst (λ (k : ℕ). SpellsAll (take k (line_columns kinds.AddComment)) (take k fs) vs) at s)) e
+    parents_not (IdList ∷ []) (n - 13) (drop 11 fs) (drop 11 vs) (prefix_from 11 (suc (suc (n - 13))) (line_columns kinds.AddComment) fs vs (subst (λ (k : ℕ). SpellsAll (take k (line_columns kinds.AddComment)) (take k fs) vs) at s)) (untold (are_no_parent (drop 11 vs)) 13 e)
     (subst (λ (x : List ℕ). NoneOrBoth x (get_or (drop 11 fs) 1 [])) (sym (place 11 0 fs)) (subst (λ (y : List ℕ). NoneOrBoth (field 11 fs) y) (sym (place 11 1 fs)) h.1))
 clash_off kind fs vs n column s e h l = h
 
@@ -171,7 +170,7 @@ clash_spelled kinds.AddComment fs n column s h e =
 clash_spelled kind fs n column s h e = h
 
 -- where values stop that don't clash, their fields clash later if at all
-pub clash_later : (kind : OpKind) (fs : List (List ℕ)) (vs : List Value) (n other : ℕ) → SpellsAll (take n (line_columns kind)) (take n fs) vs → StopsAfter (line_columns kind) fs n → clash kind vs ≡ false → Clashes kind fs other → n + 1 < other
+pub clash_later : (kind : OpKind) (fs : List (List ℕ)) (vs : List Value) (n other : ℕ) → SpellsAll (take n (line_columns kind)) (take n fs) vs → StopsAfter (line_columns kind) fs n → clash_at kind vs ≡ None → Clashes kind fs other → n + 1 < other
 clash_later kind fs vs n other s stop e h = elim (cases_lt n other) [
   | inl low ↦ (let ne = clash_spelled kind fs n other stop h in omega arith)
   | inr high ↦ absurd (clash_off kind fs vs n other s e h high)

@@ -1,7 +1,7 @@
 -- Fields that spell no insert.
-use Rattle.std.proofs.Common.{◌≡◌, ◌+◌, ◌≤◌, ◌∙◌, ℕ, true, false, cond, List, [], ◌∷◌, length, take, refl, sym, ap, subst, inl, inr, arith}
+use Rattle.std.proofs.Common.{◌≡◌, ◌+◌, ◌≤◌, ◌∙◌, ℕ, Option, Some, None, List, [], ◌∷◌, length, take, refl, sym, ap, subst, inl, inr, arith}
 use Rattle.std.specs.Prelude.{Err}
-use Rattle.std.proofs.lemmas.Bool.{cases_Bool}
+use Rattle.std.specs.Option.{unwrap_or}
 use Rattle.std.proofs.lemmas.List.{take_all}
 use Rattle.snb_schema.specs.declared.column.Column.{Column}
 use Rattle.snb_schema.specs.declared.column.Column.TheVariants.{Number}
@@ -14,12 +14,12 @@ use Rattle.snb_schema.specs.declared.fault.LineFault.{LineFault}
 use Rattle.snb_schema.specs.declared.fault.LineFault.TheVariants as line_fault
 use Rattle.snb_schema.specs.Faults.{OnBadColumn}
 use Rattle.snb_schema.specs.UpdateLines.{IsBadInsert, IsFirstBad, IsFirstOfThree, Names, kind_of, line_columns, line_values}
-use Rattle.snb_streams.specs.Make.{clash, clash_column}
+use Rattle.snb_streams.specs.Make.{clash_at}
 use Rattle.snb_streams.specs.Spelled.{SpellsInsert}
 use Rattle.snb_streams.proofs.ClashFacts.{clash_later, clash_off, clash_there, one_clash}
 use Rattle.snb_streams.proofs.InsertFacts.{own_apart}
 use Rattle.snb_streams.proofs.KindFacts.{named_long, one_named, spelled_names}
-use Rattle.snb_streams.proofs.PlaceFacts.{no_stop, one_stop, spelled_long}
+use Rattle.snb_fields.proofs.Laws.{no_stop, one_stop, spelled_long}
 
 -- the columns before the number of an insert
 abbrev pub times : List Column
@@ -35,23 +35,21 @@ time_bad allowed fs n column long none s at = inr (inl (long, none, inl (n, s, a
 
 -- fields that stop
 pub stop_bad : (allowed : List OpKind) (kind : OpKind) (fs : List (List ℕ)) (vs : List Value) (n column : ℕ) → Names allowed fs kind → length fs ≡ length (line_columns kind) → StopsAfter (line_columns kind) fs n
-    → SpellsAll (take n (line_columns kind)) (take n fs) vs → column ≡ n + 1 → IsBadInsert allowed fs (cond (clash kind vs) (clash_column kind) column)
-stop_bad allowed kind fs vs n column names long stop s at = inr (inr (inr (kind, names, long, first)))
+    → SpellsAll (take n (line_columns kind)) (take n fs) vs → column ≡ n + 1 → IsBadInsert allowed fs (unwrap_or (clash_at kind vs) column)
+stop_bad allowed kind fs vs n column names long stop s at = inr (inr (inr (kind, names, long, first (clash_at kind vs) refl)))
   where
-    first : IsFirstBad kind fs (cond (clash kind vs) (clash_column kind) column)
-    first = elim (cases_Bool (clash kind vs)) [
-      | inl e ↦
-          let there = clash_there kind fs vs n s e in
-          rw e (inr (there.0, λ m other. (let same = one_stop (line_columns kind) fs n m stop other in let l = there.1 in omega arith)))
-      | inr e ↦ rw e (inl (n, stop, at, λ other h. (let l = clash_later kind fs vs n other s stop e h in omega arith)))
-    ]
+    first : (o : Option ℕ) → clash_at kind vs ≡ o → IsFirstBad kind fs (unwrap_or o column)
+    first (Some second) e =
+        let there = clash_there kind fs vs n second s e in
+        inr (there.0, λ m other. (let same = one_stop (line_columns kind) fs n m stop other in let l = there.1 in omega arith))
+    first None e = inl (n, stop, at, λ other h. (let l = clash_later kind fs vs n other s stop e h in omega arith))
 
 -- fields of which two don't go together
-pub clash_bad : (allowed : List OpKind) (kind : OpKind) (fs : List (List ℕ)) (vs : List Value) → Names allowed fs kind → length fs ≡ length (line_columns kind) → SpellsAll (line_columns kind) (take (length (line_columns kind)) fs) vs
-    → clash kind vs ≡ true → IsBadInsert allowed fs (clash_column kind)
-clash_bad allowed kind fs vs names long s e =
+pub clash_bad : (allowed : List OpKind) (kind : OpKind) (fs : List (List ℕ)) (vs : List Value) (column : ℕ) → Names allowed fs kind → length fs ≡ length (line_columns kind) → SpellsAll (line_columns kind) (take (length (line_columns kind)) fs) vs
+    → clash_at kind vs ≡ Some column → IsBadInsert allowed fs column
+clash_bad allowed kind fs vs column names long s e =
     let all = take_all (length (line_columns kind)) (line_columns kind) (omega arith) in
-    let there = clash_there kind fs vs (length (line_columns kind)) (subst (λ (cs : List Column). SpellsAll cs (take (length (line_columns kind)) fs) vs) (sym all) s) e in
+    let there = clash_there kind fs vs (length (line_columns kind)) column (subst (λ (cs : List Column). SpellsAll cs (take (length (line_columns kind)) fs) vs) (sym all) s) e in
     inr (inr (inr (kind, names, long, inr (there.0, λ n stop. absurd (no_stop (line_columns kind) fs vs s n stop)))))
 
 -- the first bad one of three fields is one
@@ -88,7 +86,7 @@ one_fault allowed fs a b (inr (inr (inr p))) (inr (inr (inl q))) = absurd (q.2 (
 one_fault allowed fs a b (inr (inr (inr p))) (inr (inr (inr q))) = one_bad p.0 fs a b p.3 (subst (λ (k : OpKind). IsFirstBad k fs b) (one_named allowed fs q.0 p.0 q.1 p.1) q.3)
 
 -- fields that spell values of all columns, which don't clash, have no bad one
-none_bad : (kind : OpKind) (fs : List (List ℕ)) (vs : List Value) (column : ℕ) → SpellsAll (line_columns kind) fs vs → clash kind vs ≡ false → ¬ IsFirstBad kind fs column
+none_bad : (kind : OpKind) (fs : List (List ℕ)) (vs : List Value) (column : ℕ) → SpellsAll (line_columns kind) fs vs → clash_at kind vs ≡ None → ¬ IsFirstBad kind fs column
 none_bad kind fs vs column s e bad =
     let long = spelled_long (line_columns kind) fs vs s in
     let few : length fs ≤ length (line_columns kind) = omega (arith, long) in
@@ -126,13 +124,13 @@ bad_weaker A B line_fault.Memory P Q f p = tt
 
 -- a clash, as the reading of the values tells it
 pub told_clash : (allowed : List OpKind) (kind : OpKind) (cs : List Column) (fs : List (List ℕ)) (vs : List Value) (column : ℕ) → cs ≡ line_columns kind → Names allowed fs kind → length fs ≡ length cs → SpellsAll cs (take (length cs) fs) vs
-    → clash kind vs ≡ true → column ≡ clash_column kind → IsBadInsert allowed fs column
-told_clash allowed kind cs fs vs column e names long s two at =
-    rw at (subst (λ (ds : List Column). length fs ≡ length ds → SpellsAll ds (take (length ds) fs) vs → IsBadInsert allowed fs (clash_column kind)) (sym e) (λ l t. clash_bad allowed kind fs vs names l t two) long s)
+    → clash_at kind vs ≡ Some column → IsBadInsert allowed fs column
+told_clash allowed kind cs fs vs column e names long s two =
+    subst (λ (ds : List Column). length fs ≡ length ds → SpellsAll ds (take (length ds) fs) vs → IsBadInsert allowed fs column) (sym e) (λ l t. clash_bad allowed kind fs vs column names l t two) long s
 
 -- and a stop
 pub told_stop : (allowed : List OpKind) (kind : OpKind) (cs : List Column) (fs : List (List ℕ)) (vs : List Value) (n column answer : ℕ) → cs ≡ line_columns kind → Names allowed fs kind → length fs ≡ length cs → StopsAfter cs fs n
-    → SpellsAll (take n cs) (take n fs) vs → column ≡ n + 1 → answer ≡ cond (clash kind vs) (clash_column kind) column → IsBadInsert allowed fs answer
+    → SpellsAll (take n cs) (take n fs) vs → column ≡ n + 1 → answer ≡ unwrap_or (clash_at kind vs) column → IsBadInsert allowed fs answer
 told_stop allowed kind cs fs vs n column answer e names long stop s at is =
-    rw is (subst (λ (ds : List Column). length fs ≡ length ds → StopsAfter ds fs n → SpellsAll (take n ds) (take n fs) vs → IsBadInsert allowed fs (cond (clash kind vs) (clash_column kind) column)) (sym e)
+    rw is (subst (λ (ds : List Column). length fs ≡ length ds → StopsAfter ds fs n → SpellsAll (take n ds) (take n fs) vs → IsBadInsert allowed fs (unwrap_or (clash_at kind vs) column)) (sym e)
     (λ l t u. stop_bad allowed kind fs vs n column names l t u at) long stop s)

@@ -1,9 +1,11 @@
 pub mod ClashFacts
 pub mod FaultFacts
+pub mod FileFacts
 pub mod InsertFacts
-pub mod JoinFacts
 pub mod KindFacts
 pub mod LineFacts
 pub mod ParameterFacts
 pub mod PlaceFacts
 pub mod UpdateFacts
+pub mod SomeFacts
+pub mod TextFacts

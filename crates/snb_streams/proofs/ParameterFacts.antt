@@ -10,9 +10,9 @@ use Rattle.snb_schema.specs.ParameterLines.{IsBadQuery, SpellsQuery, query_colum
 use Rattle.snb_schema.specs.Queries.{IsComplex, number_of_query}
 use Rattle.snb_fields.specs.Laws.{OneList, TakenAgain}
 use Rattle.snb_fields.specs.Values.{taken}
-use Rattle.snb_streams.specs.Laws.{NoBadQuery, OneQuery}
+use Rattle.snb_streams.specs.Laws.{NoBadQuery, OneBadQuery, OneQuery}
 use Rattle.snb_streams.specs.Parameters.{query_by}
-use Rattle.snb_streams.proofs.PlaceFacts.{no_stop, spelled_long}
+use Rattle.snb_fields.proofs.Laws.{no_stop, one_stop, spelled_long}
 
 -- what is so of the seven numbers is so of a number that is one of them
 of_seven : (P : ℕ → Type 0) → P 1 → P 2 → P 7 → P 8 → P 9 → P 11 → P 13 → (q : ℕ) → IsComplex q → P q
@@ -79,3 +79,10 @@ no_bad_query q fs one c s (inr bad) =
     let long = bad.0 in
     let few : length fs ≤ length (query_columns q) = omega (arith, long) in
     no_stop (query_columns q) fs (query_values one) (subst (λ (xs : List (List ℕ)). SpellsAll (query_columns q) xs (query_values one)) (sym (take_all (length (query_columns q)) fs few)) s.1) bad.1.0 bad.1.1
+
+-- and others have one at most
+pub one_bad_query : OneBadQuery
+one_bad_query q fs a b (inl p) (inl r) = p.1 ∙ sym r.1
+one_bad_query q fs a b (inl p) (inr r) = absurd (p.0 r.0)
+one_bad_query q fs a b (inr p) (inl r) = absurd (r.0 p.0)
+one_bad_query q fs a b (inr p) (inr r) = p.1.2 ∙ ap (λ n. n + 1) (one_stop (query_columns q) fs p.1.0 r.1.0 p.1.1 r.1.1) ∙ sym r.1.2

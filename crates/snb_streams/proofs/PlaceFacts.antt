@@ -13,12 +13,6 @@ spelled_from (suc k) [] [] [] s = tt
 spelled_from (suc k) (c ∷ cs) (x ∷ fs) (v ∷ vs) s = spelled_from k cs fs vs s.1
 spelled_from (suc k) cs fs vs s = absurd s
 
--- there are as many fields as columns
-pub spelled_long : (cs : List Column) (fs : List (List ℕ)) (vs : List Value) → SpellsAll cs fs vs → length fs ≡ length cs
-spelled_long [] [] [] s = refl
-spelled_long (c ∷ cs) (x ∷ fs) (v ∷ vs) s = ap suc (spelled_long cs fs vs s.1)
-spelled_long cs fs vs s = absurd s
-
 -- the values of the first few fields are those of the first few from a later one on
 pub prefix_from : (k m : ℕ) (cs : List Column) (fs : List (List ℕ)) (vs : List Value) → SpellsAll (take (k + m) cs) (take (k + m) fs) vs → SpellsAll (take m (drop k cs)) (take m (drop k fs)) (drop k vs)
 prefix_from k m cs fs vs s = rw (← drop-take k m cs, ← drop-take k m fs) (spelled_from k (take (k + m) cs) (take (k + m) fs) vs s)
@@ -30,23 +24,6 @@ stop_from (suc k) m zero cs fs e s = absurd (omega (arith, e))
 stop_from (suc k) m (suc n) (c ∷ cs) (x ∷ fs) e s = stop_from k m n cs fs (omega (arith, e)) s.1
 stop_from (suc k) m (suc n) [] fs e s = absurd s
 stop_from (suc k) m (suc n) (c ∷ cs) [] e s = absurd s
-
--- fields stop at one place at most
-pub one_stop : (cs : List Column) (fs : List (List ℕ)) (m n : ℕ) → StopsAfter cs fs m → StopsAfter cs fs n → m ≡ n
-one_stop [] fs m n s t = absurd s
-one_stop (c ∷ cs) [] m n s t = absurd s
-one_stop (c ∷ cs) (x ∷ fs) zero zero s t = refl
-one_stop (c ∷ cs) (x ∷ fs) zero (suc n) s t = absurd (s t.0.0 t.0.1)
-one_stop (c ∷ cs) (x ∷ fs) (suc m) zero s t = absurd (t s.0.0 s.0.1)
-one_stop (c ∷ cs) (x ∷ fs) (suc m) (suc n) s t = ap suc (one_stop cs fs m n s.1 t.1)
-
--- fields whose first few spell values of all columns don't stop
-pub no_stop : (cs : List Column) (fs : List (List ℕ)) (vs : List Value) → SpellsAll cs (take (length cs) fs) vs → (n : ℕ) → ¬ StopsAfter cs fs n
-no_stop [] fs vs s n t = t
-no_stop (c ∷ cs) [] vs s n t = t
-no_stop (c ∷ cs) (x ∷ fs) [] s n t = s
-no_stop (c ∷ cs) (x ∷ fs) (v ∷ vs) s zero t = t v s.0
-no_stop (c ∷ cs) (x ∷ fs) (v ∷ vs) s (suc n) t = no_stop cs fs vs s.1 n t.1
 
 -- there are at most so many values of the first so many fields
 spelled_few : (n : ℕ) (cs : List Column) (fs : List (List ℕ)) (vs : List Value) → SpellsAll (take n cs) (take n fs) vs → length vs ≤ n

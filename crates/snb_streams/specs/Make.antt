@@ -1,5 +1,5 @@
--- The insert that has these values.
-use Rattle.std.specs.Prelude.{◌==◌, ℕ, Bool, true, false, List, ◌∷◌, drop, Option, Some, None}
+-- The insert that has these values. Cited by contracts of private functions alone.
+use Rattle.std.specs.Prelude.{ℕ, Bool, true, false, List, ◌∷◌, drop, Option, Some, None, if◌then◌else◌}
 use Rattle.snb_schema.specs.declared.column.Value.{Value}
 use Rattle.snb_schema.specs.declared.column.Value.TheVariants.{Digits, NoId}
 use Rattle.snb_schema.specs.declared.op.Op.{Op}
@@ -8,7 +8,7 @@ use Rattle.snb_schema.specs.declared.op.OpKind.{OpKind}
 use Rattle.snb_schema.specs.declared.op.OpKind.TheVariants as kinds
 use Rattle.snb_schema.specs.declared.op.Parent.{Parent}
 use Rattle.snb_schema.specs.declared.op.Parent.TheVariants as parents
-use Rattle.snb_fields.specs.Values.{first_ids, first_number, first_optional, first_pairs, first_small, first_text, first_texts}
+use Rattle.snb_fields.specs.Values.{first_ids, first_number, first_optional, first_pairs, first_small, first_text, first_texts, starts_twice}
 
 -- the parent that a post and a comment are, of which there is one
 abbrev pub parent_by : Option ℕ → Option ℕ → Parent
@@ -45,24 +45,20 @@ op_by kinds.AddComment vs =
     (first_ids (drop 1 (drop 1 (drop 1 (drop 1 (drop 1 (drop 1 (drop 1 (drop 1 (drop 1 (drop 1 vs)))))))))))
 op_by kinds.AddFriend vs = AddFriend (first_number vs) (first_number (drop 1 vs)) (first_number (drop 1 (drop 1 vs)))
 
--- the first two values are one number
-abbrev pub starts_twice : List Value → Bool
-starts_twice (Digits one ∷ Digits other ∷ rest) = one == other
-starts_twice _ = false
-
 -- the first two values are two ids or none
 abbrev pub are_no_parent : List Value → Bool
 are_no_parent (Digits post ∷ Digits comment ∷ rest) = true
 are_no_parent (NoId ∷ NoId ∷ rest) = true
 are_no_parent _ = false
 
--- two of the first values of a line with an insert of this kind don't go together
-abbrev pub clash : OpKind → List Value → Bool
-clash kinds.AddFriend vs = starts_twice (drop 3 vs)
-clash kinds.AddComment vs = are_no_parent (drop 11 vs)
-clash _ vs = false
-
--- the column of the second of them
-abbrev pub clash_column : OpKind → ℕ
-clash_column kinds.AddFriend = 5
-clash_column _ = 13
+-- two of the first values of a line with an insert of this kind don't go together, and the second is in this column: a friendship with
+-- oneself, or a comment with no parent or two
+abbrev pub clash_at : OpKind → List Value → Option ℕ
+clash_at kinds.AddPerson vs = None
+clash_at kinds.LikePost vs = None
+clash_at kinds.LikeComment vs = None
+clash_at kinds.AddForum vs = None
+clash_at kinds.AddMember vs = None
+clash_at kinds.AddPost vs = None
+clash_at kinds.AddComment vs = if are_no_parent (drop 11 vs) then Some 13 else None
+clash_at kinds.AddFriend vs = if starts_twice (drop 3 vs) then Some 5 else None

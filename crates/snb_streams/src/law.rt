@@ -1,8 +1,8 @@
 //! Laws of the lines of update streams and parameter files, over every line.
 
-ghost use Rattle.snb_streams.specs.Laws.{NoBadQuery, InsertsAreRight, OneFault, OneInsert, OneQuery, OwnInsertLine};
+ghost use Rattle.snb_streams.specs.Laws.{InsertOrColumn, InsertsAreRight, LineOrColumn, LinesAreRight, NoBadQuery, OneBadLine, OneBadQuery, OneFault, OneInsert, OneQuery, OwnInsertLine, QueryOrColumn};
 
-use snb_fields::law::{one_value, own_line as own_fields, plain_fields};
+use snb_fields::law::{one_value, own_line as own_fields, plain_fields, spelled_or_not, taken_again};
 
 /// A text is the line of one insert at most, at one pair of times.
 pub fn one_insert()
@@ -19,16 +19,36 @@ pub fn own_line()
     own_fields();
 }
 
-/// Fields are bad in one column at most, and in none where they spell an insert.
+/// Fields spell an insert of some kinds, or they have a bad column. Not both; and they have only one
+/// bad column.
 pub fn one_fault()
+    ensures some { InsertOrColumn }
     ensures one { OneFault }
     ensures none { InsertsAreRight }
-{}
+{
+    taken_again();
+    spelled_or_not();
+}
 
-/// Fields are the parameters of one query of a number at most, and have no bad column where they are.
+/// Each text is the line of an insert, or it has a bad column. Not both; and it has only one bad
+/// column.
+pub fn one_bad_line()
+    ensures some { LineOrColumn }
+    ensures one { OneBadLine }
+    ensures none { LinesAreRight }
+{
+    one_fault();
+}
+
+/// Fields are the parameters of a query, or they have a bad column. Not both; and they are those of
+/// one query of a number at most, or have only one bad column.
 pub fn one_query()
+    ensures some { QueryOrColumn }
     ensures one { OneQuery }
     ensures none { NoBadQuery }
+    ensures bad { OneBadQuery }
 {
+    taken_again();
+    spelled_or_not();
     one_value();
 }

@@ -1,16 +1,17 @@
 //! Inserts read out of the fields of a line, or out of one line.
 
-ghost use Rattle.std.specs.Prelude.{◌≡◌, All, Contains, IfOk, IsUtf8, MatchOption, if◌then◌else◌};
+ghost use Rattle.std.specs.Prelude.{◌≡◌, All, Contains, IfOk, IsUtf8, MatchOption};
+ghost use Rattle.std.specs.Option.{unwrap_or};
 ghost use Rattle.csv.specs.Records.{fields_of};
 ghost use Rattle.snb_base.specs.Spellings.{Num};
 ghost use Rattle.snb_schema.specs.declared.op.OpKind.{OpKind as Kind};
 ghost use Rattle.snb_schema.specs.Faults.{OnBadColumn};
 ghost use Rattle.snb_schema.specs.UpdateLines.{IsBadInsert, IsBadLine, IsLine, Names, kind_number};
-ghost use Rattle.snb_streams.specs.Make.{clash, clash_column as column_of_clash};
+ghost use Rattle.snb_streams.specs.Make.{clash_at};
 ghost use Rattle.snb_streams.specs.Spelled.{SpellsInsert};
 
 use crate::kinds::{TIMES, columns_of, kind_of_number};
-use crate::make::{clash_column, is_clash, make_op};
+use crate::make::{clash_at, make_op};
 use crate::text::fields_in;
 use csv::ByteRecord;
 use snb_base::number::read_number;
@@ -47,6 +48,9 @@ pub const ALL_INSERTS: [OpKind; 8] = [
     OpKind::AddFriend,
 ];
 
+// The greatest number of an insert.
+const MOST_INSERTS: u64 = 8;
+
 /// An insert and its two times, in milliseconds since 1970-01-01 UTC.
 #[derive(Drop)]
 pub struct Insert {
@@ -63,7 +67,7 @@ fn kind_in(kinds: &[OpKind], field: &[u8]) -> Option<OpKind>
     ensures { MatchOption result ((kind : Kind) → Contains kinds.now kind → ¬ Num field.now (kind_number kind) (kind_number kind))
         (λ kind. Contains kinds.now kind × Num field.now (kind_number kind) (kind_number kind)) }
 {
-    match read_number(field, 8) {
+    match read_number(field, MOST_INSERTS) {
         Some(number) => kind_of_number(kinds, number),
         None => None,
     }
@@ -91,13 +95,9 @@ fn named_kind(alloc: Global, kinds: &[OpKind], fields: &ByteRecord) -> Result<Op
 // The bad column of fields that stop before this one, where these are the values before it: two of
 // them may not go together already.
 fn first_bad(kind: OpKind, values: &[Value], column: u32) -> u32
-    ensures { result ≡ (if clash kind values.now then column_of_clash kind else column) }
+    ensures { result ≡ unwrap_or (clash_at kind values.now) column }
 {
-    if is_clash(kind, values) {
-        clash_column(kind)
-    } else {
-        column
-    }
+    clash_at(kind, values).unwrap_or(column)
 }
 
 /// The insert of one of these kinds that the fields of a line spell, and its two times. Where they
@@ -125,10 +125,8 @@ pub fn read_insert(
     let mut values = Vec::new(alloc);
     match read_values(alloc, columns, fields, &mut values) {
         Ok(()) => {
-            if is_clash(kind, &values) {
-                return Err(LineFault::Bad {
-                    column: clash_column(kind),
-                });
+            if let Some(column) = clash_at(kind, &values) {
+                return Err(LineFault::Bad { column });
             }
             let mut values = Values::new(alloc, values);
             let t = values.number();

@@ -1,12 +1,24 @@
 //! Inserts out of the values of their columns.
 
 ghost use Rattle.std.specs.Prelude.{◌≡◌, drop};
-ghost use Rattle.snb_streams.specs.Make.{clash, clash_column, are_no_parent, op_by, parent_by, starts_twice};
+ghost use Rattle.snb_streams.specs.Make.{are_no_parent, clash_at, op_by, parent_by};
 ghost use Rattle.snb_fields.specs.Values.{first_optional};
 
-use snb_fields::values::Values;
+use snb_fields::values::{Values, starts_twice};
 use snb_schema::column::Value;
 use snb_schema::op::{Op, OpKind, Parent};
+
+// How many values stand before the two parents of a comment.
+const BEFORE_PARENTS: usize = 11;
+
+// The column of the second of them, counted from 1.
+const SECOND_PARENT: u32 = 13;
+
+// How many values stand before the two persons of a friendship.
+const BEFORE_FRIENDS: usize = 3;
+
+// The column of the second of them, counted from 1.
+const SECOND_FRIEND: u32 = 5;
 
 fn parent(values: &mut Values) -> Parent
     ensures value { result ≡ parent_by (first_optional values.old) (first_optional (drop 1 values.old)) }
@@ -109,16 +121,6 @@ fn after(values: &[Value], count: usize) -> &[Value]
     }
 }
 
-// Whether the first two values are one number.
-fn starts_twice(values: &[Value]) -> bool
-    ensures { result ≡ starts_twice values.now }
-{
-    match values {
-        [Value::Digits { n: one }, Value::Digits { n: other }, ..] => *one == *other,
-        _ => false,
-    }
-}
-
 // Whether the first two values are two ids or none.
 fn are_no_parent(values: &[Value]) -> bool
     ensures { result ≡ are_no_parent values.now }
@@ -130,23 +132,31 @@ fn are_no_parent(values: &[Value]) -> bool
     }
 }
 
-/// Whether two of the first values of a line with an insert of this kind don't go together.
-pub fn is_clash(kind: OpKind, values: &[Value]) -> bool
-    ensures { result ≡ clash kind values.now }
+/// The column, counted from 1, of the second of two values that don't go together in a line with an
+/// insert of this kind, where these are its first values.
+pub fn clash_at(kind: OpKind, values: &[Value]) -> Option<u32>
+    ensures { result ≡ clash_at kind values.now }
 {
     match kind {
-        OpKind::AddFriend => starts_twice(after(values, 3)),
-        OpKind::AddComment => are_no_parent(after(values, 11)),
-        _ => false,
-    }
-}
-
-/// The column of the second of them.
-pub fn clash_column(kind: OpKind) -> u32
-    ensures { result ≡ clash_column kind }
-{
-    match kind {
-        OpKind::AddFriend => 5,
-        _ => 13,
+        OpKind::AddPerson => None,
+        OpKind::LikePost => None,
+        OpKind::LikeComment => None,
+        OpKind::AddForum => None,
+        OpKind::AddMember => None,
+        OpKind::AddPost => None,
+        OpKind::AddComment => {
+            if are_no_parent(after(values, BEFORE_PARENTS)) {
+                Some(SECOND_PARENT)
+            } else {
+                None
+            }
+        }
+        OpKind::AddFriend => {
+            if starts_twice(after(values, BEFORE_FRIENDS)) {
+                Some(SECOND_FRIEND)
+            } else {
+                None
+            }
+        }
     }
 }

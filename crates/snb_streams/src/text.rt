@@ -5,7 +5,7 @@ ghost use Rattle.csv.specs.Records.{fields_of};
 ghost use Rattle.snb_schema.specs.Faults.{OnBadColumn};
 ghost use Rattle.snb_schema.specs.Lines.{HasNoEnd};
 ghost use Rattle.snb_schema.specs.UpdateLines.{IsBadLine};
-ghost use Rattle.snb_streams.specs.Spelled.{IsSplit};
+ghost use Rattle.snb_streams.specs.Split.{IsSplit};
 
 use csv::ByteRecord;
 use snb_fields::law::plain_fields;

@@ -1,0 +1,107 @@
+-- Fields spell an insert or a query, or they have a bad column.
+use Rattle.std.proofs.Common.{◌≡◌, ◌+◌, ◌<◌, ◌⊎◌, ◌∙◌, ℕ, zero, suc, Option, Some, None, List, [], ◌∷◌, length, take, drop, refl, sym, subst, inl, inr, arith}
+use Rattle.std.specs.List.{Contains}
+use Rattle.std.specs.Option.{unwrap_or}
+use Rattle.std.proofs.lemmas.Bool.{cases_eq, cases_lt}
+use Rattle.snb_base.specs.Spellings.{Num}
+use Rattle.snb_schema.specs.declared.column.Value.{Value}
+use Rattle.snb_schema.specs.declared.op.Op.{Op}
+use Rattle.snb_schema.specs.declared.op.OpKind.{OpKind}
+use Rattle.snb_schema.specs.Columns.{SpellsAll}
+use Rattle.snb_schema.specs.ParameterLines.{query_columns}
+use Rattle.snb_schema.specs.UpdateLines.{IsBadInsert, Names, kind_number, line_columns}
+use Rattle.snb_fields.specs.Laws.{EachLineIsRead, TakenAgain}
+use Rattle.snb_fields.specs.Values.{first_number}
+use Rattle.snb_fields.proofs.Laws.{number_or_not}
+use Rattle.snb_streams.specs.Laws.{InsertOrColumn, QueryOrColumn}
+use Rattle.snb_streams.specs.Make.{clash_at, op_by}
+use Rattle.snb_streams.specs.Parameters.{query_by}
+use Rattle.snb_streams.specs.Spelled.{SpellsInsert}
+use Rattle.snb_streams.proofs.FaultFacts.{clash_bad, stop_bad, third_bad, time_bad, times}
+use Rattle.snb_streams.proofs.InsertFacts.{spells_insert}
+use Rattle.snb_streams.proofs.ParameterFacts.{told_query, told_stop}
+
+-- the text is the number of this kind
+abbrev IsNumberOf : List ℕ → OpKind → Type 0
+IsNumberOf x kind = Num x (kind_number kind) (kind_number kind)
+
+-- it is, or it isn't
+number_of_kind : (x : List ℕ) (kind : OpKind) → IsNumberOf x kind ⊎ ¬ IsNumberOf x kind
+number_of_kind x kind = elim (number_or_not x (kind_number kind)) [
+  | inr never ↦ inr (never (kind_number kind))
+  | inl f ↦ elim (cases_eq f.0 (kind_number kind)) [
+    | inl same ↦ inl (subst (λ n. Num x n (kind_number kind)) same f.1)
+    | inr other ↦ inr (λ own. other (f.1.value ∙ sym own.value))
+  ]
+]
+
+-- one of these kinds is first, or among the others
+first_or_later : (k kind : OpKind) (ks : List OpKind) → Contains (k ∷ ks) kind → (k ≡ kind) ⊎ Contains ks kind
+first_or_later k kind ks (zero, l, at) = inl at
+first_or_later k kind ks (suc n, l, at) = inr (n, omega arith, at)
+
+-- the text is the number of one of these kinds, or of none
+one_of_kinds : (x : List ℕ) (allowed : List OpKind) → ((kind : OpKind) × Contains allowed kind × IsNumberOf x kind) ⊎ ((kind : OpKind) → Contains allowed kind → ¬ IsNumberOf x kind)
+one_of_kinds x [] = inr (λ kind h. (let l = h.1 in absurd (omega arith)))
+one_of_kinds x (k ∷ ks) = elim (number_of_kind x k) [
+  | inl here ↦ inl (k, (zero, omega arith, refl), here)
+  | inr other ↦ elim (one_of_kinds x ks) [
+    | inl f ↦ inl (f.0, (let l = f.1.1 in (suc f.1.0, omega arith, f.1.2)), f.2)
+    | inr none ↦ inr (λ kind h own. elim (first_or_later k kind ks h) [
+      | inl same ↦ other (subst (IsNumberOf x) (sym same) own)
+      | inr later ↦ none kind later own
+    ])
+  ]
+]
+
+-- fields name one of these kinds, or none
+named_or_not : (allowed : List OpKind) (fs : List (List ℕ)) → ((kind : OpKind) × Names allowed fs kind) ⊎ ((kind : OpKind) → ¬ Names allowed fs kind)
+named_or_not allowed [] = inr (λ kind s. s)
+named_or_not allowed (t₁ ∷ []) = inr (λ kind s. s)
+named_or_not allowed (t₁ ∷ t₂ ∷ []) = inr (λ kind s. s)
+named_or_not allowed (t₁ ∷ t₂ ∷ x ∷ fs) = elim (one_of_kinds x allowed) [
+  | inl f ↦ inl (f.0, (f.1, f.2))
+  | inr none ↦ inr (λ kind s. none kind s.0 s.1)
+]
+
+-- fields that spell values of all columns are an insert, or two of them don't go together
+whole : TakenAgain → (allowed : List OpKind) (kind : OpKind) (fs : List (List ℕ)) (vs : List Value) → Names allowed fs kind → length fs ≡ length (line_columns kind)
+    → SpellsAll (line_columns kind) (take (length (line_columns kind)) fs) vs → ((t : ℕ) × (t_d : ℕ) × (op : Op) × SpellsInsert allowed fs t t_d op) ⊎ ((column : ℕ) × IsBadInsert allowed fs column)
+whole again allowed kind fs vs names long s = go (clash_at kind vs) refl
+  where
+    go : (o : Option ℕ) → clash_at kind vs ≡ o → ((t : ℕ) × (t_d : ℕ) × (op : Op) × SpellsInsert allowed fs t t_d op) ⊎ ((column : ℕ) × IsBadInsert allowed fs column)
+    go (Some column) e = inr (column, clash_bad allowed kind fs vs column names long s e)
+    go None e =
+        let t = first_number vs in
+        let t_d = first_number (drop 1 vs) in
+        let op = op_by kind (drop 1 (drop 1 (drop 1 vs))) in
+        inl (t, t_d, op, spells_insert again allowed kind fs vs t t_d op names long s e refl refl refl)
+
+-- fields spell an insert, or they have a bad column
+pub insert_or_column : TakenAgain → EachLineIsRead → InsertOrColumn
+insert_or_column again read allowed fs = elim (cases_lt (length fs) 3) [
+  | inl few ↦ inr (0, inl (few, refl))
+  | inr many ↦ elim (named_or_not allowed fs) [
+    | inr none ↦ elim (read times fs (omega arith)) [
+      | inl s ↦ inr (3, third_bad allowed fs s.0 many none s.1)
+      | inr stop ↦ inr (stop.0 + 1, time_bad allowed fs stop.0 (stop.0 + 1) many none stop.2 refl)
+    ]
+    | inl named ↦ elim (cases_eq (length fs) (length (line_columns named.0))) [
+      | inr other ↦ inr (0, inr (inr (inl (named.0, named.1, other, refl))))
+      | inl long ↦ elim (read (line_columns named.0) fs (omega (arith, long))) [
+        | inl s ↦ whole again allowed named.0 fs s.0 named.1 long s.1
+        | inr stop ↦ inr (unwrap_or (clash_at named.0 stop.1) (stop.0 + 1), stop_bad allowed named.0 fs stop.1 stop.0 (stop.0 + 1) named.1 long stop.2 stop.3 refl)
+      ]
+    ]
+  ]
+]
+
+-- fields are the parameters of a query, or they have a bad column
+pub query_or_column : TakenAgain → EachLineIsRead → QueryOrColumn
+query_or_column again read q fs complex = elim (cases_eq (length fs) (length (query_columns q))) [
+  | inr other ↦ inr (0, inl (other, refl))
+  | inl long ↦ elim (read (query_columns q) fs (omega (arith, long))) [
+    | inl s ↦ inl (query_by q s.0, told_query again q (query_columns q) fs s.0 (query_by q s.0) complex refl long s.1 refl)
+    | inr stop ↦ inr (stop.0 + 1, told_stop q (query_columns q) fs stop.0 (stop.0 + 1) refl long stop.2 refl)
+  ]
+]
