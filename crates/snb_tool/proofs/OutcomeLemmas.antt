@@ -15,7 +15,7 @@ use Rattle.snb_tool.specs.Outcome.{IsRunCut, IsOtherLine, IsRun, Wrote, run_text
 use Rattle.snb_tool.specs.Running.{IsLoaded, IsRunOutput}
 use Rattle.snb_tool.specs.Output.{IsWrittenSoFar, on_screen, size_of}
 use Rattle.snb_tool.specs.Words.{IsRunLine}
-use Rattle.snb_loader.proofs.TakeLemmas.{if_some}
+use Rattle.snb_loader.proofs.Laws.{if_some}
 
 -- what holds of all files holds of those that are told
 if_some_always : (contents : Option Files) (P : Files → Type 0) → ((files : Files) → P files) → IfSome contents P

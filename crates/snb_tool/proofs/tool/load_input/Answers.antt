@@ -11,9 +11,8 @@ use Rattle.snb_tool.specs.declared.tool.Input.{Input}
 use Rattle.snb_loader.specs.Loading.{PersonsLoaded, PersonsRefused, StreamBad, StreamOf}
 use Rattle.snb_tool.specs.Running.{IsLoaded}
 use Rattle.snb_tool.proofs.InputLemmas.{files_loaded, persons_refuse, stream_refuses, wrong_refuses}
-use Rattle.snb_loader.proofs.LoaderLemmas.{refused_bad, refused_weaker}
-use Rattle.snb_loader.proofs.TakeLemmas.{if_some, if_some_both}
 use Rattle.snb_tool.proofs.tool.load_input.Goals as goal
+use Rattle.snb_loader.proofs.Laws.{if_some, if_some_both, refused_bad, refused_weaker}
 
 pub returns-in-Err-clause-refused : goal.returns-in-Err-clause-refused
 returns-in-Err-clause-refused g c =
