@@ -18,7 +18,10 @@ use crate::text::Text;
 use crate::texts::Texts;
 use std::alloc::{AllocError, Global};
 use std::fs;
+use std::io::Print;
 use std::os::unix::fs::symlink;
+use std::process::Abort;
+use std::rt::Files;
 use std::test::Fail;
 use std::time::Instant;
 
@@ -216,13 +219,13 @@ fn writes_all(out: &mut impl Outbox, channel: Channel, bytes: &[u8]) -> bool {
 }
 
 // A large piece arrives whole.
-fn writes_a_large_piece(rt: HostRuntime) -> Result<(), Fail> {
+fn writes_a_large_piece<R: Abort + AllocGlobal + Files + Print>(rt: &R) -> Result<(), Fail> {
     let name = "snb.cases";
     let bytes = many_bytes(rt.alloc(), 3_000_000)?;
     let mut out = FolderOutbox::new(rt);
     let whole = writes_all(&mut out, Channel::Cases, &bytes);
-    let written = fs::read(&rt, name)?;
-    fs::remove_file(&rt, name)?;
+    let written = fs::read(rt, name)?;
+    fs::remove_file(rt, name)?;
     assert!(rt; whole);
     assert_eq!(rt; written.len(), bytes.len());
     assert!(rt; written.as_slice() == bytes.as_slice());
@@ -230,18 +233,18 @@ fn writes_a_large_piece(rt: HostRuntime) -> Result<(), Fail> {
 }
 
 // A full device and a folder in the place of a file are faults, at each call.
-fn fails_on_a_full_device(rt: HostRuntime) -> Result<(), Fail> {
+fn fails_on_a_full_device<R: Abort + Files + Print>(rt: &R) -> Result<(), Fail> {
     let name = "snb.answers";
-    symlink(&rt, "/dev/full", name)?;
+    symlink(rt, "/dev/full", name)?;
     let mut out = FolderOutbox::new(rt);
     let first = out.write(Channel::Answers, b"xyz");
     let second = out.write(Channel::Answers, b"xyz");
-    fs::remove_file(&rt, name)?;
+    fs::remove_file(rt, name)?;
     assert_eq!(rt; first, Put::Failed);
     assert_eq!(rt; second, Put::Failed);
-    fs::create_dir(&rt, name)?;
+    fs::create_dir(rt, name)?;
     let of_folder = FolderOutbox::new(rt).write(Channel::Answers, b"xyz");
-    fs::remove_dir(&rt, name)?;
+    fs::remove_dir(rt, name)?;
     assert_eq!(rt; of_folder, Put::Failed);
     Ok(())
 }
@@ -249,8 +252,8 @@ fn fails_on_a_full_device(rt: HostRuntime) -> Result<(), Fail> {
 // One test, as all of it writes the same files.
 #[test]
 fn writes_real_files(rt: HostRuntime) -> Result<(), Fail> {
-    writes_a_large_piece(rt)?;
-    fails_on_a_full_device(rt)?;
+    writes_a_large_piece(&rt)?;
+    fails_on_a_full_device(&rt)?;
     let mut out = FolderOutbox::new(rt);
     let channels = [
         (Channel::Log, "snb.log"),
