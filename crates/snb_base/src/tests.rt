@@ -16,14 +16,16 @@ use crate::shelf::{Got, Shelf};
 use crate::steady_shelf::SteadyShelf;
 use crate::text::Text;
 use crate::texts::Texts;
-use std::alloc::{AllocError, Global};
-use std::fs;
-use std::io::Print;
+use std::alloc::{AllocError, Allocator, Global};
+use std::fmt::Display;
+use std::fs::{Metadata, OpenFile, OpenOptions};
+use std::io::{ErrorKind, Print, Read, Seek, SeekFrom, Write};
 use std::os::unix::fs::symlink;
 use std::process::Abort;
 use std::rt::Files;
 use std::test::Fail;
 use std::time::Instant;
+use std::{fs, io};
 
 #[test]
 fn reads_numbers(rt: HostRuntime) {
@@ -279,6 +281,146 @@ fn writes_real_files(rt: HostRuntime) -> Result<(), Fail> {
         assert_eq!(rt; bytes.as_slice(), b"xyz".as_slice(), "in {name}");
     }
     Ok(())
+}
+
+// Files and a standard output that take or give at most so many bytes of each piece.
+#[derive(Clone, Copy)]
+struct Stingy {
+    most: usize,
+}
+
+// What isn't asked for.
+fn unasked<T: Drop>() -> io::Result<T> {
+    Err(io::Error::from(ErrorKind::Unsupported))
+}
+
+impl Read for Stingy {
+    fn read(&mut self, into: &mut [u8]) -> io::Result<usize> {
+        Ok(into.len().min(self.most))
+    }
+}
+
+impl Write for Stingy {
+    fn write(&mut self, piece: &[u8]) -> io::Result<usize> {
+        Ok(piece.len().min(self.most))
+    }
+
+    fn flush(&mut self) -> io::Result<()> {
+        Ok(())
+    }
+}
+
+impl Seek for Stingy {
+    fn seek(&mut self, _to: SeekFrom) -> io::Result<u64> {
+        Ok(0)
+    }
+}
+
+impl OpenFile for Stingy {
+    fn metadata(&self) -> io::Result<Metadata> {
+        unasked()
+    }
+
+    fn set_len(&self, _size: u64) -> io::Result<()> {
+        unasked()
+    }
+
+    fn sync_all(&self) -> io::Result<()> {
+        unasked()
+    }
+
+    fn sync_data(&self) -> io::Result<()> {
+        unasked()
+    }
+}
+
+impl Files for Stingy {
+    type File = Stingy;
+
+    type Dir = Stingy;
+
+    fn open_file(&self, _how: &OpenOptions, _path: &str) -> io::Result<Stingy> {
+        Ok(*self)
+    }
+
+    fn open_dir(&self, _path: &str) -> io::Result<Stingy> {
+        unasked()
+    }
+
+    fn metadata(&self, _path: &str) -> io::Result<Metadata> {
+        unasked()
+    }
+
+    fn symlink_metadata(&self, _path: &str) -> io::Result<Metadata> {
+        unasked()
+    }
+
+    fn copy(&self, _from: &str, _to: &str) -> io::Result<u64> {
+        unasked()
+    }
+
+    fn rename(&self, _from: &str, _to: &str) -> io::Result<()> {
+        unasked()
+    }
+
+    fn remove_file(&self, _path: &str) -> io::Result<()> {
+        unasked()
+    }
+
+    fn create_dir(&self, _path: &str) -> io::Result<()> {
+        unasked()
+    }
+
+    fn remove_dir(&self, _path: &str) -> io::Result<()> {
+        unasked()
+    }
+
+    fn remove_dir_all<B: Allocator>(&self, _alloc: B, _path: &str) -> io::Result<()> {
+        unasked()
+    }
+}
+
+impl Print for Stingy {
+    fn print<D: Display + Drop>(&self, _value: D) -> io::Result<()> {
+        unasked()
+    }
+
+    fn println<D: Display + Drop>(&self, _value: D) -> io::Result<()> {
+        unasked()
+    }
+
+    fn write_all(&self, _bytes: &[u8]) -> io::Result<()> {
+        unasked()
+    }
+
+    fn write_some(&self, bytes: &[u8]) -> io::Result<usize> {
+        Ok(bytes.len().min(self.most))
+    }
+}
+
+#[test]
+fn tells_what_is_short(rt: HostRuntime) {
+    for (most, want, got) in [
+        (0, Put::Failed, 0),
+        (3, Put::Took { count: 3 }, 3),
+        (9, Put::Took { count: 5 }, 4),
+    ] {
+        for channel in [
+            Channel::Screen,
+            Channel::Log,
+            Channel::Answers,
+            Channel::Final,
+            Channel::Cases,
+        ] {
+            let mut out = FolderOutbox::new(Stingy { most });
+            // The first write to a file makes it, and the second finds it open.
+            assert_eq!(rt; out.write(channel, b"vwxyz"), want, "on {channel:?}");
+            assert_eq!(rt; out.write(channel, b"vwxyz"), want, "on {channel:?}");
+        }
+        let mut into = [0u8; 4];
+        let read = FolderShelf::new(Stingy { most }).read("file", 0, &mut into);
+        assert_eq!(rt; read, Got::Took { count: got });
+    }
 }
 
 // Only a value that threads may share can be passed.
