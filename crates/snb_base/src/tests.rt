@@ -16,11 +16,16 @@ use crate::shelf::{Got, Shelf};
 use crate::steady_shelf::SteadyShelf;
 use crate::text::Text;
 use crate::texts::Texts;
-use std::alloc::{AllocError, Global};
-use std::fs;
+use std::alloc::{AllocError, Allocator, Global};
+use std::fmt::Display;
+use std::fs::{Metadata, OpenFile, OpenOptions};
+use std::io::{ErrorKind, Print, Read, Seek, SeekFrom, Write};
 use std::os::unix::fs::symlink;
+use std::process::Abort;
+use std::rt::Files;
 use std::test::Fail;
 use std::time::Instant;
+use std::{fs, io};
 
 #[test]
 fn reads_numbers(rt: HostRuntime) {
@@ -216,13 +221,13 @@ fn writes_all(out: &mut impl Outbox, channel: Channel, bytes: &[u8]) -> bool {
 }
 
 // A large piece arrives whole.
-fn writes_a_large_piece(rt: HostRuntime) -> Result<(), Fail> {
+fn writes_a_large_piece<R: Abort + AllocGlobal + Files + Print>(rt: &R) -> Result<(), Fail> {
     let name = "snb.cases";
     let bytes = many_bytes(rt.alloc(), 3_000_000)?;
     let mut out = FolderOutbox::new(rt);
     let whole = writes_all(&mut out, Channel::Cases, &bytes);
-    let written = fs::read(&rt, name)?;
-    fs::remove_file(&rt, name)?;
+    let written = fs::read(rt, name)?;
+    fs::remove_file(rt, name)?;
     assert!(rt; whole);
     assert_eq!(rt; written.len(), bytes.len());
     assert!(rt; written.as_slice() == bytes.as_slice());
@@ -230,18 +235,18 @@ fn writes_a_large_piece(rt: HostRuntime) -> Result<(), Fail> {
 }
 
 // A full device and a folder in the place of a file are faults, at each call.
-fn fails_on_a_full_device(rt: HostRuntime) -> Result<(), Fail> {
+fn fails_on_a_full_device<R: Abort + Files + Print>(rt: &R) -> Result<(), Fail> {
     let name = "snb.answers";
-    symlink(&rt, "/dev/full", name)?;
+    symlink(rt, "/dev/full", name)?;
     let mut out = FolderOutbox::new(rt);
     let first = out.write(Channel::Answers, b"xyz");
     let second = out.write(Channel::Answers, b"xyz");
-    fs::remove_file(&rt, name)?;
+    fs::remove_file(rt, name)?;
     assert_eq!(rt; first, Put::Failed);
     assert_eq!(rt; second, Put::Failed);
-    fs::create_dir(&rt, name)?;
+    fs::create_dir(rt, name)?;
     let of_folder = FolderOutbox::new(rt).write(Channel::Answers, b"xyz");
-    fs::remove_dir(&rt, name)?;
+    fs::remove_dir(rt, name)?;
     assert_eq!(rt; of_folder, Put::Failed);
     Ok(())
 }
@@ -249,8 +254,8 @@ fn fails_on_a_full_device(rt: HostRuntime) -> Result<(), Fail> {
 // One test, as all of it writes the same files.
 #[test]
 fn writes_real_files(rt: HostRuntime) -> Result<(), Fail> {
-    writes_a_large_piece(rt)?;
-    fails_on_a_full_device(rt)?;
+    writes_a_large_piece(&rt)?;
+    fails_on_a_full_device(&rt)?;
     let mut out = FolderOutbox::new(rt);
     let channels = [
         (Channel::Log, "snb.log"),
@@ -276,6 +281,146 @@ fn writes_real_files(rt: HostRuntime) -> Result<(), Fail> {
         assert_eq!(rt; bytes.as_slice(), b"xyz".as_slice(), "in {name}");
     }
     Ok(())
+}
+
+// Files and a standard output that take or give at most so many bytes of each piece.
+#[derive(Clone, Copy)]
+struct Stingy {
+    most: usize,
+}
+
+// What isn't asked for.
+fn unasked<T: Drop>() -> io::Result<T> {
+    Err(io::Error::from(ErrorKind::Unsupported))
+}
+
+impl Read for Stingy {
+    fn read(&mut self, into: &mut [u8]) -> io::Result<usize> {
+        Ok(into.len().min(self.most))
+    }
+}
+
+impl Write for Stingy {
+    fn write(&mut self, piece: &[u8]) -> io::Result<usize> {
+        Ok(piece.len().min(self.most))
+    }
+
+    fn flush(&mut self) -> io::Result<()> {
+        Ok(())
+    }
+}
+
+impl Seek for Stingy {
+    fn seek(&mut self, _to: SeekFrom) -> io::Result<u64> {
+        Ok(0)
+    }
+}
+
+impl OpenFile for Stingy {
+    fn metadata(&self) -> io::Result<Metadata> {
+        unasked()
+    }
+
+    fn set_len(&self, _size: u64) -> io::Result<()> {
+        unasked()
+    }
+
+    fn sync_all(&self) -> io::Result<()> {
+        unasked()
+    }
+
+    fn sync_data(&self) -> io::Result<()> {
+        unasked()
+    }
+}
+
+impl Files for Stingy {
+    type File = Stingy;
+
+    type Dir = Stingy;
+
+    fn open_file(&self, _how: &OpenOptions, _path: &str) -> io::Result<Stingy> {
+        Ok(*self)
+    }
+
+    fn open_dir(&self, _path: &str) -> io::Result<Stingy> {
+        unasked()
+    }
+
+    fn metadata(&self, _path: &str) -> io::Result<Metadata> {
+        unasked()
+    }
+
+    fn symlink_metadata(&self, _path: &str) -> io::Result<Metadata> {
+        unasked()
+    }
+
+    fn copy(&self, _from: &str, _to: &str) -> io::Result<u64> {
+        unasked()
+    }
+
+    fn rename(&self, _from: &str, _to: &str) -> io::Result<()> {
+        unasked()
+    }
+
+    fn remove_file(&self, _path: &str) -> io::Result<()> {
+        unasked()
+    }
+
+    fn create_dir(&self, _path: &str) -> io::Result<()> {
+        unasked()
+    }
+
+    fn remove_dir(&self, _path: &str) -> io::Result<()> {
+        unasked()
+    }
+
+    fn remove_dir_all<B: Allocator>(&self, _alloc: B, _path: &str) -> io::Result<()> {
+        unasked()
+    }
+}
+
+impl Print for Stingy {
+    fn print<D: Display + Drop>(&self, _value: D) -> io::Result<()> {
+        unasked()
+    }
+
+    fn println<D: Display + Drop>(&self, _value: D) -> io::Result<()> {
+        unasked()
+    }
+
+    fn write_all(&self, _bytes: &[u8]) -> io::Result<()> {
+        unasked()
+    }
+
+    fn write_some(&self, bytes: &[u8]) -> io::Result<usize> {
+        Ok(bytes.len().min(self.most))
+    }
+}
+
+#[test]
+fn tells_what_is_short(rt: HostRuntime) {
+    for (most, want, got) in [
+        (0, Put::Failed, 0),
+        (3, Put::Took { count: 3 }, 3),
+        (9, Put::Took { count: 5 }, 4),
+    ] {
+        for channel in [
+            Channel::Screen,
+            Channel::Log,
+            Channel::Answers,
+            Channel::Final,
+            Channel::Cases,
+        ] {
+            let mut out = FolderOutbox::new(Stingy { most });
+            // The first write to a file makes it, and the second finds it open.
+            assert_eq!(rt; out.write(channel, b"vwxyz"), want, "on {channel:?}");
+            assert_eq!(rt; out.write(channel, b"vwxyz"), want, "on {channel:?}");
+        }
+        let mut into = [0u8; 4];
+        let read = FolderShelf::new(Stingy { most }).read("file", 0, &mut into);
+        assert_eq!(rt; read, Got::Took { count: got });
+    }
 }
 
 // Only a value that threads may share can be passed.

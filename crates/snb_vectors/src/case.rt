@@ -156,6 +156,11 @@ impl Case {
         }
     }
 
+    /// Whether it says which status must come.
+    pub fn wants_a_status(&self) -> bool {
+        self.wanted.status != NO_STATUS
+    }
+
     /// The same case under another name.
     pub fn copied(&self, name: String) -> Result<Case, AllocError> {
         let mut case = self.clone()?;

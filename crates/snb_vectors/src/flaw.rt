@@ -39,6 +39,18 @@ pub enum Flaw {
     /// `like` is the first line of a case.
     #[error("this isn't the first line of a case")]
     NotFirst,
+    /// The case says no status that must come.
+    #[error("the case above says no status that must come")]
+    NoStatus,
+    /// Something follows a word that stands alone.
+    #[error("nothing follows this word")]
+    Surplus,
+    /// The first of two numbers is above the second.
+    #[error("the first number is above the second")]
+    Falling,
+    /// No channel has so much room.
+    #[error("no channel has so much room")]
+    TooMuch,
     /// The table has no case.
     #[error("the table has no case")]
     NoCases,

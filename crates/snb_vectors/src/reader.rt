@@ -1,6 +1,6 @@
 //! The table is read, line by line.
 
-use crate::case::{Case, Holder, Named, Texts, place_of};
+use crate::case::{Case, Holder, Named, Rooms, Texts, place_of};
 use crate::change::Change;
 use crate::escape::put_plain;
 use crate::flaw::Flaw;
@@ -156,10 +156,16 @@ impl Reader {
 
     // Keeps the case that is being read, since it is whole.
     fn end_case(&mut self) -> Result<(), Flaw> {
-        if let Some(case) = self.case.take() {
-            self.cases.push(case)?;
+        match self.case.take() {
+            Some(case) => {
+                if !case.wants_a_status() {
+                    return Err(Flaw::NoStatus);
+                }
+                self.cases.push(case)?;
+                Ok(())
+            }
+            None => Ok(()),
         }
-        Ok(())
     }
 
     // Where the case of this name stands.
@@ -200,6 +206,9 @@ impl Reader {
     // Begins a file of the case anew.
     fn begin_file(&mut self, rest: &str) -> Result<(), Flaw> {
         let (path, rest) = first_word(rest);
+        if path.is_empty() {
+            return Err(Flaw::NoName);
+        }
         let case = self.case.as_mut().ok_or(Flaw::NoCase)?;
         let at = match place_of(case.files.as_slice(), path) {
             Some(at) => at,
@@ -249,12 +258,12 @@ impl Reader {
     fn add_many(&mut self, rest: &str) -> Result<(), Flaw> {
         let (from, rest) = first_word(rest);
         let (to, text) = first_word(rest);
-        let change = Change::Many {
-            from: number_of(from)?,
-            to: number_of(to)?,
-            text,
-        };
-        self.change(change)
+        let from = number_of(from)?;
+        let to = number_of(to)?;
+        if from > to {
+            return Err(Flaw::Falling);
+        }
+        self.change(Change::Many { from, to, text })
     }
 
     fn put_line(&mut self, rest: &str) -> Result<(), Flaw> {
@@ -273,17 +282,16 @@ impl Reader {
         self.change(Change::Cut { count })
     }
 
-    // Takes a line that says something of the case's call, or of the status that must come.
+    // Takes a line that says something of the case's call, or of the status that must come. The lines
+    // after it belong to no text.
     fn take_setting(&mut self, word: &str, rest: &str) -> Result<(), Flaw> {
         let alloc = self.alloc;
+        self.place = Place::Nowhere;
         let case = self.case.as_mut().ok_or(Flaw::NoCase)?;
         match word {
             "words" => set_words(alloc, case, rest),
             "gone" => remove_file(case, rest),
-            "steady" => {
-                case.holder = Holder::Steady;
-                Ok(())
-            }
+            "steady" => set_steady(case, rest),
             "clock" => {
                 case.moment = number_of(rest)?;
                 Ok(())
@@ -329,6 +337,9 @@ fn set_words(alloc: Global, case: &mut Case, rest: &str) -> Result<(), Flaw> {
         return Ok(());
     }
     for spelled in rest.split(' ') {
+        if spelled.is_empty() {
+            return Err(Flaw::NoName);
+        }
         case.words.push(plain_word(alloc, spelled)?)?;
     }
     Ok(())
@@ -357,11 +368,24 @@ fn set_failing(case: &mut Case, rest: &str) -> Result<(), Flaw> {
     Ok(())
 }
 
+// Lets no read fail.
+fn set_steady(case: &mut Case, rest: &str) -> Result<(), Flaw> {
+    if !rest.is_empty() {
+        return Err(Flaw::Surplus);
+    }
+    case.holder = Holder::Steady;
+    Ok(())
+}
+
 // Sets the room of a channel.
 fn set_room(case: &mut Case, rest: &str) -> Result<(), Flaw> {
     let (name, room) = first_word(rest);
     let channel = channel_of(name).ok_or(Flaw::Unknown)?;
-    case.rooms.set(channel, count_of(room)?);
+    let room = count_of(room)?;
+    if room > Rooms::AMPLE.log {
+        return Err(Flaw::TooMuch);
+    }
+    case.rooms.set(channel, room);
     Ok(())
 }
 
