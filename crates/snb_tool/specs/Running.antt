@@ -1,5 +1,5 @@
 -- What a run of a plan leaves. Cited by contracts of private functions alone.
-use Rattle.std.specs.Prelude.{◌≡◌, ℕ, min, List, ◌++◌, All, Option}
+use Rattle.std.specs.Prelude.{◌≡◌, ℕ, min, List, [], ◌++◌, All, Option}
 use Rattle.std.specs.List.{flat_map}
 use Rattle.std.specs.Option.{IfSome}
 use Rattle.snb_schema.specs.declared.event.Event.{Event}
