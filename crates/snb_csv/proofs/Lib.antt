@@ -1,3 +1,4 @@
+pub mod FileFacts
 pub mod OneFacts
 pub mod OwnFacts
 pub mod RowFacts

@@ -1,3 +1,4 @@
+pub mod FileLaws
 pub mod Laws
 pub mod Make
 pub mod Rows

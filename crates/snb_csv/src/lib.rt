@@ -1,6 +1,7 @@
 //! The rows of the tables: read out of the pieces of a file, and written as lines.
 #![tactic(auto)]
 
+pub mod files_law;
 pub mod law;
 mod make;
 mod read;

@@ -88,6 +88,17 @@ last_one (b ∷ d ∷ bs) h =
     let other = ne_eqb b 10 (All-head (λ b. b ≢ 10) b (d ∷ bs) h) in
     ap (λ t. cond t ([] ∷ lines (d ∷ bs)) (onto_first b (lines (d ∷ bs)))) other ∙ ap (onto_first b) (last_one (d ∷ bs) (All-tail (λ b. b ≢ 10) b (d ∷ bs) h))
 
+-- no line has an end
+pub lines_no_end : (text : List ℕ) → All HasNoEnd (lines text)
+lines_no_end text = by_cuts 10 (λ t. All HasNoEnd (lines t))
+    (λ line h. subst (All HasNoEnd) (sym (last_one line h)) (at_last line h))
+    (λ line rest h k. subst (All HasNoEnd) (sym (ended line rest h)) (All-cons HasNoEnd line (lines rest) h k))
+    text
+  where
+    at_last : (line : List ℕ) → HasNoEnd line → All HasNoEnd (last_lines line)
+    at_last [] h = All-nil HasNoEnd
+    at_last (b ∷ bs) h = All-cons HasNoEnd (b ∷ bs) [] h (All-nil HasNoEnd)
+
 pub lines_whole : (text : List ℕ) → lines text ≡ whole_lines text ++ last_lines (rest_of text)
 lines_whole text = by_cuts 10 (λ t. lines t ≡ whole_lines t ++ last_lines (rest_of t))
     (λ line h. let e = none_whole line h in last_one line h ∙ sym (ap (λ (ls : List (List ℕ)). ls ++ last_lines (rest_of line)) e.0 ∙ ap last_lines e.1))

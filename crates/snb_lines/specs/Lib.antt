@@ -1,6 +1,7 @@
 pub mod Bars
 pub mod Cut
 pub mod Feeding
+pub mod Files
 pub mod Headed
 pub mod Laws
 pub mod Reading

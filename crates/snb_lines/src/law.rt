@@ -1,7 +1,8 @@
 //! Laws of the definitions, over every text.
 
-ghost use Rattle.snb_lines.specs.Laws.{CutAnywhere, EndJoins, LinesAreWhole, PiecesJoin};
+ghost use Rattle.snb_lines.specs.Laws.{CutAnywhere, EndJoins, HeadedFiles, HeaderlessFiles, LinesAreWhole, LinesHaveNoEnd, OneHeadedReading, OneReading, PiecesJoin};
 
+use crate::headed::Body;
 use crate::meaning::Meaning;
 
 /// The lines of a file are those that are ended, and what follows the last end where it has a byte.
@@ -25,4 +26,29 @@ pub fn pieces_join<M: Meaning>()
 /// file say.
 pub fn end_joins<M: Meaning>()
     ensures { EndJoins M.takes M.refuses }
+{}
+
+/// The lines of a file have no line end.
+pub fn lines_have_no_end()
+    ensures { LinesHaveNoEnd }
+{}
+
+/// Where the fields of a line say one thing at most, lines are read in one way at most, and lines
+/// that are read are not stopped.
+pub fn one_reading<M: Meaning>()
+    ensures { OneReading M.takes M.refuses }
+{}
+
+/// So are the lines of a file with a header, where the header and each later line say one thing at
+/// most.
+pub fn one_headed_reading<B: Body>()
+    ensures { OneHeadedReading B.heads B.bad_header B.gives B.bad_line }
+{}
+
+/// What the lines of a whole file with a header are read as is a header, the first line with a byte,
+/// and what the data lines after it give. Where no header is passed, no line has a byte, and nothing
+/// is read.
+pub fn headed_files<B: Body>()
+    ensures headed { HeadedFiles B.heads B.gives }
+    ensures headerless { HeaderlessFiles B.heads B.gives }
 {}

@@ -6,12 +6,11 @@ use Rattle.snb_schema.specs.declared.file.FileId.{FileId}
 use Rattle.snb_schema.specs.declared.limits.TheConstants.{MAX_BYTES}
 use Rattle.snb_schema.specs.declared.refusal.Refusal.{Refusal}
 use Rattle.snb_schema.specs.declared.refusal.Refusal.TheVariants.{BadLine}
-use Rattle.snb_schema.specs.Input.{IsBeyond}
+use Rattle.snb_loader.specs.Input.{IsBeyond}
 use Rattle.snb_schema.specs.Lines.{lines}
 use Rattle.snb_lines.specs.Cut.{last_lines, rest_of, whole_lines}
 use Rattle.snb_lines.specs.Reading.{EndsBad, Reads, RefusesLine, Stops}
-use Rattle.snb_lines.proofs.CutFacts.{by_cuts, cut_any, first_whole, lines_whole, none_whole, rest_no_end}
-use Rattle.snb_lines.proofs.ReadingFacts.{reads_append}
+use Rattle.snb_lines.proofs.Laws.{by_lines, cut_any, first_whole, lines_whole, none_whole, reads_append, rest_no_end}
 use Rattle.snb_loader.specs.Coming.{Comes, Meanings}
 use Rattle.snb_loader.proofs.LineLemmas.{opens_with}
 
@@ -31,7 +30,7 @@ lines_split a b =
 
 -- the lines that are ended and what follows them are all bytes
 walked_whole : (a : List ℕ) → walked (whole_lines a) + length (rest_of a) ≡ length a
-walked_whole a = by_cuts 10 (λ t. walked (whole_lines t) + length (rest_of t) ≡ length t)
+walked_whole a = by_lines (λ t. walked (whole_lines t) + length (rest_of t) ≡ length t)
     (λ line h. let e = none_whole line h in let w = ap walked e.0 in let r = ap length e.1 in omega (arith, w, r))
     (λ line rest h k. let e = first_whole line rest h in let w : walked (whole_lines (line ++ 10 ∷ rest)) ≡ (length line + 1) + walked (whole_lines rest) = ap walked e.0 ∙ walked_cons line (whole_lines rest) in let r = ap length e.1 in omega (arith, w, r, k, length-append line (10 ∷ rest)))
     a

@@ -9,15 +9,16 @@ use Rattle.snb_schema.specs.declared.refusal.Refusal.{Refusal}
 use Rattle.snb_schema.specs.declared.refusal.Refusal.TheVariants.{BadLine}
 use Rattle.snb_schema.specs.Faults.{OnBad}
 use Rattle.snb_lines.specs.Cut.{last_lines, rest_of, whole_lines}
-use Rattle.snb_lines.proofs.CutFacts.{cut_counts}
-use Rattle.snb_lines.specs.Reading.{EndsBad, OnMemory, Reader, Reads, ReadsSome, Stops}
+use Rattle.snb_lines.specs.Feeding.{HasRead, HasRunOut, HasStopped, HasStoppedAtEnd, at_begin, fed_more, left_lines, new_lines}
+use Rattle.snb_lines.specs.Reading.{EndsBad, OnMemory, Reader, Reads, Stops}
+use Rattle.snb_lines.proofs.Laws.{cut_counts}
 use Rattle.snb_loader.specs.Coming.{Comes, Meanings}
 use Rattle.snb_loader.proofs.ComingFacts.{all_taken, comes_ended, comes_last, comes_stopped, comes_too_far, comes_whole, kept_front}
 
 module _ {M T : Type 0} (m : Meanings M T) (file : FileId) (start : M) (used : ℕ) (known : used ≤ MAX_BYTES) where
   -- a reader before its first byte
   abbrev pub fresh : Reader M
-  fresh = record { file = file; fed = 0; ended = 0; begun = []; over = false; fault = None; meaning = start }
+  fresh = at_begin file start
 
   -- a list that begins with no element
   from_none : (old new items : List T) → old ≡ [] → new ≡ old ++ items → new ≡ items
@@ -28,31 +29,31 @@ module _ {M T : Type 0} (m : Meanings M T) (file : FileId) (start : M) (used : �
     few = omega (arith, most, known, length-take kept bytes)
 
     -- a line that ends in what is kept is refused
-    pub feed_refused : (X : Refusal → Type 0) (fault : Fault)
-        → (s.fault ≡ None → OnBad {A = Unit {0}} (Err fault) (λ r. (items : List T) × Stops m.takes m.refuses s.file s.meaning s.ended (whole_lines (s.begun ++ a)) items r × (new ≡ old ++ items) × X r))
+    pub feed_refused : (end : Reader M) (fault : Fault)
+        → (s.fault ≡ None → OnBad {A = Unit {0}} (Err fault) (HasStopped m.takes m.refuses (new_lines s a) s old end new))
         → OnBad {A = Unit {0}} (Err fault) (λ r. (whole : List ℕ) → bytes ≡ take (MAX_BYTES - used + 1) whole → Comes m file start used whole new (Some r))
-    feed_refused X Memory h = tt
-    feed_refused X (Bad r) h = λ whole t.
-        let told = subst (λ (z : Reader M). z.fault ≡ None → (items : List T) × Stops m.takes m.refuses z.file z.meaning z.ended (whole_lines (z.begun ++ a)) items r × (new ≡ old ++ items) × X r) is h refl in
+    feed_refused end Memory h = tt
+    feed_refused end (Bad r) h = λ whole t.
+        let told = subst (λ (z : Reader M). z.fault ≡ None → HasStopped m.takes m.refuses (new_lines z a) z old end new r) is h refl in
         let split = kept_front (MAX_BYTES - used) kept bytes whole most t in
         subst (λ (w : List ℕ). Comes m file start used w new (Some r)) (sym split)
-        (subst (λ (xs : List T). Comes m file start used (take kept bytes ++ drop kept whole) xs (Some r)) (sym (from_none old new told.0 none told.2))
-        (comes_stopped m file start used (take kept bytes) (drop kept whole) told.0 r few (subst (λ (x : List ℕ). Stops m.takes m.refuses file start 0 (whole_lines x) told.0 r) front told.1)))
+        (subst (λ (xs : List T). Comes m file start used (take kept bytes ++ drop kept whole) xs (Some r)) (sym (from_none old new told.items none told.appended))
+        (comes_stopped m file start used (take kept bytes) (drop kept whole) told.items r few (subst (λ (x : List ℕ). Stops m.takes m.refuses file start 0 (whole_lines x) told.items r) front told.stops)))
 
     -- the file goes on
-    pub feed_too_far : (meaning : M) (line : ℕ) (fault : Fault) → ((items : List T) × Reads m.takes s.meaning s.ended (whole_lines (s.begun ++ a)) items meaning × (new ≡ old ++ items))
+    pub feed_too_far : (end : Reader M) (line : ℕ) (fault : Fault) → HasRead m.takes (new_lines s a) s old end new
         → line ≡ s.ended + length (whole_lines (s.begun ++ a)) → fault ≡ Bad (BadLine file (line + 1) 0) → kept ≡ MAX_BYTES - used → kept < length bytes
         → OnBad {A = Unit {0}} (Err fault) (λ r. (whole : List ℕ) → bytes ≡ take (MAX_BYTES - used + 1) whole → Comes m file start used whole new (Some r))
-    feed_too_far meaning line fault h at is_bad full more =
+    feed_too_far end line fault h at is_bad full more =
         rw is_bad (λ whole t.
-        let told = subst (λ (z : Reader M). (items : List T) × Reads m.takes z.meaning z.ended (whole_lines (z.begun ++ a)) items meaning × (new ≡ old ++ items)) is h in
+        let told = subst (λ (z : Reader M). HasRead m.takes (new_lines z a) z old end new) is h in
         let number : line ≡ length (whole_lines (take kept bytes)) = at ∙ ap (λ (z : Reader M). z.ended + length (whole_lines (z.begun ++ a))) is ∙ ap (λ (x : List ℕ). 0 + length (whole_lines x)) front ∙ none_before (length (whole_lines (take kept bytes))) in
         let split = kept_front (MAX_BYTES - used) kept bytes whole most t in
         subst (λ (w : List ℕ). Comes m file start used w new (Some (BadLine file (line + 1) 0))) (sym split)
-        (subst (λ (xs : List T). Comes m file start used (take kept bytes ++ drop kept whole) xs (Some (BadLine file (line + 1) 0))) (sym (from_none old new told.0 none told.2))
-        (subst (λ (n : ℕ). Comes m file start used (take kept bytes ++ drop kept whole) told.0 (Some (BadLine file (n + 1) 0))) (sym number)
-        (comes_too_far m file start used (take kept bytes) (drop kept whole) told.0 meaning (let z = length-take kept bytes in omega (arith, z, full, more, known)) (rest_there whole t)
-        (subst (λ (x : List ℕ). Reads m.takes start 0 (whole_lines x) told.0 meaning) front told.1)))))
+        (subst (λ (xs : List T). Comes m file start used (take kept bytes ++ drop kept whole) xs (Some (BadLine file (line + 1) 0))) (sym (from_none old new told.items none told.appended))
+        (subst (λ (n : ℕ). Comes m file start used (take kept bytes ++ drop kept whole) told.items (Some (BadLine file (n + 1) 0))) (sym number)
+        (comes_too_far m file start used (take kept bytes) (drop kept whole) told.items end.meaning (let z = length-take kept bytes in omega (arith, z, full, more, known)) (rest_there whole t)
+        (subst (λ (x : List ℕ). Reads m.takes start 0 (whole_lines x) told.items end.meaning) front told.reads)))))
       where
         none_before : (n : ℕ) → 0 + n ≡ n
         none_before n = omega arith
@@ -80,15 +81,15 @@ module _ {M T : Type 0} (m : Meanings M T) (file : FileId) (start : M) (used : �
 
   -- it is there after a piece that is the whole file
   pub at_end : (s end : Reader M) (whole a : List ℕ) (old new : List T) → s ≡ fresh → a ≡ whole → old ≡ []
-      → ((items : List T) × Reads m.takes s.meaning s.ended (whole_lines (s.begun ++ a)) items end.meaning × (new ≡ old ++ items))
-      → end ≡ record s { fed = s.fed + length a; ended = s.ended + length (whole_lines (s.begun ++ a)); begun = rest_of (s.begun ++ a); meaning = end.meaning }
+      → HasRead m.takes (new_lines s a) s old end new
+      → end ≡ fed_more s a end.meaning
       → AtEnd end whole new
   at_end s end whole a old new is same none told after =
-      let h = subst (λ (z : Reader M). (items : List T) × Reads m.takes z.meaning z.ended (whole_lines (z.begun ++ a)) items end.meaning × (new ≡ old ++ items)) is told in
-      let e = subst (λ (z : Reader M). end ≡ record z { fed = z.fed + length a; ended = z.ended + length (whole_lines (z.begun ++ a)); begun = rest_of (z.begun ++ a); meaning = end.meaning }) is after in
+      let h = subst (λ (z : Reader M). HasRead m.takes (new_lines z a) z old end new) is told in
+      let e = subst (λ (z : Reader M). end ≡ fed_more z a end.meaning) is after in
       record {
         same_file = ap (λ (z : Reader M). z.file) e;
-        reads = subst (λ (xs : List T). Reads m.takes start 0 (whole_lines whole) xs end.meaning) (sym (from_none old new h.0 none h.2)) (subst (λ (x : List ℕ). Reads m.takes start 0 (whole_lines x) h.0 end.meaning) same h.1);
+        reads = subst (λ (xs : List T). Reads m.takes start 0 (whole_lines whole) xs end.meaning) (sym (from_none old new h.items none h.appended)) (subst (λ (x : List ℕ). Reads m.takes start 0 (whole_lines x) h.items end.meaning) same h.reads);
         ended = ap (λ (z : Reader M). z.ended) e ∙ ap (λ (x : List ℕ). 0 + length (whole_lines x)) same;
         begun = ap (λ (z : Reader M). z.begun) e ∙ ap rest_of same;
         good = ap (λ (z : Reader M). z.fault) e;
@@ -96,11 +97,11 @@ module _ {M T : Type 0} (m : Meanings M T) (file : FileId) (start : M) (used : �
 
   module _ (s : Reader M) (whole : List ℕ) (old new : List T) (at : AtEnd s whole old) (small : used + length whole ≤ MAX_BYTES) where
     -- the end is as it should be
-    pub end_whole : (meaning : M) → ((items : List T) × Reads m.takes s.meaning s.ended (last_lines s.begun) items meaning × (new ≡ old ++ items)) → m.ends meaning ≡ None → Comes m file start used whole new None
-    end_whole meaning h ends =
-        subst (λ (xs : List T). Comes m file start used whole xs None) (sym h.2)
-        (comes_whole m file start used whole old h.0 s.meaning meaning small at.reads
-        (subst (λ n. Reads m.takes s.meaning n (last_lines (rest_of whole)) h.0 meaning) at.ended (subst (λ (x : List ℕ). Reads m.takes s.meaning s.ended (last_lines x) h.0 meaning) at.begun h.1)) ends)
+    pub end_whole : (end : Reader M) → HasRead m.takes (left_lines s) s old end new → m.ends end.meaning ≡ None → Comes m file start used whole new None
+    end_whole end h ends =
+        subst (λ (xs : List T). Comes m file start used whole xs None) (sym h.appended)
+        (comes_whole m file start used whole old h.items s.meaning end.meaning small at.reads
+        (subst (λ n. Reads m.takes s.meaning n (last_lines (rest_of whole)) h.items end.meaning) at.ended (subst (λ (x : List ℕ). Reads m.takes s.meaning s.ended (last_lines x) h.items end.meaning) at.begun h.reads)) ends)
 
     -- the last line, or the end, is refused
     pub end_refused : (r : Refusal) (items : List T) → Stops m.takes m.refuses s.file s.meaning s.ended (last_lines s.begun) items r ⊎ EndsBad m.takes m.ends s.meaning s.ended (last_lines s.begun) items r → new ≡ old ++ items
@@ -120,26 +121,26 @@ module _ {M T : Type 0} (m : Meanings M T) (file : FileId) (start : M) (used : �
   Took s old new = (ls : List (List ℕ)) × (n : ℕ) × (items : List T) × (end : M) × Reads m.takes s n ls items end × (new ≡ old ++ items)
 
   -- a call that takes a piece
-  pub took_piece : (s end : M) (ls : List (List ℕ)) (n : ℕ) (file : FileId) (res : Result (Unit {0}) Fault) (old new : List T) (X : Refusal → Type 0) (Y : Type 0)
-      → OnOk res ((items : List T) × Reads m.takes s n ls items end × (new ≡ old ++ items))
-      → OnBad res (λ r. (items : List T) × Stops m.takes m.refuses file s n ls items r × (new ≡ old ++ items) × X r)
-      → OnMemory res ((items : List T) × ReadsSome m.takes s n ls items × (new ≡ old ++ items) × Y) → Took s old new
-  took_piece s end ls n file (Ok u) old new X Y ok bad memory = (ls, n, ok.0, end, ok.1, ok.2)
-  took_piece s end ls n file (Err (Bad r)) old new X Y ok bad memory = (bad.1.before, n, bad.0, bad.1.new, bad.1.reads, bad.2)
-  took_piece s end ls n file (Err Memory) old new X Y ok bad memory = (memory.1.before, n, memory.0, memory.1.new, memory.1.reads, memory.2)
+  pub took_piece : (s end : Reader M) (ls : List (List ℕ)) (res : Result (Unit {0}) Fault) (old new : List T)
+      → OnOk res (HasRead m.takes ls s old end new)
+      → OnBad res (HasStopped m.takes m.refuses ls s old end new)
+      → OnMemory res (HasRunOut m.takes ls s old end new) → Took s.meaning old new
+  took_piece s end ls (Ok u) old new ok bad memory = (ls, s.ended, ok.items, end.meaning, ok.reads, ok.appended)
+  took_piece s end ls (Err (Bad r)) old new ok bad memory = (bad.stops.before, s.ended, bad.items, bad.stops.new, bad.stops.reads, bad.appended)
+  took_piece s end ls (Err Memory) old new ok bad memory = (memory.reads.before, s.ended, memory.items, memory.reads.new, memory.reads.reads, memory.appended)
 
   -- a call that ends the file
-  pub took_end : (s end : M) (ls : List (List ℕ)) (n : ℕ) (file : FileId) (res : Result (Unit {0}) Fault) (old new : List T) (X : Refusal → Type 0) (Y : Type 0)
-      → OnOk res ((items : List T) × Reads m.takes s n ls items end × (new ≡ old ++ items))
-      → OnBad res (λ r. (items : List T) × (Stops m.takes m.refuses file s n ls items r ⊎ EndsBad m.takes m.ends s n ls items r) × (new ≡ old ++ items) × X r)
-      → OnMemory res ((items : List T) × ReadsSome m.takes s n ls items × (new ≡ old ++ items) × Y) → Took s old new
-  took_end s end ls n file (Ok u) old new X Y ok bad memory = (ls, n, ok.0, end, ok.1, ok.2)
-  took_end s end ls n file (Err (Bad r)) old new X Y ok bad memory = by_cause bad.1
+  pub took_end : (s end : Reader M) (ls : List (List ℕ)) (res : Result (Unit {0}) Fault) (old new : List T)
+      → OnOk res (HasRead m.takes ls s old end new)
+      → OnBad res (HasStoppedAtEnd m.takes m.refuses m.ends ls s old end new)
+      → OnMemory res (HasRunOut m.takes ls s old end new) → Took s.meaning old new
+  took_end s end ls (Ok u) old new ok bad memory = (ls, s.ended, ok.items, end.meaning, ok.reads, ok.appended)
+  took_end s end ls (Err (Bad r)) old new ok bad memory = by_cause bad.stops
     where
-      by_cause : Stops m.takes m.refuses file s n ls bad.0 r ⊎ EndsBad m.takes m.ends s n ls bad.0 r → Took s old new
-      by_cause (inl h) = (h.before, n, bad.0, h.new, h.reads, bad.2)
-      by_cause (inr h) = (ls, n, bad.0, h.new, h.reads, bad.2)
-  took_end s end ls n file (Err Memory) old new X Y ok bad memory = (memory.1.before, n, memory.0, memory.1.new, memory.1.reads, memory.2)
+      by_cause : Stops m.takes m.refuses s.file s.meaning s.ended ls bad.items r ⊎ EndsBad m.takes m.ends s.meaning s.ended ls bad.items r → Took s.meaning old new
+      by_cause (inl h) = (h.before, s.ended, bad.items, h.new, h.reads, bad.appended)
+      by_cause (inr h) = (ls, s.ended, bad.items, h.new, h.reads, bad.appended)
+  took_end s end ls (Err Memory) old new ok bad memory = (memory.reads.before, s.ended, memory.items, memory.reads.new, memory.reads.reads, memory.appended)
 
   -- two facts of what went well are one
   pub on_ok_both : {P Q R : Type 0} (res : Result (Unit {0}) Fault) → (P → Q → R) → OnOk res P → OnOk res Q → OnOk res R

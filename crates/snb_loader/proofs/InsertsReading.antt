@@ -17,10 +17,11 @@ use Rattle.snb_schema.specs.declared.op.Op.TheVariants.{AddPerson, LikePost, Lik
 use Rattle.snb_schema.specs.declared.op.OpKind.{OpKind}
 use Rattle.snb_schema.specs.declared.op.OpKind.TheVariants as kinds
 use Rattle.snb_schema.specs.Columns.{SpellsAll}
-use Rattle.snb_schema.specs.Input.{person_stream}
+use Rattle.snb_loader.specs.Input.{person_stream}
 use Rattle.snb_schema.specs.Plan.{IsOfPersonStream}
 use Rattle.snb_schema.specs.UpdateLines.{insert_columns, kind_number, kind_of, op_number, op_values, person_inserts}
-use Rattle.snb_lines.specs.Reading.{Reads}
+use Rattle.snb_lines.specs.Feeding.{at_begin}
+use Rattle.snb_lines.specs.Reading.{Reader, Reads}
 use Rattle.snb_streams.specs.Spelled.{SpellsInsert}
 use Rattle.snb_streams.specs.Updates.{Followed, TakesInsert, allowed_in}
 use Rattle.snb_loader.specs.Inserts.{AreReadInserts, IsReadInsert, at_start, insert_meanings}
@@ -131,3 +132,7 @@ stand_first s old none first = subst (λ (k : ℕ). Stand old k) (sym first) (su
 -- what the first call took
 pub first_stands : (used : ℕ) (known : used ≤ MAX_BYTES) (s : Followed) (old new : List Line) → s.file.kind ≡ files.PersonStream → old ≡ [] → s.last ≡ 0 → Took insert_meanings person_stream at_start used known s old new → AreReadInserts new
 first_stands used known s old new kind none first t = took_stands used known s old new kind (stand_first s old none first) t
+
+-- a reader of the stream is before its first line
+pub fresh_inserts : (s : Reader Followed) → s.meaning ≡ at_start → s ≡ at_begin person_stream s.meaning → s ≡ at_begin person_stream at_start
+fresh_inserts s begins is = is ∙ ap (λ (m : Followed). at_begin person_stream m) begins

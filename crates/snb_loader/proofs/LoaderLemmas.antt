@@ -8,8 +8,8 @@ use Rattle.snb_schema.specs.declared.fault.Fault.TheVariants as fault
 use Rattle.snb_schema.specs.declared.limits.TheConstants.{MAX_BYTES}
 use Rattle.snb_schema.specs.declared.refusal.Refusal.{Refusal}
 use Rattle.snb_schema.specs.FileNames.{name_of}
-use Rattle.snb_schema.specs.Graph.{Graph}
-use Rattle.snb_schema.specs.Input.{person_file}
+use Rattle.snb_tables.specs.BuiltTables.{Graph}
+use Rattle.snb_loader.specs.Input.{person_file}
 use Rattle.snb_loader.specs.declared.load.Load.{Load}
 use Rattle.snb_loader.specs.declared.load.Load.TheVariants.{Refused, ReadFault, Memory}
 use Rattle.snb_schema.specs.Faults.{OnBad}

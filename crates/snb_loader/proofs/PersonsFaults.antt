@@ -13,57 +13,61 @@ use Rattle.snb_schema.specs.declared.row.Placed.{Placed}
 use Rattle.snb_schema.specs.declared.row.Row.{Row}
 use Rattle.snb_schema.specs.declared.row.Row.TheVariants as row
 use Rattle.snb_schema.specs.declared.table.Kind.TheVariants as kind
+use Rattle.snb_schema.specs.declared.table.Table.{Table}
 use Rattle.snb_schema.specs.declared.table.Table.TheVariants as table
 use Rattle.snb_schema.specs.Faults.{OnBad}
-use Rattle.snb_schema.specs.Graph.{Graph, HoldsRows, key_of_row}
-use Rattle.snb_schema.specs.Input.{AreRows, FirstFault, IsBadPersonLine, IsHeldTwice, IsRowTooMany, NoFault, PersonFault, Then, Within, number_of, person_file}
+use Rattle.snb_tables.specs.BuiltTables.{Graph, HoldsRows, key_of_row}
+use Rattle.snb_loader.specs.Input.{AreRows, FirstFault, IsBadPersonLine, IsHeldTwice, IsRowTooMany, NoFault, PersonFault, Then, Within, number_of, person_file}
 use Rattle.snb_schema.specs.LineFaults.{RefusesRowLine, RefusesText}
-use Rattle.snb_schema.specs.Lines.{begins_with_mark, data_lines, fields, filled, is_filled, lines}
+use Rattle.snb_schema.specs.Lines.{HasNoEnd, begins_with_mark, data_lines, fields, filled, is_filled, lines}
 use Rattle.snb_schema.specs.RowLines.{IsRow}
 use Rattle.snb_lines.specs.Reading.{Reads, ReadsLine, RefusesLine}
 use Rattle.snb_csv.specs.Laws.{OneRow, RowsAreRight}
-use Rattle.snb_csv.specs.Rows.{Gives, Passed, RefusesRow, TakesRow, ends_without}
+use Rattle.snb_lines.specs.Headed.{Passed, ends_without}
+use Rattle.snb_csv.specs.Rows.{RefusesRow, TakesRow}
 use Rattle.snb_loader.specs.Coming.{Comes, StopsAt}
 use Rattle.snb_loader.specs.declared.load.Load.{Load}
 use Rattle.snb_loader.specs.Loading.{OnRefused, PersonsBad, PersonsOf, load_for}
 use Rattle.snb_loader.specs.Persons.{AreApart, IsFirstClash, IsPersonRow, SharesKey, at_first, row_meanings, rows_of}
+use Rattle.snb_loader.proofs.InsertsSplit.{AreEnded, ended_back, ended_front, ended_lines}
+use Rattle.snb_loader.proofs.PersonsReading.{Gives, told_row}
 use Rattle.snb_loader.proofs.SplitFacts.{Parts, is_some_byte, no_fault_within, split_reads, within_front}
 
 -- past the header of the person file
-abbrev past : Passed
-past = record { file = person_file; table = table.Person; headed = true }
+abbrev past : Passed Table
+past = record { file = person_file; headed = true; body = table.Person }
 
 -- how far a reader of the person file has come, by the lines before that have a byte
-abbrev pub state_after : List (List ℕ) → Passed
+abbrev pub state_after : List (List ℕ) → Passed Table
 state_after [] = at_first
 state_after (f ∷ fs) = past
 
 -- past the header each line with a byte is a row
-reads_past : (ls : List (List ℕ)) (n : ℕ) (items : List Placed) (s new : Passed) → s ≡ past → Reads TakesRow s n ls items new → (new ≡ past) × AreRows (filled ls) (rows_of items)
-reads_past [] n items s new is r = (r.1 ∙ is, subst (λ (xs : List Placed). AreRows [] (rows_of xs)) (sym r.0) tt)
-reads_past ([] ∷ ls) n items s new is r =
-    let more = reads_past ls (n + 1) r.1 r.2 new (r.3.1 ∙ is) r.4 in
+reads_past : (ls : List (List ℕ)) (n : ℕ) (items : List Placed) (s new : Passed Table) → s ≡ past → AreEnded ls → Reads TakesRow s n ls items new → (new ≡ past) × AreRows (filled ls) (rows_of items)
+reads_past [] n items s new is ended r = (r.1 ∙ is, subst (λ (xs : List Placed). AreRows [] (rows_of xs)) (sym r.0) tt)
+reads_past ([] ∷ ls) n items s new is ended r =
+    let more = reads_past ls (n + 1) r.1 r.2 new (r.3.1 ∙ is) ended.1 r.4 in
     let same : items ≡ r.1 = r.5 ∙ ap (λ (xs : List Placed). xs ++ r.1) r.3.0 in
     (more.0, subst (λ (xs : List Placed). AreRows (filled ls) (rows_of xs)) (sym same) more.1)
-reads_past ((b ∷ bs) ∷ ls) n items s new is r =
-    let g : Gives true table.Person (n + 1) (fields (b ∷ bs)) r.0 = subst (λ (q : Passed). Gives q.headed q.table (n + 1) (fields (b ∷ bs)) r.0) is r.3.2.0 in
-    let next : r.2 ≡ past = r.3.2.1 ∙ ap (λ (q : Passed). record q { headed = true }) is in
-    let more = reads_past ls (n + 1) r.1 r.2 new next r.4 in
+reads_past ((b ∷ bs) ∷ ls) n items s new is ended r =
+    let g : Gives true table.Person (n + 1) (fields (b ∷ bs)) r.0 = subst (λ (q : Passed Table). Gives q.headed q.body (n + 1) (fields (b ∷ bs)) r.0) is (told_row s r.2 (n + 1) (fields (b ∷ bs)) r.0 r.3.2).0 in
+    let next : r.2 ≡ past = (told_row s r.2 (n + 1) (fields (b ∷ bs)) r.0 r.3.2).1 ∙ ap (λ (q : Passed Table). record q { headed = true }) is in
+    let more = reads_past ls (n + 1) r.1 r.2 new next ended.1 r.4 in
     let same : items ≡ record { line = n + 1; row = g.0; turned = g.1 } ∷ r.1 = r.5 ∙ ap (λ (xs : List Placed). xs ++ r.1) g.3 in
-    let own : IsRow table.Person (b ∷ bs) g.0 = record { text = r.3.1; unmarked = r.3.0; turned = g.1; spelled = g.2 } in
+    let own : IsRow table.Person (b ∷ bs) g.0 = record { text = r.3.1; unmarked = r.3.0; one_line = ended.0; turned = g.1; spelled = g.2 } in
     (more.0, subst (λ (xs : List Placed). AreRows ((b ∷ bs) ∷ filled ls) (rows_of xs)) (sym same) (own, more.1))
 
 -- what lines of the person file give are the rows after its header
-reads_rows : (ls : List (List ℕ)) (n : ℕ) (items : List Placed) (new : Passed) (s : Passed) → s ≡ at_first → Reads TakesRow s n ls items new → (new ≡ state_after (filled ls)) × AreRows (data_lines ls) (rows_of items)
-reads_rows [] n items new s is r = (r.1 ∙ is, subst (λ (xs : List Placed). AreRows [] (rows_of xs)) (sym r.0) tt)
-reads_rows ([] ∷ ls) n items new s is r =
-    let more = reads_rows ls (n + 1) r.1 new r.2 (r.3.1 ∙ is) r.4 in
+reads_rows : (ls : List (List ℕ)) (n : ℕ) (items : List Placed) (new : Passed Table) (s : Passed Table) → s ≡ at_first → AreEnded ls → Reads TakesRow s n ls items new → (new ≡ state_after (filled ls)) × AreRows (data_lines ls) (rows_of items)
+reads_rows [] n items new s is ended r = (r.1 ∙ is, subst (λ (xs : List Placed). AreRows [] (rows_of xs)) (sym r.0) tt)
+reads_rows ([] ∷ ls) n items new s is ended r =
+    let more = reads_rows ls (n + 1) r.1 new r.2 (r.3.1 ∙ is) ended.1 r.4 in
     let same : items ≡ r.1 = r.5 ∙ ap (λ (xs : List Placed). xs ++ r.1) r.3.0 in
     (more.0, subst (λ (xs : List Placed). AreRows (data_lines ls) (rows_of xs)) (sym same) more.1)
-reads_rows ((b ∷ bs) ∷ ls) n items new s is r =
-    let g : Gives false table.Person (n + 1) (fields (b ∷ bs)) r.0 = subst (λ (q : Passed). Gives q.headed q.table (n + 1) (fields (b ∷ bs)) r.0) is r.3.2.0 in
-    let next : r.2 ≡ past = r.3.2.1 ∙ ap (λ (q : Passed). record q { headed = true }) is in
-    let more = reads_past ls (n + 1) r.1 r.2 new next r.4 in
+reads_rows ((b ∷ bs) ∷ ls) n items new s is ended r =
+    let g : Gives false table.Person (n + 1) (fields (b ∷ bs)) r.0 = subst (λ (q : Passed Table). Gives q.headed q.body (n + 1) (fields (b ∷ bs)) r.0) is (told_row s r.2 (n + 1) (fields (b ∷ bs)) r.0 r.3.2).0 in
+    let next : r.2 ≡ past = (told_row s r.2 (n + 1) (fields (b ∷ bs)) r.0 r.3.2).1 ∙ ap (λ (q : Passed Table). record q { headed = true }) is in
+    let more = reads_past ls (n + 1) r.1 r.2 new next ended.1 r.4 in
     let same : items ≡ r.1 = r.5 ∙ ap (λ (xs : List Placed). xs ++ r.1) g.1 in
     (more.0, subst (λ (xs : List Placed). AreRows (filled ls) (rows_of xs)) (sym same) more.1)
 
@@ -115,12 +119,12 @@ line_among (l ∷ ls) (r ∷ rs) q a c =
     ]
 
 -- what a line is refused for by its meaning, it is refused for by itself
-refused_line : (fs : List (List ℕ)) (number : ℕ) (line : List ℕ) (r : Refusal) (s : Passed) → s ≡ state_after fs → RefusesLine RefusesRow person_file s number line r → RefusesRowLine table.Person person_file number fs line r
-refused_line fs number line r s is bad = by_lines fs (subst (λ (q : Passed). RefusesLine RefusesRow person_file q number line r) is bad)
+refused_line : (fs : List (List ℕ)) (number : ℕ) (line : List ℕ) (r : Refusal) (s : Passed Table) → s ≡ state_after fs → RefusesLine RefusesRow person_file s number line r → RefusesRowLine table.Person person_file number fs line r
+refused_line fs number line r s is bad = by_lines fs (subst (λ (q : Passed Table). RefusesLine RefusesRow person_file q number line r) is bad)
   where
     by_lines : (fs : List (List ℕ)) → RefusesLine RefusesRow person_file (state_after fs) number line r → RefusesRowLine table.Person person_file number fs line r
     by_lines fs (ne, inl text) = inl text
-    by_lines [] (ne, inr own) = inr (own.0, own.1, inl (refl, own.2))
+    by_lines [] (ne, inr own) = inr (own.0, own.1, inl (refl, (own.2.1.0, own.2.2 ∙ ap (BadLine person_file number) own.2.1.1)))
     by_lines (f ∷ fs) (ne, inr own) = inr (own.0, own.1, inr (λ e. cc, own.2))
 
 -- no text is refused that is read
@@ -129,12 +133,12 @@ text_right number line r plain text (inl bad) = let p = bad.0 in cc
 text_right number line r plain text (inr bad) = bad.1 text
 
 -- a line that was read isn't refused by itself
-read_right : RowsAreRight → (fs : List (List ℕ)) (number : ℕ) (b : ℕ) (bs : List ℕ) (items : List Placed) (s new : Passed) (r : Refusal) → s ≡ state_after fs → ReadsLine TakesRow s number (b ∷ bs) items new
+read_right : RowsAreRight → (fs : List (List ℕ)) (number : ℕ) (b : ℕ) (bs : List ℕ) (items : List Placed) (s new : Passed Table) (r : Refusal) → s ≡ state_after fs → ReadsLine TakesRow s number (b ∷ bs) items new
     → RefusesRowLine table.Person person_file number fs (b ∷ bs) r → ⊥
 read_right right fs number b bs items s new r is read bad =
-    by_lines fs (subst (λ (q : Passed). Gives q.headed q.table number (fields (b ∷ bs)) items) is read.2.0) bad
+    by_lines fs (subst (λ (q : Passed Table). Gives q.headed q.body number (fields (b ∷ bs)) items) is (told_row s new number (fields (b ∷ bs)) items read.2).0) bad
   where
-    by_lines : (fs : List (List ℕ)) → Gives (state_after fs).headed (state_after fs).table number (fields (b ∷ bs)) items → RefusesRowLine table.Person person_file number fs (b ∷ bs) r → ⊥
+    by_lines : (fs : List (List ℕ)) → Gives (state_after fs).headed (state_after fs).body number (fields (b ∷ bs)) items → RefusesRowLine table.Person person_file number fs (b ∷ bs) r → ⊥
     by_lines fs g (inl text) = text_right number (b ∷ bs) r read.0 read.1 text
     by_lines [] g (inr own) = elim own.2 [ inl h ↦ h.1.0 g.0 | inr h ↦ h.0 refl ]
     by_lines (f ∷ fs) g (inr own) = elim own.2 [ inl h ↦ cc h.0 | inr h ↦ right table.Person (fields (b ∷ bs)) g.0 g.1 h.1.0 g.2 h.1.1 ]
@@ -146,16 +150,16 @@ pub record GivesOne (number : ℕ) (line : List ℕ) (items : List Placed) : Typ
   pub at : item.line ≡ number
   pub own : IsRow table.Person line item.row
 
-gives_one : (fs : List (List ℕ)) (number : ℕ) (b : ℕ) (bs : List ℕ) (items : List Placed) (s new : Passed) → s ≡ state_after fs → fs ≢ [] → ReadsLine TakesRow s number (b ∷ bs) items new → GivesOne number (b ∷ bs) items
-gives_one fs number b bs items s new is some read = by_lines fs some (subst (λ (q : Passed). Gives q.headed q.table number (fields (b ∷ bs)) items) is read.2.0)
+gives_one : (fs : List (List ℕ)) (number : ℕ) (b : ℕ) (bs : List ℕ) (items : List Placed) (s new : Passed Table) → s ≡ state_after fs → fs ≢ [] → HasNoEnd (b ∷ bs) → ReadsLine TakesRow s number (b ∷ bs) items new → GivesOne number (b ∷ bs) items
+gives_one fs number b bs items s new is some ends read = by_lines fs some (subst (λ (q : Passed Table). Gives q.headed q.body number (fields (b ∷ bs)) items) is (told_row s new number (fields (b ∷ bs)) items read.2).0)
   where
-    by_lines : (fs : List (List ℕ)) → fs ≢ [] → Gives (state_after fs).headed (state_after fs).table number (fields (b ∷ bs)) items → GivesOne number (b ∷ bs) items
+    by_lines : (fs : List (List ℕ)) → fs ≢ [] → Gives (state_after fs).headed (state_after fs).body number (fields (b ∷ bs)) items → GivesOne number (b ∷ bs) items
     by_lines [] none g = absurd (none refl)
     by_lines (f ∷ fs) none g = record {
       item = record { line = number; row = g.0; turned = g.1 };
       only = g.3;
       at = refl;
-      own = record { text = read.1; unmarked = read.0; turned = g.1; spelled = g.2 };
+      own = record { text = read.1; unmarked = read.0; one_line = ends; turned = g.1; spelled = g.2 };
     }
 
 -- a line is one row
@@ -201,20 +205,20 @@ number_at : (before : List (List ℕ)) → 0 + length before + 1 ≡ number_of b
 number_at before = omega arith
 
 -- nothing is wrong with lines that are read, where their rows are few and apart
-module _ (one : OneRow) (right : RowsAreRight) (items : List Placed) (new : Passed) (apart : AreApart items) (few : length items ≤ MAX_ROWS) where
+module _ (one : OneRow) (right : RowsAreRight) (items : List Placed) (new : Passed Table) (apart : AreApart items) (few : length items ≤ MAX_ROWS) where
   -- a line among them that has a fault
-  no_fault_at : (before : List (List ℕ)) (line : List ℕ) (after : List (List ℕ)) (r : Refusal) → Parts TakesRow at_first 0 before line after items new → PersonFault before line r → ⊥
-  no_fault_at before [] after r p (filled_line, bad) = cc
-  no_fault_at before (b ∷ bs) after r p (filled_line, bad) = by_fault bad
+  no_fault_at : (before : List (List ℕ)) (line : List ℕ) (after : List (List ℕ)) (r : Refusal) → AreEnded before → HasNoEnd line → Parts TakesRow at_first 0 before line after items new → PersonFault before line r → ⊥
+  no_fault_at before [] after r ended ends p (filled_line, bad) = cc
+  no_fault_at before (b ∷ bs) after r ended ends p (filled_line, bad) = by_fault bad
     where
       old : (p.at ≡ state_after (filled before)) × AreRows (data_lines before) (rows_of p.old_items)
-      old = reads_rows before 0 p.old_items p.at at_first refl p.old_read
+      old = reads_rows before 0 p.old_items p.at at_first refl ended p.old_read
 
       read : ReadsLine TakesRow p.at (number_of before) (b ∷ bs) p.line_items p.past
       read = subst (λ (n : ℕ). ReadsLine TakesRow p.at n (b ∷ bs) p.line_items p.past) (number_at before) p.line_read
 
       given : filled before ≢ [] → GivesOne (number_of before) (b ∷ bs) p.line_items
-      given some = gives_one (filled before) (number_of before) b bs p.line_items p.at p.past old.0 some read
+      given some = gives_one (filled before) (number_of before) b bs p.line_items p.at p.past old.0 some ends read
 
       all : (g : GivesOne (number_of before) (b ∷ bs) p.line_items) → p.old_items ++ g.item ∷ p.new_items ≡ items
       all g = sym (p.joined ∙ ap (λ (xs : List Placed). p.old_items ++ (xs ++ p.new_items)) g.only)
@@ -231,34 +235,35 @@ module _ (one : OneRow) (right : RowsAreRight) (items : List Placed) (new : Pass
           let g = given twice.0 in
           apart.each p.old_items g.item p.new_items (all g) (twice_shares one before (b ∷ bs) p.old_items g.item r old.1 g.own twice)
 
-  pub clean_lines : (ls : List (List ℕ)) → Reads TakesRow at_first 0 ls items new → NoFault PersonFault ls
-  clean_lines ls reads = record {
+  pub clean_lines : (ls : List (List ℕ)) → AreEnded ls → Reads TakesRow at_first 0 ls items new → NoFault PersonFault ls
+  clean_lines ls ended reads = record {
     none = λ before line after r e bad.
-        no_fault_at before line after r (split_reads TakesRow before line after at_first new 0 items (subst (λ (xs : List (List ℕ)). Reads TakesRow at_first 0 xs items new) (sym e) reads)) bad;
+        let all : AreEnded (before ++ line ∷ after) = subst AreEnded (sym e) ended in
+        no_fault_at before line after r (ended_front before (line ∷ after) all) (ended_back before (line ∷ after) all).0 (split_reads TakesRow before line after at_first new 0 items (subst (λ (xs : List (List ℕ)). Reads TakesRow at_first 0 xs items new) (sym e) reads)) bad;
   }
 
 -- the line that gives one of the items
-pub record Place (s : Passed) (ended : ℕ) (ls : List (List ℕ)) (old : List Placed) (p : Placed) : Type 0 where
+pub record Place (s : Passed Table) (ended : ℕ) (ls : List (List ℕ)) (old : List Placed) (p : Placed) : Type 0 where
   pub before : List (List ℕ)
   pub line : List ℕ
   pub after : List (List ℕ)
-  pub at : Passed
-  pub past : Passed
+  pub at : Passed Table
+  pub past : Passed Table
   pub splits : ls ≡ before ++ line ∷ after
   pub old_read : Reads TakesRow s ended before old at
   pub line_read : ReadsLine TakesRow at (ended + length before + 1) line (p ∷ []) past
 
 -- a line gives one item at most
-one_at_most : (s new : Passed) (number : ℕ) (line : List ℕ) (items : List Placed) → ReadsLine TakesRow s number line items new → (items ≡ []) ⊎ ((x : Placed) × (items ≡ x ∷ []))
+one_at_most : (s new : Passed Table) (number : ℕ) (line : List ℕ) (items : List Placed) → ReadsLine TakesRow s number line items new → (items ≡ []) ⊎ ((x : Placed) × (items ≡ x ∷ []))
 one_at_most s new number [] items r = inl r.0
-one_at_most s new number (b ∷ bs) items r = by_headed s.headed r.2.0
+one_at_most s new number (b ∷ bs) items r = by_headed s.headed (told_row s new number (fields (b ∷ bs)) items r.2).0
   where
-    by_headed : (h : Bool) → Gives h s.table number (fields (b ∷ bs)) items → (items ≡ []) ⊎ ((x : Placed) × (items ≡ x ∷ []))
+    by_headed : (h : Bool) → Gives h s.body number (fields (b ∷ bs)) items → (items ≡ []) ⊎ ((x : Placed) × (items ≡ x ∷ []))
     by_headed false g = inl g.1
     by_headed true g = inr (record { line = number; row = g.0; turned = g.1 }, g.3)
 
 -- a line before it
-place_after : (l : List ℕ) (ls : List (List ℕ)) (s mid : Passed) (ended : ℕ) (first back : List Placed) (p : Placed) → ReadsLine TakesRow s (ended + 1) l first mid → Place mid (ended + 1) ls back p → Place s ended (l ∷ ls) (first ++ back) p
+place_after : (l : List ℕ) (ls : List (List ℕ)) (s mid : Passed Table) (ended : ℕ) (first back : List Placed) (p : Placed) → ReadsLine TakesRow s (ended + 1) l first mid → Place mid (ended + 1) ls back p → Place s ended (l ∷ ls) (first ++ back) p
 place_after l ls s mid ended first back p read at = record {
   before = l ∷ at.before;
   line = at.line;
@@ -274,7 +279,7 @@ place_after l ls s mid ended first back p read at = record {
     one_more n k m e = omega (arith, e)
 
 -- the first line
-place_here : (l : List ℕ) (ls : List (List ℕ)) (s mid : Passed) (ended : ℕ) (p : Placed) → ReadsLine TakesRow s (ended + 1) l (p ∷ []) mid → Place s ended (l ∷ ls) [] p
+place_here : (l : List ℕ) (ls : List (List ℕ)) (s mid : Passed Table) (ended : ℕ) (p : Placed) → ReadsLine TakesRow s (ended + 1) l (p ∷ []) mid → Place s ended (l ∷ ls) [] p
 place_here l ls s mid ended p read = record {
   before = [];
   line = l;
@@ -295,7 +300,7 @@ not_none [] p more q = cc
 not_none (x ∷ old) p more q = cc
 
 -- each item has its line
-pub item_place : (ls : List (List ℕ)) (s new : Passed) (ended : ℕ) (items old : List Placed) (p : Placed) (more : List Placed) → Reads TakesRow s ended ls items new → old ++ p ∷ more ≡ items → Place s ended ls old p
+pub item_place : (ls : List (List ℕ)) (s new : Passed Table) (ended : ℕ) (items old : List Placed) (p : Placed) (more : List Placed) → Reads TakesRow s ended ls items new → old ++ p ∷ more ≡ items → Place s ended ls old p
 item_place [] s new ended items old p more r e = absurd (not_none old p more (e ∙ r.0))
 item_place (l ∷ ls) s new ended items [] p more r e =
     elim (one_at_most s r.2 (ended + 1) l r.0 r.3) [
@@ -331,16 +336,16 @@ pub record IsOwn (fs : List (List ℕ)) (number : ℕ) (line : List ℕ) (p : Pl
   pub well : (r : Refusal) → ¬ RefusesRowLine table.Person person_file number fs line r
 
 -- a line before the header gives no item
-some_before : (fs : List (List ℕ)) (number : ℕ) (line : List (List ℕ)) (p : Placed) → Gives (state_after fs).headed (state_after fs).table number line (p ∷ []) → fs ≢ []
+some_before : (fs : List (List ℕ)) (number : ℕ) (line : List (List ℕ)) (p : Placed) → Gives (state_after fs).headed (state_after fs).body number line (p ∷ []) → fs ≢ []
 some_before [] number line p g e = let q = g.1 in cc
 some_before (f ∷ fs) number line p g e = cc
 
 -- a line that gives an item is its row, and isn't refused by itself
-is_own : RowsAreRight → (fs : List (List ℕ)) (number : ℕ) (line : List ℕ) (p : Placed) (s new : Passed) → s ≡ state_after fs → ReadsLine TakesRow s number line (p ∷ []) new → IsOwn fs number line p
-is_own right fs number [] p s new is read = let q = read.0 in absurd cc
-is_own right fs number (b ∷ bs) p s new is read =
-    let some = some_before fs number (fields (b ∷ bs)) p (subst (λ (q : Passed). Gives q.headed q.table number (fields (b ∷ bs)) (p ∷ [])) is read.2.0) in
-    let g = gives_one fs number b bs (p ∷ []) s new is some read in
+is_own : RowsAreRight → (fs : List (List ℕ)) (number : ℕ) (line : List ℕ) (p : Placed) (s new : Passed Table) → s ≡ state_after fs → HasNoEnd line → ReadsLine TakesRow s number line (p ∷ []) new → IsOwn fs number line p
+is_own right fs number [] p s new is ends read = let q = read.0 in absurd cc
+is_own right fs number (b ∷ bs) p s new is ends read =
+    let some = some_before fs number (fields (b ∷ bs)) p (subst (λ (q : Passed Table). Gives q.headed q.body number (fields (b ∷ bs)) (p ∷ [])) is (told_row s new number (fields (b ∷ bs)) (p ∷ []) read.2).0) in
+    let g = gives_one fs number b bs (p ∷ []) s new is some ends read in
     let only = g.only in
     let same : g.item ≡ p = cc in
     record {
@@ -352,16 +357,20 @@ is_own right fs number (b ∷ bs) p s new is read =
     }
 
 -- whether the header is missing, where the file ends
-no_header : (fs : List (List ℕ)) (s : Passed) (r : Refusal) → s ≡ state_after fs → ends_without s ≡ Some r → (fs ≡ []) × (r ≡ NoHeader person_file)
+no_header : (fs : List (List ℕ)) (s : Passed Table) (r : Refusal) → s ≡ state_after fs → ends_without s ≡ Some r → (fs ≡ []) × (r ≡ NoHeader person_file)
 no_header [] s r is e = let q : Some (NoHeader person_file) ≡ Some r = ap ends_without (sym is) ∙ e in let same : r ≡ NoHeader person_file = cc in (refl, same)
 no_header (f ∷ fs) s r is e = let q : None ≡ Some r = ap ends_without (sym is) ∙ e in absurd cc
 
 -- and that it isn't
-a_header : (fs : List (List ℕ)) (s : Passed) → s ≡ state_after fs → ends_without s ≡ None → fs ≢ []
+a_header : (fs : List (List ℕ)) (s : Passed Table) → s ≡ state_after fs → ends_without s ≡ None → fs ≢ []
 a_header [] s is e none = let q : Some (NoHeader person_file) ≡ None = ap ends_without (sym is) ∙ e in cc
 a_header (f ∷ fs) s is e none = cc
 
 module _ (one : OneRow) (right : RowsAreRight) (whole : List ℕ) (items : List Placed) (stop : Option Refusal) (comes : Comes row_meanings person_file at_first 0 whole items stop) where
+  -- no line of the file has a line end
+  ended_done : AreEnded comes.done
+  ended_done = ended_front comes.done comes.left (subst AreEnded comes.splits (ended_lines whole))
+
   -- the first clash is the first fault
   pub clash_fault : (r : Refusal) → All IsPersonRow items → IsFirstClash items r → FirstFault (Within 0 (length whole) person_file PersonFault) (lines whole) r
   clash_fault r all f = record {
@@ -370,18 +379,24 @@ module _ (one : OneRow) (right : RowsAreRight) (whole : List ℕ) (items : List 
     after = at.after ++ comes.left;
     splits = sym (comes.splits ∙ ap (λ (ls : List (List ℕ)). ls ++ comes.left) at.splits ∙ append_assoc at.before (at.line ∷ at.after) comes.left);
     fault = inr (comes.within at.before at.line at.after (sym at.splits), (is.some_byte, inr (is.well, by_clash f.clash)));
-    none_before = no_fault_within PersonFault 0 (length whole) person_file at.before (clean_lines one right f.before at.at f.apart f.few at.before at.old_read)
+    none_before = no_fault_within PersonFault 0 (length whole) person_file at.before (clean_lines one right f.before at.at f.apart f.few at.before ended_before at.old_read)
         (within_front 0 (length whole) comes.done at.before at.line at.after at.splits comes.within);
   }
     where
       at : Place at_first 0 comes.done f.before f.one
       at = item_place comes.done at_first comes.state 0 items f.before f.one f.after comes.reads f.splits
 
+      ended_at : AreEnded (at.before ++ at.line ∷ at.after)
+      ended_at = subst AreEnded at.splits ended_done
+
+      ended_before : AreEnded at.before
+      ended_before = ended_front at.before (at.line ∷ at.after) ended_at
+
       old : (at.at ≡ state_after (filled at.before)) × AreRows (data_lines at.before) (rows_of f.before)
-      old = reads_rows at.before 0 f.before at.at at_first refl at.old_read
+      old = reads_rows at.before 0 f.before at.at at_first refl ended_before at.old_read
 
       is : IsOwn (filled at.before) (number_of at.before) at.line f.one
-      is = is_own right (filled at.before) (number_of at.before) at.line f.one at.at at.past old.0 (subst (λ (n : ℕ). ReadsLine TakesRow at.at n at.line (f.one ∷ []) at.past) (number_at at.before) at.line_read)
+      is = is_own right (filled at.before) (number_of at.before) at.line f.one at.at at.past old.0 (ended_back at.before (at.line ∷ at.after) ended_at).0 (subst (λ (n : ℕ). ReadsLine TakesRow at.at n at.line (f.one ∷ []) at.past) (number_at at.before) at.line_read)
 
       person : (x : Placed) → Contains (f.before ++ f.one ∷ f.after) x → IsPersonRow x
       person x c = All-contains IsPersonRow items x all (subst (λ (xs : List Placed). Contains xs x) f.splits c)
@@ -397,11 +412,11 @@ module _ (one : OneRow) (right : RowsAreRight) (whole : List ℕ) (items : List 
 
   -- how far the reader has come there
   state_is : comes.state ≡ state_after (filled comes.done)
-  state_is = (reads_rows comes.done 0 items comes.state at_first refl comes.reads).0
+  state_is = (reads_rows comes.done 0 items comes.state at_first refl ended_done comes.reads).0
 
   -- nothing is wrong with the lines that are read
   clean_done : AreApart items → length items ≤ MAX_ROWS → NoFault (Within 0 (length whole) person_file PersonFault) comes.done
-  clean_done apart few = no_fault_within PersonFault 0 (length whole) person_file comes.done (clean_lines one right items comes.state apart few comes.done comes.reads) comes.within
+  clean_done apart few = no_fault_within PersonFault 0 (length whole) person_file comes.done (clean_lines one right items comes.state apart few comes.done ended_done comes.reads) comes.within
 
   -- where nothing is left, these are all lines
   all_done : comes.left ≡ [] → comes.done ≡ lines whole
@@ -432,7 +447,7 @@ module _ (one : OneRow) (right : RowsAreRight) (whole : List ℕ) (items : List 
       → StopsAt row_meanings person_file 0 (length whole) comes.done comes.left comes.state None → PersonsOf whole graph bytes rows
   persons_good graph bytes rows apart few kept size counted (left_is, within, ends) =
       let all = all_done left_is in
-      let are = (reads_rows comes.done 0 items comes.state at_first refl comes.reads).1 in
+      let are = (reads_rows comes.done 0 items comes.state at_first refl ended_done comes.reads).1 in
       record {
         size = size;
         counted = counted ∙ length_items comes.done items are ∙ ap (λ (ls : List (List ℕ)). length (data_lines ls)) all;

@@ -1,5 +1,5 @@
 -- The rows of the person file are persons'.
-use Rattle.std.proofs.Common.{◌≡◌, ◌∙◌, ◌+◌, ◌≤◌, arith, ℕ, Bool, true, false, List, [], ◌∷◌, ◌++◌, All, refl, sym, ap, subst}
+use Rattle.std.proofs.Common.{◌≡◌, ◌∙◌, ◌+◌, ◌≤◌, arith, ℕ, Bool, true, false, List, [], ◌∷◌, ◌++◌, All, length, refl, sym, ap, subst}
 use Rattle.std.proofs.lemmas.List.Elements.{All-append, All-cons, All-nil}
 use Rattle.snb_schema.specs.declared.layout.Shape.TheVariants as shapes
 use Rattle.snb_schema.specs.declared.limits.TheConstants.{MAX_BYTES}
@@ -9,11 +9,14 @@ use Rattle.snb_schema.specs.declared.row.Row.{Row}
 use Rattle.snb_schema.specs.declared.row.Row.TheVariants as row
 use Rattle.snb_schema.specs.declared.table.Table.{Table}
 use Rattle.snb_schema.specs.declared.table.Table.TheVariants as table
-use Rattle.snb_schema.specs.Input.{person_file}
-use Rattle.snb_schema.specs.Layouts.{shape}
-use Rattle.snb_schema.specs.RowLines.{row_shape}
+use Rattle.snb_loader.specs.Input.{person_file}
+use Rattle.snb_schema.specs.Lines.{fields}
+use Rattle.snb_schema.specs.Layouts.{columns, shape}
+use Rattle.snb_schema.specs.RowLines.{IsWide, SpellsRow, row_shape}
 use Rattle.snb_lines.specs.Reading.{Reader, Reads}
-use Rattle.snb_csv.specs.Rows.{Gives, Passed, TakesRow}
+use Rattle.snb_lines.specs.Feeding.{at_begin}
+use Rattle.snb_lines.specs.Headed.{GivesAs, Passed, unpassed}
+use Rattle.snb_csv.specs.Rows.{GivesRow, HeadsRows, IsOfTable, TakesRow}
 use Rattle.snb_loader.specs.Persons.{IsPersonRow, at_first, row_meanings}
 use Rattle.snb_loader.proofs.FileReading.{Took, fresh}
 
@@ -36,6 +39,27 @@ person_shape (row.Dated t a b c) e = absurd cc
 person_shape (row.Yeared t a b c) e = absurd cc
 person_shape (row.Word t a b) e = absurd cc
 
+-- what a line gives, by whether the header is passed
+abbrev pub Gives : Bool → Table → ℕ → List (List ℕ) → List Placed → Type 0
+Gives false t number fs items = IsWide (length (columns t)) fs × (items ≡ [])
+Gives true t number fs items = (r : Row) × (turned : Bool) × SpellsRow t fs r turned × (items ≡ record { line = number; row = r; turned = turned } ∷ [])
+
+told : (h : Bool) (t : Table) (number : ℕ) (fs : List (List ℕ)) (items : List Placed) (new : Table) → GivesAs HeadsRows GivesRow h t number fs items new → Gives h t number fs items × (new ≡ t)
+told false t number fs items new g = ((g.0.0, g.1), g.0.1)
+told true t number fs items new g = ((g.0, g.1, g.2, g.3), g.4)
+
+-- and after it the header is passed
+pub told_row : (s new : Passed Table) (number : ℕ) (fs : List (List ℕ)) (items : List Placed) → TakesRow s number fs items new → Gives s.headed s.body number fs items × (new ≡ record { file = s.file; headed = true; body = s.body })
+told_row s new number fs items g =
+    let k = told s.headed s.body number fs items new.body g.0 in
+    (k.0, g.1 ∙ ap (λ (t : Table). record { file = s.file; headed = true; body = t }) k.1)
+
+-- a reader of the person file is before its first line
+pub fresh_rows : (s : Reader (Passed Table)) → IsOfTable person_file s.meaning.body × (s.meaning ≡ unpassed person_file s.meaning.body) → s ≡ at_begin person_file s.meaning → s ≡ at_begin person_file at_first
+fresh_rows s begins is =
+    let e : table.Person ≡ s.meaning.body = (let same = begins.0 in cc) in
+    is ∙ ap (λ (m : Passed Table). at_begin person_file m) (begins.1 ∙ ap (λ (t : Table). unpassed person_file t) (sym e))
+
 -- the rows that a line of the person file gives are persons'
 line_persons : (headed : Bool) (t : Table) (number : ℕ) (fs : List (List ℕ)) (items : List Placed) → t ≡ table.Person → Gives headed t number fs items → All IsPersonRow items
 line_persons false t number fs items e g = subst (All IsPersonRow) (sym g.1) (All-nil IsPersonRow)
@@ -44,24 +68,24 @@ line_persons true t number fs items e g =
     subst (All IsPersonRow) (sym g.3) (All-cons IsPersonRow (record { line = number; row = g.0; turned = g.1 }) [] is (All-nil IsPersonRow))
 
 -- so are those of all lines
-pub reads_persons : (ls : List (List ℕ)) (s new : Passed) (n : ℕ) (items : List Placed) → s.table ≡ table.Person → Reads TakesRow s n ls items new → All IsPersonRow items
+pub reads_persons : (ls : List (List ℕ)) (s new : Passed Table) (n : ℕ) (items : List Placed) → s.body ≡ table.Person → Reads TakesRow s n ls items new → All IsPersonRow items
 reads_persons [] s new n items e r = subst (All IsPersonRow) (sym r.0) (All-nil IsPersonRow)
 reads_persons ([] ∷ ls) s new n items e r =
-    subst (All IsPersonRow) (sym (r.5 ∙ ap (λ (xs : List Placed). xs ++ r.1) r.3.0)) (reads_persons ls r.2 new (n + 1) r.1 (ap (λ (p : Passed). p.table) r.3.1 ∙ e) r.4)
+    subst (All IsPersonRow) (sym (r.5 ∙ ap (λ (xs : List Placed). xs ++ r.1) r.3.0)) (reads_persons ls r.2 new (n + 1) r.1 (ap (λ (p : Passed Table). p.body) r.3.1 ∙ e) r.4)
 reads_persons ((b ∷ bs) ∷ ls) s new n items e r =
     subst (All IsPersonRow) (sym r.5)
-    (All-append IsPersonRow r.0 r.1 (line_persons s.headed s.table (n + 1) _ r.0 e r.3.2.0) (reads_persons ls r.2 new (n + 1) r.1 (ap (λ (p : Passed). p.table) r.3.2.1 ∙ e) r.4))
+    (All-append IsPersonRow r.0 r.1 (line_persons s.headed s.body (n + 1) _ r.0 e (told_row s r.2 (n + 1) (fields (b ∷ bs)) r.0 r.3.2).0) (reads_persons ls r.2 new (n + 1) r.1 (ap (λ (p : Passed Table). p.body) (told_row s r.2 (n + 1) (fields (b ∷ bs)) r.0 r.3.2).1 ∙ e) r.4))
 
 -- so persons' rows stay persons' rows
-pub took_persons : (s : Passed) (old new : List Placed) → s.table ≡ table.Person → All IsPersonRow old → Took row_meanings person_file at_first 0 none_used s old new → All IsPersonRow new
+pub took_persons : (s : Passed Table) (old new : List Placed) → s.body ≡ table.Person → All IsPersonRow old → Took row_meanings person_file at_first 0 none_used s old new → All IsPersonRow new
 took_persons s old new e all t = subst (All IsPersonRow) (sym t.5) (All-append IsPersonRow old t.2 all (reads_persons t.0 s t.3 t.1 t.2 e t.4))
 
 -- a fresh reader's table
-pub fresh_table : (s : Reader Passed) → s ≡ fresh row_meanings person_file at_first 0 none_used → s.meaning.table ≡ table.Person
-fresh_table s is = ap (λ (z : Reader Passed). z.meaning.table) is
+pub fresh_table : (s : Reader (Passed Table)) → s ≡ fresh row_meanings person_file at_first 0 none_used → s.meaning.body ≡ table.Person
+fresh_table s is = ap (λ (z : Reader (Passed Table)). z.meaning.body) is
 
 -- and that of one that has read
-pub kept_table : (ls : List (List ℕ)) (s new : Passed) (n : ℕ) (items : List Placed) → s.table ≡ table.Person → Reads TakesRow s n ls items new → new.table ≡ table.Person
-kept_table [] s new n items e r = ap (λ (p : Passed). p.table) r.1 ∙ e
-kept_table ([] ∷ ls) s new n items e r = kept_table ls r.2 new (n + 1) r.1 (ap (λ (p : Passed). p.table) r.3.1 ∙ e) r.4
-kept_table ((b ∷ bs) ∷ ls) s new n items e r = kept_table ls r.2 new (n + 1) r.1 (ap (λ (p : Passed). p.table) r.3.2.1 ∙ e) r.4
+pub kept_table : (ls : List (List ℕ)) (s new : Passed Table) (n : ℕ) (items : List Placed) → s.body ≡ table.Person → Reads TakesRow s n ls items new → new.body ≡ table.Person
+kept_table [] s new n items e r = ap (λ (p : Passed Table). p.body) r.1 ∙ e
+kept_table ([] ∷ ls) s new n items e r = kept_table ls r.2 new (n + 1) r.1 (ap (λ (p : Passed Table). p.body) r.3.1 ∙ e) r.4
+kept_table ((b ∷ bs) ∷ ls) s new n items e r = kept_table ls r.2 new (n + 1) r.1 (ap (λ (p : Passed Table). p.body) (told_row s r.2 (n + 1) (fields (b ∷ bs)) r.0 r.3.2).1 ∙ e) r.4

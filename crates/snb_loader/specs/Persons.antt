@@ -1,5 +1,5 @@
 -- The rows of the person file, and the graph of them.
-use Rattle.std.specs.Prelude.{◌≡◌, ◌<◌, ◌≤◌, ◌⊎◌, false, List, ◌∷◌, ◌++◌, length, map, Some}
+use Rattle.std.specs.Prelude.{◌≡◌, ◌<◌, ◌≤◌, ◌⊎◌, List, ◌∷◌, ◌++◌, length, map, Some}
 use Rattle.snb_schema.specs.declared.key.Key.{Key}
 use Rattle.snb_schema.specs.declared.limits.TheConstants.{MAX_ROWS}
 use Rattle.snb_schema.specs.declared.person.Person.{Person}
@@ -8,19 +8,21 @@ use Rattle.snb_schema.specs.declared.refusal.Refusal.TheVariants.{BadLine, Dupli
 use Rattle.snb_schema.specs.declared.row.Placed.{Placed}
 use Rattle.snb_schema.specs.declared.row.Row.{Row}
 use Rattle.snb_schema.specs.declared.row.Row.TheVariants as row
+use Rattle.snb_schema.specs.declared.table.Table.{Table}
 use Rattle.snb_schema.specs.declared.table.Table.TheVariants as table
-use Rattle.snb_schema.specs.Graph.{IsHeldIn, key_of_row}
-use Rattle.snb_schema.specs.Input.{person_file}
-use Rattle.snb_csv.specs.Rows.{Passed, RefusesRow, TakesRow, ends_without}
+use Rattle.snb_tables.specs.BuiltTables.{IsHeldIn, key_of_row}
+use Rattle.snb_loader.specs.Input.{person_file}
+use Rattle.snb_lines.specs.Headed.{Passed, ends_without, unpassed}
+use Rattle.snb_csv.specs.Rows.{RefusesRow, TakesRow}
 use Rattle.snb_loader.specs.Coming.{Meanings}
 
 -- what the lines of a table's file mean
-abbrev pub row_meanings : Meanings Passed Placed
+abbrev pub row_meanings : Meanings (Passed Table) Placed
 row_meanings = record { takes = TakesRow; refuses = RefusesRow; ends = ends_without }
 
 -- before the first line of the person file
-abbrev pub at_first : Passed
-at_first = record { file = person_file; table = table.Person; headed = false }
+abbrev pub at_first : Passed Table
+at_first = unpassed person_file table.Person
 
 -- a row of a person
 abbrev pub IsPersonRow : Placed → Type 0

@@ -1,5 +1,6 @@
 pub mod ClashFacts
 pub mod FaultFacts
+pub mod FileFacts
 pub mod InsertFacts
 pub mod KindFacts
 pub mod LineFacts

@@ -30,15 +30,20 @@ is_line line fs t t_d op allowed is s =
 same_time : (t t_d : ℕ) (op : Op) (u u_d : ℕ) (oq : Op) → line_values t t_d op ≡ line_values u u_d oq → (t ≡ u) × (t_d ≡ u_d)
 same_time t t_d op u u_d oq e = (cc, cc)
 
--- a text is the line of one insert
-pub one_insert : OneList → OneInsert
-one_insert one line t t_d op u u_d oq p q =
-    let kind : kind_of op ≡ kind_of oq = one_name (get_or (fields line) 2 []) (kind_of op) (kind_of oq) (third_field (fields line) t t_d op p.spelled) (third_field (fields line) u u_d oq q.spelled) in
-    let other : SpellsAll (line_columns (kind_of op)) (fields line) (line_values u u_d oq) = subst (λ (k : OpKind). SpellsAll (line_columns k) (fields line) (line_values u u_d oq)) (sym kind) q.spelled in
-    let same = one (line_columns (kind_of op)) (fields line) (line_values t t_d op) (line_values u u_d oq) p.spelled other in
+-- fields spell one insert, at one pair of times
+pub one_spelled : OneList → (fs : List (List ℕ)) (t t_d : ℕ) (op : Op) (u u_d : ℕ) (oq : Op) → SpellsAll (line_columns (kind_of op)) fs (line_values t t_d op) → SpellsAll (line_columns (kind_of oq)) fs (line_values u u_d oq)
+    → (t ≡ u) × (t_d ≡ u_d) × (op ≡ oq)
+one_spelled one fs t t_d op u u_d oq p q =
+    let kind : kind_of op ≡ kind_of oq = one_name (get_or fs 2 []) (kind_of op) (kind_of oq) (third_field fs t t_d op p) (third_field fs u u_d oq q) in
+    let other : SpellsAll (line_columns (kind_of op)) fs (line_values u u_d oq) = subst (λ (k : OpKind). SpellsAll (line_columns k) fs (line_values u u_d oq)) (sym kind) q in
+    let same = one (line_columns (kind_of op)) fs (line_values t t_d op) (line_values u u_d oq) p other in
     let values : op_values op ≡ op_values oq = ap (λ (vs : List Value). drop 3 vs) same in
     let times = same_time t t_d op u u_d oq same in
     (times.0, times.1, sym (made_again op) ∙ (λ i. op_by (kind i) (values i)) ∙ made_again oq)
+
+-- a text is the line of one insert
+pub one_insert : OneList → OneInsert
+one_insert one line t t_d op u u_d oq p q = one_spelled one (fields line) t t_d op u u_d oq p.spelled q.spelled
 
 -- the canonical line of an insert is one of its lines
 pub own_line : ((line : List ℕ) → HasPlainFields line) → OwnLineOfValues → laws.OwnInsertLine

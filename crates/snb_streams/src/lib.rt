@@ -1,6 +1,7 @@
 //! The lines of the update streams: read out of their fields or out of one line, and written.
 #![tactic(auto)]
 
+pub mod files_law;
 mod kinds;
 pub mod law;
 pub mod line;

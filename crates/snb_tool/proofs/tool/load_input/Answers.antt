@@ -1,9 +1,9 @@
 use Rattle.std.proofs.Common.{List, Option, Vec, subst}
 use Rattle.std.specs.Option.{IfSome}
 use Rattle.snb_base.specs.Shelf.{Files}
-use Rattle.snb_schema.specs.Input.{Refuses, person_stream, stream_of}
+use Rattle.snb_loader.specs.Input.{Refuses, person_stream, stream_of}
 use Rattle.snb_schema.specs.Closed.{IsClosed, IsFirstWrong}
-use Rattle.snb_schema.specs.Graph.{HoldsKey}
+use Rattle.snb_tables.specs.BuiltTables.{HoldsKey}
 use Rattle.snb_schema.specs.declared.op.Line.{Line}
 use Rattle.std.specs.declared.alloc.Global.{Global}
 use Rattle.snb_loader.specs.declared.persons.Persons.{Persons}

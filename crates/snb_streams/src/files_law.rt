@@ -1,0 +1,34 @@
+//! Laws of the files of update streams and of parameters, over every file.
+
+ghost use Rattle.snb_streams.specs.FileLaws.{OneParamsReading, OneStreamReading, ParamsFiles, StreamFiles};
+
+use crate::law::{one_fault, one_query};
+use snb_fields::law::one_value;
+
+/// The inserts that a stream is read as are those of its lines with a byte, in order, each with the
+/// number of its line and of a kind that the stream has.
+pub fn stream_files()
+    ensures { StreamFiles }
+{}
+
+/// The lines of a stream are read in one way at most, and where they are read none of them is refused.
+pub fn one_stream_reading()
+    ensures { OneStreamReading }
+{
+    one_value();
+    one_fault();
+}
+
+/// The queries that a parameter file is read as are those of its data lines, in order; the first line
+/// with a byte is a header.
+pub fn params_files()
+    ensures { ParamsFiles }
+{}
+
+/// The lines of a parameter file are read in one way at most, and where they are read none of them is
+/// refused.
+pub fn one_params_reading()
+    ensures { OneParamsReading }
+{
+    one_query();
+}
