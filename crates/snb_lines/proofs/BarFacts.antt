@@ -3,6 +3,7 @@ use Rattle.std.proofs.Common.{subst, ◌≡◌, ◌≢◌, ◌==◌, ◌++◌, �
 use Rattle.std.proofs.Math.Seq.{take-length}
 use Rattle.std.proofs.lemmas.List.{append-nil}
 use Rattle.std.proofs.lemmas.Bool.{cases_Bool, eqb-true, ne_eqb}
+use Rattle.std.proofs.lemmas.List.Elements.{All-head, All-nil}
 use Rattle.csv.specs.Machine.{Read, next_record}
 use Rattle.csv.specs.Reading.{NextIs, ReadRecord, ReadsNext, Ready, is_flexible, pending_of, reader_state, source_of, strip_bom}
 use Rattle.csv.specs.declared.parser.Config.{Config}
@@ -11,9 +12,10 @@ use Rattle.csv.specs.declared.parser.State.{State}
 use Rattle.csv.specs.declared.parser.State.TheVariants as st
 use Rattle.std.specs.List.{onto_first}
 use Rattle.snb_schema.specs.Lines.{begins_with_mark, fields}
-use Rattle.snb_lines.specs.Bars.{Stands, bar_config}
+use Rattle.snb_lines.specs.Bars.{IsBefore, MayStand, Source, Stands, bar_config, bytes_of}
 use Rattle.snb_lines.specs.Cut.{IsCutAtEnd}
 use Rattle.snb_schema.specs.Lines.{HasNoEnd}
+use Rattle.snb_lines.proofs.CutFacts.{all_back}
 
 -- bytes in front of the first piece
 abbrev onto : List ℕ → List (List ℕ) → List (List ℕ)
@@ -96,14 +98,6 @@ pub empty-line : (rest : List ℕ) → next_record bar_config st.StartRecord [] 
 unfolding next_record
 empty-line rest = refl
 
--- a line with no mark stays whole
-pub unmarked : (line : List ℕ) → begins_with_mark line ≡ false → strip_bom line ≡ line
-unfolding strip_bom
-unmarked [] e = refl
-unmarked (a ∷ []) e = refl
-unmarked (a ∷ b ∷ []) e = refl
-unmarked (a ∷ b ∷ c ∷ rest) e = rw e refl
-
 -- what a read shows, where the next record is known
 pub next-is : (o : Option Read) (p : Read) (found : Bool) (f : List (List ℕ)) (s : State) (y : List ℕ) → o ≡ Some p → NextIs o found f s y
     → (found ≡ true) × (f ≡ p.0) × (s ≡ p.1) × (y ≡ p.2)
@@ -119,18 +113,18 @@ reads-next cfg a b xs (Some ys) p found f e r =
     (n.0, n.1, n.2, ap Some n.3)
 
 -- a read of a reader that stands before a record
-pub takes : (a b : Reader (Bor (List ℕ))) (text : List ℕ) (p : Read) (found : Bool) (f : List (List ℕ))
+pub takes : (a b : Reader Source) (text : List ℕ) (p : Read) (found : Bool) (f : List (List ℕ))
     → Stands a text → next_record bar_config st.StartRecord [] [] text ≡ Some p
-    → ReadRecord (λ (r : Bor (List ℕ)). Some r.now) a b found f
-    → (found ≡ true) × (f ≡ p.0) × (reader_state b ≡ p.1) × (source_of (λ (r : Bor (List ℕ)). Some r.now) b ≡ Some p.2)
+    → ReadRecord bytes_of a b found f
+    → (found ≡ true) × (f ≡ p.0) × (reader_state b ≡ p.1) × (source_of bytes_of b ≡ Some p.2)
 takes a b text p found f h e r =
-    let n = reads-next bar_config st.StartRecord b.state h.left (pending_of (Some b.rdr.now) b) p found f (h.same ∙ e) (rw (h.config, h.starts, h.source) at r.0) in
+    let n = reads-next bar_config st.StartRecord b.state h.left (pending_of (bytes_of b.rdr) b) p found f (h.same ∙ e) (rw (h.config, h.starts, h.source) at r.0) in
     (n.0, n.1, n.2, rw r.1 n.3)
 
 -- and then it stands before the text after that record
-pub stands-after : (a b : Reader (Bor (List ℕ))) (text after : List ℕ) (fs : List (List ℕ)) (found : Bool) (f : List (List ℕ))
+pub stands-after : (a b : Reader Source) (text after : List ℕ) (fs : List (List ℕ)) (found : Bool) (f : List (List ℕ))
     → Stands a text → next_record bar_config st.StartRecord [] [] text ≡ Some (fs, st.StartRecord, after)
-    → ReadRecord (λ (r : Bor (List ℕ)). Some r.now) a b found f → is_flexible b ≡ is_flexible a → Ready b
+    → ReadRecord bytes_of a b found f → is_flexible b ≡ is_flexible a → Ready b
     → Stands b after
 stands-after a b text after fs found f h e r flexible ready =
     let n = takes a b text (fs, st.StartRecord, after) found f h e r in
@@ -146,7 +140,7 @@ stands-after a b text after fs found f h e r flexible ready =
     }
 
 -- past an empty line a reader stands as it did
-pub stands-empty : (s : Reader (Bor (List ℕ))) (rest : List ℕ) → Stands s (10 ∷ rest) → Stands s rest
+pub stands-empty : (s : Reader Source) (rest : List ℕ) → Stands s (10 ∷ rest) → Stands s rest
 stands-empty s rest h = record {
   config = h.config;
   plain = h.plain;
@@ -165,26 +159,42 @@ pub is-empty : (line : List ℕ) → (length line == 0) ≡ true → line ≡ []
 is-empty [] e = refl
 is-empty (b ∷ line) e = absurd (omega (arith, eqb-true (length (b ∷ line)) 0 e))
 
+-- what follows a line end
 rest-of-end : (text rest : List ℕ) → text ≡ 10 ∷ rest → take (length text - 1) (drop 1 text) ≡ rest
 rest-of-end text rest e = ap (λ (t : List ℕ). take (length t - 1) (drop 1 t)) e ∙ ap (λ (n : ℕ). take n rest) (one-less rest) ∙ take-length rest
   where
     one-less : (rest : List ℕ) → length (10 ∷ rest) - 1 ≡ length rest
     one-less rest = omega arith
 
--- past the line end that a text begins with a reader stands as it did
-pub stands-past-end : (s : Reader (Bor (List ℕ))) (text rest : List ℕ) → text ≡ 10 ∷ rest → Stands s text → Stands s (take (length text - 1) (drop 1 text))
-stands-past-end s text rest e h = subst (Stands s) (sym (rest-of-end text rest e)) (stands-empty s rest (subst (Stands s) e h))
+-- a text that begins with a line end begins with no mark
+pub end-unmarked : (text : List ℕ) → strip_bom (10 ∷ text) ≡ 10 ∷ text
+unfolding strip_bom
+end-unmarked [] = refl
+end-unmarked (a ∷ []) = refl
+end-unmarked (a ∷ b ∷ text) = refl
 
 -- what a text begins with, where it begins with a line that has a byte
 pub first-line-read : (text line back : List ℕ) → line ≢ [] → (cut : IsCutAtEnd text line back) → next_record bar_config st.StartRecord [] [] text ≡ Some (fields line, st.StartRecord, cut.rest)
 first-line-read text line back n cut = rw cut.joined (line-then line cut.rest n cut.one_line)
 
 -- past that line, what the reader has left is what follows its end
-pub stands-past-line : (s : Reader (Bor (List ℕ))) (text line back : List ℕ) → (cut : IsCutAtEnd text line back) → Stands s cut.rest → Stands s (take (length back - 1) (drop 1 back))
+pub stands-past-line : (s : Reader Source) (text line back : List ℕ) → (cut : IsCutAtEnd text line back) → Stands s cut.rest → Stands s (take (length back - 1) (drop 1 back))
 stands-past-line s text line back cut h = subst (Stands s) (sym (rest-of-end back cut.rest cut.ends)) h
 
 -- past an empty line a reader stands as it did
-pub stands-past-empty : (s : Reader (Bor (List ℕ))) (text line back : List ℕ) → line ≡ [] → (cut : IsCutAtEnd text line back) → Stands s text → Stands s (take (length back - 1) (drop 1 back))
+pub stands-past-empty : (s : Reader Source) (text line back : List ℕ) → line ≡ [] → (cut : IsCutAtEnd text line back) → Stands s text → Stands s (take (length back - 1) (drop 1 back))
 stands-past-empty s text line back n cut h =
     let e : text ≡ 10 ∷ cut.rest = rw n at cut.joined in
     stands-past-line s text line back cut (stands-empty s cut.rest (subst (Stands s) e h))
+
+-- then the text after it has no first line that is apart
+pub before-rest : (s : Reader Source) (rest : List ℕ) → MayStand s rest → IsBefore s [] rest
+before-rest s rest may = record { stands = may; one_line = All-nil (λ (b : ℕ). b ≢ 10); ends = λ none. absurd (none refl) }
+
+-- where no line is left that is ended, none is apart
+pub none-apart : (first rest : List ℕ) → (first ≢ [] → (others : List ℕ) × (rest ≡ 10 ∷ others)) → HasNoEnd (first ++ rest) → rest ≡ first ++ rest
+none-apart [] rest ends none = refl
+none-apart (b ∷ bs) rest ends none =
+    let after = ends (λ e. cc) in
+    let back = all_back (λ d. d ≢ 10) (b ∷ bs) (10 ∷ after.0) (subst (λ (t : List ℕ). HasNoEnd ((b ∷ bs) ++ t)) after.1 none) in
+    absurd (All-head (λ d. d ≢ 10) 10 after.0 back refl)

@@ -8,6 +8,11 @@ use Rattle.snb_schema.specs.Lines.{lines}
 use Rattle.snb_lines.specs.Cut.{all_but_last, last_lines, last_part, rest_of, whole_lines}
 use Rattle.snb_schema.specs.Lines.{HasNoEnd}
 
+-- what holds of each of some elements and others holds of each of the others
+pub all_back : {X : Type 0} (P : X → Type 0) (before after : List X) → All P (before ++ after) → All P after
+all_back P [] after all = all
+all_back P (x ∷ before) after all = all_back P before after (All-tail P x (before ++ after) all)
+
 -- the test of a byte that ends no line
 unended : (line : List ℕ) → HasNoEnd line → All (λ b. (b == 10) ≡ false) line
 unended line h k d lt = ne_eqb _ 10 (h k d lt)

@@ -8,6 +8,7 @@ use Rattle.snb_lines.specs.Files.{AreEach, AreUnder, GivesOne, HeadsOf, ReadsUnd
 use Rattle.snb_lines.specs.Headed.{GivesAs, Heads, IsBad, IsBadAs, Passed, RefusesHeaded, TakesHeaded, unpassed}
 use Rattle.snb_lines.specs.Laws.{HeadedFiles, HeaderlessFiles, IsExact, IsExactBody, OneHeadedReading}
 use Rattle.snb_lines.specs.Reading.{Reads, Takes}
+use Rattle.snb_lines.proofs.CutFacts.{all_back}
 use Rattle.snb_lines.proofs.OnceFacts.{one_reading}
 
 module _ {B T : Type 0} (heads : Heads B) (gives : Takes B T) where
@@ -142,11 +143,6 @@ each_line {M} {T} takes Of IsItem one ((b ∷ bs) ∷ ls) s new n items of none 
     let first = one.gives s h.2 (n + 1) (b ∷ bs) h.0 of (All-head HasNoEnd (b ∷ bs) ls none) h.3.0 h.3.1 h.3.2 in
     let rest = each_line takes Of IsItem one ls h.2 new (n + 1) h.1 first.1 (All-tail HasNoEnd (b ∷ bs) ls none) h.4 in
     subst (AreEach IsItem n ((b ∷ bs) ∷ ls)) (sym (h.5 ∙ ap (λ (xs : List T). xs ++ h.1) first.0.1)) (first.0.2, rest)
-
--- what holds of each of some elements and others holds of each of the others
-all_back : {X : Type 0} (P : X → Type 0) (before after : List X) → All P (before ++ after) → All P after
-all_back P [] after all = all
-all_back P (x ∷ before) after all = all_back P before after (All-tail P x (before ++ after) all)
 
 pub are_under : {B T : Type 0} (heads : Heads B) (gives : Takes B T) (body : B) (Of : B → Type 0) (IsHeader : List ℕ → Type 0) (IsItem : ℕ → List ℕ → T → Type 0)
     → HeadsOf heads body Of IsHeader → GivesOne gives Of IsItem → (ls : List (List ℕ)) (items : List T) (new : B) → All HasNoEnd ls → ReadsUnder heads gives body ls items new → AreUnder IsHeader IsItem ls items

@@ -148,39 +148,6 @@ module _ {M T : Type 0} (takes : M → ℕ → List (List ℕ) → List T → M 
   pub some_none : (state : M) (ended : ℕ) (lines : List (List ℕ)) → ReadsSome takes state ended lines []
   some_none state ended lines = record { before = []; after = lines; new = state; split = refl; reads = (refl, refl) }
 
-  -- the first line was read, and then lines after it
-  more_grew : (into to last first later : List T) → to ≡ into ++ first → last ≡ to ++ later → last ≡ into ++ (first ++ later)
-  more_grew into to last first later e f = f ∙ ap (λ (xs : List T). xs ++ later) e ∙ append_assoc into first later
-
-  pub first_then_reads : (state mid new : M) (ended next : ℕ) (line : List ℕ) (lines all : List (List ℕ)) (into to last : List T)
-      → ((first : List T) × ReadsLine takes state (ended + 1) line first mid × (to ≡ into ++ first)) → next ≡ ended + 1 → all ≡ line ∷ lines
-      → ((later : List T) × Reads takes mid next lines later new × (last ≡ to ++ later)) → (items : List T) × Reads takes state ended all items new × (last ≡ into ++ items)
-  first_then_reads state mid new ended next line lines all into to last f n e l =
-      (f.0 ++ l.0, subst (λ (ls : List (List ℕ)). Reads takes state ended ls (f.0 ++ l.0) new) (sym e) (f.0, l.0, mid, f.1, subst (λ (k : ℕ). Reads takes mid k lines l.0 new) n l.1, refl), more_grew into to last f.0 l.0 f.2 l.2)
-
-  one_more : (n : ℕ) (line : List ℕ) → n + 1 ≡ n + length (line ∷ [])
-  one_more n line = omega arith
-
-  pub first_then_some : (state mid : M) (ended next : ℕ) (line : List ℕ) (lines all : List (List ℕ)) (into to last : List T)
-      → ((first : List T) × ReadsLine takes state (ended + 1) line first mid × (to ≡ into ++ first)) → next ≡ ended + 1 → all ≡ line ∷ lines
-      → ((later : List T) × ReadsSome takes mid next lines later × (last ≡ to ++ later)) → (items : List T) × ReadsSome takes state ended all items × (last ≡ into ++ items)
-  first_then_some state mid ended next line lines all into to last f n e l = (
-    f.0 ++ l.0,
-    subst (λ (ls : List (List ℕ)). ReadsSome takes state ended ls (f.0 ++ l.0)) (sym e)
-        (some_later (line ∷ []) lines state mid ended f.0 l.0 (reads_one line state mid ended f.0 f.1) (subst (λ (k : ℕ). ReadsSome takes mid k lines l.0) (n ∙ one_more ended line) l.1)),
-    more_grew into to last f.0 l.0 f.2 l.2,
-  )
-
-  pub first_then_stops : (refuses : M → ℕ → List (List ℕ) → Refusal → Type 0) (file : FileId) (state mid : M) (ended next : ℕ) (line : List ℕ) (lines all : List (List ℕ)) (into to last : List T) (r : Refusal)
-      → ((first : List T) × ReadsLine takes state (ended + 1) line first mid × (to ≡ into ++ first)) → next ≡ ended + 1 → all ≡ line ∷ lines
-      → ((later : List T) × Stops takes refuses file mid next lines later r × (last ≡ to ++ later)) → (items : List T) × Stops takes refuses file state ended all items r × (last ≡ into ++ items)
-  first_then_stops refuses file state mid ended next line lines all into to last r f n e l = (
-    f.0 ++ l.0,
-    subst (λ (ls : List (List ℕ)). Stops takes refuses file state ended ls (f.0 ++ l.0) r) (sym e)
-        (stops_later refuses file (line ∷ []) lines state mid ended f.0 l.0 r (reads_one line state mid ended f.0 f.1) (subst (λ (k : ℕ). Stops takes refuses file mid k lines l.0 r) (n ∙ one_more ended line) l.1)),
-    more_grew into to last f.0 l.0 f.2 l.2,
-  )
-
 pub joins : {M T : Type 0} (takes : M → ℕ → List (List ℕ) → List T → M → Type 0) (refuses : M → ℕ → List (List ℕ) → Refusal → Type 0) (before after all : List (List ℕ)) → all ≡ before ++ after → Joins takes refuses before after all
 joins takes refuses before after all e = record {
   reads = λ state mid new ended items more h k. subst (λ (ls : List (List ℕ)). Reads takes state ended ls (items ++ more) new) (sym e) (reads_append takes before after state mid new ended items more h k);
@@ -221,31 +188,18 @@ on_memory_more (Ok a) P Q h more = tt
 on_memory_more (Err Memory) P Q h more = more h
 on_memory_more (Err (Bad r)) P Q h more = tt
 
--- a line begun and a piece of which a head ends that line
-pub record Piece (begun piece head others : List ℕ) : Type 0 where
-  pub one_line : HasNoEnd (begun ++ head)
-  pub whole : whole_lines (begun ++ piece) ≡ (begun ++ head) ∷ whole_lines (drop 1 others)
-  pub rest : rest_of (begun ++ piece) ≡ rest_of (drop 1 others)
+-- a line begun, its last bytes and what follows them are that line and the piece
+pub piece_text : (begun piece head others line text : List ℕ) → IsCutAtEnd piece head others → line ≡ begun ++ head → text ≡ line ++ others → text ≡ begun ++ piece
+piece_text begun piece head others line text cut l t =
+    t ∙ ap (λ (xs : List ℕ). xs ++ others) l ∙ append_assoc begun head others ∙ ap (λ (xs : List ℕ). begun ++ xs) (ap (λ (xs : List ℕ). head ++ xs) cut.ends ∙ sym cut.joined)
 
-pub piece_cut : (begun piece head others : List ℕ) → HasNoEnd begun → IsCutAtEnd piece head others → Piece begun piece head others
-piece_cut begun piece head others h cut =
-    let whole : HasNoEnd (begun ++ head) = All-append (λ b. b ≢ 10) begun head h cut.one_line in
-    let after : cut.rest ≡ drop 1 others = sym (ap (λ (t : List ℕ). drop 1 t) cut.ends) in
-    let text : begun ++ piece ≡ (begun ++ head) ++ 10 ∷ drop 1 others = ap (λ (t : List ℕ). begun ++ t) cut.joined ∙ sym (append_assoc begun head (10 ∷ cut.rest)) ∙ ap (λ (t : List ℕ). (begun ++ head) ++ 10 ∷ t) after in
-    let first = first_whole (begun ++ head) (drop 1 others) whole in
-    record {
-      one_line = whole;
-      whole = ap whole_lines text ∙ first.0;
-      rest = ap rest_of text ∙ first.1;
-    }
+-- the line begun stays one line
+pub piece_line : (begun piece head others : List ℕ) → HasNoEnd begun → IsCutAtEnd piece head others → HasNoEnd (begun ++ head)
+piece_line begun piece head others h cut = All-append (λ b. b ≢ 10) begun head h cut.one_line
 
 -- a piece without a line end only makes the line begun longer
 pub piece_whole : (begun piece : List ℕ) → HasNoEnd begun → HasNoEnd piece → (whole_lines (begun ++ piece) ≡ []) × (rest_of (begun ++ piece) ≡ begun ++ piece)
 piece_whole begun piece h k = none_whole (begun ++ piece) (All-append (λ b. b ≢ 10) begun piece h k)
-
--- the first line may have no byte, and its end is counted with what follows
-pub piece_room : (begun piece head others : List ℕ) (ended next most : ℕ) → IsCutAtEnd piece head others → ended + length begun + length piece ≤ most → next ≡ ended + 1 → next + length (drop 1 others) ≤ most
-piece_room begun piece head others ended next most cut l n = omega (arith, ap length cut.joined, ap length (ap (λ (t : List ℕ). drop 1 t) cut.ends), length-append head (10 ∷ cut.rest))
 
 last_one : (line : List ℕ) → line ≢ [] → last_lines line ≡ line ∷ []
 last_one [] n = absurd (n refl)
@@ -253,20 +207,19 @@ last_one (b ∷ bs) n = refl
 
 -- the last line of a file is refused
 pub last_stops : {M T : Type 0} (takes : M → ℕ → List (List ℕ) → List T → M → Type 0) (refuses : M → ℕ → List (List ℕ) → Refusal → Type 0) (file : FileId) (state : M) (ended : ℕ) (begun : List ℕ) (r : Refusal) → begun ≢ []
-    → RefusesLine refuses file state (ended + 1) (begun ++ []) r → Stops takes refuses file state ended (last_lines begun) [] r
+    → RefusesLine refuses file state (ended + 1) begun r → Stops takes refuses file state ended (last_lines begun) [] r
 last_stops takes refuses file state ended begun r n bad =
-    subst (λ (ls : List (List ℕ)). Stops takes refuses file state ended ls [] r) (sym (last_one begun n))
-    (stops_first takes refuses file state ended begun [] r (subst (λ (line : List ℕ). RefusesLine refuses file state (ended + 1) line r) (append-nil begun) bad))
+    subst (λ (ls : List (List ℕ)). Stops takes refuses file state ended ls [] r) (sym (last_one begun n)) (stops_first takes refuses file state ended begun [] r bad)
 
 -- the last line of a file is read, and then the file is refused
 pub last_then_bad : {M T : Type 0} (takes : M → ℕ → List (List ℕ) → List T → M → Type 0) (ends : M → Option Refusal) (state new : M) (ended : ℕ) (begun : List ℕ) (items : List T) (r : Refusal) → begun ≢ []
-    → ReadsLine takes state (ended + 1) (begun ++ []) items new → ends new ≡ Some r → EndsBad takes ends state ended (last_lines begun) items r
+    → ReadsLine takes state (ended + 1) begun items new → ends new ≡ Some r → EndsBad takes ends state ended (last_lines begun) items r
 last_then_bad takes ends state new ended begun items r n read bad =
     record {
       new = new;
       reads =
           subst (λ (ls : List (List ℕ)). Reads takes state ended ls items new) (sym (last_one begun n))
-          (reads_one takes begun state new ended items (subst (λ (line : List ℕ). ReadsLine takes state (ended + 1) line items new) (append-nil begun) read));
+          (reads_one takes begun state new ended items read);
       refused = bad;
     }
 

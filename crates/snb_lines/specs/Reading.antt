@@ -26,11 +26,6 @@ Takes M T = M → ℕ → List (List ℕ) → List T → M → Type 0
 abbrev pub Refuses : Type 0 → Type 1
 Refuses M = M → ℕ → List (List ℕ) → Refusal → Type 0
 
--- a line that has a byte and doesn't begin with a byte order mark
-pub record IsPlain (line : List ℕ) : Type 0 where
-  pub filled : line ≢ []
-  pub unmarked : begins_with_mark line ≡ false
-
 -- the line of this number takes the meaning from a state to another, and gives these items; an
 -- empty line changes nothing
 abbrev pub ReadsLine : {M T : Type 0} → Takes M T → M → ℕ → List ℕ → List T → M → Type 0

@@ -1,6 +1,6 @@
 //! How far a reader of lines has come.
 
-ghost use Rattle.std.specs.Prelude.{◌≡◌, ◌+◌, ◌^◌, ◌<◌, ◌≤◌, ℕ, ◌++◌, ◌∷◌, [], List, length, drop, IsUtf8, IfErr, OnOk, OnErr, Some, None, ◌⊎◌, false};
+ghost use Rattle.std.specs.Prelude.{◌≡◌, ◌+◌, ◌^◌, ◌≢◌, ◌<◌, ◌≤◌, ◌++◌, [], length, IsUtf8, IfErr, OnOk, OnErr, Some, None, ◌⊎◌, false};
 ghost use Rattle.csv.specs.Records.{fields_of};
 ghost use Rattle.snb_schema.specs.declared.fault.Fault.TheVariants.{Bad};
 ghost use Rattle.snb_schema.specs.declared.limits.TheConstants.{MAX_BYTES};
@@ -9,7 +9,7 @@ ghost use Rattle.snb_schema.specs.Faults.{OnBad};
 ghost use Rattle.snb_schema.specs.Lines.{begins_with_mark, fields};
 ghost use Rattle.snb_lines.specs.Cut.{last_lines, rest_of, whole_lines};
 ghost use Rattle.snb_schema.specs.Lines.{HasNoEnd};
-ghost use Rattle.snb_lines.specs.Reading.{IsPlain, OnMemory};
+ghost use Rattle.snb_lines.specs.Reading.{OnMemory};
 ghost use Rattle.snb_lines.specs.Steps.{FileStopped, LineRead, LineRefused, LinesRead, LinesRunOut, LinesStopped};
 ghost use Rattle.snb_schema.specs.LineFaults.{RefusesText};
 
@@ -56,7 +56,7 @@ pub struct Progress<M> {
 }
 
 impl<M: Meaning> Progress<M> {
-    // Takes the next line. Its fields are in `row`, where it is plain.
+    // Takes the next line. Its fields are in `row`, where it has a byte.
     fn take_line(
         &mut self,
         line: &[u8],
@@ -64,7 +64,7 @@ impl<M: Meaning> Progress<M> {
         into: &mut Vec<M::Item>,
     ) -> Result<(), Fault>
         requires room { self.old.ended + 1 < 2 ^ 32 }
-        requires split { IsPlain line.now → fields_of row.now ≡ fields line.now }
+        requires split { line.now ≢ [] → fields_of row.now ≡ fields line.now }
         ensures ok { OnOk result (LineRead M.takes line.now self.old into.old.items self.new into.new.items) }
         ensures bad { OnBad result (LineRefused M.refuses line.now self.old) }
         ensures same { OnErr result (into.new.items ≡ into.old.items) }
@@ -81,58 +81,46 @@ impl<M: Meaning> Progress<M> {
         Ok(())
     }
 
-    // Takes the line begun, of which these are the last bytes.
-    fn take_begun(&mut self, head: &[u8], into: &mut Vec<M::Item>) -> Result<(), Fault>
+    // Takes the line begun, which nothing follows.
+    fn take_last(&mut self, into: &mut Vec<M::Item>) -> Result<(), Fault>
         requires room { self.old.ended + 1 < 2 ^ 32 }
-        requires one_line { HasNoEnd (self.old.begun.items ++ head.now) }
+        requires one_line { HasNoEnd self.old.begun.items }
         ensures ok {
             OnOk result
-            (LineRead M.takes (self.old.begun.items ++ head.now) self.old into.old.items self.new into.new.items)
+            (LineRead M.takes self.old.begun.items self.old into.old.items self.new into.new.items)
         }
-        ensures bad { OnBad result (LineRefused M.refuses (self.old.begun.items ++ head.now) self.old) }
+        ensures bad { OnBad result (LineRefused M.refuses self.old.begun.items self.old) }
         ensures same { OnErr result (into.new.items ≡ into.old.items) }
         ensures file { self.new.file ≡ self.old.file }
         ensures ended { OnOk result (self.new.ended ≡ self.old.ended + 1) }
-        ensures begun { OnOk result (self.new.begun.items ≡ []) }
+        ensures begun { self.new.begun.items ≡ [] }
     {
         let mut row = ByteRecord::new(self.alloc);
-        let mut line = mem::replace(&mut self.begun, Vec::new(self.alloc));
-        line.extend_from_slice(head)?;
+        let line = mem::replace(&mut self.begun, Vec::new(self.alloc));
         split_line(self.alloc, line.as_slice(), &mut row)?;
-        self.take_line(line.as_slice(), &row, into)?;
-        line.clear();
-        self.begun = line;
-        Ok(())
+        self.take_line(line.as_slice(), &row, into)
     }
 
-    // Takes the lines that are ended after the line end with which the text begins, and begins the
-    // line that follows them.
-    fn take_rest(&mut self, text: &[u8], into: &mut Vec<M::Item>) -> Result<(), Fault>
-        requires after_end { (rest : List ℕ) × (text.now ≡ 10 ∷ rest) }
+    // Takes the lines of a text that are ended, and begins the line that follows them.
+    fn take_lines(
+        &mut self,
+        mut text: EndedLines<'_>,
+        into: &mut Vec<M::Item>,
+    ) -> Result<(), Fault>
         requires fresh { self.old.begun.items ≡ [] }
-        requires room { self.old.ended + length (drop 1 text.now) ≤ MAX_BYTES }
-        ensures ok {
-            OnOk result
-            (LinesRead M.takes (whole_lines (drop 1 text.now)) self.old into.old.items self.new into.new.items)
-        }
-        ensures bad {
-            OnBad result
-            (LinesStopped M.takes M.refuses (whole_lines (drop 1 text.now)) self.old into.old.items into.new.items)
-        }
-        ensures memory {
-            OnMemory result
-            (LinesRunOut M.takes (whole_lines (drop 1 text.now)) self.old into.old.items into.new.items)
-        }
+        requires room { self.old.ended + length text ≤ MAX_BYTES }
+        ensures ok { OnOk result (LinesRead M.takes (whole_lines text.entry) self.old into.old.items self.new into.new.items) }
+        ensures bad { OnBad result (LinesStopped M.takes M.refuses (whole_lines text.entry) self.old into.old.items into.new.items) }
+        ensures memory { OnMemory result (LinesRunOut M.takes (whole_lines text.entry) self.old into.old.items into.new.items) }
         ensures file { self.new.file ≡ self.old.file }
-        ensures ended { OnOk result (self.new.ended ≡ self.old.ended + length (whole_lines (drop 1 text.now))) }
-        ensures begun { OnOk result (self.new.begun.items ≡ rest_of (drop 1 text.now)) }
+        ensures ended { OnOk result (self.new.ended ≡ self.old.ended + length (whole_lines text.entry)) }
+        ensures begun { OnOk result (self.new.begun.items ≡ rest_of text.entry) }
     {
-        let mut reader = EndedLines::after_end(self.alloc, text);
         let mut row = ByteRecord::new(self.alloc);
-        while let Some(line) = reader.read(&mut row)? {
+        while let Some(line) = text.read(&mut row)? {
             self.take_line(line, &row, into)?;
         }
-        self.begun.extend_from_slice(reader.rest())?;
+        self.begun.extend_from_slice(text.rest())?;
         Ok(())
     }
 
@@ -160,8 +148,10 @@ impl<M: Meaning> Progress<M> {
             self.begun.extend_from_slice(piece)?;
             return Ok(());
         };
-        self.take_begun(head, into)?;
-        self.take_rest(others, into)
+        let mut line = mem::replace(&mut self.begun, Vec::new(self.alloc));
+        line.extend_from_slice(head)?;
+        let text = EndedLines::new(self.alloc, line.as_slice(), others);
+        self.take_lines(text, into)
     }
 
     /// Takes the line begun, where it has a byte, and ends the file.
@@ -186,7 +176,7 @@ impl<M: Meaning> Progress<M> {
         ensures begun { OnOk result (self.new.begun.items ≡ []) }
     {
         if !self.begun.is_empty() {
-            self.take_begun(&[], into)?;
+            self.take_last(into)?;
         }
         match self.meaning.at_end() {
             Some(refusal) => Err(Fault::Bad { refusal }),

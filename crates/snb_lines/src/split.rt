@@ -9,11 +9,14 @@ ghost use Rattle.snb_schema.specs.Lines.{begins_with_mark, fields};
 ghost use Rattle.snb_lines.specs.Bars.{MayStand, Stands, bar_config};
 ghost use Rattle.snb_lines.specs.Cut.{IsCutAtEnd};
 ghost use Rattle.snb_schema.specs.Lines.{HasNoEnd};
-ghost use Rattle.snb_lines.specs.Reading.{IsPlain};
 
 use csv::{ByteRecord, ErrorKind, Reader, ReaderBuilder, Terminator};
 use std::alloc::{AllocError, Global};
+use std::io::{Chain, Read};
 use std::marker::Model;
+
+// A line end, and two texts after it.
+type Source<'a> = Chain<Chain<&'a [u8], &'a [u8]>, &'a [u8]>;
 
 /// Whether the line begins with a byte order mark.
 pub fn is_marked(line: &[u8]) -> bool
@@ -25,22 +28,23 @@ pub fn is_marked(line: &[u8]) -> bool
     }
 }
 
-// A reader of the fields of the lines of `text`.
-fn bar_reader<'a>(alloc: Global, text: &'a [u8]) -> Reader<&'a [u8]>
-    requires { begins_with_mark text.now ≡ false }
-    ensures { Stands result text.entry.now }
+// A reader of the fields of the lines of two texts, one after the other. `csv` is given a line end
+// before them, since it passes over a mark where its text begins, and here none may be passed over.
+fn bar_reader<'a>(alloc: Global, front: &'a [u8], back: &'a [u8]) -> Reader<Source<'a>>
+    ensures { Stands result (front.entry.now ++ back.entry.now) }
 {
+    let end: &'a [u8] = b"\n";
     ReaderBuilder::new()
         .delimiter(b'|')
         .quoting(false)
         .terminator(Terminator::Any(b'\n'))
         .has_headers(false)
         .flexible(true)
-        .from_reader(alloc, text)
+        .from_reader(alloc, end.chain(front).chain(back))
 }
 
 // Takes the next record. The one error is want of memory, after which the reader has failed.
-fn take_fields(reader: &mut Reader<&[u8]>, row: &mut ByteRecord) -> Result<(), AllocError>
+fn take_fields(reader: &mut Reader<Source<'_>>, row: &mut ByteRecord) -> Result<(), AllocError>
     requires { (text : List ℕ) × MayStand reader.old text }
     ensures ok { OnOk result ((text rest : List ℕ) (fs : List (List ℕ)) → MayStand reader.old text
         → next_record bar_config st.StartRecord [] [] text ≡ Some (fs, st.StartRecord, rest)
@@ -67,54 +71,72 @@ pub fn cut_at_end<'a>(text: &'a [u8]) -> Option<(&'a [u8], &'a [u8])>
     Some((&text[..end], &text[end..]))
 }
 
-/// Splits a line, which has no `\n`, at its bars into `row`, where it has a byte and doesn't begin
-/// with a byte order mark. The one error is want of memory.
+/// Splits a line, which has no `\n`, at its bars into `row`, where it has a byte. The one error is want
+/// of memory.
 pub fn split_line(alloc: Global, line: &[u8], row: &mut ByteRecord) -> Result<(), AllocError>
     requires { HasNoEnd line.now }
-    ensures { OnOk result (IsPlain line.now → fields_of row.new ≡ fields line.now) }
+    ensures { OnOk result (line.now ≢ [] → fields_of row.new ≡ fields line.now) }
 {
-    if line.is_empty() || is_marked(line) {
+    if line.is_empty() {
         return Ok(());
     }
-    let mut reader = bar_reader(alloc, line);
+    let mut reader = bar_reader(alloc, line, &[]);
     take_fields(&mut reader, row)
 }
 
-/// Gives the lines of a text that are ended, each with its fields, over one reader of `csv`. A
-/// contract sees it as the bytes that are left.
+// The next line that is ended, of which the first may be apart, and what begins with its end.
+fn next_line<'a>(first: &'a [u8], rest: &'a [u8]) -> Option<(&'a [u8], &'a [u8])>
+    requires one_line { HasNoEnd first.now }
+    requires ends { first.now ≢ [] → (others : List ℕ) × (rest.now ≡ 10 ∷ others) }
+    ensures {
+        MatchOption result (HasNoEnd (first.entry.now ++ rest.entry.now))
+        (λ parts. IsCutAtEnd (first.entry.now ++ rest.entry.now) parts.0.now parts.1.now)
+    }
+{
+    if first.is_empty() {
+        cut_at_end(rest)
+    } else {
+        Some((first, rest))
+    }
+}
+
+/// Gives the lines of a text that are ended, each with its fields, over one reader of `csv`. The first
+/// of them may be apart from the others. A contract sees it as the bytes that are left.
 #[derive(Drop)]
 pub struct EndedLines<'a> {
-    reader: Reader<&'a [u8]>,
+    reader: Reader<Source<'a>>,
+    first: &'a [u8],
     rest: &'a [u8],
 }
 
 impl<'a> Model for EndedLines<'a> {
-    ghost use Rattle.std.specs.Prelude.{List, ℕ};
-    ghost use Rattle.snb_lines.specs.Bars.{MayStand};
+    ghost use Rattle.std.specs.Prelude.{◌++◌, List, ℕ};
+    ghost use Rattle.snb_lines.specs.Bars.{IsBefore};
 
     ghost Value = { List ℕ };
 
-    ghost view = { λ s. s.rest.now };
+    ghost view = { λ s. s.first.now ++ s.rest.now };
 
-    ghost invariant = { λ s. MayStand s.reader s.rest.now };
+    ghost invariant = { λ s. IsBefore s.reader s.first.now s.rest.now };
 }
 
 impl<'a> EndedLines<'a> {
-    /// Reads what comes after the line end that the text begins with. `csv` reads that line end too,
-    /// since it passes over a mark where its text begins, and here none may be passed over.
-    pub fn after_end(alloc: Global, text: &'a [u8]) -> EndedLines<'a>
-        requires { (rest : List ℕ) × (text.now ≡ 10 ∷ rest) }
-        ensures { text.entry.now ≡ 10 ∷ result }
+    /// Reads a line, which has no `\n`, and what comes after it, which begins with one.
+    pub fn new(alloc: Global, first: &'a [u8], others: &'a [u8]) -> EndedLines<'a>
+        requires one_line { HasNoEnd first.now }
+        requires ends { (rest : List ℕ) × (others.now ≡ 10 ∷ rest) }
+        ensures { result ≡ first.entry.now ++ others.entry.now }
     {
         EndedLines {
-            reader: bar_reader(alloc, text),
-            rest: &text[1..],
+            reader: bar_reader(alloc, first, others),
+            first,
+            rest: others,
         }
     }
 
-    /// The bytes that are left.
+    /// The bytes that are left, once no line is left that is ended.
     pub fn rest(&self) -> &'a [u8]
-        ensures { result.now ≡ self.now }
+        ensures { HasNoEnd self.now → result.now ≡ self.now }
     {
         self.rest
     }
@@ -122,16 +144,23 @@ impl<'a> EndedLines<'a> {
     /// The next line that is ended, which may be empty, and, where it is not, its fields in `row`.
     /// The one error is want of memory.
     pub fn read(&mut self, row: &mut ByteRecord) -> Result<Option<&'a [u8]>, AllocError>
-        ensures line { IfOk result (λ found. MatchOption found (HasNoEnd self.old × (self.new ≡ self.old))
-            (λ line. HasNoEnd line.now × (self.old ≡ line.now ++ 10 ∷ self.new))) }
-        ensures fields { IfOk result (λ found. MatchOption found ⊤ (λ line. line.now ≢ [] → fields_of row.new ≡ fields line.now)) }
+        ensures line {
+            IfOk result
+            (λ found. MatchOption found (HasNoEnd self.old × (self.new ≡ self.old))
+            (λ line. HasNoEnd line.now × (self.old ≡ line.now ++ 10 ∷ self.new)))
+        }
+        ensures fields {
+            IfOk result
+            (λ found. MatchOption found ⊤ (λ line. line.now ≢ [] → fields_of row.new ≡ fields line.now))
+        }
     {
-        let Some((line, others)) = cut_at_end(self.rest) else {
+        let Some((line, others)) = next_line(self.first, self.rest) else {
             return Ok(None);
         };
         if !line.is_empty() {
             take_fields(&mut self.reader, row)?;
         }
+        self.first = &[];
         self.rest = &others[1..];
         Ok(Some(line))
     }

@@ -9,5 +9,5 @@ take-requires g c =
     let line = c.args.line.now in
     let filled : line ≢ [] = not-empty line (sym c.is_empty.ensures ∙ c.if-not-is_empty.true) in
     let checked = c.in_ok-check_line.ensures.ok in
-    let same = c.requires.split (record { filled = filled; unmarked = checked.0 }) in
+    let same = c.requires.split filled in
     record { utf8 = subst (All IsUtf8) (sym same) (fields_text line checked.1) }
