@@ -1,23 +1,20 @@
 -- What a claim's answer implies.
-use Rattle.std.proofs.Common.{◌≡◌, ℕ, ◌<◌, ◌≤◌, List, [], ◌∷◌, ◌++◌, length, length-append, get_or, true, false, ◌⊎◌, inl, inr, refl, sym, ap, ◌∙◌, subst, arith, Some}
-use Rattle.std.specs.Prelude.{ℤ, pos, ◌<ℤ◌, ◌≤ℤ◌, ◌-ℤ◌}
-use Rattle.std.proofs.lemmas.Bool.{cases_lt, eq-eqb}
+use Rattle.std.proofs.Common.{◌≡◌, ℕ, ◌<◌, ◌≤◌, List, [], ◌∷◌, ◌++◌, length, length-append, get_or, true, false, ◌⊎◌, inl, inr, refl, sym, ap, ◌∙◌, arith, Some}
+use Rattle.std.proofs.lemmas.Bool.{eq-eqb}
 use Rattle.std.proofs.lemmas.Option.{slice_get-get_or}
 use Rattle.std.proofs.Math.Seq.{get_or-append_seam}
-use Rattle.std.proofs.lemmas.Int.{ints}
 use Rattle.snb_schema.specs.declared.event.Event.{Event}
 use Rattle.snb_schema.specs.declared.event.Event.TheVariants.{Start}
 use Rattle.snb_schema.specs.Schedule.{Schedule, step_of, IsOperation}
 use Rattle.snb_book.specs.Kept.{IsInHand}
 use Rattle.snb_schema.specs.History.{started, last}
-use Rattle.snb_schema.specs.Completion.{least_t, is_awaited, completion}
 use Rattle.snb_schema.specs.Rules.{Rule, V1, V2, V3, V4, V5, V6, V7, V8, V9, StartObeys, Fits}
 use Rattle.snb_book.specs.declared.claim.Ticket.{Ticket}
 use Rattle.snb_book.specs.declared.claim.Claim.{Claim}
 use Rattle.snb_book.specs.declared.claim.Claim.TheVariants.{Halted, AllStarted, Busy, NotDue, Go, Blocked}
 use Rattle.snb_book.specs.Claims.{IsDueHead, IsAdmitted, IsClaim}
 use Rattle.snb_book.specs.ClaimLaws.{ClaimFits, ClaimIsBlocked, ClaimIsNotStuck}
-use Rattle.snb_schema.proofs.Laws.{completion_decides, hand-push, never_stuck}
+use Rattle.snb_schema.proofs.Laws.{hand-push, never_stuck}
 
 pub claim_fits : ClaimFits
 claim_fits s workers h worker at ticket known later claim = record { obeys = by_rule }

@@ -1,6 +1,5 @@
 -- Laws of claims.
 use Rattle.std.specs.Prelude.{◌≡◌, ℕ, ◌<◌, ◌≤◌, ◌⊎◌, ℤ, pos, ◌<ℤ◌, List, false, None}
-use Rattle.snb_schema.specs.declared.limits.TheConstants.{MAX_TIME}
 use Rattle.snb_schema.specs.declared.event.Event.{Event}
 use Rattle.snb_schema.specs.declared.event.Event.TheVariants.{Start}
 use Rattle.snb_schema.specs.Schedule.{Schedule, IsOperation, IsTimely}

@@ -1,14 +1,13 @@
 -- Fields spell one row at most, or have one bad column.
-use Rattle.std.proofs.Common.{◌≡◌, ◌≢◌, ◌∙◌, ◌+◌, ℕ, zero, suc, Bool, true, false, List, [], ◌∷◌, ◌++◌, length, take, refl, sym, ap, subst, inl, inr, arith}
+use Rattle.std.proofs.Common.{◌≡◌, ◌≢◌, ◌∙◌, ◌+◌, ℕ, Bool, true, false, List, [], ◌∷◌, ◌++◌, length, take, refl, sym, ap, subst, inl, inr}
 use Rattle.std.proofs.Math.Seq.{take-append_seam}
-use Rattle.snb_schema.specs.declared.column.Column.{Column}
 use Rattle.snb_schema.specs.declared.column.Column.TheVariants.{Date}
 use Rattle.snb_schema.specs.declared.column.Value.{Value}
 use Rattle.snb_schema.specs.declared.row.Row.{Row}
 use Rattle.snb_schema.specs.declared.row.Row.TheVariants as row
 use Rattle.snb_schema.specs.declared.table.Table.{Table}
 use Rattle.snb_schema.specs.declared.table.Table.TheVariants as table
-use Rattle.snb_schema.specs.Columns.{SpellsAll, StopsAfter}
+use Rattle.snb_schema.specs.Columns.{SpellsAll}
 use Rattle.snb_schema.specs.Layouts.{columns, has_no_direction}
 use Rattle.snb_schema.specs.RowLines.{Differ, IsLoop, IsWide, SpellsRow, in_order, is_turned, row_shape, table_of, values}
 use Rattle.snb_fields.specs.Laws.{OneList}
@@ -34,17 +33,7 @@ one_said list t fs r q a b s u =
 -- a row is what its shape, its table and its values make
 row_again : (r : Row) → row_by (row_shape r) (table_of r) (values r) ≡ r
 row_again (row.Place p) = refl
-row_again (row.TagClass c) = refl
-row_again (row.Tag g) = refl
-row_again (row.Organisation o) = refl
-row_again (row.Person p) = refl
-row_again (row.Forum f) = refl
-row_again (row.Post p) = refl
-row_again (row.Comment c) = refl
-row_again (row.Link t from to) = refl
-row_again (row.Dated t from to date) = refl
-row_again (row.Yeared t from to year) = refl
-row_again (row.Word t person text) = refl
+row_again r = refl
 
 -- so fields spell one row
 pub one_row : OneList → OneRow

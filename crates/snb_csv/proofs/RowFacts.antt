@@ -22,68 +22,17 @@ use Rattle.snb_csv.specs.Make.{IsRowOf, row_by}
 -- a row that is made of values has them
 made_values : (s : Shape) (t : Table) (vs : List Value) → values (row_by s t vs) ≡ taken (shape_columns s) vs
 made_values shapes.Place t vs = refl
-made_values shapes.TagClass t vs = refl
-made_values shapes.Tag t vs = refl
-made_values shapes.Organisation t vs = refl
-made_values shapes.Person t vs = refl
-made_values shapes.Forum t vs = refl
-made_values shapes.Post t vs = refl
-made_values shapes.Comment t vs = refl
-made_values shapes.Link t vs = refl
-made_values shapes.Dated t vs = refl
-made_values shapes.Yeared t vs = refl
-made_values shapes.Word t vs = refl
+made_values s t vs = refl
 
 -- its shape
 made_shape : (s : Shape) (t : Table) (vs : List Value) → row_shape (row_by s t vs) ≡ s
 made_shape shapes.Place t vs = refl
-made_shape shapes.TagClass t vs = refl
-made_shape shapes.Tag t vs = refl
-made_shape shapes.Organisation t vs = refl
-made_shape shapes.Person t vs = refl
-made_shape shapes.Forum t vs = refl
-made_shape shapes.Post t vs = refl
-made_shape shapes.Comment t vs = refl
-made_shape shapes.Link t vs = refl
-made_shape shapes.Dated t vs = refl
-made_shape shapes.Yeared t vs = refl
-made_shape shapes.Word t vs = refl
+made_shape s t vs = refl
 
 -- and its table
 made_table : (t : Table) (vs : List Value) → table_of (row_by (shape t) t vs) ≡ t
 made_table table.Place vs = refl
-made_table table.TagClass vs = refl
-made_table table.Tag vs = refl
-made_table table.Organisation vs = refl
-made_table table.Person vs = refl
-made_table table.Forum vs = refl
-made_table table.Post vs = refl
-made_table table.Comment vs = refl
-made_table table.PlaceIsPartOfPlace vs = refl
-made_table table.TagClassIsSubclassOfTagClass vs = refl
-made_table table.TagHasTypeTagClass vs = refl
-made_table table.OrganisationIsLocatedInPlace vs = refl
-made_table table.PersonEmailEmailAddress vs = refl
-made_table table.PersonSpeaksLanguage vs = refl
-made_table table.PersonHasInterestTag vs = refl
-made_table table.PersonIsLocatedInPlace vs = refl
-made_table table.PersonKnowsPerson vs = refl
-made_table table.PersonLikesPost vs = refl
-made_table table.PersonLikesComment vs = refl
-made_table table.PersonStudyAtOrganisation vs = refl
-made_table table.PersonWorkAtOrganisation vs = refl
-made_table table.ForumContainerOfPost vs = refl
-made_table table.ForumHasMemberPerson vs = refl
-made_table table.ForumHasModeratorPerson vs = refl
-made_table table.ForumHasTagTag vs = refl
-made_table table.PostHasCreatorPerson vs = refl
-made_table table.PostHasTagTag vs = refl
-made_table table.PostIsLocatedInPlace vs = refl
-made_table table.CommentHasCreatorPerson vs = refl
-made_table table.CommentHasTagTag vs = refl
-made_table table.CommentIsLocatedInPlace vs = refl
-made_table table.CommentReplyOfPost vs = refl
-made_table table.CommentReplyOfComment vs = refl
+made_table t vs = refl
 
 -- the row of an edge with a direction, or of a node
 pub row_as_said : (t : Table) (xs : List (List ℕ)) (vs : List Value) (r : Row) → has_no_direction t ≡ false → SpellsAll (columns t) xs vs → r ≡ row_by (shape t) t vs → IsRowOf t vs r false

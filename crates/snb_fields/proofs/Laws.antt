@@ -40,12 +40,7 @@ taken_again columns xs vs s = absurd s
 -- one value alone isn't one number twice
 pub starts_alone : (v : Value) → starts_twice (v ∷ []) ≡ false
 starts_alone (Digits n) = refl
-starts_alone (SmallDigits n) = refl
-starts_alone NoId = refl
-starts_alone (Letters t) = refl
-starts_alone (Texts t) = refl
-starts_alone (Ids t) = refl
-starts_alone (Pairs t) = refl
+starts_alone v = refl
 
 -- a number isn't `-1`, which stands for no id
 pub number_some : (x : List ℕ) (n most : ℕ) → Num x n most → x ≢ no_id

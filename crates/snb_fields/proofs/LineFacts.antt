@@ -1,7 +1,7 @@
 -- Values that are spelled have a line of their own.
 use Rattle.std.proofs.Common.{◌≡◌, ◌≢◌, ◌==◌, ◌&&◌, ◌++◌, ◌∷◌, ◌<◌, [], ℕ, List, refl, sym, ap, subst, false, map, length, arith, All}
 use Rattle.std.proofs.lemmas.Bool.{ne_eqb}
-use Rattle.std.proofs.lemmas.List.Elements.{All-append, All-cons, All-from_recursion, All-weaker}
+use Rattle.std.proofs.lemmas.List.Elements.{All-append, All-cons}
 use Rattle.std.proofs.lemmas.Str.{IsUtf8-append, IsUtf8-from_ascii}
 use Rattle.std.proofs.lemmas.Str.Ascii.{IsAscii-cons, IsAscii-from_all, IsAscii-nil}
 use Rattle.std.specs.Fmt.{decimal}
@@ -14,12 +14,8 @@ use Rattle.snb_schema.specs.declared.column.Value.TheVariants.{Digits}
 use Rattle.snb_schema.specs.Columns.{Spells, canonical_field}
 use Rattle.snb_schema.specs.Lines.{HasNoBar, HasNoEnd, begins_with_mark}
 use Rattle.snb_fields.specs.Laws.{OwnLineOfValues}
-use Rattle.snb_fields.proofs.CutFacts.{around_all, around_ascii, joined_all, joined_parts}
+use Rattle.snb_fields.proofs.CutFacts.{all_digits, around_all, around_ascii, joined_all, joined_parts}
 use Rattle.snb_fields.proofs.SpellingFacts.{IsKept, OwnDigits, digits_number, kept_fields, own_fields}
-
--- what holds of each digit holds of each byte of digits
-all_digits : (P : ℕ → Type 0) → ((b : ℕ) → IsDigit b → P b) → (t : List ℕ) → AllByRecursion IsDigit t → All P t
-all_digits P of t h = All-weaker IsDigit P of t (All-from_recursion IsDigit t h)
 
 -- what holds of digits, commas and semicolons is kept in each byte
 kept_bytes : (P : ℕ → Type 0) → ((b : ℕ) → IsDigit b → P b) → P 44 → P 59 → IsKept (All P)

@@ -1,12 +1,12 @@
 -- An id and a year with a comma between them.
 use Rattle.std.proofs.Common.{◌≡◌, ◌≢◌, ◌++◌, ◌∷◌, ◌∙◌, ◌&&◌, [], ℕ, zero, suc, List, Bool, true, false, refl, sym, subst, arith, nat_eq, not, inl, inr, All}
 use Rattle.std.proofs.lemmas.Bool.{and_from, and_parts, cases_Bool, eq-eqb, eqb-false, eqb-true, not-true, not_from_false, or_cases}
-use Rattle.std.proofs.lemmas.List.Elements.{All-from_recursion, All-head, All-tail, All-weaker}
+use Rattle.std.proofs.lemmas.List.Elements.{All-head, All-tail}
 use Rattle.std.proofs.lemmas.List.Folds.{list_any_at}
 use Rattle.std.specs.List.{Contains, list_any}
-use Rattle.snb_base.specs.Calendar.{IsDigit}
 use Rattle.snb_base.specs.Spellings.{HasOneYear, Listed, Num, PairList, SpellsPair, last_id, pair_eq}
 use Rattle.snb_schema.specs.Lines.{HasNo}
+use Rattle.snb_fields.proofs.CutFacts.{all_digits}
 use Rattle.snb_fields.proofs.ListFacts.{one_listed}
 
 -- a text spells one number at most
@@ -25,7 +25,7 @@ one_comma (x ∷ a) b (y ∷ c) d h k e =
 
 -- a number has no comma
 number_comma : (x : List ℕ) (n most : ℕ) → Num x n most → HasNo 44 x
-number_comma x n most s = All-weaker IsDigit (λ b. b ≢ 44) (λ b d. omega arith) x (All-from_recursion IsDigit x s.digits)
+number_comma x n most s = all_digits (λ b. b ≢ 44) (λ b d. omega arith) x s.digits
 
 -- the id and the year of a pair stand before and behind the first comma
 pub pair_parts : (x id year : List ℕ) (p : ℕ × ℕ) → HasNo 44 id × (x ≡ id ++ 44 ∷ year) → SpellsPair x p → Num id p.0 last_id × Num year p.1 9999

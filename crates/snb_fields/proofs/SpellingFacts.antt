@@ -1,6 +1,6 @@
 -- A text spells one value of a column at most, and the canonical spelling of a value spells it.
 use Rattle.std.proofs.Common.{◌≡◌, ◌≢◌, ◌++◌, ◌∙◌, ◌∷◌, ◌<◌, ◌≤◌, ◌^◌, [], ℕ, List, refl, sym, ap, subst, map, length, arith, length-append, nat_eq, All}
-use Rattle.std.proofs.lemmas.List.Elements.{All-nil, All-append, All-cons, All-from_recursion, All-head, All-tail, All-weaker}
+use Rattle.std.proofs.lemmas.List.Elements.{All-nil, All-append, All-cons, All-head, All-tail}
 use Rattle.std.specs.Fmt.{decimal}
 use Rattle.std.specs.List.{AllByRecursion, join_with_byte}
 use Rattle.std.specs.Str.{bytes_eq}
@@ -14,6 +14,7 @@ use Rattle.snb_schema.specs.declared.column.Value.TheVariants.{Digits, SmallDigi
 use Rattle.snb_schema.specs.Columns.{Spells, SpellsAll, canonical_field, pair_text}
 use Rattle.snb_fields.specs.Laws.{OneList, OneValue}
 use Rattle.snb_schema.specs.Lines.{HasNo}
+use Rattle.snb_fields.proofs.CutFacts.{all_digits}
 use Rattle.snb_fields.proofs.Laws.{number_some}
 use Rattle.snb_fields.proofs.ListFacts.{IsElement, kept_listed, one_listed, own_listed}
 use Rattle.snb_fields.proofs.PairFacts.{OneNumber, one_pair}
@@ -68,7 +69,7 @@ own_number own x n most s = subst (λ (y : List ℕ). Num y n most) (own.only x 
 
 -- digits have no semicolon
 digits_uncut : (t : List ℕ) → AllByRecursion IsDigit t → HasNo 59 t
-digits_uncut t h = All-weaker IsDigit (λ b. b ≢ 59) (λ b d. omega arith) t (All-from_recursion IsDigit t h)
+digits_uncut = all_digits (λ b. b ≢ 59) (λ b d. omega arith)
 
 -- a text with a byte isn't empty
 not_empty : (t : List ℕ) → 0 < length t → t ≢ []

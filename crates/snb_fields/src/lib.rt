@@ -1,5 +1,5 @@
-//! The fields of a line, read by columns: what each spells, the first that spells nothing, and how a
-//! value is spelled on its own.
+//! The fields of a line, read by columns: what each spells, and the first that spells nothing; and the
+//! line of values, written from them.
 #![tactic(auto)]
 
 pub mod law;

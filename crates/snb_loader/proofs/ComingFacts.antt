@@ -6,7 +6,7 @@ use Rattle.snb_schema.specs.declared.file.FileId.{FileId}
 use Rattle.snb_schema.specs.declared.limits.TheConstants.{MAX_BYTES}
 use Rattle.snb_schema.specs.declared.refusal.Refusal.{Refusal}
 use Rattle.snb_schema.specs.declared.refusal.Refusal.TheVariants.{BadLine}
-use Rattle.snb_schema.specs.Input.{IsBeyond}
+use Rattle.snb_loader.specs.Input.{IsBeyond}
 use Rattle.snb_schema.specs.Lines.{lines}
 use Rattle.snb_lines.specs.Cut.{last_lines, rest_of, whole_lines}
 use Rattle.snb_lines.specs.Reading.{EndsBad, Reads, RefusesLine, Stops}

@@ -9,7 +9,7 @@ use Rattle.snb_schema.specs.declared.op.Op.{Op}
 use Rattle.snb_schema.specs.declared.refusal.Refusal.{Refusal}
 use Rattle.snb_schema.specs.declared.refusal.Refusal.TheVariants.{BadLine, OutOfOrder}
 use Rattle.snb_schema.specs.Faults.{OnBad}
-use Rattle.snb_schema.specs.Input.{AreLines, HasList, IsBadStreamLine, IsEarlier, IsInsertTooMany, IsOutOfOrder, NoFault, StreamFault, Then, Within, first_list, number_of, person_stream}
+use Rattle.snb_loader.specs.Input.{AreLines, HasList, IsBadStreamLine, IsEarlier, IsInsertTooMany, IsOutOfOrder, NoFault, StreamFault, Then, Within, first_list, number_of, person_stream}
 use Rattle.snb_schema.specs.LineFaults.{RefusesInsert, RefusesInsertLine, RefusesText}
 use Rattle.snb_schema.specs.Lines.{HasNoEnd, begins_with_mark, fields, filled, is_filled, lines}
 use Rattle.snb_schema.specs.UpdateLines.{IsLine, person_inserts}

@@ -17,7 +17,7 @@ use Rattle.snb_schema.specs.declared.op.Op.TheVariants.{AddPerson, LikePost, Lik
 use Rattle.snb_schema.specs.declared.op.OpKind.{OpKind}
 use Rattle.snb_schema.specs.declared.op.OpKind.TheVariants as kinds
 use Rattle.snb_schema.specs.Columns.{SpellsAll}
-use Rattle.snb_schema.specs.Input.{person_stream}
+use Rattle.snb_loader.specs.Input.{person_stream}
 use Rattle.snb_schema.specs.Plan.{IsOfPersonStream}
 use Rattle.snb_schema.specs.UpdateLines.{insert_columns, kind_number, kind_of, op_number, op_values, person_inserts}
 use Rattle.snb_lines.specs.Feeding.{at_begin}

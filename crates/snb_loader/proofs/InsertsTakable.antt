@@ -5,7 +5,7 @@ use Rattle.std.proofs.lemmas.List.{take_all, take_more, take-append-drop}
 use Rattle.snb_schema.specs.declared.limits.TheConstants.{MAX_ROWS}
 use Rattle.snb_schema.specs.declared.op.Line.{Line}
 use Rattle.snb_schema.specs.declared.refusal.Refusal.{Refusal}
-use Rattle.snb_schema.specs.Input.{first_list}
+use Rattle.snb_loader.specs.Input.{first_list}
 use Rattle.snb_schema.specs.Plan.{ArePlanned}
 use Rattle.snb_loader.specs.Inserts.{AreReadInserts, AreTakable, IsExcess, IsFirstExcess}
 

@@ -1,3 +1,4 @@
+pub mod Laws
 pub mod ComingFacts
 pub mod FileReading
 pub mod InsertsFaults

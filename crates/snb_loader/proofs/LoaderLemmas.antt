@@ -8,13 +8,13 @@ use Rattle.snb_schema.specs.declared.fault.Fault.TheVariants as fault
 use Rattle.snb_schema.specs.declared.limits.TheConstants.{MAX_BYTES}
 use Rattle.snb_schema.specs.declared.refusal.Refusal.{Refusal}
 use Rattle.snb_schema.specs.FileNames.{name_of}
-use Rattle.snb_schema.specs.Graph.{Graph}
-use Rattle.snb_schema.specs.Input.{person_file}
+use Rattle.snb_tables.specs.BuiltTables.{Graph}
+use Rattle.snb_loader.specs.Input.{person_file}
 use Rattle.snb_loader.specs.declared.load.Load.{Load}
 use Rattle.snb_loader.specs.declared.load.Load.TheVariants.{Refused, ReadFault, Memory}
 use Rattle.snb_schema.specs.Faults.{OnBad}
 use Rattle.snb_loader.specs.Loading.{OnRefused, load_for, PersonsOf, PersonsBad, PersonsLoaded, PersonsRefused}
-use Rattle.snb_loader.proofs.TakeLemmas.{if_some}
+use Rattle.snb_loader.proofs.Laws.{if_some}
 
 -- the first bytes of a file that is held
 abbrev pub Front : Files → List ℕ → List ℕ → ℕ → Type 0
@@ -26,17 +26,6 @@ on_refused_weaker (Ok a) P Q more h = tt
 on_refused_weaker (Err (Refused x)) P Q more h = more x h
 on_refused_weaker (Err ReadFault) P Q more h = tt
 on_refused_weaker (Err Memory) P Q more h = tt
-
--- the same of what stops the loading, whatever it was to give
-pub refused_weaker : (A B : Type 0) (load : Load) (P Q : Refusal → Type 0) → ((x : Refusal) → P x → Q x) → OnRefused {A = A} (Err load) P → OnRefused {A = B} (Err load) Q
-refused_weaker A B (Refused x) P Q more h = more x h
-refused_weaker A B ReadFault P Q more h = tt
-refused_weaker A B Memory P Q more h = tt
-
--- the refusal of a line is that of the loading
-pub refused_bad : (A B : Type 0) (fault : Fault) (P Q : Refusal → Type 0) → ((x : Refusal) → P x → Q x) → OnBad {A = A} (Err fault) P → OnRefused {A = B} (Err (load_for fault)) Q
-refused_bad A B (Bad x) P Q more h = more x h
-refused_bad A B fault.Memory P Q more h = tt
 
 pub persons_loaded : (contents : Option Files) (folder path taken bytes : List ℕ) (graph : Graph) (size rows : ℕ) → path ≡ folder ++ 47 ∷ name_of person_file → bytes ≡ taken →
     IfSome contents (λ files. Front files path taken MAX_BYTES) → ((whole : List ℕ) → bytes ≡ take (MAX_BYTES + 1) whole → PersonsOf whole graph size rows) →

@@ -16,8 +16,8 @@ use Rattle.snb_schema.specs.declared.table.Kind.TheVariants as kind
 use Rattle.snb_schema.specs.declared.table.Table.{Table}
 use Rattle.snb_schema.specs.declared.table.Table.TheVariants as table
 use Rattle.snb_schema.specs.Faults.{OnBad}
-use Rattle.snb_schema.specs.Graph.{Graph, HoldsRows, key_of_row}
-use Rattle.snb_schema.specs.Input.{AreRows, FirstFault, IsBadPersonLine, IsHeldTwice, IsRowTooMany, NoFault, PersonFault, Then, Within, number_of, person_file}
+use Rattle.snb_tables.specs.BuiltTables.{Graph, HoldsRows, key_of_row}
+use Rattle.snb_loader.specs.Input.{AreRows, FirstFault, IsBadPersonLine, IsHeldTwice, IsRowTooMany, NoFault, PersonFault, Then, Within, number_of, person_file}
 use Rattle.snb_schema.specs.LineFaults.{RefusesRowLine, RefusesText}
 use Rattle.snb_schema.specs.Lines.{HasNoEnd, begins_with_mark, data_lines, fields, filled, is_filled, lines}
 use Rattle.snb_schema.specs.RowLines.{IsRow}

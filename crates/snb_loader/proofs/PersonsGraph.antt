@@ -9,7 +9,7 @@ use Rattle.snb_schema.specs.declared.key.Key.TheVariants.{Node}
 use Rattle.snb_schema.specs.declared.row.Placed.{Placed}
 use Rattle.snb_schema.specs.declared.row.Row.{Row}
 use Rattle.snb_schema.specs.declared.table.Kind.TheVariants as kind
-use Rattle.snb_schema.specs.Graph.{Graph, HasGained, HoldsKey, HoldsRows, IsBuilt, IsGraph, IsHeldIn, all_rows, key_of_row, no_rows}
+use Rattle.snb_tables.specs.BuiltTables.{Graph, HasGained, HoldsKey, HoldsRows, IsBuilt, IsGraph, IsHeldIn, all_rows, key_of_row, no_rows}
 use Rattle.snb_loader.specs.Persons.{AreApart, IsPersonRow, SharesKey, rows_of}
 
 -- rows in another order hold the same keys

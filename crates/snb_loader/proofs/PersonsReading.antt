@@ -9,7 +9,7 @@ use Rattle.snb_schema.specs.declared.row.Row.{Row}
 use Rattle.snb_schema.specs.declared.row.Row.TheVariants as row
 use Rattle.snb_schema.specs.declared.table.Table.{Table}
 use Rattle.snb_schema.specs.declared.table.Table.TheVariants as table
-use Rattle.snb_schema.specs.Input.{person_file}
+use Rattle.snb_loader.specs.Input.{person_file}
 use Rattle.snb_schema.specs.Lines.{fields}
 use Rattle.snb_schema.specs.Layouts.{columns, shape}
 use Rattle.snb_schema.specs.RowLines.{IsWide, SpellsRow, row_shape}

@@ -2,7 +2,7 @@
 use Rattle.std.proofs.Common.{◌≡◌, ◌≢◌, ◌∙◌, ◌+◌, ℕ, true, List, [], ◌∷◌, ◌++◌, length, refl, sym, ap, subst, inl, inr, arith, append_assoc}
 use Rattle.snb_schema.specs.declared.file.FileId.{FileId}
 use Rattle.snb_schema.specs.declared.refusal.Refusal.{Refusal}
-use Rattle.snb_schema.specs.Input.{IsBeyond, NoFault, Within}
+use Rattle.snb_loader.specs.Input.{IsBeyond, NoFault, Within}
 use Rattle.snb_schema.specs.Lines.{is_filled}
 use Rattle.snb_lines.specs.Reading.{Reads, ReadsLine}
 

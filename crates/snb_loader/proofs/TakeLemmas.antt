@@ -7,16 +7,7 @@ use Rattle.std.specs.declared.alloc.Global.{Global}
 use Rattle.std.specs.Prelude.{Vec}
 use Rattle.snb_base.specs.Shelf.{Files, IsPiece}
 use Rattle.snb_loader.specs.Loading.{IsBegun, IsFileHead}
-
--- two facts of what there is, if there is something
-pub if_some_both : {A : Type 0} (o : Option A) (P Q R : A → Type 0) → ((a : A) → P a → Q a → R a) → IfSome o P → IfSome o Q → IfSome o R
-if_some_both None P Q R more p q = p
-if_some_both (Some a) P Q R more p q = more a p q
-
--- one fact
-pub if_some : {A : Type 0} (o : Option A) (P Q : A → Type 0) → ((a : A) → P a → Q a) → IfSome o P → IfSome o Q
-if_some None P Q more p = p
-if_some (Some a) P Q more p = more a p
+use Rattle.snb_loader.proofs.Laws.{if_some}
 
 -- before anything is read
 pub begun_nil : (files : Files) (name : List ℕ) → IsBegun files name []

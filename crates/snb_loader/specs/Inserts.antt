@@ -4,7 +4,7 @@ use Rattle.snb_schema.specs.declared.limits.TheConstants.{MAX_ROWS, MAX_TIME}
 use Rattle.snb_schema.specs.declared.op.Line.{Line}
 use Rattle.snb_schema.specs.declared.refusal.Refusal.{Refusal}
 use Rattle.snb_schema.specs.declared.refusal.Refusal.TheVariants.{BadLine, OutOfOrder}
-use Rattle.snb_schema.specs.Input.{first_list, person_stream}
+use Rattle.snb_loader.specs.Input.{first_list, person_stream}
 use Rattle.snb_schema.specs.Plan.{IsOfPersonStream}
 use Rattle.snb_schema.specs.UpdateLines.{IsOfTwo}
 use Rattle.snb_streams.specs.Updates.{Followed, RefusesUpdate, TakesInsert, never_ends}

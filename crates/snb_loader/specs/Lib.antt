@@ -3,3 +3,4 @@ pub mod Inserts
 pub mod Loading
 pub mod Persons
 pub mod Pieces
+pub mod Input

@@ -9,8 +9,8 @@ use Rattle.snb_schema.specs.declared.op.Line.{Line}
 use Rattle.snb_schema.specs.declared.refusal.Refusal.{Refusal}
 use Rattle.snb_schema.specs.declared.refusal.Refusal.TheVariants.{Absent}
 use Rattle.snb_schema.specs.declared.row.Row.{Row}
-use Rattle.snb_schema.specs.Graph.{Graph, HoldsRows}
-use Rattle.snb_schema.specs.Input.{AreLines, AreRows, FirstFault, NoFault, NoPersonHeader, PersonFault, StreamFault, Within, held_in, person_file, person_stream}
+use Rattle.snb_tables.specs.BuiltTables.{Graph, HoldsRows}
+use Rattle.snb_loader.specs.Input.{AreLines, AreRows, FirstFault, NoFault, NoPersonHeader, PersonFault, StreamFault, Within, held_in, person_file, person_stream}
 use Rattle.snb_schema.specs.Lines.{lines, filled, data_lines}
 use Rattle.snb_loader.specs.declared.load.Load.{Load}
 use Rattle.snb_loader.specs.declared.load.Load.TheVariants.{Refused, ReadFault, Memory}

@@ -10,8 +10,8 @@ use Rattle.snb_schema.specs.declared.row.Row.{Row}
 use Rattle.snb_schema.specs.declared.row.Row.TheVariants as row
 use Rattle.snb_schema.specs.declared.table.Table.{Table}
 use Rattle.snb_schema.specs.declared.table.Table.TheVariants as table
-use Rattle.snb_schema.specs.Graph.{IsHeldIn, key_of_row}
-use Rattle.snb_schema.specs.Input.{person_file}
+use Rattle.snb_tables.specs.BuiltTables.{IsHeldIn, key_of_row}
+use Rattle.snb_loader.specs.Input.{person_file}
 use Rattle.snb_lines.specs.Headed.{Passed, ends_without, unpassed}
 use Rattle.snb_csv.specs.Rows.{RefusesRow, TakesRow}
 use Rattle.snb_loader.specs.Coming.{Meanings}

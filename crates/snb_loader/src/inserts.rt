@@ -3,7 +3,7 @@
 ghost use Rattle.std.specs.Prelude.{◌≡◌, ◌+◌, ◌-◌, ◌≤◌, ℕ, [], List, length, take, IfOk, MatchOption, OnOk, Some, None};
 ghost use Rattle.snb_schema.specs.declared.limits.TheConstants.{MAX_BYTES};
 ghost use Rattle.snb_schema.specs.Faults.{OnBad};
-ghost use Rattle.snb_schema.specs.Input.{first_list, person_stream};
+ghost use Rattle.snb_loader.specs.Input.{first_list, person_stream};
 ghost use Rattle.snb_schema.specs.Plan.{ArePlanned};
 ghost use Rattle.snb_loader.specs.Coming.{Comes};
 ghost use Rattle.snb_loader.specs.Inserts.{AreReadInserts, AreTakable, IsFirstExcess, at_start, counted_as, insert_meanings};

@@ -4,7 +4,7 @@ ghost use Rattle.std.specs.Prelude.{◌≡◌, ℕ, ◌+◌, ◌-◌, ◌≤◌,
 ghost use Rattle.snb_base.specs.Shelf.{Rose};
 ghost use Rattle.snb_schema.specs.declared.limits.TheConstants.{MAX_BYTES};
 ghost use Rattle.snb_schema.specs.FileNames.{name_of};
-ghost use Rattle.snb_schema.specs.Input.{stream_of};
+ghost use Rattle.snb_loader.specs.Input.{stream_of};
 ghost use Rattle.snb_loader.specs.Loading.{PersonsBad, PersonsLoaded, PersonsOf, PersonsRefused, StreamBad, StreamOf, OnReadFault, OnRefused, load_for};
 ghost use Rattle.snb_schema.specs.Plan.{ArePlanned};
 

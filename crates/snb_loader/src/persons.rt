@@ -3,8 +3,8 @@
 ghost use Rattle.std.specs.Prelude.{◌≡◌, ◌+◌, ◌-◌, ◌≤◌, ℕ, [], List, length, take, All, IfOk, OnOk, Some, None};
 ghost use Rattle.snb_schema.specs.declared.limits.TheConstants.{MAX_BYTES, MAX_ROWS};
 ghost use Rattle.snb_schema.specs.Faults.{OnBad};
-ghost use Rattle.snb_schema.specs.Graph.{HoldsRows, IsGraph};
-ghost use Rattle.snb_schema.specs.Input.{person_file};
+ghost use Rattle.snb_tables.specs.BuiltTables.{HoldsRows, IsGraph};
+ghost use Rattle.snb_loader.specs.Input.{person_file};
 ghost use Rattle.snb_loader.specs.Coming.{Comes};
 ghost use Rattle.snb_loader.specs.Loading.{OnReadFault, OnRefused, PersonsBad, PersonsOf};
 ghost use Rattle.snb_loader.specs.Persons.{AreApart, IsFirstClash, IsPersonRow, at_first, row_meanings, rows_of};

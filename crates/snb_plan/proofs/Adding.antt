@@ -13,7 +13,7 @@ use Rattle.snb_schema.specs.declared.op.Op.{Op}
 use Rattle.snb_schema.specs.declared.op.Op.TheVariants.{AddFriend}
 use Rattle.snb_schema.specs.declared.table.Kind.TheVariants.{Place, TagClass, Tag, Organisation, Person, Forum, Post, Comment}
 use Rattle.snb_schema.specs.Closed.{key_of}
-use Rattle.snb_schema.specs.Graph.{pair_cmp}
+use Rattle.snb_schema.specs.Pairs.{pair_cmp}
 use Rattle.snb_plan.specs.declared.closed.Added.{Added}
 use Rattle.snb_plan.specs.Added.{time_of, HasAdded}
 

@@ -7,7 +7,7 @@ use Rattle.snb_schema.specs.declared.key.Key.TheVariants.{Node, Knows}
 use Rattle.snb_schema.specs.declared.op.Line.{Line}
 use Rattle.snb_schema.specs.declared.table.Kind.TheVariants.{Person}
 use Rattle.snb_schema.specs.Closed.{key_of, persons_of, IsLate}
-use Rattle.snb_schema.specs.Graph.{pair_cmp}
+use Rattle.snb_schema.specs.Pairs.{pair_cmp}
 use Rattle.snb_plan.specs.declared.closed.Added.{Added}
 
 -- the t that is kept for a key

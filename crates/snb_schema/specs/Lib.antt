@@ -5,9 +5,7 @@ pub mod Faults
 pub mod FileNames
 pub mod Frequencies
 pub mod FrequencyPieces
-pub mod Graph
 pub mod History
-pub mod Input
 pub mod Lanes
 pub mod Layouts
 pub mod Laws
@@ -26,3 +24,11 @@ pub mod ScreenTexts
 pub mod UpdateLines
 pub mod Violation
 pub mod Worked
+pub mod Awaiting
+pub mod Inserts
+pub mod References
+pub mod RowKeys
+pub mod TableOrder
+pub mod TableRows
+pub mod WorkedInserts
+pub mod Pairs

@@ -1,5 +1,5 @@
 -- The lines of the tables: a relation between one line and its row, and what is wrong with a line that has none.
-use Rattle.std.specs.Prelude.{◌≡◌, ◌≢◌, ◌+◌, ◌<◌, ◌⊎◌, ℕ, min, max, nat_lt, Bool, true, false, List, [], ◌∷◌, ◌++◌, length, map, IsUtf8}
+use Rattle.std.specs.Prelude.{◌≡◌, ◌≢◌, ◌+◌, ◌⊎◌, ℕ, min, max, nat_lt, Bool, true, false, List, [], ◌∷◌, ◌++◌, length, map, IsUtf8}
 use Rattle.std.specs.List.{join_with_byte}
 use Rattle.snb_base.specs.Spellings.{SpellsId}
 use Rattle.snb_schema.specs.declared.column.Value.{Value}

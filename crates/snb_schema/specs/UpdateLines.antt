@@ -6,7 +6,7 @@ use Rattle.snb_schema.specs.declared.column.Column.{Column}
 use Rattle.snb_schema.specs.declared.column.Column.TheVariants.{Number, Small, OptionalId, Date, Day, Words, TextList, IdList, PairList}
 use Rattle.snb_schema.specs.declared.column.Value.{Value}
 use Rattle.snb_schema.specs.declared.column.Value.TheVariants.{Digits, SmallDigits, NoId, Letters, Texts, Ids, Pairs}
-use Rattle.snb_schema.specs.declared.limits.TheConstants.{MAX_ID, MAX_LENGTH, MAX_TIME}
+use Rattle.snb_schema.specs.declared.limits.TheConstants.{MAX_LENGTH, MAX_TIME}
 use Rattle.snb_schema.specs.declared.op.Op.{Op}
 use Rattle.snb_schema.specs.declared.op.Op.TheVariants.{AddPerson, LikePost, LikeComment, AddForum, AddMember, AddPost, AddComment, AddFriend}
 use Rattle.snb_schema.specs.declared.op.OpKind.{OpKind}

@@ -6,7 +6,7 @@ use Rattle.snb_schema.specs.declared.event.Event.{Event}
 use Rattle.snb_schema.specs.declared.event.Event.TheVariants.{Start, Finish}
 use Rattle.snb_schema.specs.Schedule.{Schedule}
 
--- a person's insert, due at once, and a friendship
+-- a person's insert, due at once
 abbrev pub person : ℕ → ℕ → ℕ → Step
 person lane place t = record { lane = lane; place = place; t = t; t_d = 0; due = 0; dependency = true; dependent = false; query = false }
 

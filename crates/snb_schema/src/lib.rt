@@ -27,3 +27,4 @@ pub mod table;
 #[cfg(test)]
 mod tests;
 pub mod worked;
+pub mod worked_inserts;

@@ -3,7 +3,7 @@
 use snb_base::text::Text;
 
 /// A row of the table place: a city, a country or a continent, as its kind says.
-#[derive(Drop)]
+#[derive(Clone, Drop)]
 pub struct Place {
     /// Its key.
     pub id: u64,
@@ -13,7 +13,7 @@ pub struct Place {
 }
 
 /// A row of the table tagclass or of the table tag.
-#[derive(Drop)]
+#[derive(Clone, Drop)]
 pub struct Named {
     /// Its key.
     pub id: u64,
@@ -22,7 +22,7 @@ pub struct Named {
 }
 
 /// A row of the table organisation: a company or a university, as its kind says.
-#[derive(Drop)]
+#[derive(Clone, Drop)]
 pub struct Organisation {
     /// Its key.
     pub id: u64,
@@ -32,7 +32,7 @@ pub struct Organisation {
 }
 
 /// A row of the table forum.
-#[derive(Drop)]
+#[derive(Clone, Drop)]
 pub struct Forum {
     /// Its key.
     pub id: u64,
@@ -42,7 +42,7 @@ pub struct Forum {
 }
 
 /// A row of the table post. No comment has the same id.
-#[derive(Drop)]
+#[derive(Clone, Drop)]
 pub struct Post {
     /// Its key.
     pub id: u64,
@@ -60,7 +60,7 @@ pub struct Post {
 }
 
 /// A row of the table comment. No post has the same id.
-#[derive(Drop)]
+#[derive(Clone, Drop)]
 pub struct Comment {
     /// Its key.
     pub id: u64,

@@ -3,7 +3,7 @@
 use snb_base::text::Text;
 
 /// A row of the table person.
-#[derive(Drop)]
+#[derive(Clone, Drop)]
 pub struct Person {
     /// Its key.
     pub id: u64,

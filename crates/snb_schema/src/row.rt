@@ -7,7 +7,7 @@ use snb_base::text::Text;
 
 /// A row of one of the tables. An edge tells its table, and its two ends in the order of the
 /// table's name.
-#[derive(Drop)]
+#[derive(Clone, Drop)]
 pub enum Row {
     /// A row of the table place.
     Place {

@@ -1,5 +1,5 @@
 -- Values of a line that don't go together.
-use Rattle.std.proofs.Common.{◌≡◌, ◌≢◌, ◌+◌, ◌-◌, ◌<◌, ◌≤◌, ◌⊎◌, ◌∙◌, ℕ, zero, suc, Bool, true, false, cond, Option, Some, None, List, [], ◌∷◌, take, drop, get_or, refl, sym, ap, subst, inl, inr, arith}
+use Rattle.std.proofs.Common.{◌≡◌, ◌≢◌, ◌+◌, ◌-◌, ◌<◌, ◌≤◌, ◌⊎◌, ◌∙◌, ℕ, zero, suc, Bool, true, false, cond, Some, None, List, [], ◌∷◌, take, drop, get_or, refl, sym, ap, subst, inl, inr, arith}
 use Rattle.std.proofs.lemmas.Bool.{cases_lt, eqb-true, eq-eqb}
 use Rattle.std.proofs.lemmas.List.{get_or-drop}
 use Rattle.snb_base.specs.Spellings.{SpellsId, last_id}

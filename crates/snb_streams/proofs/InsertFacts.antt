@@ -33,13 +33,7 @@ eight_on vs = simp drop-drop
 -- an insert is of the kind that it is made for
 made_kind : (kind : OpKind) (vs : List Value) → kind_of (op_by kind vs) ≡ kind
 made_kind kinds.AddPerson vs = refl
-made_kind kinds.LikePost vs = refl
-made_kind kinds.LikeComment vs = refl
-made_kind kinds.AddForum vs = refl
-made_kind kinds.AddMember vs = refl
-made_kind kinds.AddPost vs = refl
-made_kind kinds.AddComment vs = refl
-made_kind kinds.AddFriend vs = refl
+made_kind kind vs = refl
 
 -- and has the values that it is made of
 made_values : (kind : OpKind) (fs : List (List ℕ)) (vs : List Value) → SpellsAll (line_columns kind) fs vs → clash_at kind vs ≡ None → op_values (op_by kind (drop 3 vs)) ≡ taken (insert_columns kind) (drop 3 vs)

@@ -1,5 +1,5 @@
 -- The query that is made of the values of a line, and what a line is refused for.
-use Rattle.std.proofs.Common.{◌≡◌, ◌≢◌, ◌∙◌, ◌+◌, ◌≤◌, ℕ, true, Bool, List, length, take, refl, sym, ap, subst, inl, inr, arith}
+use Rattle.std.proofs.Common.{◌≡◌, ◌≢◌, ◌∙◌, ◌+◌, ◌≤◌, ℕ, List, length, take, refl, sym, ap, subst, inl, inr, arith}
 use Rattle.std.proofs.lemmas.List.{take_all}
 use Rattle.snb_schema.specs.declared.column.Column.{Column}
 use Rattle.snb_schema.specs.declared.column.Value.{Value}

@@ -1,15 +1,14 @@
 -- Each text is the line of an insert or has a bad column.
-use Rattle.std.proofs.Common.{◌≡◌, ◌≢◌, ◌⊎◌, ◌∙◌, ◌∷◌, [], ℕ, zero, suc, true, false, List, refl, sym, inl, inr, arith}
+use Rattle.std.proofs.Common.{◌≢◌, ◌⊎◌, ◌∙◌, ◌∷◌, [], ℕ, List, refl, sym, inl, inr, arith}
 use Rattle.std.specs.List.{Contains}
 use Rattle.std.specs.Str.{IsUtf8, is_utf8}
 use Rattle.std.proofs.lemmas.Bool.{cases_Bool, cases_eq}
 use Rattle.std.proofs.lemmas.List.Elements.{All-cons, All-head, All-nil, All-tail}
 use Rattle.std.proofs.lemmas.Str.{IsUtf8-from_is_utf8, is_utf8-from_IsUtf8}
-use Rattle.snb_schema.specs.declared.op.Op.{Op}
 use Rattle.snb_schema.specs.declared.op.OpKind.{OpKind}
 use Rattle.snb_schema.specs.declared.op.OpKind.TheVariants as kinds
 use Rattle.snb_schema.specs.Lines.{HasNoEnd, begins_with_mark, fields}
-use Rattle.snb_schema.specs.UpdateLines.{IsBadLine, IsLine, all_inserts, kind_of}
+use Rattle.snb_schema.specs.UpdateLines.{all_inserts, kind_of}
 use Rattle.snb_streams.specs.Laws.{InsertOrColumn, InsertsAreRight, LineOrColumn, LinesAreRight, OneBadLine, OneFault}
 
 -- each kind is one of the eight

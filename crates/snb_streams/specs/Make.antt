@@ -1,7 +1,7 @@
 -- The insert that has these values. Cited by contracts of private functions alone.
-use Rattle.std.specs.Prelude.{ℕ, Bool, true, false, List, ◌∷◌, drop, Option, Some, None, if◌then◌else◌}
+use Rattle.std.specs.Prelude.{ℕ, Bool, true, false, List, [], ◌∷◌, drop, Option, Some, None, if◌then◌else◌}
 use Rattle.snb_schema.specs.declared.column.Value.{Value}
-use Rattle.snb_schema.specs.declared.column.Value.TheVariants.{Digits, NoId}
+use Rattle.snb_schema.specs.declared.column.Value.TheVariants.{Digits, SmallDigits, NoId, Letters, Texts, Ids, Pairs}
 use Rattle.snb_schema.specs.declared.op.Op.{Op}
 use Rattle.snb_schema.specs.declared.op.Op.TheVariants.{AddPerson, LikePost, LikeComment, AddForum, AddMember, AddPost, AddComment, AddFriend}
 use Rattle.snb_schema.specs.declared.op.OpKind.{OpKind}
@@ -47,9 +47,28 @@ op_by kinds.AddFriend vs = AddFriend (first_number vs) (first_number (drop 1 vs)
 
 -- the first two values are two ids or none
 abbrev pub are_no_parent : List Value → Bool
+are_no_parent [] = false
+are_no_parent (Digits post ∷ []) = false
 are_no_parent (Digits post ∷ Digits comment ∷ rest) = true
+are_no_parent (Digits post ∷ SmallDigits n ∷ rest) = false
+are_no_parent (Digits post ∷ NoId ∷ rest) = false
+are_no_parent (Digits post ∷ Letters text ∷ rest) = false
+are_no_parent (Digits post ∷ Texts texts ∷ rest) = false
+are_no_parent (Digits post ∷ Ids ids ∷ rest) = false
+are_no_parent (Digits post ∷ Pairs pairs ∷ rest) = false
+are_no_parent (NoId ∷ []) = false
+are_no_parent (NoId ∷ Digits comment ∷ rest) = false
+are_no_parent (NoId ∷ SmallDigits n ∷ rest) = false
 are_no_parent (NoId ∷ NoId ∷ rest) = true
-are_no_parent _ = false
+are_no_parent (NoId ∷ Letters text ∷ rest) = false
+are_no_parent (NoId ∷ Texts texts ∷ rest) = false
+are_no_parent (NoId ∷ Ids ids ∷ rest) = false
+are_no_parent (NoId ∷ Pairs pairs ∷ rest) = false
+are_no_parent (SmallDigits n ∷ rest) = false
+are_no_parent (Letters text ∷ rest) = false
+are_no_parent (Texts texts ∷ rest) = false
+are_no_parent (Ids ids ∷ rest) = false
+are_no_parent (Pairs pairs ∷ rest) = false
 
 -- two of the first values of a line with an insert of this kind don't go together, and the second is in this column: a friendship with
 -- oneself, or a comment with no parent or two

@@ -15,7 +15,7 @@ use Rattle.std.proofs.lemmas.List.Elements.{All-cons, All-contains}
 use Rattle.std.proofs.lemmas.List.Sorted.{IsPermutation-refl, IsPermutation-cons, IsPermutation-trans, IsPermutation-sym, IsPermutation-map, IsPermutation-append_left, IsPermutation-append_right, IsPermutation-append_comm, IsPermutation-middle, IsPermutation-to_front, All-permutation}
 use Rattle.snb_schema.specs.declared.key.Key.{Key}
 use Rattle.snb_schema.specs.declared.row.Row.{Row}
-use Rattle.snb_schema.specs.Graph.{key_of_row, IsHeldIn}
+use Rattle.snb_tables.specs.BuiltTables.{key_of_row, IsHeldIn}
 
 -- what a test doesn't find isn't there
 pub none_from_test : {X : Type 0} (o : Option X) → is_some o ≡ false → o ≡ None

@@ -17,7 +17,8 @@ use Rattle.snb_schema.specs.declared.row.Row.{Row}
 use Rattle.snb_schema.specs.declared.row.Row.TheVariants as row
 use Rattle.snb_schema.specs.declared.table.Kind.TheVariants as kind
 use Rattle.snb_schema.specs.declared.table.Table.TheVariants as table
-use Rattle.snb_schema.specs.Graph.{Graph, IsGraph, HoldsKey, IsHeldIn, HasGained, key_of_row, pair_cmp}
+use Rattle.snb_schema.specs.Pairs.{pair_cmp}
+use Rattle.snb_tables.specs.BuiltTables.{Graph, IsGraph, HoldsKey, IsHeldIn, HasGained, key_of_row}
 use Rattle.snb_tables.proofs.Entries.{name_from_row, found_iff_row, IsPermutation-gained, All-insert_entry}
 
 -- the row of an entry of persons

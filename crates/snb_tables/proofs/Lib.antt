@@ -1,3 +1,4 @@
 pub mod Entries
 pub mod Held
 pub mod Writing
+pub mod SortedLemmas

@@ -2,7 +2,7 @@
 use Rattle.std.proofs.Common.{◌≡◌, ℕ, List, [], ◌∷◌, ◌++◌, map, sym, ap, ◌∙◌, append_assoc, append-nil}
 use Rattle.std.specs.List.{flat_map}
 use Rattle.snb_schema.specs.declared.row.Row.{Row}
-use Rattle.snb_schema.specs.Graph.{row_line}
+use Rattle.snb_tables.specs.BuiltTables.{row_line}
 
 -- a part of all the lines is appended to the old bytes, and the lines of what is left are the others
 abbrev pub IsWritten : List ℕ → List ℕ → List Row → List ℕ → Type 0

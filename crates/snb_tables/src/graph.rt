@@ -2,7 +2,7 @@
 
 ghost use Rattle.std.specs.Prelude.{◌≡◌, ◌<◌, ◌++◌, ◌↔◌, ℕ, List, Some, Err, IsTrue, OnOk, OnErr, length};
 ghost use Rattle.std.specs.List.{flat_map};
-ghost use Rattle.snb_schema.specs.Graph.{no_rows, all_rows, rows, row_line, key_of_row, HasGained, HoldsKey, IsBuilt, IsGraph};
+ghost use Rattle.snb_tables.specs.BuiltTables.{no_rows, all_rows, rows, row_line, key_of_row, HasGained, HoldsKey, IsBuilt, IsGraph};
 ghost use Rattle.snb_schema.specs.declared.key.Key.{Key};
 ghost use Rattle.snb_schema.specs.declared.key.Key.TheVariants.{Node, Knows};
 ghost use Rattle.snb_schema.specs.declared.row.Row.TheVariants as row;
@@ -38,7 +38,7 @@ pub struct Graph {
 }
 
 impl Model for Graph {
-    ghost use Rattle.snb_schema.specs.Graph.{Graph as AnyGraph, IsGraph};
+    ghost use Rattle.snb_tables.specs.BuiltTables.{Graph as AnyGraph, IsGraph};
 
     ghost Value = { AnyGraph };
 
@@ -181,7 +181,7 @@ impl Graph {
 }
 
 impl Held for Graph {
-    ghost use Rattle.snb_schema.specs.Graph.{HoldsKey};
+    ghost use Rattle.snb_tables.specs.BuiltTables.{HoldsKey};
 
     ghost holds = { HoldsKey };
 

@@ -2,6 +2,8 @@
 #![tactic(auto)]
 
 pub mod graph;
+pub mod law;
 mod row_lines;
 #[cfg(test)]
 mod tests;
+pub mod worked;

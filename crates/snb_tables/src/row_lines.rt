@@ -1,7 +1,7 @@
 //! Rows as lines of the final text.
 
 ghost use Rattle.std.specs.Prelude.{◌≡◌, ◌++◌, OnOk, OnErr};
-ghost use Rattle.snb_schema.specs.Graph.{row_line};
+ghost use Rattle.snb_tables.specs.BuiltTables.{row_line};
 ghost use Rattle.snb_schema.specs.declared.row.Row.TheVariants as row;
 ghost use Rattle.snb_schema.specs.declared.table.Table.TheVariants as table;
 

@@ -1,7 +1,7 @@
 //! Small graphs of persons and friendships.
 
 ghost use Rattle.std.specs.Prelude.{◌<◌, IfOk};
-ghost use Rattle.snb_schema.specs.Graph.{IsBuilt};
+ghost use Rattle.snb_tables.specs.BuiltTables.{IsBuilt};
 
 use crate::graph::{Graph, Insert};
 use snb_base::text::Text;

@@ -10,7 +10,7 @@ use Rattle.snb_schema.specs.declared.op.Line.{Line}
 use Rattle.snb_schema.specs.declared.row.Row.{Row}
 use Rattle.snb_schema.specs.declared.table.Kind.TheVariants as kind
 use Rattle.snb_schema.specs.Closed.{key_of, persons_of, IsTaken, IsMet, IsFirstLacking, IsWrong, IsFirstWrong, IsClosed}
-use Rattle.snb_schema.specs.Graph.{Graph, HasGained, HoldsKey, HoldsRows, IsHeldIn, all_rows}
+use Rattle.snb_tables.specs.BuiltTables.{Graph, HasGained, HoldsKey, HoldsRows, IsHeldIn, all_rows}
 
 -- rows in another order hold the same keys
 held_moved : (rows others : List Row) (key : Key) → IsPermutation rows others → IsHeldIn rows key → IsHeldIn others key

@@ -4,8 +4,8 @@ use Rattle.snb_base.specs.Shelf.{Files}
 use Rattle.snb_schema.specs.declared.op.Line.{Line}
 use Rattle.snb_schema.specs.declared.refusal.Refusal.{Refusal}
 use Rattle.snb_schema.specs.Closed.{IsClosed, IsFirstWrong}
-use Rattle.snb_schema.specs.Graph.{Graph, HoldsKey, IsHeldIn}
-use Rattle.snb_schema.specs.Input.{FilesRefuse, FirstFault, NoFault, Refuses, RefusesHeld, held_in, person_file, person_stream, stream_of}
+use Rattle.snb_tables.specs.BuiltTables.{Graph, HoldsKey, IsHeldIn}
+use Rattle.snb_loader.specs.Input.{FilesRefuse, FirstFault, NoFault, Refuses, RefusesHeld, held_in, person_file, person_stream, stream_of}
 use Rattle.snb_schema.specs.Lines.{data_lines, lines}
 use Rattle.snb_loader.specs.Loading.{PersonsBad, PersonsLoaded, PersonsRefused, StreamBad, StreamOf}
 use Rattle.snb_tool.specs.Running.{IsLoaded}

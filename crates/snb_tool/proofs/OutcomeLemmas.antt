@@ -7,15 +7,15 @@ use Rattle.snb_base.specs.Shelf.{Files}
 use Rattle.snb_schema.specs.declared.op.Line.{Line}
 use Rattle.snb_schema.specs.declared.refusal.Refusal.{Refusal}
 use Rattle.snb_schema.specs.declared.event.Event.{Event}
-use Rattle.snb_schema.specs.Graph.{Graph, all_rows, final_text}
+use Rattle.snb_tables.specs.BuiltTables.{Graph, all_rows, final_text}
 use Rattle.snb_schema.specs.RunTexts.{log_text, no_answers_text}
-use Rattle.snb_schema.specs.Input.{Refuses}
+use Rattle.snb_loader.specs.Input.{Refuses}
 use Rattle.snb_schema.specs.ScreenTexts.{refusal_text, summary_text, usage_text}
 use Rattle.snb_tool.specs.Outcome.{IsRunCut, IsOtherLine, IsRun, Wrote, run_texts}
 use Rattle.snb_tool.specs.Running.{IsLoaded, IsRunOutput}
 use Rattle.snb_tool.specs.Output.{IsWrittenSoFar, on_screen, size_of}
 use Rattle.snb_tool.specs.Words.{IsRunLine}
-use Rattle.snb_loader.proofs.TakeLemmas.{if_some}
+use Rattle.snb_loader.proofs.Laws.{if_some}
 
 -- what holds of all files holds of those that are told
 if_some_always : (contents : Option Files) (P : Files → Type 0) → ((files : Files) → P files) → IfSome contents P

@@ -4,14 +4,14 @@ use Rattle.std.proofs.Common.{◌≡◌, ◌+◌, Bool, true, false, ℕ, List, 
 use Rattle.snb_base.specs.Shelf.{Files}
 use Rattle.snb_schema.specs.declared.file.FileId.{FileId}
 use Rattle.snb_schema.specs.declared.refusal.Refusal.{Refusal}
-use Rattle.snb_schema.specs.Input.{FilesRefuse, AreLines, AreRows, FirstFault, HasList, IsBadPersonLine, IsBadStreamLine, IsHeldTwice, IsInsertTooMany, IsNotClosed, IsOutOfOrder, IsRowTooMany, NoPersonHeader, PersonFault, Refuses, RefusesHeld, StreamFault, Then, Within, first_list, held_in, number_of, person_file, person_stream, stream_of}
+use Rattle.snb_loader.specs.Input.{FilesRefuse, AreLines, AreRows, FirstFault, HasList, IsBadPersonLine, IsBadStreamLine, IsHeldTwice, IsInsertTooMany, IsNotClosed, IsOutOfOrder, IsRowTooMany, NoPersonHeader, PersonFault, Refuses, RefusesHeld, StreamFault, Then, Within, first_list, held_in, number_of, person_file, person_stream, stream_of}
 use Rattle.snb_schema.specs.declared.key.Key.{Key}
 use Rattle.snb_schema.specs.declared.op.Line.{Line}
 use Rattle.snb_schema.specs.declared.refusal.Refusal.TheVariants.{Unmet}
 use Rattle.snb_schema.specs.declared.row.Row.{Row}
 use Rattle.snb_schema.specs.declared.table.Kind.TheVariants as kind
 use Rattle.snb_schema.specs.Closed.{persons_of, IsMet, IsFirstLacking, IsWrong, IsFirstWrong}
-use Rattle.snb_schema.specs.Graph.{IsHeldIn}
+use Rattle.snb_tables.specs.BuiltTables.{IsHeldIn}
 use Rattle.snb_schema.specs.Lines.{data_lines, lines}
 use Rattle.std.specs.List.{All}
 use Rattle.std.proofs.Math.Seq.{get_or-append_seam}

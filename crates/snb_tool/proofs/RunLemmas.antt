@@ -14,7 +14,7 @@ use Rattle.snb_schema.specs.declared.op.Op.TheVariants.{AddPerson, LikePost, Lik
 use Rattle.snb_schema.specs.declared.row.Row.{Row}
 use Rattle.snb_schema.specs.declared.step.Step.{Step}
 use Rattle.snb_schema.specs.Closed.{key_of, IsTaken, IsClosed}
-use Rattle.snb_schema.specs.Graph.{Graph, HoldsKey, all_rows, key_of_row, rows_of}
+use Rattle.snb_tables.specs.BuiltTables.{Graph, HoldsKey, all_rows, key_of_row, rows_of}
 use Rattle.snb_schema.specs.Plan.{adds_person, plan_of, ArePlanned}
 use Rattle.snb_schema.specs.Schedule.{IsTimely, no_step, step_of}
 use Rattle.snb_plan.proofs.Laws.{plan_length, plan_times, planned_plan}
@@ -99,7 +99,7 @@ rows_after lines old graph new count d lt same added =
 -- the plan of inserts that are closed is timely
 pub plan_timely : (xs : List Line) (holds : Key → Type 0) → ArePlanned xs → IsClosed holds xs → IsTimely (plan_of xs)
 plan_timely xs holds planned closed =
-    planned_is_timely (plan_of xs) (planned_plan xs planned)
+    planned_is_timely (plan_of xs) (planned_plan xs planned.with_times)
     (λ k waits. elim (cases_lt k (length xs)) [
       | inl lt ↦ below xs closed k lt waits
       | inr past ↦ absurd (

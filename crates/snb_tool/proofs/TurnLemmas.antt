@@ -14,7 +14,7 @@ use Rattle.snb_schema.specs.declared.event.Event.TheVariants.{Start, Finish, Hal
 use Rattle.snb_schema.specs.declared.limits.TheConstants.{MAX_AT}
 use Rattle.snb_schema.specs.declared.op.Line.{Line}
 use Rattle.snb_schema.specs.Closed.{key_of, IsClosed}
-use Rattle.snb_schema.specs.Graph.{Graph, HoldsKey, IsGraph, all_rows}
+use Rattle.snb_tables.specs.BuiltTables.{Graph, HoldsKey, IsGraph, all_rows}
 use Rattle.snb_schema.specs.History.{started, finished, halted, hand, last}
 use Rattle.snb_schema.specs.Plan.{plan_of, ArePlanned}
 use Rattle.snb_schema.specs.Rules.{Fits, IsFront, IsLegal, MayAct, V1}

@@ -1,5 +1,5 @@
 -- What a run of a plan leaves. Cited by contracts of private functions alone.
-use Rattle.std.specs.Prelude.{◌≡◌, ℕ, min, List, ◌++◌, All, Option}
+use Rattle.std.specs.Prelude.{◌≡◌, ℕ, min, List, [], ◌++◌, All, Option}
 use Rattle.std.specs.List.{flat_map}
 use Rattle.std.specs.Option.{IfSome}
 use Rattle.snb_schema.specs.declared.event.Event.{Event}
@@ -7,14 +7,14 @@ use Rattle.snb_schema.specs.declared.event.Event.TheVariants.{Start, Finish, Hal
 use Rattle.snb_schema.specs.declared.limits.TheConstants.{MAX_AT}
 use Rattle.snb_schema.specs.declared.op.Line.{Line}
 use Rattle.snb_schema.specs.declared.row.Row.{Row}
-use Rattle.snb_schema.specs.Graph.{Graph, HoldsRows, IsHeldIn, rows_of}
+use Rattle.snb_tables.specs.BuiltTables.{Graph, HoldsRows, IsHeldIn, rows_of}
 use Rattle.snb_schema.specs.Plan.{plan_of}
 use Rattle.snb_schema.specs.Rules.{IsLegal, IsComplete}
 use Rattle.snb_base.specs.Outbox.{Written}
 use Rattle.snb_base.specs.Shelf.{Files}
 use Rattle.snb_schema.specs.declared.refusal.Refusal.{Refusal}
 use Rattle.snb_schema.specs.Closed.{IsClosed}
-use Rattle.snb_schema.specs.Input.{IsInput, Refuses}
+use Rattle.snb_loader.specs.Input.{IsInput, Refuses}
 use Rattle.snb_tool.specs.Outcome.{IsAt, run_texts}
 use Rattle.snb_tool.specs.declared.deliver.Output.{Output}
 

@@ -6,7 +6,7 @@ use Rattle.snb_schema.specs.declared.op.Line.{Line}
 use Rattle.snb_schema.specs.declared.op.Op.{Op}
 use Rattle.snb_schema.specs.declared.row.Row.{Row}
 use Rattle.snb_schema.specs.Closed.{IsClosed}
-use Rattle.snb_schema.specs.Graph.{Graph, IsGraph, HasGained, HoldsKey, all_rows, rows_of}
+use Rattle.snb_tables.specs.BuiltTables.{Graph, IsGraph, HasGained, HoldsKey, all_rows, rows_of}
 use Rattle.snb_schema.specs.History.{started, finished, halted, hand}
 use Rattle.snb_schema.specs.Plan.{plan_of}
 use Rattle.snb_schema.specs.Rules.{IsLegal}

@@ -1,7 +1,7 @@
 //! The final graph as text.
 
 ghost use Rattle.std.specs.Prelude.{◌≡◌, ◌++◌, IfOk, OnOk};
-ghost use Rattle.snb_schema.specs.Graph.{final_text, section};
+ghost use Rattle.snb_tables.specs.BuiltTables.{final_text, section};
 ghost use Rattle.snb_schema.specs.FileNames.{table_text};
 ghost use Rattle.snb_schema.specs.ScreenTexts.{summary_text};
 

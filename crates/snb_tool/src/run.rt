@@ -2,7 +2,7 @@
 
 ghost use Rattle.std.specs.Prelude.{◌≡◌, ◌≢◌, ◌∷◌, [], true, max, min, IfOk, OnOk};
 ghost use Rattle.snb_schema.specs.Closed.{key_of, IsClosed};
-ghost use Rattle.snb_schema.specs.Graph.{Graph as AnyGraph, rows_of, HoldsKey, IsBuilt, IsGraph};
+ghost use Rattle.snb_tables.specs.BuiltTables.{Graph as AnyGraph, rows_of, HoldsKey, IsBuilt, IsGraph};
 ghost use Rattle.snb_schema.specs.Plan.{adds_person, plan_of, ArePlanned, IsOfPersonStream};
 ghost use Rattle.snb_schema.specs.UpdateLines.{IsOfTwo};
 ghost use Rattle.snb_schema.specs.declared.row.Row.TheVariants as row;

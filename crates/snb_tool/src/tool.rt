@@ -3,11 +3,11 @@
 ghost use Rattle.std.specs.Prelude.{◌≡◌, ℕ, ◌<◌, ◌≤◌, ◌⊎◌, List, length, IfOk, IfSome};
 ghost use Rattle.snb_base.specs.Outbox.{Written as Bytes};
 ghost use Rattle.snb_base.specs.Shelf.{Rose};
-ghost use Rattle.snb_schema.specs.Input.{Refuses};
+ghost use Rattle.snb_loader.specs.Input.{Refuses};
 ghost use Rattle.snb_schema.specs.declared.refusal.Refusal.{Refusal as Refused};
 ghost use Rattle.snb_schema.specs.ScreenTexts.{refusal_text};
 ghost use Rattle.snb_schema.specs.Closed.{IsClosed};
-ghost use Rattle.snb_schema.specs.Graph.{HoldsKey, IsGraph};
+ghost use Rattle.snb_tables.specs.BuiltTables.{HoldsKey, IsGraph};
 ghost use Rattle.snb_loader.specs.Loading.{OnReadFault, OnRefused};
 ghost use Rattle.snb_tool.specs.Outcome.{IsRunCut, IsOtherLine, IsRefusal, IsRun, IsUsage, Wrote};
 ghost use Rattle.snb_tool.specs.Running.{IsLoaded, IsRunOutput};

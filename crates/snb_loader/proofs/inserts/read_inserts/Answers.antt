@@ -2,7 +2,7 @@ use Rattle.std.proofs.Common.{◌≡◌, ◌≤◌, ◌-◌, ◌∙◌, ◌++◌
 use Rattle.snb_schema.specs.declared.limits.TheConstants.{MAX_BYTES}
 use Rattle.snb_schema.specs.declared.fault.Fault.TheVariants.{Bad}
 use Rattle.snb_lines.specs.Feeding.{left_lines, new_lines}
-use Rattle.snb_schema.specs.Input.{person_stream}
+use Rattle.snb_loader.specs.Input.{person_stream}
 use Rattle.snb_loader.specs.Inserts.{at_start, insert_meanings}
 use Rattle.snb_loader.proofs.FileReading.{AtEnd, at_end, end_refused, end_whole, feed_refused, feed_too_far, few_lines, on_bad_weaker, on_ok_both, took_end, took_piece, whole_kept}
 use Rattle.snb_loader.proofs.InsertsReading.{Stand, first_stands, fresh_inserts, kept_kind, reads_stand, stand_first, took_stands}

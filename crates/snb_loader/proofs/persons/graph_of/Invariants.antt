@@ -1,6 +1,6 @@
 use Rattle.std.proofs.Common.{◌≡◌, ◌≤◌, length}
 use Rattle.snb_schema.specs.declared.limits.TheConstants.{MAX_ROWS}
-use Rattle.snb_schema.specs.Graph.{HoldsRows}
+use Rattle.snb_tables.specs.BuiltTables.{HoldsRows}
 use Rattle.snb_loader.specs.Persons.{AreApart, rows_of}
 use Rattle.snb_loader.proofs.persons.graph_of.Given as goal
 

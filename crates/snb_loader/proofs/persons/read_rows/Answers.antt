@@ -3,7 +3,7 @@ use Rattle.std.proofs.lemmas.List.Elements.{All-nil}
 use Rattle.snb_schema.specs.declared.limits.TheConstants.{MAX_BYTES}
 use Rattle.snb_schema.specs.declared.row.Placed.{Placed}
 use Rattle.snb_lines.specs.Feeding.{left_lines, new_lines}
-use Rattle.snb_schema.specs.Input.{person_file}
+use Rattle.snb_loader.specs.Input.{person_file}
 use Rattle.snb_loader.specs.Persons.{IsPersonRow, at_first, row_meanings}
 use Rattle.snb_loader.proofs.FileReading.{AtEnd, at_end, end_refused, end_whole, feed_refused, feed_too_far, few_lines, on_bad_weaker, on_ok_both, took_end, took_piece, whole_kept}
 use Rattle.snb_loader.proofs.PersonsReading.{fresh_rows, fresh_table, kept_table, none_used, took_persons}

@@ -1,7 +1,7 @@
 use Rattle.std.proofs.Common.{rules, ◌≡◌, ◌∙◌}
 use Rattle.std.specs.String.{string_bytes}
 use Rattle.std.proofs.lemmas.List.{append_assoc}
-use Rattle.snb_schema.specs.Graph.{row_line}
+use Rattle.snb_tables.specs.BuiltTables.{row_line}
 use Rattle.snb_schema.specs.declared.row.Row.TheVariants as row
 use Rattle.snb_tables.proofs.row_lines.put_person.Goals as goal
 

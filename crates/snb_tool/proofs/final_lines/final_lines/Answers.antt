@@ -1,7 +1,7 @@
 use Rattle.std.proofs.Common.{◌≡◌, [], ◌++◌, List, ℕ, ap, ◌∙◌}
 use Rattle.std.specs.Prelude.{codes}
 use Rattle.std.proofs.lemmas.List.{append_assoc, append-nil}
-use Rattle.snb_schema.specs.Graph.{section}
+use Rattle.snb_tables.specs.BuiltTables.{section}
 use Rattle.snb_schema.specs.declared.table.Table.TheVariants as table
 use Rattle.snb_tool.proofs.final_lines.final_lines.Goals as goal
 

@@ -18,7 +18,7 @@ add_row-requires-clause-of_two g c =
 
 pub add_row-requires-clause-of_persons : goal.add_row-requires-clause-of_persons
 add_row-requires-clause-of_persons g c =
-    c.requires.planned.of_persons c.in-Go.ticket.op c.index-inserts-ticket.result
+    c.requires.planned.of_stream.of_persons c.in-Go.ticket.op c.index-inserts-ticket.result
     (go_is_next c.args.inserts.now (g.C.Clock.fixed c.args.clock.now) c.requires.under_way.0 c.args.graph.now c.args.book.now (moment_after c.args.book.now.history c.now.result) c.in-Go.ticket
     c.requires.under_way.1 c.in-Go.ensures.answer).1
 

@@ -1,9 +1,9 @@
 use Rattle.std.proofs.Common.{List, Option, Vec, subst}
 use Rattle.std.specs.Option.{IfSome}
 use Rattle.snb_base.specs.Shelf.{Files}
-use Rattle.snb_schema.specs.Input.{Refuses, person_stream, stream_of}
+use Rattle.snb_loader.specs.Input.{Refuses, person_stream, stream_of}
 use Rattle.snb_schema.specs.Closed.{IsClosed, IsFirstWrong}
-use Rattle.snb_schema.specs.Graph.{HoldsKey}
+use Rattle.snb_tables.specs.BuiltTables.{HoldsKey}
 use Rattle.snb_schema.specs.declared.op.Line.{Line}
 use Rattle.std.specs.declared.alloc.Global.{Global}
 use Rattle.snb_loader.specs.declared.persons.Persons.{Persons}
@@ -11,9 +11,8 @@ use Rattle.snb_tool.specs.declared.tool.Input.{Input}
 use Rattle.snb_loader.specs.Loading.{PersonsLoaded, PersonsRefused, StreamBad, StreamOf}
 use Rattle.snb_tool.specs.Running.{IsLoaded}
 use Rattle.snb_tool.proofs.InputLemmas.{files_loaded, persons_refuse, stream_refuses, wrong_refuses}
-use Rattle.snb_loader.proofs.LoaderLemmas.{refused_bad, refused_weaker}
-use Rattle.snb_loader.proofs.TakeLemmas.{if_some, if_some_both}
 use Rattle.snb_tool.proofs.tool.load_input.Goals as goal
+use Rattle.snb_loader.proofs.Laws.{if_some, if_some_both, refused_bad, refused_weaker}
 
 pub returns-in-Err-clause-refused : goal.returns-in-Err-clause-refused
 returns-in-Err-clause-refused g c =

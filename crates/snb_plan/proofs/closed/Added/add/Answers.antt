@@ -1,6 +1,6 @@
 use Rattle.std.proofs.Common.{◌≡◌, ℕ, Some, cond, subst}
 use Rattle.std.specs.BTreeMap.{get, is_at}
-use Rattle.snb_schema.specs.Graph.{pair_cmp}
+use Rattle.snb_schema.specs.Pairs.{pair_cmp}
 use Rattle.snb_plan.proofs.Adding.{has_added_pair}
 use Rattle.snb_plan.proofs.closed.Added.add.Goals as goal
 

@@ -1,7 +1,7 @@
 -- What is appended so far, and the lines of the friendships that are left, are all.
 use Rattle.std.proofs.Common.{map}
 use Rattle.std.specs.List.{flat_map}
-use Rattle.snb_schema.specs.Graph.{rows, row_line}
+use Rattle.snb_tables.specs.BuiltTables.{rows, row_line}
 use Rattle.snb_schema.specs.declared.table.Table.TheVariants as table
 use Rattle.snb_tables.proofs.Held.{pair_row}
 use Rattle.snb_tables.proofs.Writing.{IsWritten}

@@ -1,0 +1,117 @@
+-- The key of each row, and the slot that it fills.
+use Rattle.std.specs.Prelude.{ℕ, List, [], ◌∷◌}
+use Rattle.snb_schema.specs.declared.column.Value.{Value}
+use Rattle.snb_schema.specs.declared.column.Value.TheVariants.{Digits, Letters}
+use Rattle.snb_schema.specs.declared.key.Key.{Key}
+use Rattle.snb_schema.specs.declared.key.Key.TheVariants.{Node, Knows, LikesPost, LikesComment, Member}
+use Rattle.snb_schema.specs.declared.layout.KeyColumns.{KeyColumns}
+use Rattle.snb_schema.specs.declared.layout.KeyColumns.TheVariants.{First, Second, FirstTwo}
+use Rattle.snb_schema.specs.declared.row.Row.{Row}
+use Rattle.snb_schema.specs.declared.row.Row.TheVariants as row
+use Rattle.snb_schema.specs.declared.table.Kind.{Kind}
+use Rattle.snb_schema.specs.declared.table.Kind.TheVariants as kinds
+use Rattle.snb_schema.specs.declared.table.Table.{Table}
+use Rattle.snb_schema.specs.declared.table.Table.TheVariants as table
+use Rattle.snb_schema.specs.Layouts.{key_columns}
+
+-- what tells the rows of a graph apart: a table, the ids of its key columns, where 0 stands for no second one, and a word's text
+abbrev pub RowKey : Type 0
+RowKey = Table × ℕ × ℕ × List ℕ
+
+-- the key of a row with two ids first, by the columns that are its table's key
+abbrev pub edge_key : KeyColumns → Table → ℕ → ℕ → RowKey
+edge_key First t from to = (t, from, 0, [])
+edge_key Second t from to = (t, to, 0, [])
+edge_key FirstTwo t from to = (t, from, to, [])
+
+-- the key of a row: a node's is its id, that of an edge with a date or a year its two ends, and a word's its person and text
+abbrev pub row_key : Row → RowKey
+row_key (row.Place p) = (table.Place, p.id, 0, [])
+row_key (row.TagClass c) = (table.TagClass, c.id, 0, [])
+row_key (row.Tag g) = (table.Tag, g.id, 0, [])
+row_key (row.Organisation o) = (table.Organisation, o.id, 0, [])
+row_key (row.Person p) = (table.Person, p.id, 0, [])
+row_key (row.Forum f) = (table.Forum, f.id, 0, [])
+row_key (row.Post p) = (table.Post, p.id, 0, [])
+row_key (row.Comment c) = (table.Comment, c.id, 0, [])
+row_key (row.Link t from to) = edge_key (key_columns t) t from to
+row_key (row.Dated t from to date) = (t, from, to, [])
+row_key (row.Yeared t from to year) = (t, from, to, [])
+row_key (row.Word t person text) = (t, person, 0, text)
+
+-- the key that a table's key columns give for the values of a row
+abbrev pub column_key : KeyColumns → Table → List Value → RowKey
+column_key First t (Digits one ∷ rest) = (t, one, 0, [])
+column_key First t values = (t, 0, 0, [])
+column_key Second t (one ∷ Digits other ∷ rest) = (t, other, 0, [])
+column_key Second t values = (t, 0, 0, [])
+column_key FirstTwo t (Digits one ∷ Digits other ∷ rest) = (t, one, other, [])
+column_key FirstTwo t (Digits one ∷ Letters text ∷ rest) = (t, one, 0, text)
+column_key FirstTwo t values = (t, 0, 0, [])
+
+-- the table with which a table shares its keys: posts and comments have one id space, and a comment has one parent, be it a post or a comment
+abbrev pub sharing : Table → Table
+sharing table.Place = table.Place
+sharing table.TagClass = table.TagClass
+sharing table.Tag = table.Tag
+sharing table.Organisation = table.Organisation
+sharing table.Person = table.Person
+sharing table.Forum = table.Forum
+sharing table.Post = table.Post
+sharing table.Comment = table.Post
+sharing table.PlaceIsPartOfPlace = table.PlaceIsPartOfPlace
+sharing table.TagClassIsSubclassOfTagClass = table.TagClassIsSubclassOfTagClass
+sharing table.TagHasTypeTagClass = table.TagHasTypeTagClass
+sharing table.OrganisationIsLocatedInPlace = table.OrganisationIsLocatedInPlace
+sharing table.PersonEmailEmailAddress = table.PersonEmailEmailAddress
+sharing table.PersonSpeaksLanguage = table.PersonSpeaksLanguage
+sharing table.PersonHasInterestTag = table.PersonHasInterestTag
+sharing table.PersonIsLocatedInPlace = table.PersonIsLocatedInPlace
+sharing table.PersonKnowsPerson = table.PersonKnowsPerson
+sharing table.PersonLikesPost = table.PersonLikesPost
+sharing table.PersonLikesComment = table.PersonLikesComment
+sharing table.PersonStudyAtOrganisation = table.PersonStudyAtOrganisation
+sharing table.PersonWorkAtOrganisation = table.PersonWorkAtOrganisation
+sharing table.ForumContainerOfPost = table.ForumContainerOfPost
+sharing table.ForumHasMemberPerson = table.ForumHasMemberPerson
+sharing table.ForumHasModeratorPerson = table.ForumHasModeratorPerson
+sharing table.ForumHasTagTag = table.ForumHasTagTag
+sharing table.PostHasCreatorPerson = table.PostHasCreatorPerson
+sharing table.PostHasTagTag = table.PostHasTagTag
+sharing table.PostIsLocatedInPlace = table.PostIsLocatedInPlace
+sharing table.CommentHasCreatorPerson = table.CommentHasCreatorPerson
+sharing table.CommentHasTagTag = table.CommentHasTagTag
+sharing table.CommentIsLocatedInPlace = table.CommentIsLocatedInPlace
+sharing table.CommentReplyOfPost = table.CommentReplyOfPost
+sharing table.CommentReplyOfComment = table.CommentReplyOfPost
+
+-- the slot of a key: the key, where tables that share their keys are one
+abbrev pub slot : RowKey → RowKey
+slot key = (sharing key.0, key.1, key.2, key.3)
+
+-- the slot that a row fills: no two rows of a graph fill one
+abbrev pub slot_of : Row → RowKey
+slot_of r = slot (row_key r)
+
+-- the table of the nodes of a kind
+abbrev pub kind_table : Kind → Table
+kind_table kinds.Place = table.Place
+kind_table kinds.TagClass = table.TagClass
+kind_table kinds.Tag = table.Tag
+kind_table kinds.Organisation = table.Organisation
+kind_table kinds.Person = table.Person
+kind_table kinds.Forum = table.Forum
+kind_table kinds.Post = table.Post
+kind_table kinds.Comment = table.Comment
+
+-- the key of a node
+abbrev pub node_key : Kind → ℕ → RowKey
+node_key kind id = (kind_table kind, id, 0, [])
+
+-- the key of the rows that a reference, or what an insert makes new, names
+abbrev pub named_key : Key → RowKey
+named_key (Node kind id) = node_key kind id
+named_key (Knows low high) = (table.PersonKnowsPerson, low, high, [])
+named_key (LikesPost person post) = (table.PersonLikesPost, person, post, [])
+named_key (LikesComment person comment) = (table.PersonLikesComment, person, comment, [])
+named_key (Member forum person) = (table.ForumHasMemberPerson, forum, person, [])

@@ -1,0 +1,220 @@
+-- A row that a table can have has a line, and the row of a line is one that its table can have.
+use Rattle.std.proofs.Common.{◌≡◌, ◌≢◌, ◌<◌, ◌≤◌, ◌^◌, ◌∙◌, ◌∷◌, ◌++◌, [], ℕ, min, max, Bool, true, false, List, length, map, refl, sym, ap, subst, inr, arith, append-nil, All}
+use Rattle.std.proofs.Math.Seq.{take-append_seam}
+use Rattle.std.proofs.lemmas.Bool.{le-ltb}
+use Rattle.std.proofs.lemmas.List.Elements.{All-cons, All-from_recursion, All-head, All-nil, All-tail, All-take, All-weaker}
+use Rattle.std.proofs.lemmas.Str.{IsUtf8-from_ascii}
+use Rattle.std.proofs.lemmas.Str.Ascii.{IsAscii-from_all}
+use Rattle.std.specs.Fmt.{decimal}
+use Rattle.std.specs.List.{AllByRecursion}
+use Rattle.std.specs.Str.{IsUtf8}
+use Rattle.snb_base.specs.Calendar.{IsDigit}
+use Rattle.snb_base.specs.Spellings.{Num, last_time}
+use Rattle.snb_schema.specs.declared.column.Column.{Column}
+use Rattle.snb_schema.specs.declared.column.Column.TheVariants.{Number, Small, OptionalId, Date, Day, Words, Word, TextList, IdList, PairList}
+use Rattle.snb_schema.specs.declared.column.Value.{Value}
+use Rattle.snb_schema.specs.declared.column.Value.TheVariants.{Digits, SmallDigits, Letters}
+use Rattle.snb_schema.specs.declared.layout.Shape.{Shape}
+use Rattle.snb_schema.specs.declared.layout.Shape.TheVariants as shapes
+use Rattle.snb_schema.specs.declared.row.Row.{Row}
+use Rattle.snb_schema.specs.declared.row.Row.TheVariants as row
+use Rattle.snb_schema.specs.declared.table.Table.{Table}
+use Rattle.snb_schema.specs.declared.table.Table.TheVariants as table
+use Rattle.snb_schema.specs.Columns.{Spells, SpellsAll, canonical_field}
+use Rattle.snb_schema.specs.Layouts.{columns, has_no_direction, shape, shape_columns}
+use Rattle.snb_schema.specs.Lines.{HasNoBar, HasNoEnd, fields}
+use Rattle.snb_schema.specs.RowLines.{Differ, IsRow, canonical, in_order, is_turned, table_of, values}
+use Rattle.snb_schema.specs.TableRows.{AreWithin, HasLine, HasLowerFirst, IsFieldText, IsTableRow, IsWithin, TableRowsAreOfLines}
+use Rattle.snb_fields.specs.Laws.{HasPlainFields, OwnLineOfValues}
+
+-- digits spell their number, where 19 suffice
+abbrev pub OwnNumbers : Type 0
+OwnNumbers = (n most : ℕ) → n ≤ most → n < 10 ^ 19 → Num (decimal n) n most
+
+-- a column of a table, whose numbers have 19 digits at most
+abbrev pub IsOfTables : Column → Type 0
+IsOfTables (Number most) = most < 10 ^ 19
+IsOfTables (Small most) = most < 10 ^ 19
+IsOfTables OptionalId = ⊥
+IsOfTables Date = Unit {0}
+IsOfTables Day = Unit {0}
+IsOfTables Words = Unit {0}
+IsOfTables Word = Unit {0}
+IsOfTables TextList = ⊥
+IsOfTables IdList = ⊥
+IsOfTables PairList = ⊥
+
+-- the columns of each shape are such columns
+of_tables : (s : Shape) → AllByRecursion IsOfTables (shape_columns s)
+of_tables shapes.Place = (omega arith, (tt, (tt, (tt, tt))))
+of_tables shapes.TagClass = (omega arith, (tt, (tt, tt)))
+of_tables shapes.Tag = (omega arith, (tt, (tt, tt)))
+of_tables shapes.Organisation = (omega arith, (tt, (tt, (tt, tt))))
+of_tables shapes.Person = (omega arith, (tt, (tt, (tt, (tt, (tt, (tt, (tt, tt))))))))
+of_tables shapes.Forum = (omega arith, (tt, (tt, tt)))
+of_tables shapes.Post = (omega arith, (tt, (tt, (tt, (tt, (tt, (tt, (omega arith, tt))))))))
+of_tables shapes.Comment = (omega arith, (tt, (tt, (tt, (tt, (omega arith, tt))))))
+of_tables shapes.Link = (omega arith, (omega arith, tt))
+of_tables shapes.Dated = (omega arith, (omega arith, (tt, tt)))
+of_tables shapes.Yeared = (omega arith, (omega arith, (omega arith, tt)))
+of_tables shapes.Word = (omega arith, (tt, tt))
+
+-- the canonical spelling of a value within its column's bounds spells it
+spelled : OwnNumbers → (c : Column) (v : Value) → IsOfTables c → IsWithin c v → Spells c (canonical_field v) v
+spelled own (Number most) (Digits n) o w = own n most w (omega arith)
+spelled own (Small most) (SmallDigits n) o w = own n most w (omega arith)
+spelled own Date (Digits n) o w = (w, inr (own n last_time w (omega arith)))
+spelled own Day (Digits n) o w = (w, inr (own n last_time w (omega arith)))
+spelled own Words (Letters text) o w = refl
+spelled own Word (Letters text) o w = (w.0, refl)
+spelled own c v o w = absurd w
+
+-- so do the canonical spellings of all
+spelled_all : OwnNumbers → (cs : List Column) (vs : List Value) → AllByRecursion IsOfTables cs → AreWithin cs vs → SpellsAll cs (map canonical_field vs) vs
+spelled_all own [] [] o w = tt
+spelled_all own (c ∷ cs) (v ∷ vs) o w = (spelled own c v o.0 w.0, spelled_all own cs vs o.1 w.1)
+spelled_all own cs vs o w = absurd w
+
+-- what holds of digits and of a field's text holds of the canonical spelling
+held : OwnNumbers → (P : List ℕ → Type 0) → ((t : List ℕ) → AllByRecursion IsDigit t → P t) → ((t : List ℕ) → IsFieldText t → P t) → (c : Column) (v : Value) → IsOfTables c → IsWithin c v → P (canonical_field v)
+held own P digits text (Number most) (Digits n) o w = digits (decimal n) (own n most w (omega arith)).digits
+held own P digits text (Small most) (SmallDigits n) o w = digits (decimal n) (own n most w (omega arith)).digits
+held own P digits text Date (Digits n) o w = digits (decimal n) (own n last_time w (omega arith)).digits
+held own P digits text Day (Digits n) o w = digits (decimal n) (own n last_time w (omega arith)).digits
+held own P digits text Words (Letters t) o w = text t w
+held own P digits text Word (Letters t) o w = text t w.1
+held own P digits text c v o w = absurd w
+
+-- and of all of them
+held_all : OwnNumbers → (P : List ℕ → Type 0) → ((t : List ℕ) → AllByRecursion IsDigit t → P t) → ((t : List ℕ) → IsFieldText t → P t) → (cs : List Column) (vs : List Value) → AllByRecursion IsOfTables cs → AreWithin cs vs → All P (map canonical_field vs)
+held_all own P digits text [] [] o w = All-nil P
+held_all own P digits text (c ∷ cs) (v ∷ vs) o w = All-cons P (canonical_field v) (map canonical_field vs) (held own P digits text c v o.0 w.0) (held_all own P digits text cs vs o.1 w.1)
+held_all own P digits text cs vs o w = absurd w
+
+-- what holds of each digit holds of each byte of digits
+all_digits : (P : ℕ → Type 0) → ((b : ℕ) → IsDigit b → P b) → (t : List ℕ) → AllByRecursion IsDigit t → All P t
+all_digits P of t h = All-weaker IsDigit P of t (All-from_recursion IsDigit t h)
+
+-- each row begins with a number
+number_first : (r : Row) → (n : ℕ) × (rest : List Value) × (values r ≡ Digits n ∷ rest)
+number_first (row.Place p) = (_, _, refl)
+number_first (row.TagClass c) = (_, _, refl)
+number_first (row.Tag g) = (_, _, refl)
+number_first (row.Organisation o) = (_, _, refl)
+number_first (row.Person p) = (_, _, refl)
+number_first (row.Forum f) = (_, _, refl)
+number_first (row.Post p) = (_, _, refl)
+number_first (row.Comment c) = (_, _, refl)
+number_first (row.Link t from to) = (_, _, refl)
+number_first (row.Dated t from to date) = (_, _, refl)
+number_first (row.Yeared t from to year) = (_, _, refl)
+number_first (row.Word t person text) = (_, _, refl)
+
+-- so its table has columns
+some_columns : (cs : List Column) (n : ℕ) (vs rest : List Value) → vs ≡ Digits n ∷ rest → AreWithin cs vs → cs ≢ []
+some_columns (c ∷ cs) n vs rest e w = λ f. cc
+some_columns [] n vs rest e w = absurd (subst (AreWithin []) e w)
+
+-- ends of which the first is lower differ, are in order, and aren't turned
+lower_differ : (undirected : Bool) (vs : List Value) → HasLowerFirst undirected vs → Differ undirected vs
+lower_differ true (Digits one ∷ Digits other ∷ rest) low = λ e. omega arith
+lower_differ undirected vs low = low
+
+lower_kept : (undirected : Bool) (vs : List Value) → HasLowerFirst undirected vs → vs ≡ in_order undirected vs
+lower_kept true (Digits one ∷ Digits other ∷ rest) low =
+    let first : min one other ≡ one = omega arith in
+    let second : max one other ≡ other = omega arith in
+    rw (first, second) refl
+lower_kept undirected vs low = refl
+
+lower_unturned : (undirected : Bool) (vs : List Value) → HasLowerFirst undirected vs → false ≡ is_turned undirected vs
+lower_unturned true (Digits one ∷ Digits other ∷ rest) low = sym (le-ltb other one (omega arith))
+lower_unturned undirected vs low = refl
+
+-- the row's own line
+has_line : OwnNumbers → OwnLineOfValues → (r : Row) → IsTableRow r → HasLine (table_of r) r
+has_line own law r h =
+    let cs = columns (table_of r) in
+    let vs = values r in
+    let o = of_tables (shape (table_of r)) in
+    let first = number_first r in
+    let all = λ (P : List ℕ → Type 0) (digits : (t : List ℕ) → AllByRecursion IsDigit t → P t) (text : (t : List ℕ) → IsFieldText t → P t). held_all own P digits text cs vs o h.within in
+    let line = law cs (map canonical_field vs) vs (some_columns cs first.0 vs first.1 first.2 h.within) (spelled_all own cs vs o h.within) (all HasNoBar (all_digits (λ b. b ≢ 124) (λ b d. omega arith)) (λ t f. f.no_bar)) in (
+      canonical r,
+      record {
+        text = line.text (all IsUtf8 (λ t d. IsUtf8-from_ascii t (IsAscii-from_all t (all_digits (λ b. b < 128) (λ b d. omega arith) t d))) (λ t f. f.utf8));
+        unmarked = line.unmarked first.0 first.1 first.2;
+        one_line = line.one_line (all HasNoEnd (all_digits (λ b. b ≢ 10) (λ b d. omega arith)) (λ t f. f.one_line));
+        turned = false;
+        spelled = record {
+          table = refl;
+          shaped = h.shaped;
+          own = map canonical_field vs;
+          extra = [];
+          split = line.split ∙ sym (append-nil (map canonical_field vs));
+          no_more = tt;
+          said = vs;
+          spelled = line.spelled;
+          differ = lower_differ (has_no_direction (table_of r)) vs h.in_order;
+          kept = lower_kept (has_no_direction (table_of r)) vs h.in_order;
+          turns = lower_unturned (has_no_direction (table_of r)) vs h.in_order;
+        };
+      },
+    )
+
+-- a value that a field's text spells is within its column's bounds
+within : (c : Column) (x : List ℕ) (v : Value) → IsOfTables c → IsFieldText x → Spells c x v → IsWithin c v
+within (Number most) x (Digits n) o f s = s.small
+within (Small most) x (SmallDigits n) o f s = s.small
+within Date x (Digits n) o f s = s.0
+within Day x (Digits n) o f s = s.0
+within Words x (Letters text) o f s = subst IsFieldText s f
+within Word x (Letters text) o f s = (λ e. s.0 (s.1 ∙ e), subst IsFieldText s.1 f)
+within OptionalId x v o f s = absurd o
+within TextList x v o f s = absurd o
+within IdList x v o f s = absurd o
+within PairList x v o f s = absurd o
+within c x v o f s = absurd s
+
+-- and so are all
+within_all : (cs : List Column) (xs : List (List ℕ)) (vs : List Value) → AllByRecursion IsOfTables cs → All IsFieldText xs → SpellsAll cs xs vs → AreWithin cs vs
+within_all [] [] [] o f s = tt
+within_all (c ∷ cs) (x ∷ xs) (v ∷ vs) o f s = (within c x v o.0 (All-head IsFieldText x xs f) s.0, within_all cs xs vs o.1 (All-tail IsFieldText x xs f) s.1)
+within_all cs xs vs o f s = absurd s
+
+-- also with the lower id first
+within_order : (t : Table) (vs : List Value) → AreWithin (columns t) vs → AreWithin (columns t) (in_order (has_no_direction t) vs)
+within_order table.PersonKnowsPerson (Digits one ∷ Digits other ∷ rest) w = (omega arith, (omega arith, w.1.1))
+within_order t vs w = w
+
+-- ends that differ are in order with the lower first
+lower_first : (undirected : Bool) (vs : List Value) → Differ undirected vs → HasLowerFirst undirected (in_order undirected vs)
+lower_first true (Digits one ∷ Digits other ∷ rest) d = omega (arith, d)
+lower_first undirected vs d = d
+
+-- the fields of a line are texts of fields
+field_texts : (line : List ℕ) → HasPlainFields line → IsUtf8 line → HasNoEnd line → All IsFieldText (fields line)
+field_texts line plain text ends = λ k d lt. record { utf8 = plain.texts text k d lt; no_bar = plain.no_bars k d lt; one_line = plain.no_ends ends k d lt }
+
+-- the row of a line
+of_line : ((line : List ℕ) → HasPlainFields line) → (t : Table) (line : List ℕ) (r : Row) → IsRow t line r → (table_of r ≡ t) × IsTableRow r
+of_line plain t line r h =
+    let s = h.spelled in
+    let u = has_no_direction t in
+    let texts = subst (All IsFieldText) s.split (field_texts line (plain line) h.text h.one_line) in
+    let own = subst (All IsFieldText) (take-append_seam s.own s.extra) (All-take IsFieldText (length s.own) (s.own ++ s.extra) texts) in
+    let said = within_order t s.said (within_all (columns t) s.own s.said (of_tables (shape t)) own s.spelled) in (
+      s.table,
+      record {
+        shaped = s.shaped ∙ ap shape (sym s.table);
+        in_order = subst (λ (a : Table). HasLowerFirst (has_no_direction a) (values r)) (sym s.table) (subst (HasLowerFirst u) (sym s.kept) (lower_first u s.said s.differ));
+        within = subst (λ (a : Table). AreWithin (columns a) (values r)) (sym s.table) (subst (AreWithin (columns t)) (sym s.kept) said);
+      },
+    )
+
+-- the rows that a table can have are those of its lines
+pub of_lines : OwnNumbers → OwnLineOfValues → ((line : List ℕ) → HasPlainFields line) → TableRowsAreOfLines
+of_lines own law plain t r = (
+  λ h. subst (λ (a : Table). HasLine a r) h.0 (has_line own law r h.1),
+  λ h. of_line plain t h.0 r h.1,
+)

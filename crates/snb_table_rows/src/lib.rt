@@ -1,0 +1,4 @@
+//! The rows that a table can have are those of its lines.
+#![tactic(auto)]
+
+pub mod law;
