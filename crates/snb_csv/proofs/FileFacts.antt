@@ -14,13 +14,15 @@ use Rattle.snb_csv.specs.Rows.{GivesRow, HeadsRows, IsBadHeader}
 one_each : (t : Table) → GivesOne GivesRow (λ s. s ≡ t) (IsPlacedRow t)
 one_each t = record {
   gives = λ s new number line items of ends unmarked text g. (
-    (record { line = number; row = g.0; turned = g.1 },
-    g.3,
-    record {
-      numbered = refl;
-      is_row = record { text = text; unmarked = unmarked; one_line = ends; turned = g.1; spelled = subst (λ (u : Table). SpellsRow u (fields line) g.0 g.1) of g.2 };
-      turned = refl;
-    }),
+    (
+      record { line = number; row = g.0; turned = g.1 },
+      g.3,
+      record {
+        numbered = refl;
+        is_row = record { text = text; unmarked = unmarked; one_line = ends; turned = g.1; spelled = subst (λ (u : Table). SpellsRow u (fields line) g.0 g.1) of g.2 };
+        turned = refl;
+      },
+    ),
     g.4 ∙ of,
   );
 }

@@ -23,13 +23,15 @@ use Rattle.snb_streams.proofs.LineFacts.{one_spelled}
 one_each : (file : FileId) → GivesOne TakesInsert (λ s. s.file ≡ file) (IsStreamLine file.kind)
 one_each file = record {
   gives = λ s new number line items of ends unmarked text g. (
-    (record { t = g.0; t_d = g.1; op = g.2; number = number },
-    g.5,
-    record {
-      numbered = refl;
-      is_line = record { text = text; unmarked = unmarked; one_line = ends; spelled = g.3.1; of_two = g.3.2 };
-      allowed = subst (λ (f : FileId). Contains (allowed_in f.kind) (kind_of g.2)) of g.3.0;
-    }),
+    (
+      record { t = g.0; t_d = g.1; op = g.2; number = number },
+      g.5,
+      record {
+        numbered = refl;
+        is_line = record { text = text; unmarked = unmarked; one_line = ends; spelled = g.3.1; of_two = g.3.2 };
+        allowed = subst (λ (f : FileId). Contains (allowed_in f.kind) (kind_of g.2)) of g.3.0;
+      },
+    ),
     ap (λ (f : Followed). f.file) g.6 ∙ of,
   );
 }
