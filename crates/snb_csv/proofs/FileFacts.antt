@@ -1,8 +1,8 @@
 -- What a table's file is read as.
-use Rattle.std.proofs.Common.{◌≡◌, ◌∙◌, ◌∷◌, [], ℕ, List, refl, sym, subst}
+use Rattle.std.proofs.Common.{◌≡◌, ◌∙◌, ◌∷◌, [], refl, sym, subst}
 use Rattle.snb_schema.specs.declared.table.Table.{Table}
 use Rattle.snb_schema.specs.Lines.{fields, lines}
-use Rattle.snb_schema.specs.RowLines.{IsBadColumn, IsHeader, IsWide, SpellsRow}
+use Rattle.snb_schema.specs.RowLines.{IsBadColumn, IsHeader, SpellsRow}
 use Rattle.snb_lines.specs.Files.{GivesOne, HeadsOf}
 use Rattle.snb_lines.specs.Laws.{IsExactBody}
 use Rattle.snb_lines.proofs.Laws.{are_under, headed_files, lines_no_end, one_headed_reading}

@@ -1,9 +1,8 @@
 -- What the file of a stream and that of parameters are read as.
-use Rattle.std.proofs.Common.{◌≡◌, ◌∙◌, ◌∷◌, ◌+◌, ◌<◌, ◌≤◌, [], ℕ, List, refl, sym, ap, subst, inl, inr, arith}
+use Rattle.std.proofs.Common.{◌≡◌, ◌∙◌, ◌∷◌, [], ℕ, List, refl, sym, ap, subst, inl, inr, arith}
 use Rattle.std.specs.List.{Contains}
 use Rattle.snb_schema.specs.declared.file.FileId.{FileId}
 use Rattle.snb_schema.specs.declared.op.Line.{Line}
-use Rattle.snb_schema.specs.declared.op.Op.{Op}
 use Rattle.snb_schema.specs.declared.refusal.Refusal.{Refusal}
 use Rattle.snb_schema.specs.Lines.{fields, lines}
 use Rattle.snb_schema.specs.ParameterLines.{IsBadQuery, IsParams, SpellsQuery}
@@ -15,7 +14,6 @@ use Rattle.snb_lines.proofs.Laws.{are_under, each_line, headed_files, lines_no_e
 use Rattle.snb_streams.specs.FileLaws.{IsParamsHeader, IsStreamLine, OneParamsReading, OneStreamReading, ParamsFiles, StreamFiles}
 use Rattle.snb_streams.specs.Laws.{InsertsAreRight, NoBadQuery, OneQuery}
 use Rattle.snb_streams.specs.Parameters.{GivesQuery, HeadsQuery, IsBadHeader}
-use Rattle.snb_streams.specs.Spelled.{SpellsInsert}
 use Rattle.snb_streams.specs.Updates.{Followed, RefusesUpdate, TakesInsert, allowed_in, before_stream}
 use Rattle.snb_streams.proofs.LineFacts.{one_spelled}
 
