@@ -1,8 +1,8 @@
 -- What a table's file is read as.
-use Rattle.std.proofs.Common.{◌≡◌, ◌∙◌, ◌∷◌, [], ℕ, List, refl, sym, subst}
+use Rattle.std.proofs.Common.{◌≡◌, ◌∙◌, ◌∷◌, [], refl, sym, subst}
 use Rattle.snb_schema.specs.declared.table.Table.{Table}
 use Rattle.snb_schema.specs.Lines.{fields, lines}
-use Rattle.snb_schema.specs.RowLines.{IsBadColumn, IsHeader, IsWide, SpellsRow}
+use Rattle.snb_schema.specs.RowLines.{IsBadColumn, IsHeader, SpellsRow}
 use Rattle.snb_lines.specs.Files.{GivesOne, HeadsOf}
 use Rattle.snb_lines.specs.Laws.{IsExactBody}
 use Rattle.snb_lines.proofs.Laws.{are_under, headed_files, lines_no_end, one_headed_reading}
@@ -14,13 +14,15 @@ use Rattle.snb_csv.specs.Rows.{GivesRow, HeadsRows, IsBadHeader}
 one_each : (t : Table) → GivesOne GivesRow (λ s. s ≡ t) (IsPlacedRow t)
 one_each t = record {
   gives = λ s new number line items of ends unmarked text g. (
-    (record { line = number; row = g.0; turned = g.1 },
-    g.3,
-    record {
-      numbered = refl;
-      is_row = record { text = text; unmarked = unmarked; one_line = ends; turned = g.1; spelled = subst (λ (u : Table). SpellsRow u (fields line) g.0 g.1) of g.2 };
-      turned = refl;
-    }),
+    (
+      record { line = number; row = g.0; turned = g.1 },
+      g.3,
+      record {
+        numbered = refl;
+        is_row = record { text = text; unmarked = unmarked; one_line = ends; turned = g.1; spelled = subst (λ (u : Table). SpellsRow u (fields line) g.0 g.1) of g.2 };
+        turned = refl;
+      },
+    ),
     g.4 ∙ of,
   );
 }

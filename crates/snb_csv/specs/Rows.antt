@@ -1,5 +1,5 @@
 -- What the lines of a table's file mean.
-use Rattle.std.specs.Prelude.{◌≡◌, ℕ, Bool, List, [], ◌∷◌, length}
+use Rattle.std.specs.Prelude.{◌≡◌, Bool, [], ◌∷◌, length}
 use Rattle.snb_schema.specs.declared.file.FileId.{FileId}
 use Rattle.snb_schema.specs.declared.file.FileKind.TheVariants as files
 use Rattle.snb_schema.specs.declared.row.Placed.{Placed}

@@ -1,9 +1,8 @@
 -- What the file of a stream and that of parameters are read as.
-use Rattle.std.proofs.Common.{◌≡◌, ◌∙◌, ◌∷◌, ◌+◌, ◌<◌, ◌≤◌, [], ℕ, List, refl, sym, ap, subst, inl, inr, arith}
+use Rattle.std.proofs.Common.{◌≡◌, ◌∙◌, ◌∷◌, [], ℕ, List, refl, sym, ap, subst, inl, inr, arith}
 use Rattle.std.specs.List.{Contains}
 use Rattle.snb_schema.specs.declared.file.FileId.{FileId}
 use Rattle.snb_schema.specs.declared.op.Line.{Line}
-use Rattle.snb_schema.specs.declared.op.Op.{Op}
 use Rattle.snb_schema.specs.declared.refusal.Refusal.{Refusal}
 use Rattle.snb_schema.specs.Lines.{fields, lines}
 use Rattle.snb_schema.specs.ParameterLines.{IsBadQuery, IsParams, SpellsQuery}
@@ -15,7 +14,6 @@ use Rattle.snb_lines.proofs.Laws.{are_under, each_line, headed_files, lines_no_e
 use Rattle.snb_streams.specs.FileLaws.{IsParamsHeader, IsStreamLine, OneParamsReading, OneStreamReading, ParamsFiles, StreamFiles}
 use Rattle.snb_streams.specs.Laws.{InsertsAreRight, NoBadQuery, OneQuery}
 use Rattle.snb_streams.specs.Parameters.{GivesQuery, HeadsQuery, IsBadHeader}
-use Rattle.snb_streams.specs.Spelled.{SpellsInsert}
 use Rattle.snb_streams.specs.Updates.{Followed, RefusesUpdate, TakesInsert, allowed_in, before_stream}
 use Rattle.snb_streams.proofs.LineFacts.{one_spelled}
 
@@ -23,13 +21,15 @@ use Rattle.snb_streams.proofs.LineFacts.{one_spelled}
 one_each : (file : FileId) → GivesOne TakesInsert (λ s. s.file ≡ file) (IsStreamLine file.kind)
 one_each file = record {
   gives = λ s new number line items of ends unmarked text g. (
-    (record { t = g.0; t_d = g.1; op = g.2; number = number },
-    g.5,
-    record {
-      numbered = refl;
-      is_line = record { text = text; unmarked = unmarked; one_line = ends; spelled = g.3.1; of_two = g.3.2 };
-      allowed = subst (λ (f : FileId). Contains (allowed_in f.kind) (kind_of g.2)) of g.3.0;
-    }),
+    (
+      record { t = g.0; t_d = g.1; op = g.2; number = number },
+      g.5,
+      record {
+        numbered = refl;
+        is_line = record { text = text; unmarked = unmarked; one_line = ends; spelled = g.3.1; of_two = g.3.2 };
+        allowed = subst (λ (f : FileId). Contains (allowed_in f.kind) (kind_of g.2)) of g.3.0;
+      },
+    ),
     ap (λ (f : Followed). f.file) g.6 ∙ of,
   );
 }
