@@ -1,5 +1,5 @@
 -- A file read in one piece as far as it may be, and then ended.
-use Rattle.std.proofs.Common.{◌≡◌, ◌≢◌, ◌∙◌, ◌+◌, ◌-◌, ◌<◌, ◌≤◌, ◌⊎◌, ℕ, false, List, [], ◌∷◌, ◌++◌, Result, Ok, Err, OnOk, Some, None, length, take, drop, refl, sym, ap, subst, inl, inr, arith, length-take}
+use Rattle.std.proofs.Common.{◌≡◌, ◌≢◌, ◌∙◌, ◌+◌, ◌-◌, ◌<◌, ◌≤◌, ◌⊎◌, ℕ, List, [], ◌∷◌, ◌++◌, Result, Ok, Err, OnOk, Some, None, length, take, drop, refl, sym, ap, subst, inl, inr, arith, length-take}
 use Rattle.std.proofs.lemmas.List.{length-drop}
 use Rattle.snb_schema.specs.declared.fault.Fault.{Fault}
 use Rattle.snb_schema.specs.declared.fault.Fault.TheVariants.{Bad, Memory}

@@ -2,9 +2,6 @@
 use Rattle.std.proofs.Common.{◌≡◌, ℕ, ◌+◌, List, ◌∷◌, ◌++◌, take, Option, Some, Result, Ok, Err, ◌∙◌, subst, inr}
 use Rattle.std.specs.Option.{IfSome}
 use Rattle.snb_base.specs.Shelf.{Files}
-use Rattle.snb_schema.specs.declared.fault.Fault.{Fault}
-use Rattle.snb_schema.specs.declared.fault.Fault.TheVariants.{Bad}
-use Rattle.snb_schema.specs.declared.fault.Fault.TheVariants as fault
 use Rattle.snb_schema.specs.declared.limits.TheConstants.{MAX_BYTES}
 use Rattle.snb_schema.specs.declared.refusal.Refusal.{Refusal}
 use Rattle.snb_schema.specs.FileNames.{name_of}
@@ -12,8 +9,7 @@ use Rattle.snb_tables.specs.BuiltTables.{Graph}
 use Rattle.snb_loader.specs.Input.{person_file}
 use Rattle.snb_loader.specs.declared.load.Load.{Load}
 use Rattle.snb_loader.specs.declared.load.Load.TheVariants.{Refused, ReadFault, Memory}
-use Rattle.snb_schema.specs.Faults.{OnBad}
-use Rattle.snb_loader.specs.Loading.{OnRefused, load_for, PersonsOf, PersonsBad, PersonsLoaded, PersonsRefused}
+use Rattle.snb_loader.specs.Loading.{OnRefused, PersonsOf, PersonsBad, PersonsLoaded, PersonsRefused}
 use Rattle.snb_loader.proofs.Laws.{if_some}
 
 -- the first bytes of a file that is held

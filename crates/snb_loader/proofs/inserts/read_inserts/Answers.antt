@@ -1,4 +1,4 @@
-use Rattle.std.proofs.Common.{◌≡◌, ◌≤◌, ◌-◌, ◌∙◌, ◌++◌, List, refl, sym, ap, subst, take, length, length-take, arith, ◌+◌, ℕ}
+use Rattle.std.proofs.Common.{◌≡◌, ◌≤◌, ◌-◌, ◌∙◌, List, refl, sym, ap, subst, take, length, length-take, arith, ◌+◌, ℕ}
 use Rattle.snb_schema.specs.declared.limits.TheConstants.{MAX_BYTES}
 use Rattle.snb_schema.specs.declared.fault.Fault.TheVariants.{Bad}
 use Rattle.snb_lines.specs.Feeding.{left_lines, new_lines}

@@ -1,4 +1,4 @@
-use Rattle.std.proofs.Common.{◌≡◌, ◌≤◌, ◌∙◌, ◌++◌, List, [], refl, sym, ap, subst, take, length, length-take, All, arith, ◌+◌, ℕ}
+use Rattle.std.proofs.Common.{◌≡◌, ◌≤◌, ◌∙◌, List, [], refl, sym, ap, subst, take, length, length-take, All, arith, ◌+◌, ℕ}
 use Rattle.std.proofs.lemmas.List.Elements.{All-nil}
 use Rattle.snb_schema.specs.declared.limits.TheConstants.{MAX_BYTES}
 use Rattle.snb_schema.specs.declared.row.Placed.{Placed}
