@@ -1,8 +1,8 @@
 -- Facts on texts of frequencies, cut at their colons and commas.
-use Rattle.std.proofs.Common.{◌≡◌, ◌≢◌, ◌==◌, ◌++◌, ◌∷◌, ◌∙◌, ◌+◌, ◌<◌, [], ℕ, zero, suc, List, refl, sym, ap, subst, false, length, arith, length-append, All, get_or, map, if◌then◌else◌, slice_index, Option, Some, None, MatchOption}
+use Rattle.std.proofs.Common.{◌≡◌, ◌≢◌, ◌==◌, ◌∷◌, ◌∙◌, ◌+◌, ◌<◌, [], ℕ, zero, suc, List, refl, sym, ap, subst, false, length, arith, length-append, All, get_or, map, if◌then◌else◌, slice_index, Option, Some, None, MatchOption}
 use Rattle.std.proofs.Math.Seq.{get_or-append_seam}
 use Rattle.std.proofs.lemmas.Bool.{ne_eqb}
-use Rattle.std.proofs.lemmas.List.Elements.{All-nil, All-cons, All-head, All-tail}
+use Rattle.std.proofs.lemmas.List.Elements.{All-nil, All-cons}
 use Rattle.std.proofs.lemmas.List.Splits.{slice_split_at, slice_split_none}
 use Rattle.std.specs.List.{slice_split, AllByRecursion}
 use Rattle.std.specs.List.Sorted.{IsStrictlyIncreasing}

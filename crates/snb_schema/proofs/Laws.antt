@@ -1,5 +1,5 @@
 -- What other crates may cite of this one: facts about schedules, histories, completion times and plans.
-use Rattle.std.proofs.Common.{◌≡◌, ℕ, ◌+◌, ◌<◌, ◌≤◌, List, [], ◌∷◌, ◌++◌, length, Bool, true, cond, ◌⊎◌, Some}
+use Rattle.std.proofs.Common.{◌≡◌, ℕ, ◌<◌, ◌≤◌, List, [], ◌∷◌, ◌++◌, length, Bool, true, cond, ◌⊎◌, Some}
 use Rattle.std.specs.Prelude.{pos, ◌≤ℤ◌, ◌↔◌}
 use Rattle.snb_schema.specs.declared.limits.TheConstants.{MAX_TIME, MAX_AT}
 use Rattle.snb_schema.specs.declared.event.Event.{Event}

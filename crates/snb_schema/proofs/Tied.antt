@@ -1,5 +1,5 @@
 -- Row tie is a schedule's.
-use Rattle.std.proofs.Common.{◌≡◌, ℕ, zero, suc, ◌<◌, ◌≤◌, inl, refl, subst, arith}
+use Rattle.std.proofs.Common.{◌≡◌, ℕ, ◌<◌, ◌≤◌, inl, refl, subst, arith}
 use Rattle.snb_schema.specs.Schedule.{step_of, ComesBefore, IsPlanned}
 use Rattle.snb_schema.specs.Worked.{tie}
 use Rattle.snb_base.proofs.Laws.{by_two}

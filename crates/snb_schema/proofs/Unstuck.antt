@@ -1,5 +1,5 @@
 -- Where nobody has an operation in hand, the least unstarted operation may start.
-use Rattle.std.proofs.Common.{◌≡◌, ℕ, zero, suc, ◌<◌, ◌≤◌, length, Bool, true, false, ◌⊎◌, inl, inr, subst, arith, Some}
+use Rattle.std.proofs.Common.{◌≡◌, ℕ, ◌<◌, ◌≤◌, length, true, false, inl, inr, arith, Some}
 use Rattle.std.proofs.lemmas.Bool.{cases_Bool, cases_lt}
 use Rattle.snb_schema.specs.declared.event.Event.TheVariants.{Start}
 use Rattle.snb_schema.specs.Schedule.{IsOperation, step_of}
