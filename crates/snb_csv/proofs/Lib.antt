@@ -2,4 +2,5 @@ pub mod FileFacts
 pub mod OneFacts
 pub mod OwnFacts
 pub mod RowFacts
+pub mod RowLineFacts
 pub mod SomeFacts

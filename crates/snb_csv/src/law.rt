@@ -1,7 +1,9 @@
 //! Laws of the tables' lines, over every line.
 
+ghost use Rattle.snb_schema.specs.TableRows.{TableRowsAreOfLines};
 ghost use Rattle.snb_csv.specs.Laws.{OneColumn, OneRow, OwnRowLine, RowOrColumn, RowsAreRight};
 
+use snb_base::number::one_spelling;
 use snb_fields::law::{one_value, own_line as own_line_of_values, plain_fields, spelled_or_not};
 
 /// The fields of a line spell one row of a table at most.
@@ -30,4 +32,13 @@ pub fn one_column()
     ensures one { OneColumn }
 {
     spelled_or_not();
+}
+
+/// A row is one that its table can have exactly where some line of the table is its line.
+pub fn table_rows_are_of_lines()
+    ensures { TableRowsAreOfLines }
+{
+    one_spelling();
+    own_line_of_values();
+    plain_fields();
 }

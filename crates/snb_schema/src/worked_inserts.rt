@@ -10,31 +10,31 @@ ghost use Rattle.snb_schema.specs.Awaiting.{adds_awaited, waits};
 ghost use Rattle.snb_schema.specs.Inserts.{keys_of, rows_of};
 ghost use Rattle.snb_schema.specs.References.{ref, refs_of, refs_of_row};
 ghost use Rattle.snb_schema.specs.RowKeys.{row_key, slot, slot_of};
-ghost use Rattle.snb_schema.specs.WorkedInserts.{KeysAreTheColumns, cy, cy_person, di, like_of_post, like_of_comment, group, member, post, reply_to_post, reply_to_comment, friends};
+ghost use Rattle.snb_schema.specs.WorkedInserts.{KeysAreTheColumns, cy, cy_person, di, rows_of_cy, rows_of_group, rows_of_post, rows_of_reply_to_comment, rows_of_reply_to_post, like_of_post, like_of_comment, group, member, post, reply_to_post, reply_to_comment, friends};
 
 /// A person's insert adds a row for each element of its lists.
 pub fn person_rows()
-    ensures all { rows_of cy ≡ row.Person cy_person ∷ row.Link table.PersonIsLocatedInPlace 12 1 ∷ row.Word table.PersonEmailEmailAddress 12 (codes "c@x.org") ∷ row.Word table.PersonSpeaksLanguage 12 (codes "en") ∷ row.Link table.PersonHasInterestTag 12 0 ∷ row.Yeared table.PersonWorkAtOrganisation 12 0 2011 ∷ [] }
+    ensures all { rows_of cy ≡ rows_of_cy }
     ensures refs { refs_of cy ≡ ref kinds.Place 1 ∷ ref kinds.Tag 0 ∷ ref kinds.Organisation 0 ∷ [] }
     ensures studies { refs_of di ≡ ref kinds.Place 1 ∷ ref kinds.Organisation 1 ∷ [] }
 {}
 
 /// A forum comes with its moderator and tags.
 pub fn forum_rows()
-    ensures all { rows_of group ≡ row.Forum (record { id = 21; title = codes "Group"; creation_date = 48000 }) ∷ row.Link table.ForumHasModeratorPerson 21 12 ∷ row.Link table.ForumHasTagTag 21 0 ∷ [] }
+    ensures all { rows_of group ≡ rows_of_group }
     ensures refs { refs_of group ≡ ref kinds.Person 12 ∷ ref kinds.Tag 0 ∷ [] }
 {}
 
 /// A post comes with its forum, author, place and tags.
 pub fn post_rows()
-    ensures all { rows_of post ≡ row.Post (record { id = 40; image_file = []; creation_date = 9000; location_ip = codes "1.1.1.1"; browser_used = codes "Firefox"; language = codes "en"; content = codes "Post"; length = 4 }) ∷ row.Link table.ForumContainerOfPost 21 40 ∷ row.Link table.PostHasCreatorPerson 40 10 ∷ row.Link table.PostIsLocatedInPlace 40 0 ∷ row.Link table.PostHasTagTag 40 0 ∷ [] }
+    ensures all { rows_of post ≡ rows_of_post }
     ensures refs { refs_of post ≡ ref kinds.Person 10 ∷ ref kinds.Forum 21 ∷ ref kinds.Place 0 ∷ ref kinds.Tag 0 ∷ [] }
 {}
 
 /// A comment comes with its author, place, one parent and tags.
 pub fn comment_rows()
-    ensures to_post { rows_of reply_to_post ≡ row.Comment (record { id = 41; creation_date = 68000; location_ip = codes "1.1.1.3"; browser_used = codes "Opera"; content = codes "Hey"; length = 3 }) ∷ row.Link table.CommentHasCreatorPerson 41 12 ∷ row.Link table.CommentIsLocatedInPlace 41 0 ∷ row.Link table.CommentReplyOfPost 41 30 ∷ [] }
-    ensures to_comment { rows_of reply_to_comment ≡ row.Comment (record { id = 41; creation_date = 68000; location_ip = codes "1.1.1.3"; browser_used = codes "Opera"; content = codes "Hey"; length = 3 }) ∷ row.Link table.CommentHasCreatorPerson 41 12 ∷ row.Link table.CommentIsLocatedInPlace 41 0 ∷ row.Link table.CommentReplyOfComment 41 31 ∷ row.Link table.CommentHasTagTag 41 0 ∷ [] }
+    ensures to_post { rows_of reply_to_post ≡ rows_of_reply_to_post }
+    ensures to_comment { rows_of reply_to_comment ≡ rows_of_reply_to_comment }
     ensures post_refs { refs_of reply_to_post ≡ ref kinds.Person 12 ∷ ref kinds.Place 0 ∷ ref kinds.Post 30 ∷ [] }
     ensures comment_refs { refs_of reply_to_comment ≡ ref kinds.Person 12 ∷ ref kinds.Place 0 ∷ ref kinds.Comment 31 ∷ ref kinds.Tag 0 ∷ [] }
 {}

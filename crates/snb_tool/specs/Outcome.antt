@@ -10,7 +10,7 @@ use Rattle.snb_schema.specs.declared.op.Line.{Line}
 use Rattle.snb_schema.specs.declared.refusal.Refusal.{Refusal}
 use Rattle.snb_schema.specs.declared.row.Row.{Row}
 use Rattle.snb_schema.specs.Closed.{IsClosed}
-use Rattle.snb_tables.specs.BuiltTables.{Graph, HoldsRows, IsHeldIn, all_rows, final_text}
+use Rattle.snb_tables.specs.BuiltTables.{Graph, IsHeldIn, all_rows, final_text}
 use Rattle.snb_loader.specs.Input.{IsFinal, IsInput, Refuses}
 use Rattle.snb_schema.specs.Plan.{plan_of}
 use Rattle.snb_schema.specs.Rules.{IsComplete, IsLegal}
