@@ -1,0 +1,4 @@
+pub mod Keyed
+pub mod Edges
+pub mod KeysApart
+pub mod Rows

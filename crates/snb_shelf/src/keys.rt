@@ -1,0 +1,66 @@
+//! The keys of the maps.
+
+ghost use Rattle.std.proofs.lemmas.Map.Lookups.{exact_unsigned};
+ghost use Rattle.std.proofs.Common.{rules};
+
+use crate::kept::{Exact, Key};
+use snb_base::text::Text;
+use snb_schema::table::Table;
+
+impl Exact for u64 {
+    ghost same_clone = { λ a b e. e };
+}
+
+impl Key for u64 {
+    ghost use Rattle.snb_shelf.specs.KeysApart.{id_name, id_order};
+
+    ghost name = { id_name };
+
+    ghost same_key = { exact_unsigned };
+
+    ghost ordered = { id_order };
+}
+
+/// The key of an edge: its table and the ids of its key columns, 0 where there is no second.
+#[derive(Clone, Copy, Debug, PartialEq, Eq, PartialOrd, Ord)]
+pub struct EdgeKey {
+    pub table: Table,
+    pub first: u64,
+    pub second: u64,
+}
+
+impl Exact for EdgeKey {
+    ghost same_clone = { λ a b e. e };
+}
+
+/// The key of a person's email or language: its table, the person and the text.
+#[derive(PartialEq, Eq, PartialOrd, Ord, Clone, Drop)]
+pub struct WordKey {
+    pub table: Table,
+    pub person: u64,
+    pub text: Text,
+}
+
+impl Key for EdgeKey {
+    ghost use Rattle.snb_shelf.specs.KeysApart.{edge_name, edge_exact, edge_order};
+
+    ghost name = { λ t k. edge_name k };
+
+    ghost same_key = { edge_exact };
+
+    ghost ordered = { λ t j k. edge_order j k };
+}
+
+impl Exact for WordKey {
+    ghost same_clone = { Prim.search rules };
+}
+
+impl Key for WordKey {
+    ghost use Rattle.snb_shelf.specs.KeysApart.{word_name, word_exact, word_order};
+
+    ghost name = { λ t k. word_name k };
+
+    ghost same_key = { word_exact };
+
+    ghost ordered = { λ t j k. word_order j k };
+}
