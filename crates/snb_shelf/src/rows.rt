@@ -41,7 +41,7 @@ impl<'a, K: Key, V: Kept> Model for ShelfRows<'a, K, V> {
 }
 
 impl<'a, K: Key, V: Kept> ShelfRows<'a, K, V> {
-    /// A walk over entries.
+    /// A walk over entries, whose rows are ones that their tables can have.
     pub fn over(left: Range<'a, K, V>) -> Self
         requires { All IsTableRow (rows_by (entry_row (K.name V.table) V.as_row) left) }
         ensures { result ≡ rows_by (entry_row (K.name V.table) V.as_row) left.entry }

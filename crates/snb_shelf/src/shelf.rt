@@ -66,7 +66,8 @@ impl<K: Key, V: Kept> Shelf<K, V> {
         self.map.contains_key(key)
     }
 
-    /// Adds a row of a key that is new. Want of memory leaves the rows as they were.
+    /// Adds a row of a key that is new, where the row has this key and is of this part. Want of memory
+    /// leaves the rows as they were.
     pub fn add(&mut self, key: K, value: V) -> Result<(), AllocError>
         requires fits { Fits V.part (K.name V.table) V.as_row key value }
         requires new { ¬ HasKey self.old (K.name V.table key) }
@@ -104,7 +105,8 @@ impl<K: Key, V: Kept> Shelf<K, V> {
         self.map.iter()
     }
 
-    /// The entries from one key on and before another, in order. Takes no memory.
+    /// The entries from one key on and before another, which isn't below the first, in order. Takes no
+    /// memory.
     pub fn before(&self, from: K, end: K) -> Range<'_, K, V>
         requires { is_gt (K.cmp from end) ≡ false }
         ensures rows { rows_by (entry_row (K.name V.table) V.as_row) result ≡ rows_within is_before_end (K.name V.table from) (K.name V.table end) self.now }
@@ -113,7 +115,7 @@ impl<K: Key, V: Kept> Shelf<K, V> {
         self.map.range(from..end)
     }
 
-    /// The entries from one key up to another, in order. Takes no memory.
+    /// The entries from one key up to another, which isn't below the first, in order. Takes no memory.
     pub fn through(&self, from: K, last: K) -> Range<'_, K, V>
         requires { is_gt (K.cmp from last) ≡ false }
         ensures rows { rows_by (entry_row (K.name V.table) V.as_row) result ≡ rows_within is_up_to_end (K.name V.table from) (K.name V.table last) self.now }
