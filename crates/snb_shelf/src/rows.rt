@@ -13,7 +13,7 @@ use std::marker::Model;
 
 /// What makes a row of a key and of what is kept of it.
 pub trait Shown<K: Key>: Kept {
-    /// A copy of the row.
+    /// A copy of the row, which is one that its table can have.
     fn show(key: &K, kept: &Self) -> Result<Row, AllocError>
         requires { IsTableRow (Self.as_row (K.name Self.table key.now) kept.now) }
         ensures { IfOk result (λ r. r ≡ Self.as_row (K.name Self.table key.now) kept.now) };
