@@ -1,5 +1,5 @@
 -- The rows of entries, and their keys.
-use Rattle.std.proofs.Common.{◌≡◌, ◌↔◌, ℕ, ◌<◌, ◌≤◌, zero, suc, length, get_or, Bool, filter, ◌⊎◌, Some, None, Option, false, true, List, [], ◌∷◌, ◌++◌, map, refl, sym, ap, ◌∙◌, subst, inl, inr, cond, arith}
+use Rattle.std.proofs.Common.{◌≡◌, ◌↔◌, ℕ, ◌<◌, ◌≤◌, length, Bool, filter, Some, None, Option, false, true, List, [], ◌∷◌, ◌++◌, map, refl, sym, ap, ◌∙◌, subst, cond, arith}
 use Rattle.std.specs.declared.cmp.Ordering.{Ordering}
 use Rattle.std.specs.declared.cmp.Ordering.TheVariants.{Less, Equal, Greater}
 use Rattle.std.specs.Ordering.{match_ordering, is_eq, nat_cmp, ordering_then}
@@ -22,6 +22,7 @@ use Rattle.snb_schema.specs.RowKeys.{RowKey, row_key}
 use Rattle.snb_shelf.specs.Keyed.{key_table, IsPart}
 use Rattle.snb_tables.specs.Graphs.{part, part_of, key_order, row_order, HasKey}
 use Rattle.snb_shelf.specs.Rows.{entry_row, rows_by, Fits, AreKept, HasLost, most_rows}
+use Rattle.snb_shelf.proofs.Laws.{contains_here, contains_map, map_contains, filter_map}
 
 -- what a test doesn't find isn't there
 pub none_from_test : {X : Type 0} (o : Option X) → is_some o ≡ false → o ≡ None
@@ -56,6 +57,15 @@ IsPermutation-insert_entry cmp (e ∷ es) k v n =
       | Greater ↦ λ m. IsPermutation-trans _ _ _ (IsPermutation-cons e _ _ (IsPermutation-insert_entry cmp es k v m)) (two_swapped e (k, v) es)
     ] n
 
+-- taking out what a look-up doesn't find leaves all entries
+pub none_removed : {K V : Type 0} (test : K → Bool) (es : List (K × V)) → lookup test es ≡ None → remove_entry test es ≡ es
+none_removed test [] n = refl
+none_removed {K} {V} test (e ∷ es) n = by (test e.0) n (none_removed test es)
+  where
+    by : (b : Bool) → cond b (Some e.1) (lookup test es) ≡ None → (lookup test es ≡ None → remove_entry test es ≡ es) → cond b es (e ∷ remove_entry test es) ≡ e ∷ es
+    by true m rest = absurd cc
+    by false m rest = ap (λ (l : List (K × V)). e ∷ l) (rest m)
+
 -- taking out what a look-up finds leaves one entry fewer
 pub IsPermutation-remove_entry : {K V : Type 0} (cmp : K → K → Ordering) (es : List (K × V)) (k : K) → IsSome (lookup (is_at (cmp k)) es) → (e : K × V) × (cmp k e.0 ≡ Equal) × IsPermutation es (e ∷ remove_entry (is_at (cmp k)) es)
 IsPermutation-remove_entry cmp [] k found = absurd (false≢true found)
@@ -76,50 +86,9 @@ map_same : {X : Type 0} (xs : List X) → map (λ (x : X). x) xs ≡ xs
 map_same [] = refl
 map_same (x ∷ xs) = ap (λ ys. x ∷ ys) (map_same xs)
 
--- an element of a list is the first one, or stands after it
-pub contains_cases : {X : Type 0} (y : X) (ys : List X) (x : X) → Contains (y ∷ ys) x → (y ≡ x) ⊎ Contains ys x
-contains_cases y ys x h = by_place h.0 h.1 h.2
-  where
-    by_place : (k : ℕ) → k < length (y ∷ ys) → get_or (y ∷ ys) k x ≡ x → (y ≡ x) ⊎ Contains ys x
-    by_place zero l e = inl e
-    by_place (suc k) l e = inr (k, omega arith, e)
-
-pub contains_here : {X : Type 0} (y : X) (ys : List X) → Contains (y ∷ ys) y
-contains_here y ys = (0, omega arith, refl)
-
-pub contains_there : {X : Type 0} (y : X) (ys : List X) (x : X) → Contains ys x → Contains (y ∷ ys) x
-contains_there y ys x h = (suc h.0, (let l = h.1 in omega arith), h.2)
-
-pub contains_map : {X Y : Type 0} (f : X → Y) (xs : List X) (x : X) → Contains xs x → Contains (map f xs) (f x)
-contains_map f [] x c = absurd (omega (arith, c.1))
-contains_map {X} f (y ∷ ys) x c =
-    elim (contains_cases y ys x c) [
-      | inl e ↦ subst (λ (z : X). Contains (f y ∷ map f ys) (f z)) e (contains_here (f y) (map f ys))
-      | inr k ↦ contains_there (f y) (map f ys) (f x) (contains_map f ys x k)
-    ]
-
-pub map_contains : {X Y : Type 0} (f : X → Y) (xs : List X) (y : Y) → Contains (map f xs) y → (x : X) × Contains xs x × (f x ≡ y)
-map_contains f [] y c = absurd (omega (arith, c.1))
-map_contains f (x ∷ xs) y c =
-    elim (contains_cases (f x) (map f xs) y c) [
-      | inl e ↦ (x, contains_here x xs, e)
-      | inr k ↦ let rest = map_contains f xs y k in (rest.0, contains_there x xs rest.0 rest.1, rest.2)
-    ]
-
 -- what holds of each entry holds of each that is left
 pub All-remove_entry : {K V : Type 0} (P : K × V → Type 0) (test : K → Bool) (es : List (K × V)) → All P es → All P (remove_entry test es)
 All-remove_entry {K} {V} P test es all = subst (λ l. All P l) (map_same (remove_entry test es)) (All-map-remove_entry test (λ (x : K × V). x) P es (subst (λ l. All P l) (sym (map_same es)) all))
-
--- what a filter keeps of entries is what it keeps of their rows
-pub filter_map : {X Y : Type 0} (f : X → Y) (p : X → Bool) (q : Y → Bool) (xs : List X) → All (λ x. q (f x) ≡ p x) xs → map f (filter p xs) ≡ filter q (map f xs)
-filter_map f p q [] same = refl
-filter_map f p q (x ∷ xs) same = by (p x) (q (f x)) (same 0 x (omega arith)) (filter_map f p q xs (All-tail (λ y. q (f y) ≡ p y) x xs same))
-  where
-    by : (a b : Bool) → b ≡ a → map f (filter p xs) ≡ filter q (map f xs) → map f (cond a (x ∷ filter p xs) (filter p xs)) ≡ cond b (f x ∷ filter q (map f xs)) (filter q (map f xs))
-    by true true e rest = ap (λ ys. f x ∷ ys) rest
-    by false false e rest = rest
-    by true false e rest = absurd (false≢true e)
-    by false true e rest = absurd (false≢true (sym e))
 
 module _ {K V : Type 0} (cmp : K → K → Ordering) (total : IsTotalOrder cmp) (exact : CmpEqualImpliesEq cmp) (n : ℕ) (key : K → RowKey) (row_at : RowKey → V → Row) (ordered : (j k : K) → key_order (key j) (key k) ≡ cmp j k) where
   abbrev f : K → V → Row
@@ -207,6 +176,10 @@ module _ {K V : Type 0} (cmp : K → K → Ordering) (total : IsTotalOrder cmp) 
       let same_row : f taken.0.0 taken.0.1 ≡ r = sym (ap (λ q. f q taken.0.1) same_key) ∙ sym (ap (λ o. f e.0.0 (unwrap_or o e.0.1)) one_value) ∙ e.2 in
       subst (λ x. IsPermutation (rows_by f es) (rows_by f (remove_entry (is_at (cmp k)) es) ++ x ∷ [])) same_row
       (IsPermutation-trans _ _ _ (IsPermutation-map (λ (x : K × V). f x.0 x.1) _ _ taken.2) (IsPermutation-sym _ _ (IsPermutation-to_front (rows_by f (remove_entry (is_at (cmp k)) es)) (f taken.0.0 taken.0.1))))
+
+  -- where no row has the key, taking it out changes nothing
+  pub none_lost : (es : List (K × V)) → AreKept cmp fits es → (k : K) → ¬ HasKey (rows_by f es) (key k) → rows_by f (remove_entry (is_at (cmp k)) es) ≡ rows_by f es
+  none_lost es kept k none = ap (rows_by f) (none_removed (is_at (cmp k)) es (none_if_new (lookup (is_at (cmp k)) es) (found_iff es kept.fit k) none))
 
   pub kept_lost : (es : List (K × V)) (k : K) → AreKept cmp fits es → IsStrictlySortedBy cmp (keys_of (remove_entry (is_at (cmp k)) es)) → length (remove_entry (is_at (cmp k)) es) ≤ length es → AreKept cmp fits (remove_entry (is_at (cmp k)) es)
   kept_lost es k kept rises fewer = record { fit = All-remove_entry (λ (x : K × V). fits x.0 x.1) (is_at (cmp k)) es kept.fit; rises = rises; few = omega (arith, fewer, kept.few) }

@@ -1,6 +1,7 @@
-//! Rows that are kept in an ordered map, seen as the rows.
+//! Ordered maps: rows of one part of a graph, seen as the rows, and pairs of ids with dates.
 #![tactic(auto)]
 
+pub mod index;
 pub mod kept;
 pub mod keys;
 pub mod nodes;

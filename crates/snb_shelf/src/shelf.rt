@@ -82,9 +82,10 @@ impl<K: Key, V: Kept> Shelf<K, V> {
         Ok(())
     }
 
-    /// Takes out the row of a key.
+    /// Takes out the row of a key, if there is one.
     pub fn take_back(&mut self, key: &K)
         ensures lost { HasLost self.old (K.name V.table key.now) self.new }
+        ensures none { ¬ HasKey self.old (K.name V.table key.now) → self.new ≡ self.old }
         ensures whole { IsPart V.part self.new }
     {
         let _ = self.map.remove(key);

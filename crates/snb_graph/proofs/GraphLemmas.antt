@@ -1,0 +1,306 @@
+-- The rows of a graph, and the links that go with them.
+use Rattle.std.proofs.Common.{◌≡◌, ◌≢◌, ◌↔◌, ◌⊎◌, ◌++◌, ◌∷◌, [], ℕ, Bool, true, false, List, Result, Ok, Err, OnOk, OnErr, IsTrue, refl, sym, ap, ◌∙◌, subst, inl, inr, arith, length, suc, ◌<◌, ◌+◌, take, drop, get_or, add-one, drop-cons, append-nil, append_assoc, filter, map, nat_eq}
+use Rattle.std.specs.List.{All, AllByRecursion, Contains, IsDistinct}
+use Rattle.std.specs.List.Sorted.{IsPermutation, IsStrictlySortedBy}
+use Rattle.std.specs.Cmp.{IsTotalOrder, eq_by_cmp_equiv, nat_cmp_total, on_total, then_total, tied_itself}
+use Rattle.std.specs.Cmp.Lexicographic.{nat_list_cmp_total}
+use Rattle.std.specs.Ordering.{eq_by_cmp, is_eq}
+use Rattle.std.specs.Result.{is_err}
+use Rattle.std.proofs.lemmas.List.{map-id, take-append-drop}
+use Rattle.std.proofs.lemmas.List.Elements.{Contains-append_cases, Contains-append_left, Contains-append_right}
+use Rattle.std.proofs.lemmas.Map.Keys.{IsDistinct-IsPermutation, IsDistinct-from_sorted}
+use Rattle.std.proofs.lemmas.List.Sorted.{Contains-permutation, IsPermutation-append_left, IsPermutation-refl, IsPermutation-sym, IsPermutation-trans}
+use denote.Enum.Bare.{same_true}
+use mathlib.Core.Bool.{false≢true}
+use Rattle.snb_base.proofs.Laws.{push_split}
+use Rattle.snb_schema.specs.contracts.table.Table.{the_type as the_table}
+use Rattle.snb_schema.specs.contracts.table.TableOrd.TheImpl.Laws.{total-law}
+use Rattle.snb_schema.specs.declared.layout.KeyColumns.{KeyColumns}
+use Rattle.snb_schema.specs.declared.layout.KeyColumns.TheVariants.{First, Second, FirstTwo}
+use Rattle.snb_schema.specs.declared.layout.Shape.{Shape}
+use Rattle.snb_schema.specs.declared.layout.Shape.TheVariants as shapes
+use Rattle.snb_schema.specs.declared.row.Row.{Row}
+use Rattle.snb_schema.specs.declared.row.Row.TheVariants as row
+use Rattle.snb_schema.specs.declared.table.Kind.TheVariants as kinds
+use Rattle.snb_schema.specs.declared.table.Table.{Table}
+use Rattle.snb_schema.specs.declared.table.Table.TheVariants as table
+use Rattle.snb_schema.specs.Layouts.{key_columns, shape}
+use Rattle.snb_schema.specs.References.{ref}
+use Rattle.snb_schema.specs.RowKeys.{RowKey, node_key, row_key, slot, slot_of}
+use Rattle.snb_schema.specs.RowLines.{table_of}
+use Rattle.snb_schema.specs.TableOrder.{same_table}
+use Rattle.snb_shelf.proofs.Laws.{contains_cases, contains_here, contains_there, ends_walk, in_filter}
+use Rattle.snb_shelf.specs.declared.keys.EdgeKey.{EdgeKey}
+use Rattle.snb_shelf.specs.Edges.{edge_of, edge_row, link_of}
+use Rattle.snb_shelf.specs.KeysApart.{edge_name}
+use Rattle.snb_shelf.specs.Pairs.{ArePairsOf, ends_of}
+use Rattle.snb_shelf.specs.Rows.{entry_row, rows_by}
+use Rattle.snb_tables.specs.Graphs.{HasGained, HasKey, HasSlot, IsGraph, key_order, part, row_order, rows}
+use Rattle.snb_tables.specs.Laws.{GraphsAreTheirRows}
+use Rattle.snb_tables.specs.Soundness.{Held}
+use Rattle.snb_links.specs.declared.indexes.Indexes.{Indexes}
+use Rattle.snb_links.specs.declared.link.Link.{Link}
+use Rattle.snb_links.specs.declared.link.Walk.{Walk}
+use Rattle.snb_links.specs.declared.link.Walk.TheVariants.{Friends, Messages, Replies, PostLikes, CommentLikes}
+use Rattle.snb_links.specs.Concerns.{concerns}
+use Rattle.snb_links.specs.Kept.{HasLink, IsIndexed, at}
+use Rattle.snb_links.specs.Links.{LikesComment, LikesPost, Tells}
+use Rattle.snb_links.specs.News.{link}
+use Rattle.snb_links.proofs.Laws.{mute_indexed}
+use Rattle.snb_store.proofs.Laws.{contains_gained}
+use Rattle.snb_store.specs.Parts.{HasGivenBack}
+use Rattle.snb_graph.specs.Additions.{AddsUp, HasClash, HasTaken}
+use Rattle.snb_graph.specs.Left.{edge_ends}
+use Rattle.snb_graph.specs.Walks.{ArePairs, Likes, stays_of, year_of}
+
+pub err_of : {T E P : Type 0} (r : Result T E) → true ≡ is_err r → OnErr r P → P
+err_of (Ok x) e p = absurd (false≢true (sym e))
+err_of (Err x) e p = p
+
+pub ok_of : {T E P : Type 0} (r : Result T E) → false ≡ is_err r → OnOk r P → P
+ok_of (Ok x) e p = p
+ok_of (Err x) e p = absurd (false≢true e)
+
+pub not_held : {H : Type 0} (test : Bool) → IsTrue test ↔ H → test ≡ false → ¬ H
+not_held true same e = absurd (false≢true (sym e))
+not_held false same e = λ h. false≢true (same.1 h)
+
+-- ---- walks
+
+pub walk_pairs : (g : List Row) (s : Indexes) (w : Walk) (of : ℕ) (ps : List ((ℕ × ℕ) × ℕ)) → IsIndexed g s → ArePairsOf (at s w) of ps → ArePairs (Tells g w of) (ends_of ps)
+walk_pairs g s w of ps is are =
+    let ends = ends_walk (at s w) of ps are in
+    record {
+      rises = ends.rises;
+      same = λ id date. (λ c. (is.same (link w of id date)).0 ((ends.same id date).0 c), λ h. (ends.same id date).1 ((is.same (link w of id date)).1 h));
+    }
+
+-- the rows of the keys of a post and a comment aren't in one graph
+post_or_comment : (g : List Row) (m : ℕ) → IsGraph g → HasKey g (node_key kinds.Post m) → HasKey g (node_key kinds.Comment m) → ⊥
+post_or_comment g m graph post comment =
+    let one = graph.apart post.it comment.it post.held comment.held (ap slot post.keyed ∙ sym (ap slot comment.keyed)) in
+    apart (ap (λ (k : RowKey). k.0) (sym post.keyed ∙ ap row_key one ∙ comment.keyed))
+  where
+    apart : table.Post ≡ table.Comment → ⊥
+    apart e = absurd cc
+
+liked_post : (g : List Row) (m p d : ℕ) → Held g → LikesPost g m p d → HasKey g (node_key kinds.Post m)
+liked_post g m p d held c = held (row.Dated table.PersonLikesPost p m d) c 1 (2, ref kinds.Post m) (omega arith)
+
+liked_comment : (g : List Row) (m p d : ℕ) → Held g → LikesComment g m p d → HasKey g (node_key kinds.Comment m)
+liked_comment g m p d held c = held (row.Dated table.PersonLikesComment p m d) c 1 (2, ref kinds.Comment m) (omega arith)
+
+pub post_likes : (g : List Row) (m : ℕ) (ps : List (ℕ × ℕ)) → IsGraph g → Held g → HasKey g (node_key kinds.Post m) → ArePairs (Tells g PostLikes m) ps → ArePairs (Likes g m) ps
+post_likes g m ps graph held post are = record {
+  rises = are.rises;
+  same = λ p d. (
+    λ c. inl ((are.same p d).0 c),
+    λ h. elim h [ inl one ↦ (are.same p d).1 one | inr two ↦ absurd (post_or_comment g m graph post (liked_comment g m p d held two)) ],
+  );
+}
+
+pub comment_likes : (g : List Row) (m : ℕ) (ps : List (ℕ × ℕ)) → Held g → ¬ HasKey g (node_key kinds.Post m) → ArePairs (Tells g CommentLikes m) ps → ArePairs (Likes g m) ps
+comment_likes g m ps held none are = record {
+  rises = are.rises;
+  same = λ p d. (
+    λ c. inr ((are.same p d).0 c),
+    λ h. elim h [ inl one ↦ absurd (none (liked_post g m p d held one)) | inr two ↦ (are.same p d).1 two ],
+  );
+}
+
+-- ---- stays
+
+link_table : (c : KeyColumns) (t : Table) (a b n : ℕ) → table_of (link_of c t a b n) ≡ t
+link_table First t a b n = refl
+link_table Second t a b n = refl
+link_table FirstTwo t a b n = refl
+
+edge_table : (s : Shape) (c : KeyColumns) (t : Table) (a b n : ℕ) → table_of (edge_of s c t a b n) ≡ t
+edge_table shapes.Dated c t a b n = refl
+edge_table shapes.Yeared c t a b n = refl
+edge_table shapes.Place c t a b n = link_table c t a b n
+edge_table shapes.TagClass c t a b n = link_table c t a b n
+edge_table shapes.Tag c t a b n = link_table c t a b n
+edge_table shapes.Organisation c t a b n = link_table c t a b n
+edge_table shapes.Person c t a b n = link_table c t a b n
+edge_table shapes.Forum c t a b n = link_table c t a b n
+edge_table shapes.Post c t a b n = link_table c t a b n
+edge_table shapes.Comment c t a b n = link_table c t a b n
+edge_table shapes.Link c t a b n = link_table c t a b n
+edge_table shapes.Word c t a b n = link_table c t a b n
+
+-- the second id and the year of a row
+abbrev stay : Row → ℕ × ℕ
+stay r = ((row_key r).2, year_of r)
+
+one_stay : (k : EdgeKey) (n : ℕ) → shape k.table ≡ shapes.Yeared → stay (edge_row (edge_name k) n) ≡ (k.second, n)
+one_stay k n yeared = ap (λ s. stay (edge_of s (key_columns k.table) k.table k.first k.second n)) yeared
+
+all_stays : (t : Table) (es : List (EdgeKey × ℕ)) → shape t ≡ shapes.Yeared → ((r : Row) → Contains (rows_by (entry_row edge_name edge_row) es) r → table_of r ≡ t) → edge_ends es ≡ map stay (rows_by (entry_row edge_name edge_row) es)
+all_stays t [] yeared are = refl
+all_stays t (e ∷ es) yeared are =
+    let here : table_of (edge_row (edge_name e.0) e.1) ≡ t = are _ (contains_here (edge_row (edge_name e.0) e.1) (rows_by (entry_row edge_name edge_row) es)) in
+    let its_table : e.0.table ≡ t = sym (edge_table (shape e.0.table) (key_columns e.0.table) e.0.table e.0.first e.0.second e.1) ∙ here in
+    let first = sym (one_stay e.0 e.1 (ap shape its_table ∙ yeared)) in
+    let rest = all_stays t es yeared (λ r c. are r (contains_there (edge_row (edge_name e.0) e.1) (rows_by (entry_row edge_name edge_row) es) r c)) in
+    λ i. first i ∷ rest i
+
+same_is : (t u : Table) → same_table t u ≡ true → t ≡ u
+same_is t u e = same_true the_table tt t u e
+
+pub stays : (g : List Row) (t : Table) (person : ℕ) (es : List (EdgeKey × ℕ)) → shape t ≡ shapes.Yeared → rows_by (entry_row edge_name edge_row) es ≡ filter (λ r. nat_eq (row_key r).1 person) (rows g t) → edge_ends es ≡ stays_of g t person
+stays g t person es yeared same =
+    all_stays t es yeared (λ r c.
+    let kept = (in_filter (λ (x : Row). nat_eq (row_key x).1 person) (rows g t) r).0 (subst (λ xs. Contains xs r) same c) in
+    same_is (table_of r) t ((in_filter (λ (x : Row). same_table (table_of x) t) g r).0 kept.0).1)
+    ∙ ap (map stay) same
+
+-- ---- rows added and taken out
+
+tells_none : (w : Walk) (of id date : ℕ) → ¬ Tells [] w of id date
+tells_none Friends of id date (inl c) = omega (arith, c.1)
+tells_none Friends of id date (inr c) = omega (arith, c.1)
+tells_none Messages of id date l = let c = l.held in omega (arith, c.1)
+tells_none Replies of id date l = let c = l.held in omega (arith, c.1)
+tells_none PostLikes of id date c = omega (arith, c.1)
+tells_none CommentLikes of id date c = omega (arith, c.1)
+
+pub none_indexed : (g : List Row) (s : Indexes) → g ≡ [] → IsGraph g → ((l : Link) → ¬ HasLink s l) → IsIndexed g s
+none_indexed g s is graph none = record {
+  graph = graph;
+  same = λ l. (λ x. absurd (none l x), λ x. absurd (tells_none l.walk l.of l.id l.date (subst (λ h. Tells h l.walk l.of l.id l.date) is x)));
+}
+
+-- a row along which no walk goes was added, or wasn't
+pub mute_after : {E : Type 0} (result : Result (Unit {0}) E) (old new : List Row) (r : Row) (s : Indexes) → ((w : Walk) → concerns w r ≡ false) → IsIndexed old s → OnOk result (HasGained old (r ∷ []) new) → OnErr result (new ≡ old) → IsIndexed new s
+mute_after (Ok x) old new r s mute is ok err = mute_indexed old new r s mute is ok
+mute_after (Err e) old new r s mute is ok err = subst (λ g. IsIndexed g s) (sym err) is
+
+row_total : IsTotalOrder row_order
+row_total =
+    then_total (on_total part nat_cmp_total)
+    (on_total row_key (then_total (on_total (λ (k : RowKey). k.0) total-law)
+    (then_total (on_total (λ (k : RowKey). k.1) nat_cmp_total) (then_total (on_total (λ (k : RowKey). k.2) nat_cmp_total) (on_total (λ (k : RowKey). k.3) nat_list_cmp_total)))))
+
+-- a row that stands apart from a row doesn't stand among those before it
+not_before : {X : Type 0} (e : X → X → Bool) (xs : List X) (x : X) → IsDistinct e (xs ++ x ∷ []) → e x x ≡ true → ¬ Contains xs x
+unfolding IsDistinct
+not_before e [] x apart same c = omega (arith, c.1)
+not_before {X} e (y ∷ ys) x apart same c =
+    elim (contains_cases y ys x c) [
+      | inl is ↦ false≢true (sym (last ys apart.0) ∙ ap (λ (z : X). e z x) is ∙ same)
+      | inr d ↦ not_before e ys x apart.1 same d
+    ]
+  where
+    last : (zs : List X) → AllByRecursion (λ z. e y z ≡ false) (zs ++ x ∷ []) → e y x ≡ false
+    last [] all = all.0
+    last (z ∷ zs) all = last zs all.1
+
+-- a row that was taken out of a graph isn't left in it
+pub once : (old new : List Row) (r : Row) → IsGraph old → IsPermutation old (new ++ r ∷ []) → ¬ Contains new r
+once old new r graph rows =
+    not_before (eq_by_cmp row_order) new r
+    (IsDistinct-IsPermutation (eq_by_cmp row_order) flips old (new ++ r ∷ []) rows (IsDistinct-from_sorted row_order old graph.rises))
+    (ap is_eq (tied_itself row_total r))
+  where
+    flips : (x y : Row) → eq_by_cmp row_order x y ≡ eq_by_cmp row_order y x
+    flips x y = (eq_by_cmp_equiv row_total).symm x y
+
+-- its slot is free
+pub left_free : (old new : List Row) (r : Row) → IsGraph old → IsPermutation old (new ++ r ∷ []) → ¬ HasSlot new (slot_of r)
+left_free old new r graph rows has =
+    let still = Contains-permutation (new ++ r ∷ []) old has.it (IsPermutation-sym old (new ++ r ∷ []) rows) (Contains-append_left new (r ∷ []) has.it has.held) in
+    let this = Contains-permutation (new ++ r ∷ []) old r (IsPermutation-sym old (new ++ r ∷ []) rows) (Contains-append_right new (r ∷ []) r (contains_here r [])) in
+    once old new r graph rows (subst (Contains new) (graph.apart has.it r still this has.fills) has.held)
+
+-- ---- rows added all together
+
+pub none_taken : (g : List Row) → IsGraph g → HasTaken g [] g
+none_taken g graph = record { from = graph; graph = graph; rows = subst (IsPermutation g) (sym (append-nil g)) (IsPermutation-refl g); new = λ clash. none clash.before clash.one clash.after clash.splits }
+  where
+    none : (before : List Row) (one : Row) (after : List Row) → before ++ one ∷ after ≡ [] → ⊥
+    none [] one after e = absurd cc
+    none (r ∷ rs) one after e = absurd cc
+
+-- a slot that is free among all is free among these
+free_among : (now all : List Row) (s : RowKey) → IsPermutation now all → ¬ HasSlot now s → ¬ HasSlot all s
+free_among now all s same free has = free (record { it = has.it; held = Contains-permutation all now has.it (IsPermutation-sym now all same) has.held; fills = has.fills })
+
+pub one_taken : (g more now next : List Row) (r : Row) → HasTaken g more now → ¬ HasSlot now (slot_of r) → HasGained now (r ∷ []) next → HasTaken g (more ++ r ∷ []) next
+one_taken g more now next r taken free gained = record {
+  from = taken.from;
+  graph = gained.graph;
+  rows = subst (IsPermutation next) (append_assoc g more (r ∷ [])) (IsPermutation-trans next (now ++ r ∷ []) ((g ++ more) ++ r ∷ []) gained.rows (IsPermutation-append_left (r ∷ []) now (g ++ more) taken.rows));
+  new = λ clash. elim (push_split clash.before clash.one clash.after more r clash.splits) [
+    | inl last ↦ free_among now (g ++ more) (slot_of r) taken.rows free (subst (λ q. HasSlot (g ++ more) (slot_of q)) last.1 (subst (λ b. HasSlot (g ++ b) (slot_of clash.one)) last.0 clash.filled))
+    | inr front ↦ taken.new (record { before = clash.before; one = clash.one; after = front.0; splits = front.1; filled = clash.filled })
+  ];
+}
+
+-- a row whose slot is taken is a clash
+pub taken_clash : (g more now all after : List Row) (r : Row) → HasTaken g more now → HasSlot now (slot_of r) → more ++ r ∷ after ≡ all → HasClash g all
+taken_clash g more now all after r taken has splits = record {
+  before = more;
+  one = r;
+  after = after;
+  splits = splits;
+  filled = record { it = has.it; held = Contains-permutation now (g ++ more) has.it taken.rows has.held; fills = has.fills };
+}
+
+pub adds_up : (g more now : List Row) → HasTaken g more now → AddsUp g more now
+adds_up g more now taken = record {
+  from = taken.from;
+  graph = taken.graph;
+  same = λ r. (
+    λ c. Contains-append_cases g more r (Contains-permutation now (g ++ more) r taken.rows c),
+    λ h. Contains-permutation (g ++ more) now r (IsPermutation-sym now (g ++ more) taken.rows) (elim h [ inl c ↦ Contains-append_left g more r c | inr c ↦ Contains-append_right g more r c ]),
+  );
+  apart = λ before r after splits h. taken.new (record {
+    before = before;
+    one = r;
+    after = after;
+    splits = splits;
+    filled = record { it = r; held = elim h [ inl c ↦ Contains-append_left g before r c | inr c ↦ Contains-append_right g before r c ]; fills = refl };
+  });
+}
+
+pub one_back : (g front now next : List Row) (r : Row) → AddsUp g (front ++ r ∷ []) now → HasGivenBack now r next → AddsUp g front next
+one_back g front now next r adds back = record {
+  from = adds.from;
+  graph = back.graph;
+  same = λ x. (
+    λ c.
+        let still = Contains-permutation (next ++ r ∷ []) now x (IsPermutation-sym now (next ++ r ∷ []) back.rows) (Contains-append_left next (r ∷ []) x c) in
+        elim ((adds.same x).0 still) [
+          | inl old ↦ inl old
+          | inr more ↦ elim (last_cases front r x more) [ inl first ↦ inr first | inr e ↦ absurd (once now next r adds.graph back.rows (subst (Contains next) (sym e) c)) ]
+        ],
+    λ h. elim (contains_gained next now r x back.rows ((adds.same x).1 (elim h [ inl old ↦ inl old | inr first ↦ inr (Contains-append_left front (r ∷ []) x first) ]))) [
+      | inl c ↦ c
+      | inr e ↦ absurd (adds.apart front r [] refl (elim h [ inl old ↦ inl (subst (Contains g) (sym e) old) | inr first ↦ inr (subst (Contains front) (sym e) first) ]))
+    ],
+  );
+  apart = λ before x after splits. adds.apart before x (after ++ r ∷ []) (sym (append_assoc before (x ∷ after) (r ∷ [])) ∙ ap (λ l. l ++ r ∷ []) splits);
+}
+  where
+    last_cases : (xs : List Row) (y x : Row) → Contains (xs ++ y ∷ []) x → Contains xs x ⊎ (y ≡ x)
+    last_cases xs y x c = elim (Contains-append_cases xs (y ∷ []) x c) [ inl h ↦ inl h | inr h ↦ elim (contains_cases y [] x h) [ inl e ↦ inr e | inr d ↦ absurd (omega (arith, d.1)) ] ]
+
+pub all_back : (g now : List Row) → GraphsAreTheirRows → AddsUp g [] now → now ≡ g
+all_back g now law adds = law now g adds.graph adds.from (λ r. (λ c. elim ((adds.same r).0 c) [ inl old ↦ old | inr none ↦ absurd (omega (arith, none.1)) ], λ c. (adds.same r).1 (inl c)))
+
+-- a row of a graph that adds up is held
+pub last_held : (g front now : List Row) (r : Row) → AddsUp g (front ++ r ∷ []) now → Contains now r
+last_held g front now r adds = (adds.same r).1 (inr (Contains-append_right front (r ∷ []) r (contains_here r [])))
+
+pub none_left : {X : Type 0} (xs : List X) → length xs ≡ 0 → xs ≡ []
+none_left [] e = refl
+none_left (x ∷ xs) e = absurd (omega (arith, e))
+
+-- the next item of a list
+pub next_item : {X : Type 0} (xs all : List X) (x : X) → map (λ (y : X). y) xs ≡ take (length xs) all → (length xs < length all) × (x ≡ get_or all (length xs) x) → xs ++ x ∷ drop (length xs + 1) all ≡ all
+next_item {X} xs all x front at =
+    let first : xs ≡ take (length xs) all = sym (map-id xs) ∙ front in
+    let rest : drop (length xs) all ≡ x ∷ drop (length xs + 1) all =
+    drop-cons all (length xs) x at.0 ∙ ap (λ (y : X). y ∷ drop (suc (length xs)) all) (sym at.1) ∙ ap (λ (n : ℕ). x ∷ drop n all) (sym (add-one (length xs))) in
+    ap (λ (ys : List X). ys ++ x ∷ drop (length xs + 1) all) first ∙ ap (λ (ys : List X). take (length xs) all ++ ys) (sym rest) ∙ take-append-drop (length xs) all

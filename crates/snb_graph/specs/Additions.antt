@@ -1,0 +1,31 @@
+-- Rows that are added all together.
+use Rattle.std.specs.Prelude.{◌≡◌, ◌↔◌, ◌⊎◌, ◌++◌, ◌∷◌, List, Contains, IsPermutation}
+use Rattle.snb_schema.specs.declared.row.Row.{Row}
+use Rattle.snb_schema.specs.RowKeys.{slot_of}
+use Rattle.snb_tables.specs.Graphs.{HasSlot, IsGraph}
+
+-- the slot of one of the rows is that of a row that is held, or of a row before it
+pub record HasClash (g more : List Row) : Type 0 where
+  pub before : List Row
+  pub one : Row
+  pub after : List Row
+  pub splits : before ++ one ∷ after ≡ more
+  pub filled : HasSlot (g ++ before) (slot_of one)
+
+-- no slot of the rows is
+abbrev pub AreNew : List Row → List Row → Type 0
+AreNew g more = ¬ HasClash g more
+
+-- the graph has gained rows that are new
+pub record HasTaken (g more now : List Row) : Type 0 where
+  pub from : IsGraph g
+  pub graph : IsGraph now
+  pub rows : IsPermutation now (g ++ more)
+  pub new : AreNew g more
+
+-- the graph holds the rows of another and these, which the other lacks, each once
+pub record AddsUp (g more now : List Row) : Type 0 where
+  pub from : IsGraph g
+  pub graph : IsGraph now
+  pub same : (r : Row) → Contains now r ↔ (Contains g r ⊎ Contains more r)
+  pub apart : (before : List Row) (r : Row) (after : List Row) → before ++ r ∷ after ≡ more → ¬ (Contains g r ⊎ Contains before r)

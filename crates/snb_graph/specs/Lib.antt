@@ -1,0 +1,5 @@
+pub mod Additions
+pub mod Filters
+pub mod Laws
+pub mod Left
+pub mod Walks

@@ -1,0 +1,480 @@
+//! The graph, with what is walked along.
+
+ghost use Rattle.std.specs.Prelude.{◌≢◌, length, All, List, ◌≡◌, ◌++◌, ◌∷◌, [], ◌↔◌, Contains, IsTrue, IsSome, IfSome, IfOk, IfErr, OnOk, OnErr, Err};
+ghost use Rattle.std.specs.Option.{option_copied};
+ghost use Rattle.snb_schema.specs.declared.layout.KeyColumns.TheVariants as columns;
+ghost use Rattle.snb_schema.specs.declared.layout.Shape.TheVariants as shapes;
+ghost use Rattle.snb_schema.specs.declared.row.Row.{Row};
+ghost use Rattle.snb_schema.specs.declared.row.Row.TheVariants as row;
+ghost use Rattle.snb_schema.specs.declared.table.Kind.TheVariants as kinds;
+ghost use Rattle.snb_schema.specs.declared.table.Table.TheVariants as table;
+ghost use Rattle.snb_schema.specs.Layouts.{key_columns, shape};
+ghost use Rattle.snb_schema.specs.RowKeys.{node_key, slot_of};
+ghost use Rattle.snb_schema.specs.TableRows.{IsTableRow};
+ghost use Rattle.snb_tables.specs.Graphs.{HasGained, HasKey, HasSlot, IsGraph, count, rows};
+ghost use Rattle.snb_tables.specs.Soundness.{Held as IsHeld, Sound};
+ghost use Rattle.snb_soundness.specs.Outcomes.{IsWrong};
+ghost use Rattle.snb_shelf.specs.Edges.{link_of};
+ghost use Rattle.snb_store.specs.declared.insert.Insert.TheVariants as Insert;
+ghost use Rattle.snb_store.specs.Parts.{HasGivenBack};
+ghost use Rattle.snb_store.specs.Twins.{IsNoWord};
+ghost use Rattle.snb_store.specs.Words.{words_of};
+ghost use Rattle.snb_graph.specs.Additions.{AddsUp, AreNew, HasClash, HasTaken};
+ghost use Rattle.snb_links.specs.Links.{LikesComment, LikesPost};
+ghost use Rattle.snb_graph.specs.Walks.{AreFriendsOf, AreLikesOf, AreMessagesOf, ArePairs, AreRepliesOf, stays_of};
+
+use crate::walk::Links;
+use snb_base::text::Text;
+use snb_links::indexes::Indexes;
+use snb_links::link::Walk;
+use snb_links::news::news_of;
+use snb_schema::key::{Held, Key};
+use snb_schema::nodes::{Comment, Forum, Named, Organisation, Place, Post};
+use snb_schema::person::Person;
+use snb_schema::row::Row;
+use snb_schema::table::Table;
+use snb_shelf::keys::WordKey;
+use snb_soundness::sound::sound;
+use snb_soundness::unsound::Unsound;
+use snb_store::each::TableRows;
+use snb_store::insert::Insert;
+use snb_store::same::holds_same;
+use snb_store::tables::Tables;
+use snb_store::words::Words;
+use snb_tables::law::graphs_are_their_rows;
+use std::alloc::{AllocError, Global};
+use std::marker::Model;
+
+/// A graph. A contract sees its rows: those of each kind of node, then the edges, then the words,
+/// each in the order of tables and keys.
+#[derive(Drop)]
+pub struct Graph {
+    tables: Tables,
+    links: Indexes,
+    alloc: Global,
+}
+
+impl Model for Graph {
+    ghost use Rattle.std.specs.Prelude.{List};
+    ghost use Rattle.snb_schema.specs.declared.row.Row.{Row};
+    ghost use Rattle.snb_links.specs.Kept.{IsIndexed};
+
+    ghost Value = { List Row };
+
+    ghost view = { λ g. g.tables };
+
+    ghost invariant = { λ g. IsIndexed g.tables g.links };
+}
+
+// An equal row.
+fn copy_of(row: &Row) -> Result<Row, AllocError>
+    ensures { IfOk result (λ copy. copy ≡ row.now) }
+{
+    row.clone()
+}
+
+// Notes an equal row. Want of memory leaves the list as it was.
+fn note(added: &mut Vec<Row>, row: &Row) -> Result<(), AllocError>
+    ensures ok { OnOk result (added.new.items ≡ added.old.items ++ row.now ∷ []) }
+    ensures err { OnErr result (added.new.items ≡ added.old.items) }
+{
+    let copy = copy_of(row)?;
+    added.push(copy)?;
+    Ok(())
+}
+
+// Takes the last row off a list.
+fn forget(added: &mut Vec<Row>)
+    ensures { (front : List Row) (last : Row) → added.old.items ≡ front ++ last ∷ [] → added.new.items ≡ front }
+{
+    let _ = added.pop();
+}
+
+impl Graph {
+    /// A graph without rows. Takes no memory.
+    pub fn empty(alloc: Global) -> Graph
+        ensures { result ≡ [] }
+    {
+        Graph {
+            tables: Tables::empty(alloc),
+            links: Indexes::empty(alloc),
+            alloc,
+        }
+    }
+
+    /// The person of this id.
+    pub fn person(&self, id: u64) -> Option<&Person>
+        ensures found { IfSome (option_copied result) (λ n. (n.id ≡ id) × Contains self.now (row.Person n)) }
+        ensures held { IsSome result ↔ HasKey self.now (node_key kinds.Person id) }
+    {
+        self.tables.person(id)
+    }
+
+    /// The place of this id.
+    pub fn place(&self, id: u64) -> Option<&Place>
+        ensures found { IfSome (option_copied result) (λ n. (n.id ≡ id) × Contains self.now (row.Place n)) }
+        ensures held { IsSome result ↔ HasKey self.now (node_key kinds.Place id) }
+    {
+        self.tables.place(id)
+    }
+
+    /// The class of tags of this id.
+    pub fn tag_class(&self, id: u64) -> Option<&Named>
+        ensures found { IfSome (option_copied result) (λ n. (n.id ≡ id) × Contains self.now (row.TagClass n)) }
+        ensures held { IsSome result ↔ HasKey self.now (node_key kinds.TagClass id) }
+    {
+        self.tables.tag_class(id)
+    }
+
+    /// The tag of this id.
+    pub fn tag(&self, id: u64) -> Option<&Named>
+        ensures found { IfSome (option_copied result) (λ n. (n.id ≡ id) × Contains self.now (row.Tag n)) }
+        ensures held { IsSome result ↔ HasKey self.now (node_key kinds.Tag id) }
+    {
+        self.tables.tag(id)
+    }
+
+    /// The organisation of this id.
+    pub fn organisation(&self, id: u64) -> Option<&Organisation>
+        ensures found { IfSome (option_copied result) (λ n. (n.id ≡ id) × Contains self.now (row.Organisation n)) }
+        ensures held { IsSome result ↔ HasKey self.now (node_key kinds.Organisation id) }
+    {
+        self.tables.organisation(id)
+    }
+
+    /// The forum of this id.
+    pub fn forum(&self, id: u64) -> Option<&Forum>
+        ensures found { IfSome (option_copied result) (λ n. (n.id ≡ id) × Contains self.now (row.Forum n)) }
+        ensures held { IsSome result ↔ HasKey self.now (node_key kinds.Forum id) }
+    {
+        self.tables.forum(id)
+    }
+
+    /// The post of this id.
+    pub fn post(&self, id: u64) -> Option<&Post>
+        ensures found { IfSome (option_copied result) (λ n. (n.id ≡ id) × Contains self.now (row.Post n)) }
+        ensures held { IsSome result ↔ HasKey self.now (node_key kinds.Post id) }
+    {
+        self.tables.post(id)
+    }
+
+    /// The comment of this id.
+    pub fn comment(&self, id: u64) -> Option<&Comment>
+        ensures found { IfSome (option_copied result) (λ n. (n.id ≡ id) × Contains self.now (row.Comment n)) }
+        ensures held { IsSome result ↔ HasKey self.now (node_key kinds.Comment id) }
+    {
+        self.tables.comment(id)
+    }
+
+    /// Whether this very row is held. Takes no memory.
+    pub fn same_row(&self, row: &Row) -> bool
+        requires { IsTableRow row.now }
+        ensures { IsTrue result ↔ Contains self.now row.now }
+    {
+        holds_same(&self.tables, row)
+    }
+
+    /// How many rows a table has. It counts those of a table of edges or words one by one.
+    pub fn count(&self, table: Table) -> u64
+        ensures { result ≡ count self.now table }
+    {
+        self.tables.count(table)
+    }
+
+    /// Copies of the rows of a table, in the order of their keys, each as a `Result`. After an `Err`
+    /// there are no more.
+    pub fn each(&self, table: Table) -> TableRows<'_>
+        ensures { result ≡ rows self.now table }
+    {
+        self.tables.each(table)
+    }
+
+    /// How many rows there are.
+    pub fn rows(&self) -> u64
+        ensures { result ≡ length self.now }
+    {
+        self.tables.rows()
+    }
+
+    /// The emails or languages of a person, in byte order. Takes no memory.
+    pub fn words(&self, table: Table, person: u64) -> Words<'_>
+        requires { shape table ≡ shapes.Word }
+        ensures { result ≡ words_of self.now table person }
+    {
+        self.tables.words(table, person)
+    }
+
+    /// The other end of the edge of this id, in a table whose key is one id.
+    pub fn one(&self, table: Table, id: u64) -> Option<u64>
+        requires shape { shape table ≡ shapes.Link }
+        requires one_id { key_columns table ≢ columns.FirstTwo }
+        ensures found { IfSome result (λ other. Contains self.now (link_of (key_columns table) table id 0 other)) }
+        ensures held { IsSome result ↔ HasKey self.now (table, id, 0, []) }
+    {
+        self.tables.one(table, id)
+    }
+
+    /// The friends of a person with the dates of their friendships, by rising id. Takes no memory.
+    pub fn friends(&self, person: u64) -> Links<'_>
+        ensures { AreFriendsOf self.now person result }
+    {
+        let _ = &self.tables;
+        Links::over(self.links.pairs(Walk::Friends, person))
+    }
+
+    /// The messages of a person with their creation dates, by rising id. Takes no memory.
+    pub fn messages(&self, person: u64) -> Links<'_>
+        ensures { AreMessagesOf self.now person result }
+    {
+        let _ = &self.tables;
+        Links::over(self.links.pairs(Walk::Messages, person))
+    }
+
+    /// The comments that reply to a message with their creation dates, by rising id. Takes no memory.
+    pub fn replies(&self, message: u64) -> Links<'_>
+        ensures { AreRepliesOf self.now message result }
+    {
+        let _ = &self.tables;
+        Links::over(self.links.pairs(Walk::Replies, message))
+    }
+
+    /// The persons who like a message with the dates of their likes, by rising id: those who like the
+    /// post of this id, if it is held, and else those who like the comment. Where each node that a row
+    /// refers to is held, these are all. Takes no memory.
+    pub fn likes(&self, message: u64) -> Links<'_>
+        ensures post { HasKey self.now (node_key kinds.Post message) → ArePairs (LikesPost self.now message) result }
+        ensures comment { ¬ HasKey self.now (node_key kinds.Post message) → ArePairs (LikesComment self.now message) result }
+        ensures held { IsHeld self.now → AreLikesOf self.now message result }
+    {
+        match self.tables.post(message) {
+            Some(_) => Links::over(self.links.pairs(Walk::PostLikes, message)),
+            None => Links::over(self.links.pairs(Walk::CommentLikes, message)),
+        }
+    }
+
+    /// The organisations where a person works with the years since when, by rising id. Takes no
+    /// memory.
+    pub fn work(&self, person: u64) -> Links<'_>
+        ensures { result ≡ stays_of self.now table.PersonWorkAtOrganisation person }
+    {
+        let _ = &self.links;
+        Links::along(
+            self.tables
+                .edges_from(Table::PersonWorkAtOrganisation, person),
+        )
+    }
+
+    /// The organisations where a person studied with the years since when, by rising id. Takes no
+    /// memory.
+    pub fn study(&self, person: u64) -> Links<'_>
+        ensures { result ≡ stays_of self.now table.PersonStudyAtOrganisation person }
+    {
+        let _ = &self.links;
+        Links::along(
+            self.tables
+                .edges_from(Table::PersonStudyAtOrganisation, person),
+        )
+    }
+
+    // `insert_row` of a word.
+    fn insert_word(&mut self, table: Table, person: u64, text: Text) -> Result<(), Insert>
+        requires { IsTableRow (row.Word table person text) }
+        ensures ok { OnOk result (HasGained self.old (row.Word table person text ∷ []) self.new) }
+        ensures duplicate { (result ≡ Err Insert.Duplicate) ↔ HasSlot self.old (slot_of (row.Word table person text)) }
+        ensures err { OnErr result (self.new ≡ self.old) }
+    {
+        self.tables.insert_row(Row::Word {
+            table,
+            person,
+            text,
+        })
+    }
+
+    // `insert_row` of a row that is no word.
+    fn insert_other(&mut self, row: Row) -> Result<(), Insert>
+        requires shaped { IsTableRow row }
+        requires no_word { IsNoWord row }
+        ensures ok { OnOk result (HasGained self.old (row ∷ []) self.new) }
+        ensures duplicate { (result ≡ Err Insert.Duplicate) ↔ HasSlot self.old (slot_of row) }
+        ensures err { OnErr result (self.new ≡ self.old) }
+    {
+        if self.tables.holds(&row) {
+            return Err(Insert::Duplicate);
+        }
+        let news = news_of(&self.tables, &row);
+        if self.links.add_news(news).is_err() {
+            return Err(Insert::Memory);
+        }
+        if self.tables.put(row).is_err() {
+            self.links.drop_news(news);
+            return Err(Insert::Memory);
+        }
+        Ok(())
+    }
+
+    /// Adds a row. `Duplicate` says that a row of its slot is held, and `Memory` that memory doesn't
+    /// suffice. After either the graph is as it was. It doesn't look at references.
+    pub fn insert_row(&mut self, row: Row) -> Result<(), Insert>
+        requires { IsTableRow row }
+        ensures ok { OnOk result (HasGained self.old (row ∷ []) self.new) }
+        ensures duplicate { (result ≡ Err Insert.Duplicate) ↔ HasSlot self.old (slot_of row) }
+        ensures err { OnErr result (self.new ≡ self.old) }
+    {
+        match row {
+            Row::Word {
+                table,
+                person,
+                text,
+            } => self.insert_word(table, person, text),
+            other => self.insert_other(other),
+        }
+    }
+
+    // Takes out a word that is held.
+    fn take_word(&mut self, table: Table, person: u64, text: Text)
+        requires { Contains self.old (row.Word table person text) }
+        ensures { HasGivenBack self.old (row.Word table person text) self.new }
+    {
+        self.tables.known();
+        self.tables.take_word(WordKey {
+            table,
+            person,
+            text,
+        });
+    }
+
+    // Takes out a row that is held and no word.
+    fn take_other(&mut self, row: &Row)
+        requires held { Contains self.old row.now }
+        requires no_word { IsNoWord row.now }
+        ensures { HasGivenBack self.old row.now self.new }
+    {
+        self.tables.known();
+        self.tables.take_back(row);
+        let news = news_of(&self.tables, row);
+        self.links.drop_news(news);
+    }
+
+    // Takes out a row that is held.
+    fn take_back(&mut self, row: Row)
+        requires { Contains self.old row }
+        ensures { HasGivenBack self.old row self.new }
+    {
+        match row {
+            Row::Word {
+                table,
+                person,
+                text,
+            } => self.take_word(table, person, text),
+            other => self.take_other(&other),
+        }
+    }
+
+    // Adds a row and notes it. Where that fails, the graph and the list are as they were.
+    fn insert_noted(&mut self, row: Row, added: &mut Vec<Row>) -> Result<(), Insert>
+        requires { IsTableRow row }
+        ensures ok { OnOk result (HasGained self.old (row ∷ []) self.new) }
+        ensures noted { OnOk result (added.new.items ≡ added.old.items ++ row ∷ []) }
+        ensures free { OnOk result (¬ HasSlot self.old (slot_of row)) }
+        ensures duplicate { result ≡ Err Insert.Duplicate → HasSlot self.old (slot_of row) }
+        ensures err { OnErr result (self.new ≡ self.old) }
+        ensures kept { OnErr result (added.new.items ≡ added.old.items) }
+    {
+        if note(added, &row).is_err() {
+            return Err(Insert::Memory);
+        }
+        match self.insert_row(row) {
+            Ok(()) => Ok(()),
+            Err(why) => {
+                forget(added);
+                Err(why)
+            }
+        }
+    }
+
+    // Takes out rows that were added, the last first.
+    fn take_all(&mut self, added: Vec<Row>)
+        requires { (old : List Row) × AddsUp old added.items self.old }
+        ensures { (old : List Row) → AddsUp old added.items self.old → self.new ≡ old }
+    {
+        graphs_are_their_rows();
+        let mut left = added;
+        while let Some(row) = left.pop() {
+            self.take_back(row);
+        }
+    }
+
+    // Adds the rows one after another, up to the first that can't be added, and notes them.
+    fn insert_each(&mut self, rows: Vec<Row>, added: &mut Vec<Row>) -> Result<(), Insert>
+        requires shaped { All IsTableRow rows.items }
+        requires graph { IsGraph self.old }
+        requires none { added.old.items ≡ [] }
+        ensures ok { OnOk result (HasTaken self.old rows.items self.new) }
+        ensures duplicate { result ≡ Err Insert.Duplicate → HasClash self.old rows.items }
+        ensures err { OnErr result (HasTaken self.old added.new.items self.new) }
+    {
+        for row in rows {
+            match self.insert_noted(row, added) {
+                Ok(()) => {}
+                Err(why) => return Err(why),
+            }
+        }
+        Ok(())
+    }
+
+    /// Adds all of the rows, or none. `Duplicate` says that a row of the slot of one of them is held,
+    /// or that two of them have one slot; `Memory` that memory doesn't suffice. After either the graph
+    /// is as it was. It doesn't look at references.
+    pub fn insert_all(&mut self, rows: Vec<Row>) -> Result<(), Insert>
+        requires { All IsTableRow rows.items }
+        ensures ok { OnOk result (HasGained self.old rows.items self.new) }
+        ensures new { OnOk result (AreNew self.old rows.items) }
+        ensures duplicate { result ≡ Err Insert.Duplicate → HasClash self.old rows.items }
+        ensures err { OnErr result (self.new ≡ self.old) }
+    {
+        self.tables.known();
+        let mut added = Vec::new(*rows.allocator());
+        match self.insert_each(rows, &mut added) {
+            Ok(()) => Ok(()),
+            Err(why) => {
+                self.take_all(added);
+                Err(why)
+            }
+        }
+    }
+
+    /// Whether the graph is sound, where each node that a row refers to is held: each node has the
+    /// edges that it must have, and the chain of each comment's parents ends at a post. `Lacks` names
+    /// the first edge that is missing, by the node's table, then its id, then the edge's table. `Cycle`
+    /// says that nothing is missing, and names the least comment whose chain has no end: it is in a
+    /// cycle, or hangs below one. `Memory` says that memory doesn't suffice. It doesn't look at
+    /// references.
+    pub fn sound(&self) -> Result<(), Unsound>
+        ensures ok { OnOk result (IsHeld self.now → Sound self.now) }
+        ensures err { IfErr result (IsWrong self.now) }
+    {
+        let _ = &self.links;
+        sound(self.alloc, &self.tables)
+    }
+
+    /// A graph with the same rows.
+    pub fn try_copy(&self) -> Result<Graph, AllocError>
+        ensures { IfOk result (λ copy. copy ≡ self.now) }
+    {
+        Ok(Graph {
+            tables: self.tables.try_copy()?,
+            links: self.links.try_copy()?,
+            alloc: self.alloc,
+        })
+    }
+}
+
+impl Held for Graph {
+    ghost use Rattle.snb_tables.specs.Graphs.{HoldsKey};
+
+    ghost holds = { HoldsKey };
+
+    fn has(&self, key: &Key) -> bool {
+        self.tables.has(key)
+    }
+}

@@ -1,0 +1,6 @@
+//! The graph: its rows, and what is walked along.
+#![tactic(auto)]
+
+pub mod graph;
+pub mod law;
+pub mod walk;

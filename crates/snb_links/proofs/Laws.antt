@@ -1,0 +1,75 @@
+-- Laws that proofs above cite: what one row more or fewer makes of the links kept beside the rows.
+use Rattle.std.proofs.Common.{◌≡◌, ◌≢◌, ◌↔◌, ◌⊎◌, ◌++◌, ◌∷◌, [], ℕ, false, List, Option, Some, None, refl, sym, subst, inl, inr}
+use Rattle.std.specs.List.{Contains}
+use Rattle.std.specs.List.Sorted.{IsPermutation}
+use Rattle.snb_schema.specs.declared.row.Row.{Row}
+use Rattle.snb_schema.specs.RowKeys.{slot_of}
+use Rattle.snb_tables.specs.Graphs.{HasGained, HasSlot, IsGraph}
+use Rattle.snb_links.specs.declared.indexes.Indexes.{Indexes}
+use Rattle.snb_links.specs.declared.link.Link.{Link}
+use Rattle.snb_links.specs.declared.link.News.{News}
+use Rattle.snb_links.specs.declared.link.Walk.{Walk}
+use Rattle.snb_links.specs.Concerns.{concerns}
+use Rattle.snb_links.specs.Kept.{HasLink, HasLostNews, HasNews, IsFresh, IsIndexed, IsTold, SameLinks}
+use Rattle.snb_links.specs.Links.{Tells}
+use Rattle.snb_links.specs.News.{IsNews, TellsLink}
+use Rattle.snb_links.proofs.NewsLemmas.{silent, still_tells}
+
+-- with the news the links go with the rows and one more
+pub news_indexed : (old new : List Row) (r : Row) (s t : Indexes) (news : News) → IsIndexed old s → IsNews old r news → HasNews s news t → HasGained old (r ∷ []) new → IsIndexed new t
+news_indexed old new r s t news is says has gained = record {
+  graph = gained.graph;
+  same = λ l. (
+    λ x. (says.says new gained.rows l).1 (elim ((has l).0 x) [ inl was ↦ inl ((is.same l).0 was) | inr told ↦ inr told ]),
+    λ x. (has l).1 (elim ((says.says new gained.rows l).0 x) [ inl was ↦ inl ((is.same l).1 was) | inr told ↦ inr told ]),
+  );
+}
+
+-- the news are new, where the row's slot is free
+pub news_fresh : (g : List Row) (r : Row) (s : Indexes) (news : News) → IsIndexed g s → IsNews g r news → ¬ HasSlot g (slot_of r) → IsFresh s news
+news_fresh g r s news is says free = record { new = λ k told l same x. says.fresh free k told l same ((is.same l).0 x); apart = says.apart }
+
+-- a row along which no walk goes changes no link
+pub mute_indexed : (old new : List Row) (r : Row) (s : Indexes) → ((w : Walk) → concerns w r ≡ false) → IsIndexed old s → HasGained old (r ∷ []) new → IsIndexed new s
+mute_indexed old new r s mute is gained = record {
+  graph = gained.graph;
+  same = λ l. (
+    λ x. still_tells old new r l.walk gained.rows l.of l.id l.date ((is.same l).0 x),
+    λ x. (is.same l).1 (silent old new r l.walk gained.rows (mute l.walk) l.of l.id l.date x),
+  );
+}
+
+-- the same of one row fewer
+pub mute_left : (old new : List Row) (r : Row) (s : Indexes) → ((w : Walk) → concerns w r ≡ false) → IsIndexed old s → IsGraph new → IsPermutation old (new ++ r ∷ []) → IsIndexed new s
+mute_left old new r s mute is graph rows = record {
+  graph = graph;
+  same = λ l. (
+    λ x. silent new old r l.walk rows (mute l.walk) l.of l.id l.date ((is.same l).0 x),
+    λ x. (is.same l).1 (still_tells new old r l.walk rows l.of l.id l.date x),
+  );
+}
+
+-- without the news the links go with the rows without one
+pub news_left : (old new : List Row) (r : Row) (s t : Indexes) (news : News) → IsIndexed old s → IsGraph new → IsPermutation old (new ++ r ∷ []) → IsNews new r news → ¬ HasSlot new (slot_of r) → HasLostNews s news t → IsIndexed new t
+news_left old new r s t news is graph rows says free lost = record {
+  graph = graph;
+  same = λ l. (
+    λ x.
+        let was = (lost l).0 x in
+        elim ((says.says old rows l).0 ((is.same l).0 was.0)) [ inl still ↦ still | inr told ↦ absurd (was.1 l told (refl, refl, refl)) ],
+    λ x. (lost l).1 ((is.same l).1 ((says.says old rows l).1 (inl x)), λ k told same. says.fresh free k told l same x),
+  );
+}
+
+-- undone news leave what goes with the rows
+pub same_indexed : (g : List Row) (s t : Indexes) → SameLinks s t → IsIndexed g s → IsIndexed g t
+same_indexed g s t same is = record { graph = is.graph; same = λ l. (λ x. (is.same l).0 ((same l).0 x), λ x. (same l).1 ((is.same l).1 x)) }
+
+-- after the news, those without them are the links before
+pub news_undone : (s mid t : Indexes) (news : News) → IsFresh s news → HasNews s news mid → HasLostNews mid news t → SameLinks s t
+news_undone s mid t news fresh has lost l = (
+  λ x.
+      let was = (lost l).0 x in
+      elim ((has l).0 was.0) [ inl o ↦ o | inr told ↦ absurd (was.1 l told (refl, refl, refl)) ],
+  λ o. (lost l).1 ((has l).1 (inl o), λ k told same. fresh.new k told l same o),
+)

@@ -1,0 +1,3 @@
+pub mod Laws
+pub mod LinkLemmas
+pub mod NewsLemmas

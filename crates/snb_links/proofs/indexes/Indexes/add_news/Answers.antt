@@ -1,0 +1,19 @@
+use Rattle.std.proofs.Common.{inl, subst}
+use Rattle.snb_links.specs.Kept.{HasLostSome}
+use Rattle.snb_links.proofs.LinkLemmas.{both_gained, err_of, first_undone, ok_of, still_new}
+use Rattle.snb_links.proofs.indexes.Indexes.add_news.Goals as goal
+
+pub add_some-requires : goal.add_some-requires
+add_some-requires c k is = c.requires.new k (inl is)
+
+pub add_some-requires-2 : goal.add_some-requires-2
+add_some-requires-2 c = still_new c.args.self.now c.add_some.new.self c.args.news c.requires c.in_ok-add_some.ensures.ok
+
+pub returns-then-is_err-clause-err : goal.returns-then-is_err-clause-err
+returns-then-is_err-clause-err c =
+    let same = err_of c.add_some-2.result (c.if-is_err.ensures.value) c.add_some-2.ensures.err in
+    first_undone c.args.self.now c.add_some.new.self c.drop_some.new.self c.args.news c.requires c.in_ok-add_some.ensures.ok
+    (subst (λ s. HasLostSome s c.args.news.first c.drop_some.new.self) same c.drop_some.ensures)
+
+pub returns-clause-ok : goal.returns-clause-ok
+returns-clause-ok c = both_gained c.args.self.now c.add_some.new.self c.add_some-2.new.self c.args.news c.in_ok-add_some.ensures.ok (ok_of c.add_some-2.result (c.if-is_err.ensures.value) c.add_some-2.ensures.ok)

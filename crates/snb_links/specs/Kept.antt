@@ -1,0 +1,77 @@
+-- The links that are kept beside the rows of a graph.
+use Rattle.std.specs.Prelude.{◌≡◌, ◌↔◌, ◌⊎◌, ℕ, Option, Some, List}
+use Rattle.snb_schema.specs.declared.row.Row.{Row}
+use Rattle.snb_shelf.specs.Pairs.{HasPair}
+use Rattle.snb_tables.specs.Graphs.{IsGraph}
+use Rattle.snb_links.specs.declared.indexes.Indexes.{Indexes}
+use Rattle.snb_links.specs.declared.link.Link.{Link}
+use Rattle.snb_links.specs.declared.link.News.{News}
+use Rattle.snb_links.specs.declared.link.Walk.{Walk}
+use Rattle.snb_links.specs.declared.link.Walk.TheVariants.{Friends, Messages, Replies, PostLikes, CommentLikes}
+use Rattle.snb_links.specs.Links.{Tells}
+
+-- the pairs of a walk
+abbrev pub at : Indexes → Walk → List ((ℕ × ℕ) × ℕ)
+at s Friends = s.friends
+at s Messages = s.messages
+at s Replies = s.replies
+at s PostLikes = s.post_likes
+at s CommentLikes = s.comment_likes
+
+-- the link is kept
+abbrev pub HasLink : Indexes → Link → Type 0
+HasLink s l = HasPair (at s l.walk) l.of l.id l.date
+
+-- two links lead from one id to another along one walk
+abbrev pub SameEnds : Link → Link → Type 0
+SameEnds k l = (k.walk ≡ l.walk) × (k.of ≡ l.of) × (k.id ≡ l.id)
+
+-- no link with these ends is kept
+abbrev pub IsNewLink : Indexes → Link → Type 0
+IsNewLink s k = (l : Link) → SameEnds k l → ¬ HasLink s l
+
+-- one link more
+abbrev pub HasGainedLink : Indexes → Link → Indexes → Type 0
+HasGainedLink old k new = (l : Link) → HasLink new l ↔ (HasLink old l ⊎ (k ≡ l))
+
+-- all links but one
+abbrev pub HasLostLink : Indexes → Link → Indexes → Type 0
+HasLostLink old k new = (l : Link) → HasLink new l ↔ (HasLink old l × ¬ SameEnds k l)
+
+-- one link more, if there is one
+abbrev pub HasGainedSome : Indexes → Option Link → Indexes → Type 0
+HasGainedSome old link new = (l : Link) → HasLink new l ↔ (HasLink old l ⊎ (link ≡ Some l))
+
+-- all links but those with the ends of this one, if there is one
+abbrev pub HasLostSome : Indexes → Option Link → Indexes → Type 0
+HasLostSome old link new = (l : Link) → HasLink new l ↔ (HasLink old l × ((k : Link) → link ≡ Some k → ¬ SameEnds k l))
+
+-- the links are the same
+abbrev pub SameLinks : Indexes → Indexes → Type 0
+SameLinks old new = (l : Link) → HasLink new l ↔ HasLink old l
+
+-- the link is one of the news
+abbrev pub IsTold : News → Link → Type 0
+IsTold news l = (news.first ≡ Some l) ⊎ (news.second ≡ Some l)
+
+-- two news don't have the same ends
+abbrev pub AreApart : News → Type 0
+AreApart news = (k l : Link) → news.first ≡ Some k → news.second ≡ Some l → ¬ SameEnds k l
+
+-- the news are kept nowhere yet
+pub record IsFresh (s : Indexes) (news : News) : Type 0 where
+  pub new : (k : Link) → IsTold news k → IsNewLink s k
+  pub apart : AreApart news
+
+-- the links with the news
+abbrev pub HasNews : Indexes → News → Indexes → Type 0
+HasNews old news new = (l : Link) → HasLink new l ↔ (HasLink old l ⊎ IsTold news l)
+
+-- all links but those with the ends of the news
+abbrev pub HasLostNews : Indexes → News → Indexes → Type 0
+HasLostNews old news new = (l : Link) → HasLink new l ↔ (HasLink old l × ((k : Link) → IsTold news k → ¬ SameEnds k l))
+
+-- the links are those that the rows of a graph tell of
+pub record IsIndexed (g : List Row) (s : Indexes) : Type 0 where
+  pub graph : IsGraph g
+  pub same : (l : Link) → HasLink s l ↔ Tells g l.walk l.of l.id l.date

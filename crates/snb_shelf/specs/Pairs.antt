@@ -1,0 +1,55 @@
+-- Pairs of an id and a date for each id.
+use Rattle.std.specs.Prelude.{map, ◌≡◌, ◌≢◌, ℕ, ◌^◌, ◌<◌, ◌↔◌, ◌⊎◌, List, All, Contains}
+use Rattle.std.specs.declared.cmp.Ordering.{Ordering}
+use Rattle.std.specs.List.Sorted.{IsStrictlySortedBy}
+use Rattle.std.specs.Map.{keys_of}
+use Rattle.std.specs.Ordering.{nat_cmp, ordering_then}
+
+-- by the first numbers, then by the second
+abbrev pub pair_order : ℕ × ℕ → ℕ × ℕ → Ordering
+pair_order x y = ordering_then (nat_cmp x.0 y.0) (nat_cmp x.1 y.1)
+
+-- the pair of an id and a date is one of those of an id
+abbrev pub HasPair : List ((ℕ × ℕ) × ℕ) → ℕ → ℕ → ℕ → Type 0
+HasPair es of id date = Contains es ((of, id), date)
+
+-- pairs in order
+pub record IsIndex (es : List ((ℕ × ℕ) × ℕ)) : Type 0 where
+  pub rises : IsStrictlySortedBy pair_order (keys_of es)
+  pub small : All (λ e. e.0.1 < 2 ^ 64) es
+
+-- one pair more
+abbrev pub HasAdded : List ((ℕ × ℕ) × ℕ) → ℕ → ℕ → ℕ → List ((ℕ × ℕ) × ℕ) → Type 0
+HasAdded old of id date new = (e : (ℕ × ℕ) × ℕ) → Contains new e ↔ (Contains old e ⊎ (((of, id), date) ≡ e))
+
+-- all pairs but one
+abbrev pub HasDropped : List ((ℕ × ℕ) × ℕ) → ℕ → ℕ → List ((ℕ × ℕ) × ℕ) → Type 0
+HasDropped old of id new = (e : (ℕ × ℕ) × ℕ) → Contains new e ↔ (Contains old e × (e.0 ≢ (of, id)))
+
+-- the entries are those of an id, in order
+pub record ArePairsOf (es : List ((ℕ × ℕ) × ℕ)) (of : ℕ) (ps : List ((ℕ × ℕ) × ℕ)) : Type 0 where
+  pub rises : IsStrictlySortedBy pair_order (keys_of ps)
+  pub same : (e : (ℕ × ℕ) × ℕ) → Contains ps e ↔ (Contains es e × (e.0.0 ≡ of))
+
+-- two ids have each other as one pair more
+abbrev pub HasBoth : List ((ℕ × ℕ) × ℕ) → ℕ → ℕ → ℕ → List ((ℕ × ℕ) × ℕ) → Type 0
+HasBoth old low high date new = (e : (ℕ × ℕ) × ℕ) → Contains new e ↔ ((Contains old e ⊎ (((low, high), date) ≡ e)) ⊎ (((high, low), date) ≡ e))
+
+-- the pairs are the same
+abbrev pub SamePairs : List ((ℕ × ℕ) × ℕ) → List ((ℕ × ℕ) × ℕ) → Type 0
+SamePairs old new = (e : (ℕ × ℕ) × ℕ) → Contains new e ↔ Contains old e
+
+-- the other id and the date of each entry
+abbrev pub ends_of : List ((ℕ × ℕ) × ℕ) → List (ℕ × ℕ)
+ends_of es = map (λ e. (e.0.1, e.1)) es
+
+-- the other ids and dates are those of an id, by rising id
+pub record AreEndsOf (es : List ((ℕ × ℕ) × ℕ)) (of : ℕ) (ends : List (ℕ × ℕ)) : Type 0 where
+  pub rises : IsStrictlySortedBy nat_cmp (keys_of ends)
+  pub same : (id date : ℕ) → Contains ends (id, date) ↔ HasPair es of id date
+
+-- what the pairs were, before two ids had each other as one pair more, they are again
+abbrev pub IsUndone : ℕ → ℕ → ℕ → List ((ℕ × ℕ) × ℕ) → List ((ℕ × ℕ) × ℕ) → Type 0
+IsUndone low high date now new =
+    (old : List ((ℕ × ℕ) × ℕ)) → ((d : ℕ) → ¬ HasPair old low high d) → ((d : ℕ) → ¬ HasPair old high low d)
+    → HasBoth old low high date now → SamePairs old new

@@ -1,0 +1,5 @@
+pub mod ChainLemmas
+pub mod EdgeLemmas
+pub mod LawLemmas
+pub mod MarkLemmas
+pub mod RowLemmas

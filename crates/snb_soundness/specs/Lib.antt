@@ -1,0 +1,5 @@
+pub mod Chains
+pub mod Edges
+pub mod Laws
+pub mod Marks
+pub mod Outcomes

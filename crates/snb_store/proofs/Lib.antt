@@ -1,0 +1,5 @@
+pub mod Laws
+pub mod PartLemmas
+pub mod SameLemmas
+pub mod SlotLemmas
+pub mod TableLemmas

@@ -1,0 +1,6 @@
+use Rattle.std.proofs.Common.{subst}
+use Rattle.snb_tables.specs.Graphs.{IsGraph}
+use Rattle.snb_store.proofs.tables.Tables.known.Goals as goal
+
+pub returns : goal.returns
+returns c = subst IsGraph c.self.view_is c.self.invariant.graph

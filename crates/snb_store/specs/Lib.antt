@@ -1,0 +1,4 @@
+pub mod Left
+pub mod Parts
+pub mod Twins
+pub mod Words

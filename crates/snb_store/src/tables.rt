@@ -1,0 +1,796 @@
+//! The rows of a graph in ten maps.
+
+ghost use Rattle.std.specs.Prelude.{◌≢◌, filter, nat_eq, ◌+◌, ◌⊎◌, ◌≤◌, length, ◌<◌, ◌^◌, ◌≡◌, ◌∷◌, [], ◌↔◌, IsTrue, IsSome, IfSome, IfOk, Contains, OnOk, OnErr, Err};
+ghost use Rattle.std.specs.Option.{option_copied};
+ghost use Rattle.snb_schema.specs.declared.table.Kind.TheVariants as kinds;
+ghost use Rattle.snb_schema.specs.declared.layout.KeyColumns.TheVariants as columns;
+ghost use Rattle.snb_schema.specs.declared.layout.Shape.TheVariants as shapes;
+ghost use Rattle.snb_shelf.specs.Edges.{edge_row, link_of, word_row};
+ghost use Rattle.snb_store.specs.Words.{is_from, words_of};
+ghost use Rattle.snb_store.specs.Left.{left_rows};
+ghost use Rattle.snb_store.specs.Parts.{HasGivenBack};
+ghost use Rattle.snb_schema.specs.declared.row.Row.{Row};
+ghost use Rattle.snb_schema.specs.declared.table.Table.TheVariants as tables;
+ghost use Rattle.snb_shelf.specs.KeysApart.{edge_name, word_name};
+ghost use Rattle.snb_shelf.specs.Rows.{entry_row, rows_by};
+ghost use Rattle.snb_tables.specs.Graphs.{count, rows};
+ghost use Rattle.snb_tables.specs.Graphs.{HasGained, IsGraph};
+ghost use Rattle.snb_schema.specs.RowKeys.{slot_of, row_key, node_key, edge_key};
+ghost use Rattle.snb_tables.specs.Graphs.{part_of, HasSlot, HasKey};
+ghost use Rattle.snb_store.specs.Twins.{HasTwin, IsNoWord};
+ghost use Rattle.snb_schema.specs.TableRows.{IsTableRow};
+ghost use Rattle.snb_schema.specs.declared.row.Row.TheVariants as row;
+ghost use Rattle.snb_schema.specs.Layouts.{key_columns, shape};
+ghost use Rattle.snb_store.specs.declared.insert.Insert.TheVariants as Insert;
+
+use crate::each::{Left, TableRows};
+use crate::insert::Insert;
+use crate::links::{link_entry, twin_of};
+use crate::words::Words;
+use snb_base::text::Text;
+use snb_schema::key::{Held, Key};
+use snb_schema::layout::{KeyColumns, Shape, key_columns_of, shape_of};
+use snb_schema::nodes::{Comment, Forum, Named, Organisation, Place, Post};
+use snb_schema::person::Person;
+use snb_schema::row::Row;
+use snb_schema::table::{Kind, Table};
+use snb_shelf::keys::{EdgeKey, WordKey};
+use snb_shelf::nodes::{Class, Mark};
+use snb_shelf::rows::ShelfRows;
+use snb_shelf::shelf::Shelf;
+use std::alloc::{AllocError, Global};
+use std::collections::btree_map::Range;
+use std::marker::Model;
+
+/// The rows of a graph: those of each kind of node, then the edges, then the words, each in the
+/// order of tables and keys.
+#[derive(Drop)]
+pub struct Tables {
+    places: Shelf<u64, Place>,
+    tag_classes: Shelf<u64, Class>,
+    tags: Shelf<u64, Named>,
+    organisations: Shelf<u64, Organisation>,
+    persons: Shelf<u64, Person>,
+    forums: Shelf<u64, Forum>,
+    posts: Shelf<u64, Post>,
+    comments: Shelf<u64, Comment>,
+    edges: Shelf<EdgeKey, u64>,
+    words: Shelf<WordKey, Mark>,
+    alloc: Global,
+}
+
+impl Model for Tables {
+    ghost use Rattle.std.specs.Prelude.{List};
+    ghost use Rattle.snb_schema.specs.declared.row.Row.{Row};
+
+    ghost Value = { List Row };
+
+    ghost use Rattle.snb_store.specs.Parts.{joined, parts, IsWhole};
+
+    ghost view = { λ g. joined (parts g) };
+
+    ghost invariant = { λ g. IsWhole (parts g) };
+}
+
+// The number after one, where there is one.
+fn after(id: u64) -> u64
+    ensures { (result ≡ id + 1) ⊎ ((result ≡ id) × (id ≡ 18446744073709551615)) }
+{
+    if id == u64::MAX { id } else { id + 1 }
+}
+
+impl Tables {
+    /// A graph without rows. Takes no memory.
+    pub fn empty(alloc: Global) -> Tables
+        ensures rows { result ≡ [] }
+        ensures graph { IsGraph result }
+    {
+        Tables {
+            places: Shelf::empty(alloc),
+            tag_classes: Shelf::empty(alloc),
+            tags: Shelf::empty(alloc),
+            organisations: Shelf::empty(alloc),
+            persons: Shelf::empty(alloc),
+            forums: Shelf::empty(alloc),
+            posts: Shelf::empty(alloc),
+            comments: Shelf::empty(alloc),
+            edges: Shelf::empty(alloc),
+            words: Shelf::empty(alloc),
+            alloc,
+        }
+    }
+
+    /// The rows are a graph.
+    pub fn known(&self)
+        ensures { IsGraph self.now }
+    {
+        let _ = &self.places;
+    }
+
+    /// The person of this id.
+    pub fn person(&self, id: u64) -> Option<&Person>
+        ensures found { IfSome (option_copied result) (λ n. (n.id ≡ id) × Contains self.now (row.Person n)) }
+        ensures held { IsSome result ↔ HasKey self.now (node_key kinds.Person id) }
+    {
+        self.persons.find(&id)
+    }
+
+    /// The post of this id.
+    pub fn post(&self, id: u64) -> Option<&Post>
+        ensures found { IfSome (option_copied result) (λ n. (n.id ≡ id) × Contains self.now (row.Post n)) }
+        ensures held { IsSome result ↔ HasKey self.now (node_key kinds.Post id) }
+    {
+        self.posts.find(&id)
+    }
+
+    /// The comment of this id.
+    pub fn comment(&self, id: u64) -> Option<&Comment>
+        ensures found { IfSome (option_copied result) (λ n. (n.id ≡ id) × Contains self.now (row.Comment n)) }
+        ensures held { IsSome result ↔ HasKey self.now (node_key kinds.Comment id) }
+    {
+        self.comments.find(&id)
+    }
+
+    /// The forum of this id.
+    pub fn forum(&self, id: u64) -> Option<&Forum>
+        ensures found { IfSome (option_copied result) (λ n. (n.id ≡ id) × Contains self.now (row.Forum n)) }
+        ensures held { IsSome result ↔ HasKey self.now (node_key kinds.Forum id) }
+    {
+        self.forums.find(&id)
+    }
+
+    /// The place of this id.
+    pub fn place(&self, id: u64) -> Option<&Place>
+        ensures found { IfSome (option_copied result) (λ n. (n.id ≡ id) × Contains self.now (row.Place n)) }
+        ensures held { IsSome result ↔ HasKey self.now (node_key kinds.Place id) }
+    {
+        self.places.find(&id)
+    }
+
+    /// The tag of this id.
+    pub fn tag(&self, id: u64) -> Option<&Named>
+        ensures found { IfSome (option_copied result) (λ n. (n.id ≡ id) × Contains self.now (row.Tag n)) }
+        ensures held { IsSome result ↔ HasKey self.now (node_key kinds.Tag id) }
+    {
+        self.tags.find(&id)
+    }
+
+    /// The organisation of this id.
+    pub fn organisation(&self, id: u64) -> Option<&Organisation>
+        ensures found { IfSome (option_copied result) (λ n. (n.id ≡ id) × Contains self.now (row.Organisation n)) }
+        ensures held { IsSome result ↔ HasKey self.now (node_key kinds.Organisation id) }
+    {
+        self.organisations.find(&id)
+    }
+
+    /// Tables with the same rows.
+    pub fn try_copy(&self) -> Result<Tables, AllocError>
+        ensures { IfOk result (λ copy. copy ≡ self.now) }
+    {
+        Ok(Tables {
+            places: self.places.try_copy()?,
+            tag_classes: self.tag_classes.try_copy()?,
+            tags: self.tags.try_copy()?,
+            organisations: self.organisations.try_copy()?,
+            persons: self.persons.try_copy()?,
+            forums: self.forums.try_copy()?,
+            posts: self.posts.try_copy()?,
+            comments: self.comments.try_copy()?,
+            edges: self.edges.try_copy()?,
+            words: self.words.try_copy()?,
+            alloc: self.alloc,
+        })
+    }
+
+    /// What the edge of this key has beside its key: the other end, the date or the year.
+    pub fn edge(&self, table: Table, first: u64, second: u64) -> Option<u64>
+        requires { part_of (shape table) ≡ 8 }
+        ensures found { IfSome result (λ n. (row_key (edge_row (table, first, second, []) n) ≡ (table, first, second, [])) × Contains self.now (edge_row (table, first, second, []) n)) }
+        ensures held { IsSome result ↔ HasKey self.now (table, first, second, []) }
+    {
+        self.edges
+            .find(&EdgeKey {
+                table,
+                first,
+                second,
+            })
+            .copied()
+    }
+
+    /// The other end of the edge of this id, in a table whose key is one id.
+    pub fn one(&self, table: Table, id: u64) -> Option<u64>
+        requires shape { shape table ≡ shapes.Link }
+        requires one_id { key_columns table ≢ columns.FirstTwo }
+        ensures found { IfSome result (λ other. Contains self.now (link_of (key_columns table) table id 0 other)) }
+        ensures held { IsSome result ↔ HasKey self.now (table, id, 0, []) }
+    {
+        self.edge(table, id, 0)
+    }
+
+    /// The class of tags of this id.
+    pub fn tag_class(&self, id: u64) -> Option<&Named>
+        ensures found { IfSome (option_copied result) (λ n. (n.id ≡ id) × Contains self.now (row.TagClass n)) }
+        ensures held { IsSome result ↔ HasKey self.now (node_key kinds.TagClass id) }
+    {
+        match self.tag_classes.find(&id) {
+            Some(class) => Some(&class.named),
+            None => None,
+        }
+    }
+
+    /// How many rows there are.
+    pub fn rows(&self) -> u64
+        ensures { result ≡ length self.now }
+    {
+        self.places.len()
+            + self.tag_classes.len()
+            + self.tags.len()
+            + self.organisations.len()
+            + self.persons.len()
+            + self.forums.len()
+            + self.posts.len()
+            + self.comments.len()
+            + self.edges.len()
+            + self.words.len()
+    }
+
+    // The edges of a table, in the order of their keys.
+    fn edges_of(&self, table: Table) -> Range<'_, EdgeKey, u64>
+        requires { part_of (shape table) ≡ 8 }
+        ensures rows { rows_by (entry_row edge_name edge_row) result ≡ rows self.now table }
+        ensures few { length result < 2 ^ 63 }
+    {
+        let from = EdgeKey {
+            table,
+            first: 0,
+            second: 0,
+        };
+        let last = EdgeKey {
+            table,
+            first: u64::MAX,
+            second: u64::MAX,
+        };
+        self.edges.through(from, last)
+    }
+
+    /// The edges of a table whose keys begin with this id, by rising second id. Takes no memory.
+    pub fn edges_from(&self, table: Table, first: u64) -> Range<'_, EdgeKey, u64>
+        requires { part_of (shape table) ≡ 8 }
+        ensures { rows_by (entry_row edge_name edge_row) result ≡ filter (λ r. nat_eq (row_key r).1 first) (rows self.now table) }
+    {
+        let from = EdgeKey {
+            table,
+            first,
+            second: 0,
+        };
+        let last = EdgeKey {
+            table,
+            first,
+            second: u64::MAX,
+        };
+        self.edges.through(from, last)
+    }
+
+    // How many edges a table has.
+    fn count_edges(&self, table: Table) -> u64
+        requires { part_of (shape table) ≡ 8 }
+        ensures { result ≡ count self.now table }
+    {
+        self.edges_of(table).count() as u64
+    }
+
+    // The words of a table whose persons lie from one id on and before another, by person, then in
+    // byte order.
+    fn words_of(&self, table: Table, from: u64, end: u64) -> Range<'_, WordKey, Mark>
+        requires shape { shape table ≡ shapes.Word }
+        requires rises { from ≤ end }
+        ensures rows { rows_by (entry_row word_name word_row) result ≡ filter (λ r. is_from from end (row_key r).1) (rows self.now table) }
+        ensures few { length result < 2 ^ 63 }
+    {
+        let first = WordKey {
+            table,
+            person: from,
+            text: Text::new(self.alloc),
+        };
+        let last = WordKey {
+            table,
+            person: end,
+            text: Text::new(self.alloc),
+        };
+        self.words.before(first, last)
+    }
+
+    /// The words of a person in a table, in byte order. Takes no memory.
+    pub fn words(&self, table: Table, person: u64) -> Words<'_>
+        requires { shape table ≡ shapes.Word }
+        ensures { result ≡ words_of self.now table person }
+    {
+        let _ = &self.words;
+        Words::over(self.words_of(table, person, after(person)))
+    }
+
+    // How many words a table has.
+    fn count_words(&self, table: Table) -> u64
+        requires { shape table ≡ shapes.Word }
+        ensures { result ≡ count self.now table }
+    {
+        let _ = &self.words;
+        self.words_of(table, 0, u64::MAX).count() as u64
+    }
+
+    /// How many rows a table has.
+    pub fn count(&self, table: Table) -> u64
+        ensures { result ≡ count self.now table }
+    {
+        match shape_of(table) {
+            Shape::Place => self.places.len(),
+            Shape::TagClass => self.tag_classes.len(),
+            Shape::Tag => self.tags.len(),
+            Shape::Organisation => self.organisations.len(),
+            Shape::Person => self.persons.len(),
+            Shape::Forum => self.forums.len(),
+            Shape::Post => self.posts.len(),
+            Shape::Comment => self.comments.len(),
+            Shape::Link => self.count_edges(table),
+            Shape::Dated => self.count_edges(table),
+            Shape::Yeared => self.count_edges(table),
+            Shape::Word => self.count_words(table),
+        }
+    }
+
+    // The rows of the table.
+    fn each_places(&self) -> ShelfRows<'_, u64, Place>
+        ensures { result ≡ rows self.now tables.Place }
+    {
+        let _ = &self.places;
+        ShelfRows::over(self.places.through(0, u64::MAX))
+    }
+
+    // The rows of the table.
+    fn each_tag_classes(&self) -> ShelfRows<'_, u64, Class>
+        ensures { result ≡ rows self.now tables.TagClass }
+    {
+        let _ = &self.tag_classes;
+        ShelfRows::over(self.tag_classes.through(0, u64::MAX))
+    }
+
+    // The rows of the table.
+    fn each_tags(&self) -> ShelfRows<'_, u64, Named>
+        ensures { result ≡ rows self.now tables.Tag }
+    {
+        let _ = &self.tags;
+        ShelfRows::over(self.tags.through(0, u64::MAX))
+    }
+
+    // The rows of the table.
+    fn each_organisations(&self) -> ShelfRows<'_, u64, Organisation>
+        ensures { result ≡ rows self.now tables.Organisation }
+    {
+        let _ = &self.organisations;
+        ShelfRows::over(self.organisations.through(0, u64::MAX))
+    }
+
+    // The rows of the table.
+    fn each_persons(&self) -> ShelfRows<'_, u64, Person>
+        ensures { result ≡ rows self.now tables.Person }
+    {
+        let _ = &self.persons;
+        ShelfRows::over(self.persons.through(0, u64::MAX))
+    }
+
+    // The rows of the table.
+    fn each_forums(&self) -> ShelfRows<'_, u64, Forum>
+        ensures { result ≡ rows self.now tables.Forum }
+    {
+        let _ = &self.forums;
+        ShelfRows::over(self.forums.through(0, u64::MAX))
+    }
+
+    // The rows of the table.
+    fn each_posts(&self) -> ShelfRows<'_, u64, Post>
+        ensures { result ≡ rows self.now tables.Post }
+    {
+        let _ = &self.posts;
+        ShelfRows::over(self.posts.through(0, u64::MAX))
+    }
+
+    // The rows of the table.
+    fn each_comments(&self) -> ShelfRows<'_, u64, Comment>
+        ensures { result ≡ rows self.now tables.Comment }
+    {
+        let _ = &self.comments;
+        ShelfRows::over(self.comments.through(0, u64::MAX))
+    }
+
+    // The rows of a table of edges.
+    fn each_edge(&self, table: Table) -> ShelfRows<'_, EdgeKey, u64>
+        requires { part_of (shape table) ≡ 8 }
+        ensures { result ≡ rows self.now table }
+    {
+        let _ = &self.edges;
+        ShelfRows::over(self.edges_of(table))
+    }
+
+    // The rows of a table of words.
+    fn each_word(&self, table: Table) -> ShelfRows<'_, WordKey, Mark>
+        requires { shape table ≡ shapes.Word }
+        ensures { result ≡ rows self.now table }
+    {
+        let _ = &self.words;
+        ShelfRows::over(self.words_of(table, 0, u64::MAX))
+    }
+
+    /// Copies of the rows of a table, in the order of their keys.
+    pub fn each(&self, table: Table) -> TableRows<'_>
+        ensures { result ≡ rows self.now table }
+    {
+        TableRows::over(self.left(table))
+    }
+
+    // The rows of a table.
+    fn left(&self, table: Table) -> Left<'_>
+        ensures { left_rows result ≡ rows self.now table }
+    {
+        match table {
+            Table::Place => Left::Place {
+                rows: self.each_places(),
+            },
+            Table::TagClass => Left::TagClass {
+                rows: self.each_tag_classes(),
+            },
+            Table::Tag => Left::Tag {
+                rows: self.each_tags(),
+            },
+            Table::Organisation => Left::Organisation {
+                rows: self.each_organisations(),
+            },
+            Table::Person => Left::Person {
+                rows: self.each_persons(),
+            },
+            Table::Forum => Left::Forum {
+                rows: self.each_forums(),
+            },
+            Table::Post => Left::Post {
+                rows: self.each_posts(),
+            },
+            Table::Comment => Left::Comment {
+                rows: self.each_comments(),
+            },
+            Table::PersonEmailEmailAddress => Left::Words {
+                rows: self.each_word(table),
+            },
+            Table::PersonSpeaksLanguage => Left::Words {
+                rows: self.each_word(table),
+            },
+            _ => Left::Edges {
+                rows: self.each_edge(table),
+            },
+        }
+    }
+
+    // Whether a node of the kind has the id.
+    fn has_node(&self, kind: Kind, id: u64) -> bool
+        ensures { IsTrue result ↔ HasKey self.now (node_key kind id) }
+    {
+        match kind {
+            Kind::Place => self.places.has(&id),
+            Kind::TagClass => self.tag_classes.has(&id),
+            Kind::Tag => self.tags.has(&id),
+            Kind::Organisation => self.organisations.has(&id),
+            Kind::Person => self.persons.has(&id),
+            Kind::Forum => self.forums.has(&id),
+            Kind::Post => self.posts.has(&id),
+            Kind::Comment => self.comments.has(&id),
+        }
+    }
+
+    // Whether an edge of the table has the key.
+    fn has_edge(&self, table: Table, first: u64, second: u64) -> bool
+        requires { part_of (shape table) ≡ 8 }
+        ensures { IsTrue result ↔ HasKey self.now (table, first, second, []) }
+    {
+        self.edges.has(&EdgeKey {
+            table,
+            first,
+            second,
+        })
+    }
+
+    // Whether a link's key is held.
+    fn has_link(&self, table: Table, from: u64, to: u64) -> bool
+        requires { part_of (shape table) ≡ 8 }
+        ensures { IsTrue result ↔ HasKey self.now (edge_key (key_columns table) table from to) }
+    {
+        match key_columns_of(table) {
+            KeyColumns::First => self.has_edge(table, from, 0),
+            KeyColumns::Second => self.has_edge(table, to, 0),
+            KeyColumns::FirstTwo => self.has_edge(table, from, to),
+        }
+    }
+
+    // Whether a row of the row's key is held.
+    fn has_row(&self, row: &Row) -> bool
+        requires shaped { IsTableRow row.now }
+        requires no_word { IsNoWord row.now }
+        ensures { IsTrue result ↔ HasKey self.now (row_key row.now) }
+    {
+        match row {
+            Row::Place { place } => self.has_node(Kind::Place, place.id),
+            Row::TagClass { named } => self.has_node(Kind::TagClass, named.id),
+            Row::Tag { named } => self.has_node(Kind::Tag, named.id),
+            Row::Organisation { organisation } => {
+                self.has_node(Kind::Organisation, organisation.id)
+            }
+            Row::Person { person } => self.has_node(Kind::Person, person.id),
+            Row::Forum { forum } => self.has_node(Kind::Forum, forum.id),
+            Row::Post { post } => self.has_node(Kind::Post, post.id),
+            Row::Comment { comment } => self.has_node(Kind::Comment, comment.id),
+            Row::Link { table, from, to } => self.has_link(*table, *from, *to),
+            Row::Dated {
+                table,
+                from,
+                to,
+                date: _,
+            } => self.has_edge(*table, *from, *to),
+            Row::Yeared {
+                table,
+                from,
+                to,
+                year: _,
+            } => self.has_edge(*table, *from, *to),
+            Row::Word { .. } => unreachable!(),
+        }
+    }
+
+    // Whether a row of the other table that shares the row's keys has its key.
+    fn has_twin(&self, row: &Row) -> bool
+        requires { IsTableRow row.now }
+        ensures { IsTrue result ↔ HasTwin self.now (row_key row.now) }
+    {
+        match row {
+            Row::Post { post } => self.has_node(Kind::Comment, post.id),
+            Row::Comment { comment } => self.has_node(Kind::Post, comment.id),
+            Row::Link { table, from, to: _ } => match twin_of(*table) {
+                Some(other) => self.has_edge(other, *from, 0),
+                None => false,
+            },
+            _ => false,
+        }
+    }
+
+    /// Whether a row of the row's slot is held.
+    pub fn holds(&self, row: &Row) -> bool
+        requires shaped { IsTableRow row.now }
+        requires no_word { IsNoWord row.now }
+        ensures { IsTrue result ↔ HasSlot self.now (slot_of row.now) }
+    {
+        self.has_row(row) || self.has_twin(row)
+    }
+
+    /// Adds a row. `Duplicate` says that a row of its slot is held, and `Memory` that memory doesn't
+    /// suffice. After either the graph is as it was.
+    pub fn insert_row(&mut self, row: Row) -> Result<(), Insert>
+        requires { IsTableRow row }
+        ensures ok { OnOk result (HasGained self.old (row ∷ []) self.new) }
+        ensures duplicate { (result ≡ Err Insert.Duplicate) ↔ HasSlot self.old (slot_of row) }
+        ensures err { OnErr result (self.new ≡ self.old) }
+    {
+        match row {
+            Row::Word {
+                table,
+                person,
+                text,
+            } => self.insert_word(WordKey {
+                table,
+                person,
+                text,
+            }),
+            other => self.insert_other(other),
+        }
+    }
+
+    // `insert_row` of a row that is no word.
+    fn insert_other(&mut self, row: Row) -> Result<(), Insert>
+        requires shaped { IsTableRow row }
+        requires no_word { IsNoWord row }
+        ensures ok { OnOk result (HasGained self.old (row ∷ []) self.new) }
+        ensures duplicate { (result ≡ Err Insert.Duplicate) ↔ HasSlot self.old (slot_of row) }
+        ensures err { OnErr result (self.new ≡ self.old) }
+    {
+        if self.holds(&row) {
+            return Err(Insert::Duplicate);
+        }
+        match self.put(row) {
+            Ok(()) => Ok(()),
+            Err(_) => Err(Insert::Memory),
+        }
+    }
+
+    // Whether a word is held.
+    fn has_word(&self, key: &WordKey) -> bool
+        requires { IsTableRow (row.Word key.now.table key.now.person key.now.text) }
+        ensures { IsTrue result ↔ HasSlot self.now (slot_of (row.Word key.now.table key.now.person key.now.text)) }
+    {
+        self.words.has(key)
+    }
+
+    // Adds a word that is new.
+    fn put_word(&mut self, key: WordKey) -> Result<(), AllocError>
+        requires shaped { IsTableRow (row.Word key.table key.person key.text) }
+        requires free { ¬ HasSlot self.old (slot_of (row.Word key.table key.person key.text)) }
+        ensures ok { OnOk result (HasGained self.old (row.Word key.table key.person key.text ∷ []) self.new) }
+        ensures err { OnErr result (self.new ≡ self.old) }
+    {
+        self.words.add(key, Mark {})
+    }
+
+    // `insert_row` of a word.
+    fn insert_word(&mut self, key: WordKey) -> Result<(), Insert>
+        requires { IsTableRow (row.Word key.table key.person key.text) }
+        ensures ok { OnOk result (HasGained self.old (row.Word key.table key.person key.text ∷ []) self.new) }
+        ensures duplicate { (result ≡ Err Insert.Duplicate) ↔ HasSlot self.old (slot_of (row.Word key.table key.person key.text)) }
+        ensures err { OnErr result (self.new ≡ self.old) }
+    {
+        if self.has_word(&key) {
+            return Err(Insert::Duplicate);
+        }
+        match self.put_word(key) {
+            Ok(()) => Ok(()),
+            Err(_) => Err(Insert::Memory),
+        }
+    }
+
+    /// Adds a row whose slot is free.
+    pub fn put(&mut self, row: Row) -> Result<(), AllocError>
+        requires shaped { IsTableRow row }
+        requires no_word { IsNoWord row }
+        requires free { ¬ HasSlot self.old (slot_of row) }
+        ensures ok { OnOk result (HasGained self.old (row ∷ []) self.new) }
+        ensures err { OnErr result (self.new ≡ self.old) }
+    {
+        match row {
+            Row::Place { place } => self.places.add(place.id, place),
+            Row::TagClass { named } => self.tag_classes.add(named.id, Class { named }),
+            Row::Tag { named } => self.tags.add(named.id, named),
+            Row::Organisation { organisation } => self
+                .organisations
+                .add(organisation.id, organisation),
+            Row::Person { person } => self.persons.add(person.id, person),
+            Row::Forum { forum } => self.forums.add(forum.id, forum),
+            Row::Post { post } => self.posts.add(post.id, post),
+            Row::Comment { comment } => self.comments.add(comment.id, comment),
+            Row::Link { table, from, to } => {
+                let (key, other) = link_entry(table, from, to);
+                self.edges.add(key, other)
+            }
+            Row::Dated {
+                table,
+                from,
+                to,
+                date,
+            } => {
+                let key = EdgeKey {
+                    table,
+                    first: from,
+                    second: to,
+                };
+                self.edges.add(key, date)
+            }
+            Row::Yeared {
+                table,
+                from,
+                to,
+                year,
+            } => {
+                let key = EdgeKey {
+                    table,
+                    first: from,
+                    second: to,
+                };
+                self.edges.add(key, year as u64)
+            }
+            Row::Word { .. } => unreachable!(),
+        }
+    }
+
+    // Takes out the node of a kind and id.
+    fn take_node(&mut self, kind: Kind, id: u64)
+        requires { HasKey self.old (node_key kind id) }
+        ensures { (r : Row) → Contains self.old r → row_key r ≡ node_key kind id → HasGivenBack self.old r self.new }
+    {
+        match kind {
+            Kind::Place => self.places.take_back(&id),
+            Kind::TagClass => self.tag_classes.take_back(&id),
+            Kind::Tag => self.tags.take_back(&id),
+            Kind::Organisation => self.organisations.take_back(&id),
+            Kind::Person => self.persons.take_back(&id),
+            Kind::Forum => self.forums.take_back(&id),
+            Kind::Post => self.posts.take_back(&id),
+            Kind::Comment => self.comments.take_back(&id),
+        }
+    }
+
+    // Takes out the edge of a key.
+    fn take_edge(&mut self, key: EdgeKey)
+        requires held { HasKey self.old (edge_name key) }
+        requires edge { part_of (shape key.table) ≡ 8 }
+        ensures { (r : Row) → Contains self.old r → row_key r ≡ edge_name key → HasGivenBack self.old r self.new }
+    {
+        self.edges.take_back(&key);
+    }
+
+    /// Takes out a word that is held. Takes no memory.
+    pub fn take_word(&mut self, key: WordKey)
+        requires held { HasKey self.old (word_name key) }
+        requires word { shape key.table ≡ shapes.Word }
+        ensures { (r : Row) → Contains self.old r → row_key r ≡ word_name key → HasGivenBack self.old r self.new }
+    {
+        self.words.take_back(&key);
+    }
+
+    /// Takes out a row that is held and no word. Takes no memory.
+    pub fn take_back(&mut self, row: &Row)
+        requires held { Contains self.old row.now }
+        requires no_word { IsNoWord row.now }
+        ensures { HasGivenBack self.old row.now self.new }
+    {
+        self.known();
+        match row {
+            Row::Place { place } => self.take_node(Kind::Place, place.id),
+            Row::TagClass { named } => self.take_node(Kind::TagClass, named.id),
+            Row::Tag { named } => self.take_node(Kind::Tag, named.id),
+            Row::Organisation { organisation } => {
+                self.take_node(Kind::Organisation, organisation.id)
+            }
+            Row::Person { person } => self.take_node(Kind::Person, person.id),
+            Row::Forum { forum } => self.take_node(Kind::Forum, forum.id),
+            Row::Post { post } => self.take_node(Kind::Post, post.id),
+            Row::Comment { comment } => self.take_node(Kind::Comment, comment.id),
+            Row::Link { table, from, to } => {
+                let (key, _) = link_entry(*table, *from, *to);
+                self.take_edge(key)
+            }
+            Row::Dated {
+                table,
+                from,
+                to,
+                date: _,
+            } => self.take_edge(EdgeKey {
+                table: *table,
+                first: *from,
+                second: *to,
+            }),
+            Row::Yeared {
+                table,
+                from,
+                to,
+                year: _,
+            } => self.take_edge(EdgeKey {
+                table: *table,
+                first: *from,
+                second: *to,
+            }),
+            Row::Word { .. } => unreachable!(),
+        }
+    }
+}
+
+impl Held for Tables {
+    ghost use Rattle.snb_tables.specs.Graphs.{HoldsKey};
+
+    ghost holds = { HoldsKey };
+
+    fn has(&self, key: &Key) -> bool {
+        match *key {
+            Key::Node { kind, id } => self.has_node(kind, id),
+            Key::Knows { low, high } => self.has_edge(Table::PersonKnowsPerson, low, high),
+            Key::LikesPost { person, post } => self.has_edge(Table::PersonLikesPost, person, post),
+            Key::LikesComment { person, comment } => {
+                self.has_edge(Table::PersonLikesComment, person, comment)
+            }
+            Key::Member { forum, person } => {
+                self.has_edge(Table::ForumHasMemberPerson, forum, person)
+            }
+        }
+    }
+}
