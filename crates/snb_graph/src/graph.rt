@@ -167,6 +167,7 @@ impl Graph {
     }
 
     /// Whether this very row is held. Takes no memory.
+    /// The condition: the row is one that its table can have.
     pub fn same_row(&self, row: &Row) -> bool
         requires { IsTableRow row.now }
         ensures { IsTrue result ↔ Contains self.now row.now }
@@ -197,6 +198,7 @@ impl Graph {
     }
 
     /// The emails or languages of a person, in byte order. Takes no memory.
+    /// The condition: the table is that of emails or of languages.
     pub fn words(&self, table: Table, person: u64) -> Words<'_>
         requires { shape table ≡ shapes.Word }
         ensures { result ≡ words_of self.now table person }
@@ -205,6 +207,7 @@ impl Graph {
     }
 
     /// The other end of the edge of this id, in a table whose key is one id.
+    /// The conditions: the table is one of edges without dates and years, and its key is one id.
     pub fn one(&self, table: Table, id: u64) -> Option<u64>
         requires shape { shape table ≡ shapes.Link }
         requires one_id { key_columns table ≢ columns.FirstTwo }
@@ -314,6 +317,7 @@ impl Graph {
 
     /// Adds a row. `Duplicate` says that a row of its slot is held, and `Memory` that memory doesn't
     /// suffice. After either the graph is as it was. It doesn't look at references.
+    /// The condition: the row is one that its table can have.
     pub fn insert_row(&mut self, row: Row) -> Result<(), Insert>
         requires { IsTableRow row }
         ensures ok { OnOk result (HasGained self.old (row ∷ []) self.new) }
@@ -425,6 +429,7 @@ impl Graph {
     /// Adds all of the rows, or none. `Duplicate` says that a row of the slot of one of them is held,
     /// or that two of them have one slot; `Memory` that memory doesn't suffice. After either the graph
     /// is as it was. It doesn't look at references.
+    /// The condition: each row is one that its table can have.
     pub fn insert_all(&mut self, rows: Vec<Row>) -> Result<(), Insert>
         requires { All IsTableRow rows.items }
         ensures ok { OnOk result (HasGained self.old rows.items self.new) }

@@ -100,6 +100,7 @@ impl Indexes {
     }
 
     /// Adds the news. Want of memory leaves the links as they were.
+    /// The condition: no link with the ends of one of them is kept, and they differ in theirs.
     pub fn add_news(&mut self, news: News) -> Result<(), AllocError>
         requires { IsFresh self.old news }
         ensures ok { OnOk result (HasNews self.old news self.new) }

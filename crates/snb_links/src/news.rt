@@ -182,6 +182,7 @@ fn post_news(tables: &Tables, id: u64, date: u64) -> News
 }
 
 /// What a row more makes of the links that the rows tell of.
+/// The condition: the row is one that its table can have.
 pub fn news_of(tables: &Tables, row: &Row) -> News
     requires { IsTableRow row.now }
     ensures { IsNews tables.now row.now result }

@@ -273,6 +273,7 @@ fn holds_word(tables: &Tables, table: Table, person: u64, text: &Text) -> bool
 }
 
 /// Whether this very row is held. Takes no memory.
+/// The condition: the row is one that its table can have.
 pub fn holds_same(tables: &Tables, row: &Row) -> bool
     requires { IsTableRow row.now }
     ensures { IsTrue result ↔ Contains tables.now row.now }

@@ -183,6 +183,7 @@ impl Tables {
     }
 
     /// What the edge of this key has beside its key: the other end, the date or the year.
+    /// The condition: the table is one of edges.
     pub fn edge(&self, table: Table, first: u64, second: u64) -> Option<u64>
         requires { part_of (shape table) ≡ 8 }
         ensures found { IfSome result (λ n. (row_key (edge_row (table, first, second, []) n) ≡ (table, first, second, [])) × Contains self.now (edge_row (table, first, second, []) n)) }
@@ -198,6 +199,7 @@ impl Tables {
     }
 
     /// The other end of the edge of this id, in a table whose key is one id.
+    /// The conditions: the table is one of edges without dates and years, and its key is one id.
     pub fn one(&self, table: Table, id: u64) -> Option<u64>
         requires shape { shape table ≡ shapes.Link }
         requires one_id { key_columns table ≢ columns.FirstTwo }
@@ -254,6 +256,7 @@ impl Tables {
     }
 
     /// The edges of a table whose keys begin with this id, by rising second id. Takes no memory.
+    /// The condition: the table is one of edges.
     pub fn edges_from(&self, table: Table, first: u64) -> Range<'_, EdgeKey, u64>
         requires { part_of (shape table) ≡ 8 }
         ensures { rows_by (entry_row edge_name edge_row) result ≡ filter (λ r. nat_eq (row_key r).1 first) (rows self.now table) }
@@ -301,6 +304,7 @@ impl Tables {
     }
 
     /// The words of a person in a table, in byte order. Takes no memory.
+    /// The condition: the table is that of emails or of languages.
     pub fn words(&self, table: Table, person: u64) -> Words<'_>
         requires { shape table ≡ shapes.Word }
         ensures { result ≡ words_of self.now table person }
@@ -559,6 +563,7 @@ impl Tables {
     }
 
     /// Whether a row of the row's slot is held.
+    /// The conditions: the row is one that its table can have, and no email or language.
     pub fn holds(&self, row: &Row) -> bool
         requires shaped { IsTableRow row.now }
         requires no_word { IsNoWord row.now }
@@ -569,6 +574,7 @@ impl Tables {
 
     /// Adds a row. `Duplicate` says that a row of its slot is held, and `Memory` that memory doesn't
     /// suffice. After either the graph is as it was.
+    /// The condition: the row is one that its table can have.
     pub fn insert_row(&mut self, row: Row) -> Result<(), Insert>
         requires { IsTableRow row }
         ensures ok { OnOk result (HasGained self.old (row ∷ []) self.new) }
@@ -641,6 +647,7 @@ impl Tables {
     }
 
     /// Adds a row whose slot is free.
+    /// The conditions: the row is one that its table can have, and no email or language.
     pub fn put(&mut self, row: Row) -> Result<(), AllocError>
         requires shaped { IsTableRow row }
         requires no_word { IsNoWord row }
@@ -720,6 +727,7 @@ impl Tables {
     }
 
     /// Takes out a word that is held. Takes no memory.
+    /// The condition: the table is that of emails or of languages.
     pub fn take_word(&mut self, key: WordKey)
         requires held { HasKey self.old (word_name key) }
         requires word { shape key.table ≡ shapes.Word }
