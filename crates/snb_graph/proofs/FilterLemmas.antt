@@ -1,16 +1,14 @@
 -- What the walks give, as filters over the rows.
-use Rattle.std.proofs.Common.{◌≡◌, ◌≢◌, ◌↔◌, ◌⊎◌, ◌++◌, ◌∷◌, [], ◌||◌, ℕ, Bool, true, false, cond, List, Option, Some, refl, sym, ap, ◌∙◌, subst, inl, inr, arith, filter, map, nat_eq}
-use Rattle.std.specs.Cmp.{IsTotalOrder, nat_cmp_total, on_total}
+use Rattle.std.proofs.Common.{◌≡◌, ◌∷◌, [], ◌||◌, ℕ, Bool, true, false, cond, List, Option, Some, refl, sym, ap, ◌∙◌, subst, inl, inr, arith, filter, map, nat_eq}
+use Rattle.std.specs.Cmp.{nat_cmp_total, on_total}
 use Rattle.std.specs.List.{AllByRecursion, Contains, flat_map}
 use Rattle.std.specs.List.Sorted.{IsStrictlySortedBy}
 use Rattle.std.specs.Map.{keys_of}
 use Rattle.std.specs.Option.{unwrap_or}
 use Rattle.std.specs.Ordering.{is_eq, nat_cmp}
 use Rattle.std.specs.declared.cmp.Ordering.TheVariants.{Less}
-use Rattle.std.proofs.lemmas.Bool.Decides.{nat_tests}
 use Rattle.std.proofs.lemmas.List.Elements.{All-contains, Contains-append_cases, Contains-append_left, Contains-append_right}
 use denote.Enum.Bare.{same_true}
-use mathlib.Core.Bool.{false≢true}
 use Rattle.snb_schema.specs.contracts.table.Table.{the_type as the_table}
 use Rattle.snb_schema.specs.contracts.table.TableOrd.TheImpl.Laws.{matches_eq-law}
 use Rattle.snb_schema.specs.declared.layout.Shape.TheVariants as shapes
@@ -28,11 +26,11 @@ use Rattle.snb_schema.specs.TableOrder.{same_table}
 use Rattle.snb_schema.specs.TableRows.{IsTableRow}
 use Rattle.snb_shelf.proofs.Laws.{contains_cases, contains_here, contains_map, contains_there, in_filter, map_contains}
 use Rattle.snb_shelf.specs.KeysApart.{table_itself}
-use Rattle.snb_tables.proofs.SortedLemmas.{same_list}
+use Rattle.snb_tables.proofs.Laws.{same_list}
 use Rattle.snb_tables.specs.Graphs.{IsGraph, rows}
 use Rattle.snb_links.specs.Links.{IsCreatorTable, IsFriendship, IsParentTable, LeadsTo, message_of}
 use Rattle.snb_graph.specs.Filters.{date_of, friends_of, from_of, led_in, likes_in, likes_of, messages_of, replies_of, to_of}
-use Rattle.snb_graph.specs.Laws.{OneWalk, Sorts, WalkLaw, WalksAreFilters}
+use Rattle.snb_graph.specs.Laws.{OneWalk, Sorts, WalkLaw}
 use Rattle.snb_graph.specs.Walks.{ArePairs, Likes}
 
 number_is : (a b : ℕ) → nat_eq a b ≡ true → a ≡ b

@@ -1,20 +1,15 @@
 -- The rows of a graph, and the links that go with them.
-use Rattle.std.proofs.Common.{◌≡◌, ◌≢◌, ◌↔◌, ◌⊎◌, ◌++◌, ◌∷◌, [], ℕ, Bool, true, false, List, Result, Ok, Err, OnOk, OnErr, IsTrue, refl, sym, ap, ◌∙◌, subst, inl, inr, arith, length, suc, ◌<◌, ◌+◌, take, drop, get_or, add-one, drop-cons, append-nil, append_assoc, filter, map, nat_eq}
-use Rattle.std.specs.List.{All, AllByRecursion, Contains, IsDistinct}
-use Rattle.std.specs.List.Sorted.{IsPermutation, IsStrictlySortedBy}
-use Rattle.std.specs.Cmp.{IsTotalOrder, eq_by_cmp_equiv, nat_cmp_total, on_total, then_total, tied_itself}
-use Rattle.std.specs.Cmp.Lexicographic.{nat_list_cmp_total}
+use Rattle.std.proofs.Common.{◌≡◌, ◌↔◌, ◌⊎◌, ◌++◌, ◌∷◌, [], ℕ, Bool, true, false, List, Result, Ok, Err, OnOk, OnErr, IsTrue, refl, sym, ap, ◌∙◌, subst, inl, inr, arith, length, suc, ◌<◌, ◌+◌, take, drop, get_or, add-one, drop-cons, append-nil, append_assoc, filter, map, nat_eq}
+use Rattle.std.specs.List.{AllByRecursion, Contains, IsDistinct}
+use Rattle.std.specs.List.Sorted.{IsPermutation}
+use Rattle.std.specs.Cmp.{eq_by_cmp_equiv, tied_itself}
 use Rattle.std.specs.Ordering.{eq_by_cmp, is_eq}
-use Rattle.std.specs.Result.{is_err}
 use Rattle.std.proofs.lemmas.List.{map-id, take-append-drop}
 use Rattle.std.proofs.lemmas.List.Elements.{Contains-append_cases, Contains-append_left, Contains-append_right}
 use Rattle.std.proofs.lemmas.Map.Keys.{IsDistinct-IsPermutation, IsDistinct-from_sorted}
 use Rattle.std.proofs.lemmas.List.Sorted.{Contains-permutation, IsPermutation-append_left, IsPermutation-refl, IsPermutation-sym, IsPermutation-trans}
-use denote.Enum.Bare.{same_true}
 use mathlib.Core.Bool.{false≢true}
 use Rattle.snb_base.proofs.Laws.{push_split}
-use Rattle.snb_schema.specs.contracts.table.Table.{the_type as the_table}
-use Rattle.snb_schema.specs.contracts.table.TableOrd.TheImpl.Laws.{total-law}
 use Rattle.snb_schema.specs.declared.layout.KeyColumns.{KeyColumns}
 use Rattle.snb_schema.specs.declared.layout.KeyColumns.TheVariants.{First, Second, FirstTwo}
 use Rattle.snb_schema.specs.declared.layout.Shape.{Shape}
@@ -35,9 +30,10 @@ use Rattle.snb_shelf.specs.Edges.{edge_of, edge_row, link_of}
 use Rattle.snb_shelf.specs.KeysApart.{edge_name}
 use Rattle.snb_shelf.specs.Pairs.{ArePairsOf, ends_of}
 use Rattle.snb_shelf.specs.Rows.{entry_row, rows_by}
-use Rattle.snb_tables.specs.Graphs.{HasGained, HasKey, HasSlot, IsGraph, key_order, part, row_order, rows}
+use Rattle.snb_tables.specs.Graphs.{HasGained, HasKey, HasSlot, IsGraph, row_order, rows}
 use Rattle.snb_tables.specs.Laws.{GraphsAreTheirRows}
 use Rattle.snb_tables.specs.Soundness.{Held}
+use Rattle.snb_tables.proofs.Laws.{row_total, same_is}
 use Rattle.snb_links.specs.declared.indexes.Indexes.{Indexes}
 use Rattle.snb_links.specs.declared.link.Link.{Link}
 use Rattle.snb_links.specs.declared.link.Walk.{Walk}
@@ -52,14 +48,6 @@ use Rattle.snb_store.specs.Parts.{HasGivenBack}
 use Rattle.snb_graph.specs.Additions.{AddsUp, HasClash, HasTaken}
 use Rattle.snb_graph.specs.Left.{edge_ends}
 use Rattle.snb_graph.specs.Walks.{ArePairs, Likes, stays_of, year_of}
-
-pub err_of : {T E P : Type 0} (r : Result T E) → true ≡ is_err r → OnErr r P → P
-err_of (Ok x) e p = absurd (false≢true (sym e))
-err_of (Err x) e p = p
-
-pub ok_of : {T E P : Type 0} (r : Result T E) → false ≡ is_err r → OnOk r P → P
-ok_of (Ok x) e p = p
-ok_of (Err x) e p = absurd (false≢true e)
 
 pub not_held : {H : Type 0} (test : Bool) → IsTrue test ↔ H → test ≡ false → ¬ H
 not_held true same e = absurd (false≢true (sym e))
@@ -145,9 +133,6 @@ all_stays t (e ∷ es) yeared are =
     let rest = all_stays t es yeared (λ r c. are r (contains_there (edge_row (edge_name e.0) e.1) (rows_by (entry_row edge_name edge_row) es) r c)) in
     λ i. first i ∷ rest i
 
-same_is : (t u : Table) → same_table t u ≡ true → t ≡ u
-same_is t u e = same_true the_table tt t u e
-
 pub stays : (g : List Row) (t : Table) (person : ℕ) (es : List (EdgeKey × ℕ)) → shape t ≡ shapes.Yeared → rows_by (entry_row edge_name edge_row) es ≡ filter (λ r. nat_eq (row_key r).1 person) (rows g t) → edge_ends es ≡ stays_of g t person
 stays g t person es yeared same =
     all_stays t es yeared (λ r c.
@@ -175,12 +160,6 @@ none_indexed g s is graph none = record {
 pub mute_after : {E : Type 0} (result : Result (Unit {0}) E) (old new : List Row) (r : Row) (s : Indexes) → ((w : Walk) → concerns w r ≡ false) → IsIndexed old s → OnOk result (HasGained old (r ∷ []) new) → OnErr result (new ≡ old) → IsIndexed new s
 mute_after (Ok x) old new r s mute is ok err = mute_indexed old new r s mute is ok
 mute_after (Err e) old new r s mute is ok err = subst (λ g. IsIndexed g s) (sym err) is
-
-row_total : IsTotalOrder row_order
-row_total =
-    then_total (on_total part nat_cmp_total)
-    (on_total row_key (then_total (on_total (λ (k : RowKey). k.0) total-law)
-    (then_total (on_total (λ (k : RowKey). k.1) nat_cmp_total) (then_total (on_total (λ (k : RowKey). k.2) nat_cmp_total) (on_total (λ (k : RowKey). k.3) nat_list_cmp_total)))))
 
 -- a row that stands apart from a row doesn't stand among those before it
 not_before : {X : Type 0} (e : X → X → Bool) (xs : List X) (x : X) → IsDistinct e (xs ++ x ∷ []) → e x x ≡ true → ¬ Contains xs x

@@ -1,5 +1,5 @@
 -- What the walks give, as filters over the rows.
-use Rattle.std.specs.Prelude.{◌++◌, ◌||◌, ℕ, Bool, cond, nat_eq, List, filter, map}
+use Rattle.std.specs.Prelude.{◌++◌, ◌||◌, ℕ, cond, nat_eq, List, filter, map}
 use Rattle.std.specs.List.{flat_map}
 use Rattle.snb_schema.specs.declared.row.Row.{Row}
 use Rattle.snb_schema.specs.declared.row.Row.TheVariants as row

@@ -47,11 +47,21 @@ use std::marker::Model;
 
 /// A graph. A contract sees its rows: those of each kind of node, then the edges, then the words,
 /// each in the order of tables and keys.
-#[derive(Drop)]
 pub struct Graph {
     tables: Tables,
     links: Indexes,
     alloc: Global,
+}
+
+// Written out, so that letting a graph go is one call wherever it happens.
+impl Drop for Graph {
+    fn drop(self) {
+        let Graph {
+            tables: _,
+            links: _,
+            alloc: _,
+        } = self;
+    }
 }
 
 impl Model for Graph {
@@ -100,6 +110,13 @@ impl Graph {
             links: Indexes::empty(alloc),
             alloc,
         }
+    }
+
+    /// The rows are a graph.
+    pub fn known(&self)
+        ensures { IsGraph self.now }
+    {
+        self.tables.known();
     }
 
     /// The person of this id.

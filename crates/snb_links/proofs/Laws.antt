@@ -1,18 +1,15 @@
 -- Laws that proofs above cite: what one row more or fewer makes of the links kept beside the rows.
-use Rattle.std.proofs.Common.{◌≡◌, ◌≢◌, ◌↔◌, ◌⊎◌, ◌++◌, ◌∷◌, [], ℕ, false, List, Option, Some, None, refl, sym, subst, inl, inr}
-use Rattle.std.specs.List.{Contains}
+use Rattle.std.proofs.Common.{◌≡◌, ◌++◌, ◌∷◌, [], false, List, refl, inl, inr}
 use Rattle.std.specs.List.Sorted.{IsPermutation}
 use Rattle.snb_schema.specs.declared.row.Row.{Row}
 use Rattle.snb_schema.specs.RowKeys.{slot_of}
 use Rattle.snb_tables.specs.Graphs.{HasGained, HasSlot, IsGraph}
 use Rattle.snb_links.specs.declared.indexes.Indexes.{Indexes}
-use Rattle.snb_links.specs.declared.link.Link.{Link}
 use Rattle.snb_links.specs.declared.link.News.{News}
 use Rattle.snb_links.specs.declared.link.Walk.{Walk}
 use Rattle.snb_links.specs.Concerns.{concerns}
-use Rattle.snb_links.specs.Kept.{HasLink, HasLostNews, HasNews, IsFresh, IsIndexed, IsTold, SameLinks}
-use Rattle.snb_links.specs.Links.{Tells}
-use Rattle.snb_links.specs.News.{IsNews, TellsLink}
+use Rattle.snb_links.specs.Kept.{HasLostNews, HasNews, IsFresh, IsIndexed, SameLinks}
+use Rattle.snb_links.specs.News.{IsNews}
 use Rattle.snb_links.proofs.NewsLemmas.{silent, still_tells}
 
 -- with the news the links go with the rows and one more

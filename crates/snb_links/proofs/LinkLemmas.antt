@@ -1,16 +1,13 @@
 -- Links kept.
-use Rattle.std.proofs.Common.{◌≡◌, ◌≢◌, ◌↔◌, ◌⊎◌, ℕ, List, Option, Some, None, true, false, Result, Ok, Err, OnOk, OnErr, refl, sym, ap, ◌∙◌, subst, inl, inr}
+use Rattle.std.proofs.Common.{◌≡◌, ◌≢◌, ◌⊎◌, ℕ, List, Option, Some, None, refl, sym, ap, ◌∙◌, subst, inl, inr}
 use Rattle.std.specs.Option.{unwrap_or}
-use Rattle.std.specs.Result.{is_err}
-use mathlib.Core.Bool.{false≢true}
-use Rattle.std.specs.List.{Contains}
 use Rattle.snb_shelf.specs.Pairs.{HasAdded, HasDropped, HasPair}
 use Rattle.snb_links.specs.declared.indexes.Indexes.{Indexes}
 use Rattle.snb_links.specs.declared.link.Link.{Link}
 use Rattle.snb_links.specs.declared.link.News.{News}
 use Rattle.snb_links.specs.declared.link.Walk.{Walk}
 use Rattle.snb_links.specs.declared.link.Walk.TheVariants.{Friends, Messages, Replies, PostLikes, CommentLikes}
-use Rattle.snb_links.specs.Kept.{HasGainedLink, HasGainedSome, HasLink, HasLostLink, HasLostNews, HasLostSome, HasNews, IsFresh, IsNewLink, IsTold, SameEnds, SameLinks, at}
+use Rattle.snb_links.specs.Kept.{HasGainedLink, HasGainedSome, HasLink, HasLostLink, HasLostNews, HasLostSome, HasNews, IsFresh, IsNewLink, SameEnds, SameLinks, at}
 
 -- two walks are one, or they aren't
 pub same_walk : (u v : Walk) → (u ≡ v) ⊎ (u ≢ v)
@@ -149,15 +146,3 @@ both_lost now mid new news first second l = (
 
 pub same_links : (s t : Indexes) → t ≡ s → SameLinks s t
 same_links s t e l = (λ has. subst (λ x. HasLink x l) e has, λ has. subst (λ x. HasLink x l) (sym e) has)
-
-pub on_ok : {T E P Q : Type 0} (r : Result T E) → (P → Q) → OnOk r P → OnOk r Q
-on_ok (Ok x) give p = give p
-on_ok (Err e) give p = tt
-
-pub err_of : {T E P : Type 0} (r : Result T E) → true ≡ is_err r → OnErr r P → P
-err_of (Ok x) e p = absurd (false≢true (sym e))
-err_of (Err x) e p = p
-
-pub ok_of : {T E P : Type 0} (r : Result T E) → false ≡ is_err r → OnOk r P → P
-ok_of (Ok x) e p = p
-ok_of (Err x) e p = absurd (false≢true e)

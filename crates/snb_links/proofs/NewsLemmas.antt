@@ -17,14 +17,13 @@ use Rattle.snb_schema.specs.declared.table.Table.{Table}
 use Rattle.snb_schema.specs.declared.table.Table.TheVariants as table
 use Rattle.snb_schema.specs.Layouts.{key_columns}
 use Rattle.snb_schema.specs.References.{from_kind}
-use Rattle.snb_schema.specs.RowKeys.{RowKey, edge_key, sharing, slot, slot_of}
+use Rattle.snb_schema.specs.RowKeys.{edge_key, sharing, slot, slot_of}
 use Rattle.snb_schema.specs.TableOrder.{same_table}
 use Rattle.snb_schema.specs.TableRows.{IsTableRow}
 use Rattle.snb_shelf.proofs.Laws.{contains_here}
 use Rattle.snb_store.proofs.Laws.{contains_gained}
 use Rattle.snb_tables.specs.Graphs.{HasSlot, IsGraph}
 use Rattle.snb_links.specs.declared.link.Link.{Link}
-use Rattle.snb_links.specs.declared.link.News.{News}
 use Rattle.snb_links.specs.declared.link.Walk.{Walk}
 use Rattle.snb_links.specs.declared.link.Walk.TheVariants.{Friends, Messages, Replies, PostLikes, CommentLikes}
 use Rattle.snb_links.specs.Concerns.{concerns}

@@ -12,6 +12,7 @@ use Rattle.snb_lines.specs.Cut.{last_lines, rest_of, whole_lines}
 use Rattle.snb_lines.specs.Feeding.{HasRead, HasRunOut, HasStopped, HasStoppedAtEnd, at_begin, fed_more, left_lines, new_lines}
 use Rattle.snb_lines.specs.Reading.{EndsBad, OnMemory, Reader, Reads, Stops}
 use Rattle.snb_lines.proofs.Laws.{cut_counts}
+use Rattle.snb_loader.proofs.InsertsSplit.{AreEnded, ended_front}
 use Rattle.snb_loader.specs.Coming.{Comes, Meanings}
 use Rattle.snb_loader.proofs.ComingFacts.{all_taken, comes_ended, comes_last, comes_stopped, comes_too_far, comes_whole, kept_front}
 
@@ -141,6 +142,38 @@ module _ {M T : Type 0} (m : Meanings M T) (file : FileId) (start : M) (used : �
       by_cause (inl h) = (h.before, s.ended, bad.items, h.new, h.reads, bad.appended)
       by_cause (inr h) = (ls, s.ended, bad.items, h.new, h.reads, bad.appended)
   took_end s end ls (Err Memory) old new ok bad memory = (memory.reads.before, s.ended, memory.items, memory.reads.new, memory.reads.reads, memory.appended)
+
+  -- what was appended was read, of lines without line ends
+  abbrev pub TookEnded : M → List T → List T → Type 0
+  TookEnded s old new = (t : Took s old new) × AreEnded t.0
+
+  -- a call that takes a piece
+  pub ended_piece : (s end : Reader M) (ls : List (List ℕ)) (res : Result (Unit {0}) Fault) (old new : List T)
+      → OnOk res (HasRead m.takes ls s old end new)
+      → OnBad res (HasStopped m.takes m.refuses ls s old end new)
+      → OnMemory res (HasRunOut m.takes ls s old end new) → AreEnded ls → TookEnded s.meaning old new
+  ended_piece s end ls (Ok u) old new ok bad memory ended = ((ls, s.ended, ok.items, end.meaning, ok.reads, ok.appended), ended)
+  ended_piece s end ls (Err (Bad r)) old new ok bad memory ended =
+      let front = ended_front bad.stops.before (bad.stops.line ∷ bad.stops.after) (subst AreEnded bad.stops.split ended) in
+      ((bad.stops.before, s.ended, bad.items, bad.stops.new, bad.stops.reads, bad.appended), front)
+  ended_piece s end ls (Err Memory) old new ok bad memory ended =
+      let front = ended_front memory.reads.before memory.reads.after (subst AreEnded memory.reads.split ended) in
+      ((memory.reads.before, s.ended, memory.items, memory.reads.new, memory.reads.reads, memory.appended), front)
+
+  -- a call that ends the file
+  pub ended_end : (s end : Reader M) (ls : List (List ℕ)) (res : Result (Unit {0}) Fault) (old new : List T)
+      → OnOk res (HasRead m.takes ls s old end new)
+      → OnBad res (HasStoppedAtEnd m.takes m.refuses m.ends ls s old end new)
+      → OnMemory res (HasRunOut m.takes ls s old end new) → AreEnded ls → TookEnded s.meaning old new
+  ended_end s end ls (Ok u) old new ok bad memory ended = ((ls, s.ended, ok.items, end.meaning, ok.reads, ok.appended), ended)
+  ended_end s end ls (Err (Bad r)) old new ok bad memory ended = by_cause bad.stops
+    where
+      by_cause : Stops m.takes m.refuses s.file s.meaning s.ended ls bad.items r ⊎ EndsBad m.takes m.ends s.meaning s.ended ls bad.items r → TookEnded s.meaning old new
+      by_cause (inl h) = ((h.before, s.ended, bad.items, h.new, h.reads, bad.appended), ended_front h.before (h.line ∷ h.after) (subst AreEnded h.split ended))
+      by_cause (inr h) = ((ls, s.ended, bad.items, h.new, h.reads, bad.appended), ended)
+  ended_end s end ls (Err Memory) old new ok bad memory ended =
+      let front = ended_front memory.reads.before memory.reads.after (subst AreEnded memory.reads.split ended) in
+      ((memory.reads.before, s.ended, memory.items, memory.reads.new, memory.reads.reads, memory.appended), front)
 
   -- two facts of what went well are one
   pub on_ok_both : {P Q R : Type 0} (res : Result (Unit {0}) Fault) → (P → Q → R) → OnOk res P → OnOk res Q → OnOk res R

@@ -1,6 +1,8 @@
 -- What is wrong with the lines of the stream, by how far its reading comes and by the first insert that can't be taken.
 use Rattle.std.proofs.Common.{◌≡◌, ◌≢◌, ◌∙◌, ◌+◌, ◌-◌, ◌<◌, ◌≤◌, ◌⊎◌, ℕ, zero, suc, true, false, List, [], ◌∷◌, ◌++◌, Option, Some, None, Result, Ok, Err, OnOk, IsUtf8, length, take, get_or, refl, sym, ap, subst, inl, inr, arith, append_assoc, append-nil}
 use Rattle.std.specs.List.{Contains}
+use Rattle.std.proofs.lemmas.List.{take_all}
+use Rattle.std.proofs.lemmas.List.Elements.{All-cons, All-nil}
 use Rattle.snb_schema.specs.declared.fault.Fault.{Fault}
 use Rattle.snb_schema.specs.declared.fault.Fault.TheVariants.{Bad, Memory}
 use Rattle.snb_schema.specs.declared.limits.TheConstants.{MAX_BYTES, MAX_ROWS}
@@ -19,7 +21,7 @@ use Rattle.snb_streams.specs.Spelled.{SpellsInsert}
 use Rattle.snb_streams.specs.Updates.{Followed, RefusesUpdate, TakesInsert}
 use Rattle.snb_loader.specs.Coming.{Comes, StopsAt}
 use Rattle.snb_loader.specs.Inserts.{AreTakable, IsExcess, IsFirstExcess, at_start, counted_as, insert_meanings}
-use Rattle.snb_loader.specs.Loading.{StreamBad, StreamOf}
+use Rattle.snb_loader.specs.Loading.{AreOfLines, IsOfLine, StreamBad, StreamOf}
 use Rattle.snb_loader.proofs.InsertsSplit.{AreEnded, Place, ended_back, ended_front, ended_lines, item_place}
 use Rattle.snb_loader.proofs.SplitFacts.{Parts, is_some_byte, no_fault_within, split_reads, within_front}
 
@@ -411,3 +413,15 @@ pub whole_good : (used rows : ℕ) (bytes : List ℕ) (items : List Line) → la
 whole_good used rows bytes items one none takable read whole t =
     let told = read whole t in
     stream_good one none used rows whole items None told.1 takable told.1.stops
+
+-- inserts of lines are each that of a line
+each_of_line : (n : ℕ) (ls : List (List ℕ)) (xs : List Line) → AreLines n ls xs → AreOfLines xs
+each_of_line n [] [] a = All-nil IsOfLine
+each_of_line n [] (x ∷ xs) a = absurd a
+each_of_line n ([] ∷ ls) xs a = each_of_line (n + 1) ls xs a
+each_of_line n ((b ∷ bs) ∷ ls) [] a = absurd a
+each_of_line n ((b ∷ bs) ∷ ls) (x ∷ xs) a = All-cons IsOfLine x xs (b ∷ bs, a.1) (each_of_line (n + 1) ls xs a.2)
+
+-- so are those of bytes that are few enough to be a whole file
+pub read_of_lines : (used rows : ℕ) (bytes : List ℕ) (items : List Line) → length bytes ≤ MAX_BYTES - used → ((whole : List ℕ) → bytes ≡ take (MAX_BYTES - used + 1) whole → StreamOf whole used rows items) → AreOfLines items
+read_of_lines used rows bytes items few read = each_of_line 0 (lines bytes) items (read bytes (sym (take_all (MAX_BYTES - used + 1) bytes (omega (arith, few))))).read

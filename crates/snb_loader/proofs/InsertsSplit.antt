@@ -4,7 +4,9 @@ use Rattle.std.proofs.lemmas.Bool.Decides.{Decides-eqb}
 use Rattle.std.proofs.lemmas.List.Elements.{All-cons, All-nil}
 use Rattle.std.specs.List.{AllByRecursion, onto_first}
 use Rattle.snb_schema.specs.Lines.{HasNoEnd, lines}
+use Rattle.snb_lines.specs.Cut.{last_lines, rest_of, whole_lines}
 use Rattle.snb_lines.specs.Reading.{Reads, ReadsLine}
+use Rattle.snb_lines.proofs.Laws.{lines_whole}
 
 -- no byte of these lines ends a line
 abbrev pub AreEnded : List (List ℕ) → Type 0
@@ -34,6 +36,14 @@ ended_front (l ∷ a) b all = (all.0, ended_front a b all.1)
 pub ended_back : (a b : List (List ℕ)) → AreEnded (a ++ b) → AreEnded b
 ended_back [] b all = all
 ended_back (l ∷ a) b all = ended_back a b all.1
+
+-- the lines of a text that are ended
+pub ended_whole : (text : List ℕ) → AreEnded (whole_lines text)
+ended_whole text = ended_front (whole_lines text) (last_lines (rest_of text)) (subst AreEnded (lines_whole text) (ended_lines text))
+
+-- and what follows the last end
+pub ended_last : (text : List ℕ) → AreEnded (last_lines (rest_of text))
+ended_last text = ended_back (whole_lines text) (last_lines (rest_of text)) (subst AreEnded (lines_whole text) (ended_lines text))
 
 module _ {M T : Type 0} (takes : M → ℕ → List (List ℕ) → List T → M → Type 0) where
   -- the line that gives one of the items

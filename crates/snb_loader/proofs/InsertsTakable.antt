@@ -2,6 +2,7 @@
 use Rattle.std.proofs.Common.{◌≡◌, ◌∙◌, ◌+◌, ◌<◌, ◌≤◌, ◌⊎◌, ℕ, List, [], ◌∷◌, ◌++◌, None, length, take, drop, get_or, refl, sym, ap, subst, inl, inr, arith, add-one, length-append, length-take}
 use Rattle.std.proofs.Math.Seq.{drop-cons}
 use Rattle.std.proofs.lemmas.List.{take_all, take_more, take-append-drop}
+use Rattle.snb_base.proofs.Laws.{push_split}
 use Rattle.snb_schema.specs.declared.limits.TheConstants.{MAX_ROWS}
 use Rattle.snb_schema.specs.declared.op.Line.{Line}
 use Rattle.snb_schema.specs.declared.refusal.Refusal.{Refusal}
@@ -13,16 +14,6 @@ use Rattle.snb_loader.specs.Inserts.{AreReadInserts, AreTakable, IsExcess, IsFir
 no_place : {X : Type 0} (before : List X) (x : X) (after : List X) → before ++ x ∷ after ≡ [] → ⊥
 no_place [] x after e = cc
 no_place (y ∷ before) x after e = cc
-
--- an element of a list with one more at its end is that one, or stands in the list
-push_split : {X : Type 0} (g : List X) (x : X) (rest h : List X) (e : X) → g ++ x ∷ rest ≡ h ++ e ∷ [] → ((g ≡ h) × (x ≡ e)) ⊎ ((after : List X) × (g ++ x ∷ after ≡ h))
-push_split [] x rest [] e q = inl (refl, cc)
-push_split [] x rest (y ∷ h) e q = inr (h, cc)
-push_split (y ∷ []) x rest [] e q = absurd cc
-push_split (y ∷ z ∷ g) x rest [] e q = absurd cc
-push_split (y ∷ g) x rest (z ∷ h) e q =
-    let same : y ≡ z = cc in
-    elim (push_split g x rest h e cc) [ inl p ↦ inl (cc, p.1) | inr p ↦ inr (p.0, let deeper : g ++ x ∷ p.0 ≡ h = p.1 in cc) ]
 
 -- none can be taken
 pub takable_none : (rows : ℕ) → AreTakable rows []

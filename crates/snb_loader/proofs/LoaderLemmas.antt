@@ -5,7 +5,7 @@ use Rattle.snb_base.specs.Shelf.{Files}
 use Rattle.snb_schema.specs.declared.limits.TheConstants.{MAX_BYTES}
 use Rattle.snb_schema.specs.declared.refusal.Refusal.{Refusal}
 use Rattle.snb_schema.specs.FileNames.{name_of}
-use Rattle.snb_tables.specs.BuiltTables.{Graph}
+use Rattle.snb_schema.specs.declared.row.Row.{Row}
 use Rattle.snb_loader.specs.Input.{person_file}
 use Rattle.snb_loader.specs.declared.load.Load.{Load}
 use Rattle.snb_loader.specs.declared.load.Load.TheVariants.{Refused, ReadFault, Memory}
@@ -23,7 +23,7 @@ on_refused_weaker (Err (Refused x)) P Q more h = more x h
 on_refused_weaker (Err ReadFault) P Q more h = tt
 on_refused_weaker (Err Memory) P Q more h = tt
 
-pub persons_loaded : (contents : Option Files) (folder path taken bytes : List ℕ) (graph : Graph) (size rows : ℕ) → path ≡ folder ++ 47 ∷ name_of person_file → bytes ≡ taken →
+pub persons_loaded : (contents : Option Files) (folder path taken bytes : List ℕ) (graph : List Row) (size rows : ℕ) → path ≡ folder ++ 47 ∷ name_of person_file → bytes ≡ taken →
     IfSome contents (λ files. Front files path taken MAX_BYTES) → ((whole : List ℕ) → bytes ≡ take (MAX_BYTES + 1) whole → PersonsOf whole graph size rows) →
     IfSome contents (λ files. PersonsLoaded folder files graph size rows)
 persons_loaded contents folder path taken bytes graph size rows here same told all =

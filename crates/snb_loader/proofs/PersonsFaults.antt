@@ -5,18 +5,17 @@ use Rattle.std.proofs.lemmas.List.Elements.{All-contains, Contains-append_left, 
 use Rattle.std.specs.List.{Contains}
 use Rattle.snb_schema.specs.declared.fault.Fault.{Fault}
 use Rattle.snb_schema.specs.declared.fault.Fault.TheVariants.{Bad, Memory}
-use Rattle.snb_schema.specs.declared.key.Key.TheVariants.{Node}
 use Rattle.snb_schema.specs.declared.limits.TheConstants.{MAX_BYTES, MAX_ROWS}
 use Rattle.snb_schema.specs.declared.refusal.Refusal.{Refusal}
 use Rattle.snb_schema.specs.declared.refusal.Refusal.TheVariants.{BadLine, Duplicate, NoHeader}
 use Rattle.snb_schema.specs.declared.row.Placed.{Placed}
 use Rattle.snb_schema.specs.declared.row.Row.{Row}
 use Rattle.snb_schema.specs.declared.row.Row.TheVariants as row
-use Rattle.snb_schema.specs.declared.table.Kind.TheVariants as kind
 use Rattle.snb_schema.specs.declared.table.Table.{Table}
 use Rattle.snb_schema.specs.declared.table.Table.TheVariants as table
 use Rattle.snb_schema.specs.Faults.{OnBad}
-use Rattle.snb_tables.specs.BuiltTables.{Graph, HoldsRows, key_of_row}
+use Rattle.snb_schema.specs.RowKeys.{RowKey, slot, slot_of}
+use Rattle.snb_tables.specs.Graphs.{HoldsRows}
 use Rattle.snb_loader.specs.Input.{AreRows, FirstFault, IsBadPersonLine, IsHeldTwice, IsRowTooMany, NoFault, PersonFault, Then, Within, number_of, person_file}
 use Rattle.snb_schema.specs.LineFaults.{RefusesRowLine, RefusesText}
 use Rattle.snb_schema.specs.Lines.{HasNoEnd, begins_with_mark, data_lines, fields, filled, is_filled, lines}
@@ -185,19 +184,17 @@ twice_shares one before line old p r rows own twice =
     let h = twice.1 in
     let same : p.row ≡ row.Person h.0 = one_row one line p.row (row.Person h.0) own h.2 in
     let among : Contains (rows_of old) (row.Person h.1) = row_among one (data_lines before) (rows_of old) h.3.0 (row.Person h.1) rows h.3.1 h.3.2 in
-    (Node kind.Person h.0.id, ap key_of_row same, (row.Person h.1, among, ap (λ n. Some (Node kind.Person n)) h.4))
+    record { it = row.Person h.1; held = among; fills = ap (λ (n : ℕ). slot (table.Person, n, 0, [])) h.4 ∙ ap slot_of (sym same) }
 
 -- and one that shares its key is held twice
 shares_twice : (before : List (List ℕ)) (line : List ℕ) (old : List Placed) (p : Placed) (r : Refusal) → filled before ≢ [] → AreRows (data_lines before) (rows_of old) → ((x : Placed) → Contains old x → IsPersonRow x) → IsPersonRow p → IsRow table.Person line p.row
     → r ≡ Duplicate person_file (number_of before) → SharesKey old p → IsHeldTwice before line r
 shares_twice before line old p r some rows all is own is_r s =
-    let found = map_contains (λ (x : Placed). x.row) old s.2.0 s.2.1 in
+    let found = map_contains (λ (x : Placed). x.row) old s.it s.held in
     let other : IsPersonRow found.0 = all found.0 found.1 in
-    let there : s.2.0 ≡ row.Person other.0 = sym found.2 ∙ other.1 in
-    let at = line_among (data_lines before) (rows_of old) s.2.0 rows s.2.1 in
-    let key : Some (Node kind.Person is.0.id) ≡ Some s.0 = ap key_of_row (sym is.1) ∙ s.1 in
-    let other_key : Some (Node kind.Person other.0.id) ≡ Some s.0 = ap key_of_row (sym there) ∙ s.2.2 in
-    let ids : other.0.id ≡ is.0.id = cc in
+    let there : s.it ≡ row.Person other.0 = sym found.2 ∙ other.1 in
+    let at = line_among (data_lines before) (rows_of old) s.it rows s.held in
+    let ids : other.0.id ≡ is.0.id = ap (λ (k : RowKey). k.1) (ap slot_of (sym there) ∙ s.fills ∙ ap slot_of is.1) in
     (some, (is.0, other.0, subst (IsRow table.Person line) is.1 own, (at.0, at.1, subst (IsRow table.Person at.0) there at.2), ids), is_r)
 
 -- a line's number, as reading counts it
@@ -443,7 +440,7 @@ module _ (one : OneRow) (right : RowsAreRight) (whole : List ℕ) (items : List 
       )
 
   -- the file is read to its end
-  pub persons_good : (graph : Graph) (bytes rows : ℕ) → AreApart items → length items ≤ MAX_ROWS → HoldsRows graph (rows_of items) → bytes ≡ length whole → rows ≡ length items
+  pub persons_good : (graph : List Row) (bytes rows : ℕ) → AreApart items → length items ≤ MAX_ROWS → HoldsRows graph (rows_of items) → bytes ≡ length whole → rows ≡ length items
       → StopsAt row_meanings person_file 0 (length whole) comes.done comes.left comes.state None → PersonsOf whole graph bytes rows
   persons_good graph bytes rows apart few kept size counted (left_is, within, ends) =
       let all = all_done left_is in
@@ -477,7 +474,7 @@ is_read (Err Memory) bytes items ne ok bad = absurd (ne refl)
 is_read (Err (Bad r)) bytes items ne ok bad = λ whole t. (Some r, bad whole t)
 
 -- the first clash is what is wrong with the file
-pub clash_refused : (A : Type 0) (fault : Fault) (load : Load) (bytes : List ℕ) (items : List Placed) → OneRow → RowsAreRight → load ≡ load_for fault → IsRead bytes items → All IsPersonRow items → OnBad {A = Graph} (Err fault) (IsFirstClash items)
+pub clash_refused : (A : Type 0) (fault : Fault) (load : Load) (bytes : List ℕ) (items : List Placed) → OneRow → RowsAreRight → load ≡ load_for fault → IsRead bytes items → All IsPersonRow items → OnBad {A = List Row} (Err fault) (IsFirstClash items)
     → OnRefused {A = A} (Err load) (λ r. (whole : List ℕ) → bytes ≡ take (MAX_BYTES + 1) whole → PersonsBad whole r)
 clash_refused A Memory load bytes items one right e read all bad = rw e tt
 clash_refused A (Bad r) load bytes items one right e read all bad = rw e (λ whole t. inl (let far = read whole t in clash_fault one right whole items far.0 far.1 r all bad))
@@ -489,7 +486,7 @@ stop_refused A Memory load bytes items one right e apart few bad = rw e tt
 stop_refused A (Bad r) load bytes items one right e apart few bad = rw e (λ whole t. let comes = bad whole t in stop_bad one right whole items (Some r) comes r apart few comes.stops)
 
 -- nothing stopped it
-pub whole_good : (bytes : List ℕ) (items : List Placed) (graph : Graph) (rows : ℕ) → OneRow → RowsAreRight → AreApart items → length items ≤ MAX_ROWS → HoldsRows graph (rows_of items) → rows ≡ length items → ReadsWhole bytes items
+pub whole_good : (bytes : List ℕ) (items : List Placed) (graph : List Row) (rows : ℕ) → OneRow → RowsAreRight → AreApart items → length items ≤ MAX_ROWS → HoldsRows graph (rows_of items) → rows ≡ length items → ReadsWhole bytes items
     → (whole : List ℕ) → bytes ≡ take (MAX_BYTES + 1) whole → PersonsOf whole graph (length bytes) rows
 whole_good bytes items graph rows one right apart few kept counted read whole t =
     let told = read whole t in

@@ -1,34 +1,29 @@
 -- The graph of the rows of the person file.
-use Rattle.std.proofs.Common.{◌≡◌, ◌∙◌, ◌+◌, ◌<◌, ◌⊎◌, ◌↔◌, ℕ, suc, List, [], ◌∷◌, ◌++◌, Some, length, map, take, drop, get_or, All, refl, sym, ap, subst, inl, inr, add-one, drop-cons}
+use Rattle.std.proofs.Common.{◌≡◌, ◌∙◌, ◌+◌, ◌<◌, ◌⊎◌, ◌↔◌, ℕ, suc, List, [], ◌∷◌, ◌++◌, length, map, take, drop, get_or, All, refl, sym, ap, subst, inl, inr, arith, Err, add-one, drop-cons}
 use Rattle.std.proofs.lemmas.List.{map-append, map-id, take-append-drop}
-use Rattle.std.proofs.lemmas.List.Elements.{All-get_or}
+use Rattle.std.proofs.lemmas.List.Elements.{All-get_or, All-nil}
 use Rattle.std.proofs.lemmas.List.Sorted.{Contains-permutation, IsPermutation-append_left, IsPermutation-refl, IsPermutation-sym, IsPermutation-trans}
-use Rattle.std.specs.List.Sorted.{IsPermutation}
-use Rattle.snb_schema.specs.declared.key.Key.{Key}
-use Rattle.snb_schema.specs.declared.key.Key.TheVariants.{Node}
+use Rattle.std.specs.List.Sorted.{IsPermutation, IsStrictlySortedBy}
+use Rattle.snb_schema.specs.Faults.{OnBad}
+use Rattle.snb_schema.specs.declared.fault.Fault.{Fault}
+use Rattle.snb_schema.specs.declared.fault.Fault.TheVariants.{Bad, Memory}
+use Rattle.snb_schema.specs.declared.refusal.Refusal.{Refusal}
 use Rattle.snb_schema.specs.declared.row.Placed.{Placed}
 use Rattle.snb_schema.specs.declared.row.Row.{Row}
-use Rattle.snb_schema.specs.declared.table.Kind.TheVariants as kind
-use Rattle.snb_tables.specs.BuiltTables.{Graph, HasGained, HoldsKey, HoldsRows, IsBuilt, IsGraph, IsHeldIn, all_rows, key_of_row, no_rows}
+use Rattle.snb_schema.specs.RowKeys.{RowKey, slot_of}
+use Rattle.snb_schema.specs.TableRows.{IsTableRow}
+use Rattle.snb_tables.specs.Graphs.{HasGained, HasSlot, HoldsRows, IsGraph}
 use Rattle.snb_loader.specs.Persons.{AreApart, IsPersonRow, SharesKey, rows_of}
 
--- rows in another order hold the same keys
-held_moved : (rows others : List Row) (key : Key) → IsPermutation rows others → IsHeldIn rows key → IsHeldIn others key
-held_moved rows others key same held = (held.0, Contains-permutation rows others held.0 same held.1, held.2)
-
--- a graph holds the keys of its rows
-held_by : (g : Graph) (rows : List Row) (key : Key) → HoldsRows g rows → HoldsKey g key → IsHeldIn rows key
-held_by g rows key h held = held_moved (all_rows g) rows key h.same held
-
--- and no others
-held_in_graph : (g : Graph) (rows : List Row) (key : Key) → HoldsRows g rows → IsHeldIn rows key → HoldsKey g key
-held_in_graph g rows key h held = held_moved rows (all_rows g) key (IsPermutation-sym (all_rows g) rows h.same) held
+-- rows in another order fill the same slots
+slots_moved : (rows others : List Row) (s : RowKey) → IsPermutation rows others → HasSlot rows s → HasSlot others s
+slots_moved rows others s same h = record { it = h.it; held = Contains-permutation rows others h.it same h.held; fills = h.fills }
 
 -- one row more
-holds_gained : (g new : Graph) (rows : List Row) (r : Row) → HoldsRows g rows → HasGained g r new → HoldsRows new (rows ++ r ∷ [])
+holds_gained : (g new rows : List Row) (r : Row) → HoldsRows g rows → HasGained g (r ∷ []) new → HoldsRows new (rows ++ r ∷ [])
 holds_gained g new rows r h gained = record {
   graph = gained.graph;
-  same = IsPermutation-trans _ _ _ gained.rows (IsPermutation-append_left (r ∷ []) (all_rows g) rows h.same);
+  same = IsPermutation-trans _ _ _ gained.rows (IsPermutation-append_left (r ∷ []) g rows h.same);
 }
 
 -- a list that ends in an element, cut before some element: that is the last one, or one before it
@@ -76,23 +71,35 @@ pub next_person : (xs all : List Placed) (x : Placed) → All IsPersonRow all �
 next_person xs all x are at = subst IsPersonRow (sym at.1) (All-get_or IsPersonRow all (length xs) x at.0 are)
 
 -- a person's row can be added
-pub person_built : (x : Placed) → IsPersonRow x → IsBuilt x.row
-person_built x is = subst IsBuilt (sym is.1) tt
+pub person_fits : (x : Placed) → IsPersonRow x → IsTableRow x.row
+person_fits x is = is.2
+
+-- no rows are a graph
+none_graph : IsGraph []
+unfolding IsStrictlySortedBy
+none_graph = record {
+  rises = tt;
+  apart = λ r s h k e. absurd (let l = h.1 in omega arith);
+  of_tables = All-nil IsTableRow;
+}
 
 -- the graph of no rows
-pub holds_none : (g : Graph) → g ≡ no_rows → IsGraph g → HoldsRows g []
-holds_none g e h = record { graph = h; same = subst (λ (z : Graph). IsPermutation (all_rows z) []) (sym e) (IsPermutation-refl []) }
+pub holds_none : (g : List Row) → g ≡ [] → HoldsRows g []
+holds_none g e = subst (λ (z : List Row). HoldsRows z []) (sym e) (record { graph = none_graph; same = IsPermutation-refl [] })
 
 -- a graph of rows and one more
-pub holds_more : (g new : Graph) (xs : List Placed) (x : Placed) → HoldsRows g (rows_of xs) → HasGained g x.row new → HoldsRows new (rows_of (xs ++ x ∷ []))
+pub holds_more : (g new : List Row) (xs : List Placed) (x : Placed) → HoldsRows g (rows_of xs) → HasGained g (x.row ∷ []) new → HoldsRows new (rows_of (xs ++ x ∷ []))
 holds_more g new xs x h gained = subst (λ (rs : List Row). HoldsRows new rs) (sym (map-append (λ (p : Placed). p.row) xs (x ∷ []))) (holds_gained g new (rows_of xs) x.row h gained)
 
 -- a row that was added has a new key
-pub is_new : (g : Graph) (xs : List Placed) (x : Placed) (D : Type 0) → HoldsRows g (rows_of xs) → ((key : Key) → key_of_row x.row ≡ Some key → (D ↔ HoldsKey g key)) → ¬ D → ¬ SharesKey xs x
-is_new g xs x D h says not shares = not ((says shares.0 shares.1).1 (held_in_graph g (rows_of xs) shares.0 h shares.2))
+pub is_new : (g : List Row) (xs : List Placed) (x : Placed) → HoldsRows g (rows_of xs) → ¬ HasSlot g (slot_of x.row) → ¬ SharesKey xs x
+is_new g xs x h new shares = new (slots_moved (rows_of xs) g (slot_of x.row) (IsPermutation-sym g (rows_of xs) h.same) shares)
 
 -- and one that is a duplicate has not
-pub is_shared : (g : Graph) (xs : List Placed) (x : Placed) (D : Type 0) → HoldsRows g (rows_of xs) → IsPersonRow x → ((key : Key) → key_of_row x.row ≡ Some key → (D ↔ HoldsKey g key)) → D → SharesKey xs x
-is_shared g xs x D h is says d =
-    let k : key_of_row x.row ≡ Some (Node kind.Person is.0.id) = ap key_of_row is.1 in
-    (Node kind.Person is.0.id, k, held_by g (rows_of xs) (Node kind.Person is.0.id) h ((says (Node kind.Person is.0.id) k).0 d))
+pub is_shared : (g : List Row) (xs : List Placed) (x : Placed) → HoldsRows g (rows_of xs) → HasSlot g (slot_of x.row) → SharesKey xs x
+is_shared g xs x h has = slots_moved g (rows_of xs) (slot_of x.row) h.same has
+
+-- what follows from a refusal of one call for another's
+pub bad_weaker : (fault : Fault) (P Q : Refusal → Type 0) → ((r : Refusal) → P r → Q r) → OnBad {A = Unit {0}} (Err fault) P → OnBad {A = Unit {0}} (Err fault) Q
+bad_weaker (Bad r) P Q give p = give r p
+bad_weaker Memory P Q give p = tt

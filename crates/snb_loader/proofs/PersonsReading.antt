@@ -1,5 +1,5 @@
 -- The rows of the person file are persons'.
-use Rattle.std.proofs.Common.{◌≡◌, ◌∙◌, ◌+◌, ◌≤◌, arith, ℕ, Bool, true, false, List, [], ◌∷◌, ◌++◌, All, length, refl, sym, ap, subst}
+use Rattle.std.proofs.Common.{◌≡◌, ◌∙◌, ◌+◌, ◌≤◌, arith, ℕ, Bool, true, false, IsUtf8, List, [], ◌∷◌, ◌++◌, All, length, refl, sym, ap, subst}
 use Rattle.std.proofs.lemmas.List.Elements.{All-append, All-cons, All-nil}
 use Rattle.snb_schema.specs.declared.layout.Shape.TheVariants as shapes
 use Rattle.snb_schema.specs.declared.limits.TheConstants.{MAX_BYTES}
@@ -10,15 +10,17 @@ use Rattle.snb_schema.specs.declared.row.Row.TheVariants as row
 use Rattle.snb_schema.specs.declared.table.Table.{Table}
 use Rattle.snb_schema.specs.declared.table.Table.TheVariants as table
 use Rattle.snb_loader.specs.Input.{person_file}
-use Rattle.snb_schema.specs.Lines.{fields}
+use Rattle.snb_schema.specs.Lines.{HasNoEnd, begins_with_mark, fields}
 use Rattle.snb_schema.specs.Layouts.{columns, shape}
 use Rattle.snb_schema.specs.RowLines.{IsWide, SpellsRow, row_shape}
+use Rattle.snb_schema.specs.TableRows.{IsTableRow, TableRowsAreOfLines}
 use Rattle.snb_lines.specs.Reading.{Reader, Reads}
 use Rattle.snb_lines.specs.Feeding.{at_begin}
 use Rattle.snb_lines.specs.Headed.{GivesAs, Passed, unpassed}
 use Rattle.snb_csv.specs.Rows.{GivesRow, HeadsRows, IsOfTable, TakesRow}
 use Rattle.snb_loader.specs.Persons.{IsPersonRow, at_first, row_meanings}
-use Rattle.snb_loader.proofs.FileReading.{Took, fresh}
+use Rattle.snb_loader.proofs.FileReading.{TookEnded, fresh}
+use Rattle.snb_loader.proofs.InsertsSplit.{AreEnded}
 
 -- nothing is read before the person file
 pub none_used : 0 ≤ MAX_BYTES
@@ -61,24 +63,30 @@ fresh_rows s begins is =
     is ∙ ap (λ (m : Passed Table). at_begin person_file m) (begins.1 ∙ ap (λ (t : Table). unpassed person_file t) (sym e))
 
 -- the rows that a line of the person file gives are persons'
-line_persons : (headed : Bool) (t : Table) (number : ℕ) (fs : List (List ℕ)) (items : List Placed) → t ≡ table.Person → Gives headed t number fs items → All IsPersonRow items
-line_persons false t number fs items e g = subst (All IsPersonRow) (sym g.1) (All-nil IsPersonRow)
-line_persons true t number fs items e g =
+line_persons : TableRowsAreOfLines → (headed : Bool) (t : Table) (number : ℕ) (line : List ℕ) (items : List Placed) → t ≡ table.Person → begins_with_mark line ≡ false → IsUtf8 line → HasNoEnd line
+    → Gives headed t number (fields line) items → All IsPersonRow items
+line_persons law false t number line items e plain text ends g = subst (All IsPersonRow) (sym g.1) (All-nil IsPersonRow)
+line_persons law true t number line items e plain text ends g =
     let is = person_shape g.0 (g.2.shaped ∙ ap shape e) in
-    subst (All IsPersonRow) (sym g.3) (All-cons IsPersonRow (record { line = number; row = g.0; turned = g.1 }) [] is (All-nil IsPersonRow))
+    let fits : IsTableRow g.0 = ((law t g.0).1 (line, record { text = text; unmarked = plain; one_line = ends; turned = g.1; spelled = g.2 })).1 in
+    subst (All IsPersonRow) (sym g.3) (All-cons IsPersonRow (record { line = number; row = g.0; turned = g.1 }) [] (is.0, is.1, fits) (All-nil IsPersonRow))
 
 -- so are those of all lines
-pub reads_persons : (ls : List (List ℕ)) (s new : Passed Table) (n : ℕ) (items : List Placed) → s.body ≡ table.Person → Reads TakesRow s n ls items new → All IsPersonRow items
-reads_persons [] s new n items e r = subst (All IsPersonRow) (sym r.0) (All-nil IsPersonRow)
-reads_persons ([] ∷ ls) s new n items e r =
-    subst (All IsPersonRow) (sym (r.5 ∙ ap (λ (xs : List Placed). xs ++ r.1) r.3.0)) (reads_persons ls r.2 new (n + 1) r.1 (ap (λ (p : Passed Table). p.body) r.3.1 ∙ e) r.4)
-reads_persons ((b ∷ bs) ∷ ls) s new n items e r =
-    subst (All IsPersonRow) (sym r.5)
-    (All-append IsPersonRow r.0 r.1 (line_persons s.headed s.body (n + 1) _ r.0 e (told_row s r.2 (n + 1) (fields (b ∷ bs)) r.0 r.3.2).0) (reads_persons ls r.2 new (n + 1) r.1 (ap (λ (p : Passed Table). p.body) (told_row s r.2 (n + 1) (fields (b ∷ bs)) r.0 r.3.2).1 ∙ e) r.4))
+pub reads_persons : TableRowsAreOfLines → (ls : List (List ℕ)) (s new : Passed Table) (n : ℕ) (items : List Placed) → s.body ≡ table.Person → AreEnded ls → Reads TakesRow s n ls items new → All IsPersonRow items
+reads_persons law [] s new n items e ended r = subst (All IsPersonRow) (sym r.0) (All-nil IsPersonRow)
+reads_persons law ([] ∷ ls) s new n items e ended r =
+    subst (All IsPersonRow) (sym (r.5 ∙ ap (λ (xs : List Placed). xs ++ r.1) r.3.0)) (reads_persons law ls r.2 new (n + 1) r.1 (ap (λ (p : Passed Table). p.body) r.3.1 ∙ e) ended.1 r.4)
+reads_persons law ((b ∷ bs) ∷ ls) s new n items e ended r =
+    let told = told_row s r.2 (n + 1) (fields (b ∷ bs)) r.0 r.3.2 in
+    let here = line_persons law s.headed s.body (n + 1) (b ∷ bs) r.0 e r.3.0 r.3.1 ended.0 told.0 in
+    let later = reads_persons law ls r.2 new (n + 1) r.1 (ap (λ (p : Passed Table). p.body) told.1 ∙ e) ended.1 r.4 in
+    subst (All IsPersonRow) (sym r.5) (All-append IsPersonRow r.0 r.1 here later)
 
 -- so persons' rows stay persons' rows
-pub took_persons : (s : Passed Table) (old new : List Placed) → s.body ≡ table.Person → All IsPersonRow old → Took row_meanings person_file at_first 0 none_used s old new → All IsPersonRow new
-took_persons s old new e all t = subst (All IsPersonRow) (sym t.5) (All-append IsPersonRow old t.2 all (reads_persons t.0 s t.3 t.1 t.2 e t.4))
+pub took_persons : TableRowsAreOfLines → (s : Passed Table) (old new : List Placed) → s.body ≡ table.Person → All IsPersonRow old → TookEnded row_meanings person_file at_first 0 none_used s old new → All IsPersonRow new
+took_persons law s old new e all t =
+    let all_new = reads_persons law t.0.0 s t.0.3 t.0.1 t.0.2 e t.1 t.0.4 in
+    subst (All IsPersonRow) (sym t.0.5) (All-append IsPersonRow old t.0.2 all all_new)
 
 -- a fresh reader's table
 pub fresh_table : (s : Reader (Passed Table)) → s ≡ fresh row_meanings person_file at_first 0 none_used → s.meaning.body ≡ table.Person

@@ -1,5 +1,5 @@
 -- What is wrong with the files of an input, and what they stand for: statements over whole files.
-use Rattle.std.specs.Prelude.{◌≡◌, ◌≢◌, ℕ, ◌+◌, ◌<◌, ◌≤◌, ◌⊎◌, min, List, [], ◌∷◌, ◌++◌, length, true, Option, Some, None, unwrap_or, sum_by, Contains}
+use Rattle.std.specs.Prelude.{◌≡◌, ◌≢◌, ℕ, ◌+◌, ◌<◌, ◌≤◌, ◌⊎◌, min, max, List, [], ◌∷◌, ◌++◌, length, true, Option, Some, None, unwrap_or, sum_by, Contains}
 use Rattle.std.specs.List.{flat_map}
 use Rattle.snb_base.specs.Shelf.{Files}
 use Rattle.snb_schema.specs.declared.limits.TheConstants.{MAX_BYTES, MAX_ROWS}
@@ -7,7 +7,7 @@ use Rattle.snb_schema.specs.declared.file.FileId.{FileId}
 use Rattle.snb_schema.specs.declared.file.FileKind.TheVariants.{Table, PersonStream}
 use Rattle.snb_schema.specs.declared.op.Line.{Line}
 use Rattle.snb_schema.specs.declared.op.Op.{Op}
-use Rattle.snb_schema.specs.declared.op.Op.TheVariants.{AddPerson}
+use Rattle.snb_schema.specs.declared.op.Op.TheVariants.{AddPerson, AddFriend}
 use Rattle.snb_schema.specs.declared.person.Person.{Person}
 use Rattle.snb_schema.specs.declared.refusal.Refusal.{Refusal}
 use Rattle.snb_schema.specs.declared.refusal.Refusal.TheVariants.{Absent, BadLine, Duplicate, NoHeader, OutOfOrder}
@@ -16,7 +16,7 @@ use Rattle.snb_schema.specs.declared.row.Row.TheVariants as row
 use Rattle.snb_schema.specs.declared.table.Table.TheVariants as table
 use Rattle.snb_schema.specs.Closed.{IsFirstWrong}
 use Rattle.snb_schema.specs.FileNames.{name_of}
-use Rattle.snb_tables.specs.BuiltTables.{Graph, HoldsRows, IsHeldIn, rows_of}
+use Rattle.snb_tables.specs.Graphs.{HoldsKey, HoldsRows}
 use Rattle.snb_schema.specs.Lines.{lines, is_filled, filled, data_lines}
 use Rattle.snb_schema.specs.LineFaults.{RefusesInsertLine, RefusesRowLine}
 use Rattle.snb_schema.specs.RowLines.{IsRow}
@@ -157,7 +157,7 @@ pub record IsNotClosed (persons stream : List ℕ) (r : Refusal) : Type 0 where
   pub rows : AreRows (data_lines (lines persons)) dataset
   pub inserts : List Line
   pub read : AreLines 0 (lines stream) inserts
-  pub wrong : IsFirstWrong (IsHeldIn dataset) person_stream inserts r
+  pub wrong : IsFirstWrong (HoldsKey dataset) person_stream inserts r
 
 -- the refusals of the two files, in order: the lines of the person file, the lines of the stream, what its inserts need
 abbrev pub FilesRefuse : List ℕ → List ℕ → Refusal → Type 0
@@ -182,6 +182,22 @@ pub record IsInput (folder : List ℕ) (files : Files) (dataset : List Row) (ins
   pub rows : AreRows (data_lines (lines persons)) dataset
   pub stream : AreLines 0 (lines (stream_of folder files)) inserts
 
+-- the row that an insert adds: those of the tables that a run keeps so far, of persons and of friendships
+abbrev pub run_row : Op → List Row
+run_row (AddPerson id first last gender birthday created ip browser city languages emails tags study work) =
+    row.Person (record {
+      id = id;
+      first_name = first;
+      last_name = last;
+      gender = gender;
+      birthday = birthday;
+      creation_date = created;
+      location_ip = ip;
+      browser_used = browser;
+    }) ∷ []
+run_row (AddFriend one other date) = row.Dated table.PersonKnowsPerson (min one other) (max one other) date ∷ []
+run_row _ = []
+
 -- the dataset with each stream row once
-abbrev pub IsFinal : Graph → List Row → List Line → Type 0
-IsFinal g dataset inserts = HoldsRows g (dataset ++ flat_map (λ line. rows_of line.op) inserts)
+abbrev pub IsFinal : List Row → List Row → List Line → Type 0
+IsFinal g dataset inserts = HoldsRows g (dataset ++ flat_map (λ line. run_row line.op) inserts)

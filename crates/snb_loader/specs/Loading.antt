@@ -1,5 +1,5 @@
 -- What is taken of the files of an input.
-use Rattle.std.specs.Prelude.{◌≡◌, ◌≢◌, ℕ, ◌+◌, ◌⊎◌, List, [], length, take, Option, Some, None, Result, Ok, Err, Vec}
+use Rattle.std.specs.Prelude.{◌≡◌, ◌≢◌, ℕ, ◌+◌, ◌⊎◌, All, List, [], length, take, Option, Some, None, Result, Ok, Err, Vec}
 use Rattle.std.specs.declared.alloc.Global.{Global}
 use Rattle.snb_base.specs.Shelf.{Files}
 use Rattle.snb_schema.specs.declared.fault.Fault.{Fault}
@@ -9,7 +9,8 @@ use Rattle.snb_schema.specs.declared.op.Line.{Line}
 use Rattle.snb_schema.specs.declared.refusal.Refusal.{Refusal}
 use Rattle.snb_schema.specs.declared.refusal.Refusal.TheVariants.{Absent}
 use Rattle.snb_schema.specs.declared.row.Row.{Row}
-use Rattle.snb_tables.specs.BuiltTables.{Graph, HoldsRows}
+use Rattle.snb_schema.specs.UpdateLines.{IsLine}
+use Rattle.snb_tables.specs.Graphs.{HoldsRows}
 use Rattle.snb_loader.specs.Input.{AreLines, AreRows, FirstFault, NoFault, NoPersonHeader, PersonFault, StreamFault, Within, held_in, person_file, person_stream}
 use Rattle.snb_schema.specs.Lines.{lines, filled, data_lines}
 use Rattle.snb_loader.specs.declared.load.Load.{Load}
@@ -40,7 +41,7 @@ pub record IsBegun (files : Files) (name bytes : List ℕ) : Type 0 where
   pub held : bytes ≢ [] → (file : List ℕ) × (files name ≡ Some file)
 
 -- nothing is wrong with the person file, and the graph has its rows
-pub record PersonsOf (persons : List ℕ) (graph : Graph) (bytes rows : ℕ) : Type 0 where
+pub record PersonsOf (persons : List ℕ) (graph : List Row) (bytes rows : ℕ) : Type 0 where
   pub size : bytes ≡ length persons
   pub counted : rows ≡ length (data_lines (lines persons))
   pub clean : NoFault (Within 0 (length persons) person_file PersonFault) (lines persons)
@@ -56,7 +57,7 @@ PersonsBad persons r =
     ⊎ (NoFault (Within 0 (length persons) person_file PersonFault) (lines persons) × NoPersonHeader (lines persons) r)
 
 -- the person file is held, and the graph has its rows
-abbrev pub PersonsLoaded : List ℕ → Files → Graph → ℕ → ℕ → Type 0
+abbrev pub PersonsLoaded : List ℕ → Files → List Row → ℕ → ℕ → Type 0
 PersonsLoaded folder files graph bytes rows = (persons : List ℕ) × (held_in folder files person_file ≡ Some persons) × PersonsOf persons graph bytes rows
 
 -- the person file isn't held, or this is what is wrong with it
@@ -69,6 +70,14 @@ PersonsRefused folder files r =
 pub record StreamOf (stream : List ℕ) (bytes rows : ℕ) (inserts : List Line) : Type 0 where
   pub clean : NoFault (Within bytes (length stream) person_stream (StreamFault rows)) (lines stream)
   pub read : AreLines 0 (lines stream) inserts
+
+-- some line is the insert's
+abbrev pub IsOfLine : Line → Type 0
+IsOfLine x = (text : List ℕ) × IsLine text x.t x.t_d x.op
+
+-- each insert is that of some line
+abbrev pub AreOfLines : List Line → Type 0
+AreOfLines inserts = All IsOfLine inserts
 
 -- this is what is wrong with the lines of the stream
 abbrev pub StreamBad : List ℕ → ℕ → ℕ → Refusal → Type 0

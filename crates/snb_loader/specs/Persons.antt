@@ -1,6 +1,5 @@
 -- The rows of the person file, and the graph of them.
-use Rattle.std.specs.Prelude.{◌≡◌, ◌<◌, ◌≤◌, ◌⊎◌, List, ◌∷◌, ◌++◌, length, map, Some}
-use Rattle.snb_schema.specs.declared.key.Key.{Key}
+use Rattle.std.specs.Prelude.{◌≡◌, ◌<◌, ◌≤◌, ◌⊎◌, List, ◌∷◌, ◌++◌, length, map}
 use Rattle.snb_schema.specs.declared.limits.TheConstants.{MAX_ROWS}
 use Rattle.snb_schema.specs.declared.person.Person.{Person}
 use Rattle.snb_schema.specs.declared.refusal.Refusal.{Refusal}
@@ -10,7 +9,9 @@ use Rattle.snb_schema.specs.declared.row.Row.{Row}
 use Rattle.snb_schema.specs.declared.row.Row.TheVariants as row
 use Rattle.snb_schema.specs.declared.table.Table.{Table}
 use Rattle.snb_schema.specs.declared.table.Table.TheVariants as table
-use Rattle.snb_tables.specs.BuiltTables.{IsHeldIn, key_of_row}
+use Rattle.snb_schema.specs.RowKeys.{slot_of}
+use Rattle.snb_schema.specs.TableRows.{IsTableRow}
+use Rattle.snb_tables.specs.Graphs.{HasSlot}
 use Rattle.snb_loader.specs.Input.{person_file}
 use Rattle.snb_lines.specs.Headed.{Passed, ends_without, unpassed}
 use Rattle.snb_csv.specs.Rows.{RefusesRow, TakesRow}
@@ -24,16 +25,16 @@ row_meanings = record { takes = TakesRow; refuses = RefusesRow; ends = ends_with
 abbrev pub at_first : Passed Table
 at_first = unpassed person_file table.Person
 
--- a row of a person
+-- a row of a person, and one that its table can have
 abbrev pub IsPersonRow : Placed → Type 0
-IsPersonRow p = (q : Person) × (p.row ≡ row.Person q)
+IsPersonRow p = (q : Person) × (p.row ≡ row.Person q) × IsTableRow p.row
 
 abbrev pub rows_of : List Placed → List Row
 rows_of ps = map (λ p. p.row) ps
 
--- a row among these has the key of this one
+-- a row among these fills the slot of this one
 abbrev pub SharesKey : List Placed → Placed → Type 0
-SharesKey before p = (key : Key) × (key_of_row p.row ≡ Some key) × IsHeldIn (rows_of before) key
+SharesKey before p = HasSlot (rows_of before) (slot_of p.row)
 
 -- no row has the key of a row before it
 pub record AreApart (ps : List Placed) : Type 0 where

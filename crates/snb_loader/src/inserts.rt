@@ -7,7 +7,7 @@ ghost use Rattle.snb_loader.specs.Input.{first_list, person_stream};
 ghost use Rattle.snb_schema.specs.Plan.{ArePlanned};
 ghost use Rattle.snb_loader.specs.Coming.{Comes};
 ghost use Rattle.snb_loader.specs.Inserts.{AreReadInserts, AreTakable, IsFirstExcess, at_start, counted_as, insert_meanings};
-ghost use Rattle.snb_loader.specs.Loading.{OnReadFault, OnRefused, StreamBad, StreamOf};
+ghost use Rattle.snb_loader.specs.Loading.{AreOfLines, OnReadFault, OnRefused, StreamBad, StreamOf};
 
 use crate::load::Load;
 use snb_schema::fault::Fault;
@@ -43,6 +43,7 @@ fn read_inserts(alloc: Global, bytes: &[u8], used: u64, lines: &mut Vec<Line>) -
     requires within { used ≤ MAX_BYTES }
     ensures ok { OnOk result ((whole : List ℕ) → bytes.now ≡ take (MAX_BYTES - used + 1) whole → (bytes.now ≡ whole) × Comes insert_meanings person_stream at_start used whole lines.new.items None) }
     ensures bad { OnBad result (λ r. (whole : List ℕ) → bytes.now ≡ take (MAX_BYTES - used + 1) whole → Comes insert_meanings person_stream at_start used whole lines.new.items (Some r)) }
+    ensures few { OnOk result (length bytes.now ≤ MAX_BYTES - used) }
     ensures read { AreReadInserts lines.new.items }
 {
     let mut updates = Updates::new(alloc, PERSON_STREAM);
@@ -129,6 +130,7 @@ pub fn inserts_of(alloc: Global, bytes: &[u8], used: u64, rows: u64) -> Result<V
     requires { used ≤ MAX_BYTES }
     ensures ok { IfOk result (λ inserts. (whole : List ℕ) → bytes.now ≡ take (MAX_BYTES - used + 1) whole → StreamOf whole used rows inserts.items) }
     ensures planned { IfOk result (λ inserts. ArePlanned inserts.items) }
+    ensures lines { IfOk result (λ inserts. AreOfLines inserts.items) }
     ensures refused { OnRefused result (λ r. (whole : List ℕ) → bytes.now ≡ take (MAX_BYTES - used + 1) whole → StreamBad whole used rows r) }
     ensures fault { OnReadFault result ⊥ }
 {

@@ -5,8 +5,9 @@ ghost use Rattle.snb_base.specs.Shelf.{Rose};
 ghost use Rattle.snb_schema.specs.declared.limits.TheConstants.{MAX_BYTES};
 ghost use Rattle.snb_schema.specs.FileNames.{name_of};
 ghost use Rattle.snb_loader.specs.Input.{stream_of};
-ghost use Rattle.snb_loader.specs.Loading.{PersonsBad, PersonsLoaded, PersonsOf, PersonsRefused, StreamBad, StreamOf, OnReadFault, OnRefused, load_for};
+ghost use Rattle.snb_loader.specs.Loading.{AreOfLines, PersonsBad, PersonsLoaded, PersonsOf, PersonsRefused, StreamBad, StreamOf, OnReadFault, OnRefused, load_for};
 ghost use Rattle.snb_schema.specs.Plan.{ArePlanned};
+ghost use Rattle.snb_tables.specs.Graphs.{IsGraph};
 
 pub use crate::inserts::PERSON_STREAM;
 use crate::inserts::inserts_of;
@@ -33,6 +34,7 @@ fn path_of(alloc: Global, folder: &str, file: FileId) -> Result<String, AllocErr
 pub fn load_persons<S: Shelf>(alloc: Global, shelf: &mut S, folder: &str) -> Result<Persons, Load>
     ensures ok { IfOk result (λ p. IfSome (S.contents shelf.old) (λ files. PersonsLoaded folder.now files p.graph p.bytes p.rows)) }
     ensures bounds { IfOk result (λ p. p.bytes ≤ MAX_BYTES) }
+    ensures graph { IfOk result (λ p. IsGraph p.graph) }
     ensures refused { OnRefused result (λ r. IfSome (S.contents shelf.old) (λ files. PersonsRefused folder.now files r)) }
     ensures fault { OnReadFault result (Rose (S.faults shelf.old) (S.faults shelf.new)) }
     ensures later { S.faults shelf.old ≤ S.faults shelf.new }
@@ -63,6 +65,7 @@ pub fn load_inserts<S: Shelf>(
     requires { used ≤ MAX_BYTES }
     ensures ok { IfOk result (λ inserts. IfSome (S.contents shelf.old) (λ files. StreamOf (stream_of folder.now files) used rows inserts.items)) }
     ensures planned { IfOk result (λ inserts. ArePlanned inserts.items) }
+    ensures lines { IfOk result (λ inserts. AreOfLines inserts.items) }
     ensures refused { OnRefused result (λ r. IfSome (S.contents shelf.old) (λ files. StreamBad (stream_of folder.now files) used rows r)) }
     ensures fault { OnReadFault result (Rose (S.faults shelf.old) (S.faults shelf.new)) }
     ensures later { S.faults shelf.old ≤ S.faults shelf.new }

@@ -1,24 +1,27 @@
 //! The person file.
 
-ghost use Rattle.std.specs.Prelude.{◌≡◌, ◌+◌, ◌-◌, ◌≤◌, ℕ, [], List, length, take, All, IfOk, OnOk, Some, None};
+ghost use Rattle.std.specs.Prelude.{◌≡◌, ◌+◌, ◌-◌, ◌≤◌, ◌∷◌, ℕ, [], List, length, take, All, IfOk, OnOk, Some, None};
 ghost use Rattle.snb_schema.specs.declared.limits.TheConstants.{MAX_BYTES, MAX_ROWS};
 ghost use Rattle.snb_schema.specs.Faults.{OnBad};
-ghost use Rattle.snb_tables.specs.BuiltTables.{HoldsRows, IsGraph};
+ghost use Rattle.snb_schema.specs.RowKeys.{slot_of};
+ghost use Rattle.snb_schema.specs.TableRows.{IsTableRow};
+ghost use Rattle.snb_tables.specs.Graphs.{HasGained, HasSlot, HoldsRows, IsGraph};
 ghost use Rattle.snb_loader.specs.Input.{person_file};
 ghost use Rattle.snb_loader.specs.Coming.{Comes};
 ghost use Rattle.snb_loader.specs.Loading.{OnReadFault, OnRefused, PersonsBad, PersonsOf};
 ghost use Rattle.snb_loader.specs.Persons.{AreApart, IsFirstClash, IsPersonRow, at_first, row_meanings, rows_of};
 
 use crate::load::{Load, load_of};
-use snb_csv::law::{one_column, one_row};
+use snb_csv::law::{one_column, one_row, table_rows_are_of_lines};
 use snb_csv::rows::Rows;
+use snb_graph::graph::Graph;
 use snb_schema::fault::Fault;
 use snb_schema::file::{FileId, FileKind};
 use snb_schema::limits::{MAX_BYTES, MAX_ROWS};
 use snb_schema::refusal::Refusal;
 use snb_schema::row::Placed;
 use snb_schema::table::Table;
-use snb_tables::graph::{Graph, Insert};
+use snb_store::insert::Insert;
 use std::alloc::Global;
 
 /// The first part of the table person.
@@ -60,6 +63,7 @@ fn read_rows(alloc: Global, bytes: &[u8], placed: &mut Vec<Placed>) -> Result<()
     ensures few { OnOk result (length bytes.now ≤ MAX_BYTES) }
     ensures persons { All IsPersonRow placed.new.items }
 {
+    table_rows_are_of_lines();
     let mut rows = Rows::new(alloc, PERSON_FILE);
     let kept = bytes.len().min(MAX_BYTES as usize);
     match rows.feed(&bytes[..kept], placed) {
@@ -73,40 +77,60 @@ fn read_rows(alloc: Global, bytes: &[u8], placed: &mut Vec<Placed>) -> Result<()
     }
 }
 
-// The graph of the rows, unless there are too many or two have one key.
-fn graph_of(alloc: Global, placed: Vec<Placed>) -> Result<Graph, Fault>
-    requires { All IsPersonRow placed.items }
+// The row is one too many.
+fn one_too_many(one: Placed) -> Fault
+    ensures { result ≡ Fault.Bad (Refusal.BadLine person_file one.line 0) }
+{
+    bad_line(one.line)
+}
+
+// Puts a row into the graph, unless one has its key.
+fn put_row(graph: &mut Graph, one: Placed) -> Result<(), Fault>
+    requires { IsTableRow one.row }
+    ensures ok { OnOk result (HasGained graph.old (one.row ∷ []) graph.new) }
+    ensures new { OnOk result (¬ HasSlot graph.old (slot_of one.row)) }
+    ensures bad { OnBad result (λ r. HasSlot graph.old (slot_of one.row) × (r ≡ Refusal.Duplicate person_file one.line)) }
+{
+    let line = one.line;
+    match graph.insert_row(one.row) {
+        Ok(()) => Ok(()),
+        Err(Insert::Duplicate) => Err(Fault::Bad {
+            refusal: Refusal::Duplicate {
+                file: PERSON_FILE,
+                line,
+            },
+        }),
+        Err(Insert::Memory) => Err(Fault::Memory),
+    }
+}
+
+// Puts the rows into the graph, unless there are too many or two have one key.
+fn put_rows(graph: &mut Graph, placed: Vec<Placed>) -> Result<(), Fault>
+    requires empty { graph.old ≡ [] }
+    requires persons { All IsPersonRow placed.items }
     ensures few { OnOk result (length placed.items ≤ MAX_ROWS) }
     ensures apart { OnOk result (AreApart placed.items) }
-    ensures kept { IfOk result (λ graph. HoldsRows graph (rows_of placed.items)) }
+    ensures kept { OnOk result (HoldsRows graph.new (rows_of placed.items)) }
     ensures bad { OnBad result (IsFirstClash placed.items) }
 {
-    let mut graph = Graph::empty(alloc);
     let mut count: u64 = 0;
     for one in placed {
         if count >= MAX_ROWS {
-            return Err(bad_line(one.line));
+            return Err(one_too_many(one));
         }
-        match graph.insert_row(one.row) {
+        match put_row(graph, one) {
             Ok(()) => count += 1,
-            Err(Insert::Duplicate) => {
-                return Err(Fault::Bad {
-                    refusal: Refusal::Duplicate {
-                        file: PERSON_FILE,
-                        line: one.line,
-                    },
-                });
-            }
-            Err(Insert::Memory) => return Err(Fault::Memory),
+            Err(fault) => return Err(fault),
         }
     }
-    Ok(graph)
+    Ok(())
 }
 
 /// The persons of a file of which these bytes were taken.
 pub fn persons_of(alloc: Global, bytes: &[u8]) -> Result<Persons, Load>
     ensures ok { IfOk result (λ p. (whole : List ℕ) → bytes.now ≡ take (MAX_BYTES + 1) whole → PersonsOf whole p.graph p.bytes p.rows) }
     ensures bounds { IfOk result (λ p. p.bytes ≤ MAX_BYTES) }
+    ensures graph { IfOk result (λ p. IsGraph p.graph) }
     ensures refused { OnRefused result (λ r. (whole : List ℕ) → bytes.now ≡ take (MAX_BYTES + 1) whole → PersonsBad whole r) }
     ensures fault { OnReadFault result ⊥ }
 {
@@ -118,10 +142,10 @@ pub fn persons_of(alloc: Global, bytes: &[u8]) -> Result<Persons, Load>
         return Err(Load::Memory);
     }
     let rows = placed.len() as u64;
-    let graph = match graph_of(alloc, placed) {
-        Ok(graph) => graph,
-        Err(fault) => return Err(load_of(fault)),
-    };
+    let mut graph = Graph::empty(alloc);
+    if let Err(fault) = put_rows(&mut graph, placed) {
+        return Err(load_of(fault));
+    }
     match read {
         Ok(()) => Ok(Persons {
             graph,

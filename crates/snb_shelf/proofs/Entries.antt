@@ -6,8 +6,7 @@ use Rattle.std.specs.Ordering.{match_ordering, is_eq, nat_cmp, ordering_then}
 use Rattle.std.specs.BTreeMap.{insert_entry, is_at}
 use Rattle.std.specs.Cmp.{IsTotalOrder, eq_by_cmp_equiv, tied_itself, nat_cmp_total}
 use Rattle.std.specs.Map.{lookup, keys_of, remove_entry}
-use Rattle.std.specs.Option.{is_some, IsSome, IfSome, unwrap_or, option_copied}
-use Rattle.std.specs.Borrow.{Bor}
+use Rattle.std.specs.Option.{is_some, IsSome, IfSome, unwrap_or}
 use Rattle.std.specs.List.{All, Contains, AllByRecursion}
 use Rattle.std.specs.List.Sorted.{IsPermutation, IsStrictlySortedBy}
 use Rattle.std.proofs.lemmas.Map.Lookups.{CmpEqualImpliesEq}
@@ -34,11 +33,7 @@ pub none_if_new : {X H : Type 0} (o : Option X) → IsSome o ↔ H → ¬ H → 
 none_if_new None same new = refl
 none_if_new (Some x) same new = absurd (new (same.0 refl))
 
--- a reference is there where its value is
-pub some_copied : {X : Type 0} (o : Option (Bor X)) → is_some o ≡ is_some (option_copied o)
-some_copied None = refl
-some_copied (Some x) = refl
-
+-- a fact of what was found
 pub if_found : {X : Type 0} (o : Option X) (P : X → Type 0) → ((v : X) → o ≡ Some v → P v) → IfSome o P
 if_found None P h = tt
 if_found (Some v) P h = h v refl

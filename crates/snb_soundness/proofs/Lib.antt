@@ -1,5 +1,9 @@
+pub mod ChainCount
 pub mod ChainLemmas
 pub mod EdgeLemmas
 pub mod LawLemmas
 pub mod MarkLemmas
+pub mod NumberLemmas
+pub mod RootLemmas
 pub mod RowLemmas
+pub mod SoundLemmas

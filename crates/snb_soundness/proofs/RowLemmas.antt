@@ -5,15 +5,13 @@ use Rattle.std.proofs.lemmas.List.Elements.{All-contains, All-contains_itself, A
 use Rattle.std.proofs.lemmas.List.Folds.{Any-from_list_any, list_any-from_Any}
 use Rattle.std.proofs.lemmas.List.Kept.{IsStrictlySortedBy-filter}
 use Rattle.std.proofs.lemmas.Slice.Eq.{bytes_eq-Decides}
-use Rattle.std.specs.Cmp.{IsTotalOrder, nat_cmp_total, on_total, then_total, tied_itself}
-use Rattle.std.specs.Cmp.Lexicographic.{nat_list_cmp_total}
+use Rattle.std.specs.Cmp.{tied_itself}
 use Rattle.std.specs.List.{All, Contains}
 use Rattle.std.specs.List.Sorted.{IsStrictlySortedBy}
 use Rattle.std.specs.Str.{bytes_eq}
 use Rattle.std.specs.declared.cmp.Ordering.TheVariants.{Less}
-use denote.Enum.Bare.{same_true, true_same}
+use denote.Enum.Bare.{true_same}
 use Rattle.snb_schema.specs.contracts.table.Table.{the_type as the_table}
-use Rattle.snb_schema.specs.contracts.table.TableOrd.TheImpl.Laws.{total-law}
 use Rattle.snb_schema.specs.declared.layout.KeyColumns.{KeyColumns}
 use Rattle.snb_schema.specs.declared.layout.KeyColumns.TheVariants.{First, Second, FirstTwo}
 use Rattle.snb_schema.specs.declared.layout.Shape.TheVariants as shapes
@@ -27,12 +25,13 @@ use Rattle.snb_schema.specs.TableOrder.{same_table}
 use Rattle.snb_schema.specs.TableRows.{AreWithin, IsTableRow}
 use Rattle.snb_shelf.specs.Rows.{GivesRow}
 use Rattle.snb_shelf.proofs.Laws.{in_filter}
-use Rattle.snb_tables.specs.Graphs.{HasSlot, IsGraph, fills, part, row_order, rows, same_key}
+use Rattle.snb_tables.proofs.Laws.{row_total, same_is}
+use Rattle.snb_tables.specs.Graphs.{HasSlot, IsGraph, fills, row_order, rows, same_key}
 
 -- ---- keys and slots
 
 pub table_decides : (t u : Table) → Decides (same_table t u) (t ≡ u)
-table_decides t u = (same_true the_table tt t u, true_same the_table t u)
+table_decides t u = (same_is t u, true_same the_table t u)
 
 key_decides : (j k : RowKey) → Decides (same_key j k) (j ≡ k)
 key_decides j k =
@@ -49,12 +48,6 @@ fills_decides g s = (
 )
 
 -- ---- the order of rows
-
-pub row_total : IsTotalOrder row_order
-row_total =
-    then_total (on_total part nat_cmp_total)
-    (on_total row_key (then_total (on_total (λ (k : RowKey). k.0) total-law)
-    (then_total (on_total (λ (k : RowKey). k.1) nat_cmp_total) (then_total (on_total (λ (k : RowKey). k.2) nat_cmp_total) (on_total (λ (k : RowKey). k.3) nat_list_cmp_total)))))
 
 -- the first of rows in order is below the others
 pub below_rest : (r : Row) (rest : List Row) → IsStrictlySortedBy row_order (r ∷ rest) → (x : Row) → Contains rest x → row_order r x ≡ Less

@@ -3,3 +3,4 @@ pub mod Edges
 pub mod Laws
 pub mod Marks
 pub mod Outcomes
+pub mod SoundLaws

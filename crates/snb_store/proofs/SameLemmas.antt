@@ -21,7 +21,8 @@ use Rattle.snb_shelf.specs.Edges.{edge_of, edge_row, link_of}
 use Rattle.snb_tables.specs.Graphs.{IsGraph, HasKey, part, part_of, rows}
 use Rattle.snb_store.specs.Words.{words_of}
 use Rattle.snb_shelf.proofs.Laws.{in_filter}
-use Rattle.snb_store.proofs.TableLemmas.{same_is, same_itself}
+use Rattle.snb_store.proofs.TableLemmas.{same_itself}
+use Rattle.snb_tables.proofs.Laws.{same_is}
 
 -- a graph that holds a row with the key of another holds the other exactly where the two are one
 pub held_same : {X : Type 0} (g : List Row) (f : X → Row) (a b : X) (test : Bool) → ((x y : X) → f x ≡ f y → x ≡ y) → IsGraph g → Contains g (f a) → row_key (f a) ≡ row_key (f b) → (IsTrue test ↔ (a ≡ b)) → (IsTrue test ↔ Contains g (f b))

@@ -8,9 +8,7 @@ use Rattle.std.specs.List.{Contains}
 use Rattle.std.specs.Ordering.{is_eq, is_le, is_lt, nat_cmp, ordering_then}
 use Rattle.std.specs.declared.cmp.Ordering.{Ordering}
 use Rattle.std.specs.declared.cmp.Ordering.TheVariants.{Less, Equal, Greater}
-use denote.Enum.Bare.{same_true}
 use mathlib.Core.Bool.{false≢true}
-use Rattle.snb_schema.specs.contracts.table.Table.{the_type as the_table}
 use Rattle.snb_schema.specs.contracts.table.TableOrd.TheImpl.Laws.{matches_eq-law}
 use Rattle.snb_schema.specs.declared.layout.KeyColumns.{KeyColumns}
 use Rattle.snb_schema.specs.declared.layout.KeyColumns.TheVariants.{First, Second, FirstTwo}
@@ -34,13 +32,11 @@ use Rattle.snb_store.specs.Words.{is_from, texts_of}
 use Rattle.snb_store.specs.Parts.{AreParts, IsWhole, joined}
 use Rattle.snb_store.proofs.PartLemmas.{at, in_whole}
 use Rattle.snb_shelf.proofs.Laws.{high_end, low_end}
+use Rattle.snb_tables.proofs.Laws.{same_is}
 
 -- whether a row is of a table
 abbrev is_of : Table → Row → Bool
 is_of t r = same_table (table_of r) t
-
-pub same_is : (t u : Table) → same_table t u ≡ true → t ≡ u
-same_is t u e = same_true the_table tt t u e
 
 pub same_itself : (t : Table) → same_table t t ≡ true
 same_itself t = matches_eq-law t t ∙ ap is_eq (table_itself t)

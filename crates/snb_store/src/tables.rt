@@ -16,7 +16,7 @@ ghost use Rattle.snb_shelf.specs.Rows.{entry_row, rows_by};
 ghost use Rattle.snb_tables.specs.Graphs.{count, rows};
 ghost use Rattle.snb_tables.specs.Graphs.{HasGained, IsGraph};
 ghost use Rattle.snb_schema.specs.RowKeys.{slot_of, row_key, node_key, edge_key};
-ghost use Rattle.snb_tables.specs.Graphs.{part_of, HasSlot, HasKey};
+ghost use Rattle.snb_tables.specs.Graphs.{part_of, HasSlot, HasKey, IsOfEdges};
 ghost use Rattle.snb_store.specs.Twins.{HasTwin, IsNoWord};
 ghost use Rattle.snb_schema.specs.TableRows.{IsTableRow};
 ghost use Rattle.snb_schema.specs.declared.row.Row.TheVariants as row;
@@ -185,7 +185,7 @@ impl Tables {
     /// What the edge of this key has beside its key: the other end, the date or the year.
     /// The condition: the table is one of edges.
     pub fn edge(&self, table: Table, first: u64, second: u64) -> Option<u64>
-        requires { part_of (shape table) ≡ 8 }
+        requires { IsOfEdges table }
         ensures found { IfSome result (λ n. (row_key (edge_row (table, first, second, []) n) ≡ (table, first, second, [])) × Contains self.now (edge_row (table, first, second, []) n)) }
         ensures held { IsSome result ↔ HasKey self.now (table, first, second, []) }
     {
@@ -238,7 +238,7 @@ impl Tables {
 
     // The edges of a table, in the order of their keys.
     fn edges_of(&self, table: Table) -> Range<'_, EdgeKey, u64>
-        requires { part_of (shape table) ≡ 8 }
+        requires { IsOfEdges table }
         ensures rows { rows_by (entry_row edge_name edge_row) result ≡ rows self.now table }
         ensures few { length result < 2 ^ 63 }
     {
@@ -258,7 +258,7 @@ impl Tables {
     /// The edges of a table whose keys begin with this id, by rising second id. Takes no memory.
     /// The condition: the table is one of edges.
     pub fn edges_from(&self, table: Table, first: u64) -> Range<'_, EdgeKey, u64>
-        requires { part_of (shape table) ≡ 8 }
+        requires { IsOfEdges table }
         ensures { rows_by (entry_row edge_name edge_row) result ≡ filter (λ r. nat_eq (row_key r).1 first) (rows self.now table) }
     {
         let from = EdgeKey {
@@ -276,7 +276,7 @@ impl Tables {
 
     // How many edges a table has.
     fn count_edges(&self, table: Table) -> u64
-        requires { part_of (shape table) ≡ 8 }
+        requires { IsOfEdges table }
         ensures { result ≡ count self.now table }
     {
         self.edges_of(table).count() as u64
@@ -408,7 +408,7 @@ impl Tables {
 
     // The rows of a table of edges.
     fn each_edge(&self, table: Table) -> ShelfRows<'_, EdgeKey, u64>
-        requires { part_of (shape table) ≡ 8 }
+        requires { IsOfEdges table }
         ensures { result ≡ rows self.now table }
     {
         let _ = &self.edges;
@@ -490,7 +490,7 @@ impl Tables {
 
     // Whether an edge of the table has the key.
     fn has_edge(&self, table: Table, first: u64, second: u64) -> bool
-        requires { part_of (shape table) ≡ 8 }
+        requires { IsOfEdges table }
         ensures { IsTrue result ↔ HasKey self.now (table, first, second, []) }
     {
         self.edges.has(&EdgeKey {
@@ -502,7 +502,7 @@ impl Tables {
 
     // Whether a link's key is held.
     fn has_link(&self, table: Table, from: u64, to: u64) -> bool
-        requires { part_of (shape table) ≡ 8 }
+        requires { IsOfEdges table }
         ensures { IsTrue result ↔ HasKey self.now (edge_key (key_columns table) table from to) }
     {
         match key_columns_of(table) {
@@ -720,7 +720,7 @@ impl Tables {
     // Takes out the edge of a key.
     fn take_edge(&mut self, key: EdgeKey)
         requires held { HasKey self.old (edge_name key) }
-        requires edge { part_of (shape key.table) ≡ 8 }
+        requires edge { IsOfEdges key.table }
         ensures { (r : Row) → Contains self.old r → row_key r ≡ edge_name key → HasGivenBack self.old r self.new }
     {
         self.edges.take_back(&key);

@@ -1,4 +1,2 @@
-pub mod Entries
-pub mod Held
-pub mod Writing
+pub mod Laws
 pub mod SortedLemmas

@@ -18,5 +18,5 @@ abbrev pub section : List Row → Table → List ℕ
 section g t = table_text t ++ 124 ∷ decimal (count g t) ++ 10 ∷ flat_map row_line (rows g t)
 
 -- the whole text: the line `final|1`, and the sections of all tables in order
-abbrev pub final_text : List Row → List ℕ
+unfoldable pub final_text : List Row → List ℕ
 final_text g = codes "final|1\n" ++ flat_map (section g) all_tables

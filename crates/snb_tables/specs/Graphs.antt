@@ -32,6 +32,10 @@ part_of shapes.Dated = 8
 part_of shapes.Yeared = 8
 part_of shapes.Word = 9
 
+-- a table of edges
+abbrev pub IsOfEdges : Table → Type 0
+IsOfEdges t = part_of (shape t) ≡ 8
+
 -- the part in which a row stands
 abbrev pub part : Row → ℕ
 part r = part_of (shape (table_of r))
@@ -62,6 +66,11 @@ count g t = length (rows g t)
 pub record HasGained (old : List Row) (more : List Row) (new : List Row) : Type 0 where
   pub graph : IsGraph new
   pub rows : IsPermutation new (old ++ more)
+
+-- the graph holds these rows, each once, and no others
+pub record HoldsRows (g : List Row) (held : List Row) : Type 0 where
+  pub graph : IsGraph g
+  pub same : IsPermutation g held
 
 -- one of the rows has the key
 pub record HasKey (g : List Row) (k : RowKey) : Type 0 where

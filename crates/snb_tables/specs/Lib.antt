@@ -1,6 +1,6 @@
 pub mod FinalText
 pub mod Graphs
 pub mod Laws
+pub mod Messages
 pub mod Soundness
 pub mod Worked
-pub mod BuiltTables

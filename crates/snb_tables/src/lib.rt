@@ -1,9 +1,7 @@
-//! The graph: its tables, each a map from key to row.
+//! What a graph of all tables is, what is wrong with one, and its text: definitions, their laws and
+//! worked facts of them.
 #![tactic(auto)]
 
-pub mod graph;
 pub mod law;
-mod row_lines;
-#[cfg(test)]
-mod tests;
+pub mod order;
 pub mod worked;

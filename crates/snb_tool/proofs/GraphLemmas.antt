@@ -1,7 +1,7 @@
 -- Facts on graphs, and on the keys of their rows.
-use Rattle.std.proofs.Common.{ℕ, List, [], ◌∷◌, ◌++◌, get_or, inl, inr}
+use Rattle.std.proofs.Common.{ℕ, List, get_or, inl, inr}
 use Rattle.std.specs.List.Sorted.{IsPermutation}
-use Rattle.std.proofs.lemmas.List.Sorted.{IsPermutation-append_left, IsPermutation-trans, IsPermutation-sym, Contains-permutation}
+use Rattle.std.proofs.lemmas.List.Sorted.{IsPermutation-sym, Contains-permutation}
 use Rattle.snb_schema.specs.declared.file.FileId.{FileId}
 use Rattle.snb_schema.specs.declared.refusal.Refusal.{Refusal}
 use Rattle.snb_schema.specs.declared.key.Key.{Key}
@@ -10,25 +10,19 @@ use Rattle.snb_schema.specs.declared.op.Line.{Line}
 use Rattle.snb_schema.specs.declared.row.Row.{Row}
 use Rattle.snb_schema.specs.declared.table.Kind.TheVariants as kind
 use Rattle.snb_schema.specs.Closed.{key_of, persons_of, IsTaken, IsMet, IsFirstLacking, IsWrong, IsFirstWrong, IsClosed}
-use Rattle.snb_tables.specs.BuiltTables.{Graph, HasGained, HoldsKey, HoldsRows, IsHeldIn, all_rows}
+use Rattle.snb_tables.specs.Graphs.{HoldsKey, HoldsRows}
 
 -- rows in another order hold the same keys
-held_moved : (rows others : List Row) (key : Key) → IsPermutation rows others → IsHeldIn rows key → IsHeldIn others key
-held_moved rows others key same held = (held.0, Contains-permutation rows others held.0 same held.1, held.2)
+held_moved : (rows others : List Row) (key : Key) → IsPermutation rows others → HoldsKey rows key → HoldsKey others key
+held_moved rows others key same h = record { it = h.it; held = Contains-permutation rows others h.it same h.held; keyed = h.keyed }
 
 -- a graph holds the keys of its dataset
-pub held_by : (g : Graph) (dataset : List Row) (key : Key) → HoldsRows g dataset → HoldsKey g key → IsHeldIn dataset key
-held_by g dataset key h held = held_moved (all_rows g) dataset key h.same held
+pub held_by : (g dataset : List Row) (key : Key) → HoldsRows g dataset → HoldsKey g key → HoldsKey dataset key
+held_by g dataset key h held = held_moved g dataset key h.same held
 
-pub held_in_graph : (g : Graph) (dataset : List Row) (key : Key) → HoldsRows g dataset → IsHeldIn dataset key → HoldsKey g key
-held_in_graph g dataset key h held = held_moved dataset (all_rows g) key (IsPermutation-sym (all_rows g) dataset h.same) held
-
--- one row more
-pub holds_gained : (g new : Graph) (dataset : List Row) (r : Row) → HoldsRows g dataset → HasGained g r new → HoldsRows new (dataset ++ r ∷ [])
-holds_gained g new dataset r h gained = record {
-  graph = gained.graph;
-  same = IsPermutation-trans _ _ _ gained.rows (IsPermutation-append_left (r ∷ []) (all_rows g) dataset h.same);
-}
+-- and no others
+pub held_in_graph : (g dataset : List Row) (key : Key) → HoldsRows g dataset → HoldsKey dataset key → HoldsKey g key
+held_in_graph g dataset key h held = held_moved dataset g key (IsPermutation-sym g dataset h.same) held
 
 -- what is true of one list of keys is true of another that holds the same
 pub closed_moved : (P Q : Key → Type 0) (xs : List Line) → ((k : Key) → P k → Q k) → ((k : Key) → Q k → P k) → IsClosed P xs → IsClosed Q xs

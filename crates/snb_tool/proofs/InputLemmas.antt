@@ -4,7 +4,8 @@ use Rattle.snb_base.specs.Shelf.{Files}
 use Rattle.snb_schema.specs.declared.op.Line.{Line}
 use Rattle.snb_schema.specs.declared.refusal.Refusal.{Refusal}
 use Rattle.snb_schema.specs.Closed.{IsClosed, IsFirstWrong}
-use Rattle.snb_tables.specs.BuiltTables.{Graph, HoldsKey, IsHeldIn}
+use Rattle.snb_schema.specs.declared.row.Row.{Row}
+use Rattle.snb_tables.specs.Graphs.{HoldsKey}
 use Rattle.snb_loader.specs.Input.{FilesRefuse, FirstFault, NoFault, Refuses, RefusesHeld, held_in, person_file, person_stream, stream_of}
 use Rattle.snb_schema.specs.Lines.{data_lines, lines}
 use Rattle.snb_loader.specs.Loading.{PersonsBad, PersonsLoaded, PersonsRefused, StreamBad, StreamOf}
@@ -35,7 +36,7 @@ persons_refuse folder files r (inr some) = held_refuses folder files some.0 r so
     by_cause (inr bare) = inr (λ q f. none_first _ (lines some.0) q bare.0 f, inl bare.1)
 
 -- what is wrong with the stream refuses
-pub stream_refuses : (folder : List ℕ) (files : Files) (graph : Graph) (size count : ℕ) (r : Refusal) → PersonsLoaded folder files graph size count → StreamBad (stream_of folder files) size count r → Refuses folder files r
+pub stream_refuses : (folder : List ℕ) (files : Files) (graph : List Row) (size count : ℕ) (r : Refusal) → PersonsLoaded folder files graph size count → StreamBad (stream_of folder files) size count r → Refuses folder files r
 stream_refuses folder files graph size count r p bad =
     held_refuses folder files p.0 r p.1
     (inr (
@@ -48,7 +49,7 @@ stream_refuses folder files graph size count r p bad =
     ))
 
 -- a stream that was read has no bad line
-none_stream : (folder : List ℕ) (files : Files) (graph : Graph) (size count : ℕ) (xs : List Line) (q : Refusal) (p : PersonsLoaded folder files graph size count) → StreamOf (stream_of folder files) size count xs
+none_stream : (folder : List ℕ) (files : Files) (graph : List Row) (size count : ℕ) (xs : List Line) (q : Refusal) (p : PersonsLoaded folder files graph size count) → StreamOf (stream_of folder files) size count xs
     → ¬ StreamBad (stream_of folder files) (length p.0) (length (data_lines (lines p.0))) q
 none_stream folder files graph size count xs q p s f =
     none_first _ (lines (stream_of folder files)) q s.clean
@@ -56,7 +57,7 @@ none_stream folder files graph size count xs q p s f =
     (subst (λ (n : ℕ). StreamBad (stream_of folder files) (length p.0) n q) (sym p.2.counted) f))
 
 -- an insert that isn't closed refuses
-pub wrong_refuses : (folder : List ℕ) (files : Files) (graph : Graph) (size count : ℕ) (xs : List Line) (r : Refusal) → PersonsLoaded folder files graph size count → StreamOf (stream_of folder files) size count xs
+pub wrong_refuses : (folder : List ℕ) (files : Files) (graph : List Row) (size count : ℕ) (xs : List Line) (r : Refusal) → PersonsLoaded folder files graph size count → StreamOf (stream_of folder files) size count xs
     → IsFirstWrong (HoldsKey graph) person_stream xs r → Refuses folder files r
 wrong_refuses folder files graph size count xs r p s wrong =
     held_refuses folder files p.0 r p.1
@@ -71,14 +72,14 @@ wrong_refuses folder files graph size count xs r p s wrong =
             rows = p.2.read;
             inserts = xs;
             read = s.read;
-            wrong = first_wrong_moved (HoldsKey graph) (IsHeldIn p.2.dataset) person_stream xs r (λ k. held_by graph p.2.dataset k p.2.kept) (λ k. held_in_graph graph p.2.dataset k p.2.kept) wrong;
+            wrong = first_wrong_moved (HoldsKey graph) (HoldsKey p.2.dataset) person_stream xs r (λ k. held_by graph p.2.dataset k p.2.kept) (λ k. held_in_graph graph p.2.dataset k p.2.kept) wrong;
           },
         ),
       ),
     ))
 
 -- files of which nothing is refused are loaded
-pub files_loaded : Laws → (folder : List ℕ) (files : Files) (graph : Graph) (size count : ℕ) (xs : List Line) → PersonsLoaded folder files graph size count → StreamOf (stream_of folder files) size count xs
+pub files_loaded : Laws → (folder : List ℕ) (files : Files) (graph : List Row) (size count : ℕ) (xs : List Line) → PersonsLoaded folder files graph size count → StreamOf (stream_of folder files) size count xs
     → IsClosed (HoldsKey graph) xs → IsLoaded folder files graph xs
 files_loaded laws folder files graph size count xs p s closed = record {
   accepted = λ r f. accept r (refuses_held folder files p.0 r p.1 f);
@@ -88,8 +89,8 @@ files_loaded laws folder files graph size count xs p s closed = record {
   kept = p.2.kept;
 }
   where
-    over_dataset : IsClosed (IsHeldIn p.2.dataset) xs
-    over_dataset = closed_moved (HoldsKey graph) (IsHeldIn p.2.dataset) xs (λ k. held_by graph p.2.dataset k p.2.kept) (λ k. held_in_graph graph p.2.dataset k p.2.kept) closed
+    over_dataset : IsClosed (HoldsKey p.2.dataset) xs
+    over_dataset = closed_moved (HoldsKey graph) (HoldsKey p.2.dataset) xs (λ k. held_by graph p.2.dataset k p.2.kept) (λ k. held_in_graph graph p.2.dataset k p.2.kept) closed
 
     accept : (r : Refusal) → ¬ FilesRefuse p.0 (stream_of folder files) r
     accept r (inl f) = none_first _ (lines p.0) r p.2.clean f
@@ -97,4 +98,4 @@ files_loaded laws folder files graph size count xs p s closed = record {
     accept r (inr (n, inr (m, inl f))) = none_stream folder files graph size count xs r p s f
     accept r (inr (n, inr (m, inr f))) =
         let w = over_one laws p.0 (stream_of folder files) p.2.dataset xs r p.2.read s.read f.1 in
-        not_wrong (IsHeldIn p.2.dataset) person_stream xs w.before w.insert r (over_dataset.each w.before w.insert w.after w.splits) w.wrong
+        not_wrong (HoldsKey p.2.dataset) person_stream xs w.before w.insert r (over_dataset.each w.before w.insert w.after w.splits) w.wrong

@@ -1,7 +1,8 @@
 pub mod FieldLemmas
 pub mod OutcomeLemmas
 pub mod RefusalLemmas
-pub mod RowLemmas
+pub mod FinalLemmas
+pub mod InsertRows
 pub mod GraphLemmas
 pub mod Writing
 pub mod InputLemmas

@@ -7,12 +7,13 @@ use Rattle.snb_base.specs.Shelf.{Files}
 use Rattle.snb_schema.specs.declared.op.Line.{Line}
 use Rattle.snb_schema.specs.declared.refusal.Refusal.{Refusal}
 use Rattle.snb_schema.specs.declared.event.Event.{Event}
-use Rattle.snb_tables.specs.BuiltTables.{Graph, all_rows, final_text}
+use Rattle.snb_schema.specs.declared.row.Row.{Row}
+use Rattle.snb_tables.specs.FinalText.{final_text}
 use Rattle.snb_schema.specs.RunTexts.{log_text, no_answers_text}
 use Rattle.snb_loader.specs.Input.{Refuses}
 use Rattle.snb_schema.specs.ScreenTexts.{refusal_text, summary_text, usage_text}
 use Rattle.snb_tool.specs.Outcome.{IsRunCut, IsOtherLine, IsRun, Wrote, run_texts}
-use Rattle.snb_tool.specs.Running.{IsLoaded, IsRunOutput}
+use Rattle.snb_tool.specs.Running.{IsLoaded, IsRunBegun, IsRunOutput}
 use Rattle.snb_tool.specs.Output.{IsWrittenSoFar, on_screen, size_of}
 use Rattle.snb_tool.specs.Words.{IsRunLine}
 use Rattle.snb_loader.proofs.Laws.{if_some}
@@ -23,7 +24,7 @@ if_some_always None P all = tt
 if_some_always (Some files) P all = all files
 
 -- the output of a run of what was loaded is a run's
-pub is_run : (words : List (List ℕ)) (folder : List ℕ) (files : Files) (fixed : Option ℕ) (graph : Graph) (inserts : List Line) (texts : Written)
+pub is_run : (words : List (List ℕ)) (folder : List ℕ) (files : Files) (fixed : Option ℕ) (graph : List Row) (inserts : List Line) (texts : Written)
     → IsRunLine words folder → IsLoaded folder files graph inserts → IsRunOutput inserts fixed graph texts → IsRun words files fixed texts
 is_run words folder files fixed graph inserts texts line loaded output = record {
   folder = folder;
@@ -74,23 +75,23 @@ cut_refusal words folder r contents fixed ready old new line refused p short =
     }) refused
 
 -- a call that was cut at the texts of a run
-pub cut_run : (words : List (List ℕ)) (folder : List ℕ) (contents : Option Files) (fixed : Option ℕ) (graph : Graph) (inserts : List Line) (ready : ℕ → Type 0) (old new : Option Written)
+pub cut_run : (words : List (List ℕ)) (folder : List ℕ) (contents : Option Files) (fixed : Option ℕ) (graph : List Row) (inserts : List Line) (ready : ℕ → Type 0) (old new : Option Written)
     → IsRunLine words folder → IfSome contents (λ files. IsLoaded folder files graph inserts)
-    → (texts : Written) × (part : Written) × IsRunOutput inserts fixed graph texts × IsWrittenSoFar part texts × Wrote old new part × ((n : ℕ) → ready n → n < size_of texts) → IfSome contents (λ files. IsRunCut words files fixed ready old new)
+    → IsRunBegun inserts fixed graph ready old new → IfSome contents (λ files. IsRunCut words files fixed ready old new)
 cut_run words folder contents fixed graph inserts ready old new line loaded p =
     if_some contents (λ files. IsLoaded folder files graph inserts) (λ files. IsRunCut words files fixed ready old new)
     (λ files l. record {
       status = 0;
-      texts = p.0;
-      part = p.1;
-      belongs = inl (refl, is_run words folder files fixed graph inserts p.0 line l p.2);
-      front = p.3;
-      wrote = p.4;
-      unsure = p.5;
+      texts = p.texts;
+      part = p.part;
+      belongs = inl (refl, is_run words folder files fixed graph inserts p.texts line l p.output);
+      front = p.front;
+      wrote = p.wrote;
+      unsure = p.unsure;
     }) loaded
 
 -- a call that ran
-pub done_run : (words : List (List ℕ)) (folder : List ℕ) (contents : Option Files) (fixed : Option ℕ) (graph : Graph) (inserts : List Line) (old new : Option Written)
+pub done_run : (words : List (List ℕ)) (folder : List ℕ) (contents : Option Files) (fixed : Option ℕ) (graph : List Row) (inserts : List Line) (old new : Option Written)
     → IsRunLine words folder → IfSome contents (λ files. IsLoaded folder files graph inserts)
     → (texts : Written) × IsRunOutput inserts fixed graph texts × Wrote old new texts → IfSome contents (λ files. (texts : Written) × IsRun words files fixed texts × Wrote old new texts)
 done_run words folder contents fixed graph inserts old new line loaded p =
@@ -107,8 +108,8 @@ summary_of : (text : List ℕ) (updates length_is rows rows_are : ℕ) → updat
 summary_of text updates length_is rows rows_are e f t = t ∙ ap (λ (n : ℕ). summary_text n n 0 rows) e ∙ ap (λ (n : ℕ). summary_text length_is length_is 0 n) f
 
 -- four texts are those of the run
-pub is_output : (inserts : List Line) (history : List Event) (graph : Graph) (s l a f : List ℕ) (updates count : ℕ) → l ≡ log_text 1 history → a ≡ no_answers_text → f ≡ final_text graph
-    → updates ≡ length inserts → count ≡ length (all_rows graph) → s ≡ summary_text updates updates 0 count →
+pub is_output : (inserts : List Line) (history : List Event) (graph : List Row) (s l a f : List ℕ) (updates count : ℕ) → l ≡ log_text 1 history → a ≡ no_answers_text → f ≡ final_text graph
+    → updates ≡ length inserts → count ≡ length graph → s ≡ summary_text updates updates 0 count →
     ◌≡◌ {A = Written} (record { screen = s; log = l; answers = a; finals = f; cases = [] }) (run_texts inserts history graph)
 is_output inserts history graph s l a f updates count p q r d e t =
-    by_channel s l a f _ _ _ _ (summary_of s updates (length inserts) count (length (all_rows graph)) d e t) p q r
+    by_channel s l a f _ _ _ _ (summary_of s updates (length inserts) count (length graph) d e t) p q r

@@ -11,7 +11,7 @@ use Rattle.snb_schema.specs.declared.refusal.Refusal.TheVariants.{Unmet}
 use Rattle.snb_schema.specs.declared.row.Row.{Row}
 use Rattle.snb_schema.specs.declared.table.Kind.TheVariants as kind
 use Rattle.snb_schema.specs.Closed.{persons_of, IsMet, IsFirstLacking, IsWrong, IsFirstWrong}
-use Rattle.snb_tables.specs.BuiltTables.{IsHeldIn}
+use Rattle.snb_tables.specs.Graphs.{HoldsKey}
 use Rattle.snb_schema.specs.Lines.{data_lines, lines}
 use Rattle.std.specs.List.{All}
 use Rattle.std.proofs.Math.Seq.{get_or-append_seam}
@@ -197,14 +197,14 @@ first_wrong_one holds file all r q f g = by_place (places f.before f.insert f.af
 
 -- what isn't closed, over one dataset and one list of inserts
 pub over_one : Laws → (persons stream : List ℕ) (dataset : List Row) (inserts : List Line) (r : Refusal) → AreRows (data_lines (lines persons)) dataset → AreLines 0 (lines stream) inserts
-    → IsNotClosed persons stream r → IsFirstWrong (IsHeldIn dataset) person_stream inserts r
+    → IsNotClosed persons stream r → IsFirstWrong (HoldsKey dataset) person_stream inserts r
 over_one laws persons stream dataset inserts r rows read n =
-    subst (λ (xs : List Line). IsFirstWrong (IsHeldIn dataset) person_stream xs r) (one_stream laws 0 (lines stream) n.inserts inserts n.read read)
-    (subst (λ (rs : List Row). IsFirstWrong (IsHeldIn rs) person_stream n.inserts r) (one_dataset laws (data_lines (lines persons)) n.dataset dataset n.rows rows) n.wrong)
+    subst (λ (xs : List Line). IsFirstWrong (HoldsKey dataset) person_stream xs r) (one_stream laws 0 (lines stream) n.inserts inserts n.read read)
+    (subst (λ (rs : List Row). IsFirstWrong (HoldsKey rs) person_stream n.inserts r) (one_dataset laws (data_lines (lines persons)) n.dataset dataset n.rows rows) n.wrong)
 
 not_closed_one : Laws → (persons stream : List ℕ) (r q : Refusal) → IsNotClosed persons stream r → IsNotClosed persons stream q → r ≡ q
 not_closed_one laws persons stream r q a b =
-    first_wrong_one (IsHeldIn b.dataset) person_stream b.inserts r q (over_one laws persons stream b.dataset b.inserts r b.rows b.read a) b.wrong
+    first_wrong_one (HoldsKey b.dataset) person_stream b.inserts r q (over_one laws persons stream b.dataset b.inserts r b.rows b.read a) b.wrong
 
 header_one : (ls : List (List ℕ)) (r q : Refusal) → NoPersonHeader ls r → NoPersonHeader ls q → r ≡ q
 header_one ls r q x y = x.1 ∙ sym y.1

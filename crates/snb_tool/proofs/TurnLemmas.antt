@@ -13,8 +13,9 @@ use Rattle.snb_schema.specs.declared.event.Event.{Event}
 use Rattle.snb_schema.specs.declared.event.Event.TheVariants.{Start, Finish, Halt}
 use Rattle.snb_schema.specs.declared.limits.TheConstants.{MAX_AT}
 use Rattle.snb_schema.specs.declared.op.Line.{Line}
+use Rattle.snb_schema.specs.declared.row.Row.{Row}
 use Rattle.snb_schema.specs.Closed.{key_of, IsClosed}
-use Rattle.snb_tables.specs.BuiltTables.{Graph, HoldsKey, IsGraph, all_rows}
+use Rattle.snb_tables.specs.Graphs.{HoldsKey, IsGraph}
 use Rattle.snb_schema.specs.History.{started, finished, halted, hand, last}
 use Rattle.snb_schema.specs.Plan.{plan_of, ArePlanned}
 use Rattle.snb_schema.specs.Rules.{Fits, IsFront, IsLegal, MayAct, V1}
@@ -102,7 +103,7 @@ done_next lines fixed count h g now later d same starting ending shown shown_lat
     }
 
 -- what a run under way says of its history
-done_so_far : {lines : List Line} {fixed : Option ℕ} {old new : Graph} {b : Kept} → (d : HasDone lines fixed old new b) → IsDoneTo lines fixed d.count b.history
+done_so_far : {lines : List Line} {fixed : Option ℕ} {old new : List Row} {b : Kept} → (d : HasDone lines fixed old new b) → IsDoneTo lines fixed d.count b.history
 done_so_far d = record { legal = d.legal; begun = d.begun; over = d.over; free = d.free; running = d.running; moments = d.moments }
 
 -- an answer over the plan itself
@@ -118,7 +119,7 @@ past_from_test : (k n : ℕ) → ltb k n ≡ false → n ≤ k
 past_from_test k n h = grind (arith, nat_tests)
 
 -- the operation that is given is the first that isn't done
-pub go_is_next : (lines : List Line) (fixed : Option ℕ) (old new : Graph) (b : Kept) (at : ℕ) (ticket : Ticket) → (d : HasDone lines fixed old new b) →
+pub go_is_next : (lines : List Line) (fixed : Option ℕ) (old new : List Row) (b : Kept) (at : ℕ) (ticket : Ticket) → (d : HasDone lines fixed old new b) →
     IsClaim b.schedule b.history 0 at (Go ticket) → (ticket.op ≡ d.count) × (ticket.op < length lines) × (ticket.worker ≡ 0)
 go_is_next lines fixed old new b at ticket d claim =
     let is = over_plan lines b at (Go ticket) d.plan claim in
@@ -133,7 +134,7 @@ go_is_next lines fixed old new b at ticket d claim =
     (here, omega (arith, plan_length lines), is.2)
 
 -- where all is started, all is done
-pub all_done : (lines : List Line) (fixed : Option ℕ) (old new : Graph) (b : Kept) (at : ℕ) → HasDone lines fixed old new b → IsClaim b.schedule b.history 0 at AllStarted → HasRun lines fixed old new b.history
+pub all_done : (lines : List Line) (fixed : Option ℕ) (old new : List Row) (b : Kept) (at : ℕ) → HasDone lines fixed old new b → IsClaim b.schedule b.history 0 at AllStarted → HasRun lines fixed old new b.history
 all_done lines fixed old new b at d claim =
     let is = over_plan lines b at AllStarted d.plan claim in
     let size = plan_length lines in
@@ -151,17 +152,17 @@ all_done lines fixed old new b at d claim =
       moments = d.moments;
       rows = λ dataset h. record {
         graph = d.graph;
-        same = subst (λ (xs : List Line). IsPermutation (all_rows new) (dataset ++ rows_of_all xs)) (take_all d.count lines all)
-            (IsPermutation-trans _ _ _ d.rows (IsPermutation-append_left (rows_of_all (take d.count lines)) (all_rows old) dataset h.same));
+        same = subst (λ (xs : List Line). IsPermutation new (dataset ++ rows_of_all xs)) (take_all d.count lines all)
+            (IsPermutation-trans _ _ _ d.rows (IsPermutation-append_left (rows_of_all (take d.count lines)) old dataset h.same));
       };
     }
 
 -- nobody has halted
-pub not_halted : (lines : List Line) (fixed : Option ℕ) (old new : Graph) (b : Kept) (at : ℕ) → HasDone lines fixed old new b → IsClaim b.schedule b.history 0 at Halted → ⊥
+pub not_halted : (lines : List Line) (fixed : Option ℕ) (old new : List Row) (b : Kept) (at : ℕ) → HasDone lines fixed old new b → IsClaim b.schedule b.history 0 at Halted → ⊥
 not_halted lines fixed old new b at d claim = let r = d.running claim.0 in let h = claim.1 in cc
 
 -- where the one worker has nothing in hand, a claim starts an operation or finds none due
-moves_on : (lines : List Line) (fixed : Option ℕ) (old new : Graph) (b : Kept) (now k : ℕ) (claim : Claim) → ArePlanned lines → HasDone lines fixed old new b →
+moves_on : (lines : List Line) (fixed : Option ℕ) (old new : List Row) (b : Kept) (now k : ℕ) (claim : Claim) → ArePlanned lines → HasDone lines fixed old new b →
     IsOperation b.schedule k → started b.history k ≡ false → IsClaim b.schedule b.history 0 (moment_after b.history now) claim →
     ((ticket : Ticket) × (claim ≡ Go ticket)) ⊎ ((until : ℕ) × (claim ≡ NotDue until))
 moves_on lines fixed old new b now k claim planned d within fresh is =
@@ -175,7 +176,7 @@ moves_on lines fixed old new b now k claim planned d within fresh is =
     (subst (λ (s : Schedule). IsOperation s k) d.plan within) (over_plan lines b (moment_after b.history now) claim d.plan is)
 
 -- the one worker has nothing in hand, and no insert waits for one before it
-pub not_busy : (lines : List Line) (fixed : Option ℕ) (old new : Graph) (b : Kept) (now op holder : ℕ) → ArePlanned lines → HasDone lines fixed old new b →
+pub not_busy : (lines : List Line) (fixed : Option ℕ) (old new : List Row) (b : Kept) (now op holder : ℕ) → ArePlanned lines → HasDone lines fixed old new b →
     IsClaim b.schedule b.history 0 (moment_after b.history now) (Busy op holder) → ⊥
 not_busy lines fixed old new b now op holder planned d is = by_left (left_of is)
   where
@@ -187,7 +188,7 @@ not_busy lines fixed old new b now op holder planned d is = by_left (left_of is)
     by_left k = elim (moves_on lines fixed old new b now k.0 (Busy op holder) planned d k.1 k.2 is) [ inl go ↦ (let e = go.1 in cc) | inr late ↦ (let e = late.1 in cc) ]
 
 -- what is due first has what it waits for
-pub not_blocked : (lines : List Line) (fixed : Option ℕ) (old new : Graph) (b : Kept) (now op needs : ℕ) (time : ℤ) → ArePlanned lines → HasDone lines fixed old new b →
+pub not_blocked : (lines : List Line) (fixed : Option ℕ) (old new : List Row) (b : Kept) (now op needs : ℕ) (time : ℤ) → ArePlanned lines → HasDone lines fixed old new b →
     IsClaim b.schedule b.history 0 (moment_after b.history now) (Blocked op needs time) → ⊥
 not_blocked lines fixed old new b now op needs time planned d is =
     let k = is.0.left in
@@ -209,7 +210,7 @@ no_front lines b after op at plan same =
     (record { of_read = λ q. absurd (let none = (plan_plain lines op).1 in cc); of_insert = λ q. refl })
 
 -- the key of the insert that is given is new, and a friendship is of two
-pub key_next : (lines : List Line) (fixed : Option ℕ) (old new : Graph) (b : Kept) (at : ℕ) (ticket : Ticket) (x : Line) → HasDone lines fixed old new b →
+pub key_next : (lines : List Line) (fixed : Option ℕ) (old new : List Row) (b : Kept) (at : ℕ) (ticket : Ticket) (x : Line) → HasDone lines fixed old new b →
     IsClaim b.schedule b.history 0 at (Go ticket) → ¬ HoldsKey new (key_of (get_or lines ticket.op x).op)
 key_next lines fixed old new b at ticket x d claim =
     let next = go_is_next lines fixed old new b at ticket d claim in
@@ -217,7 +218,7 @@ key_next lines fixed old new b at ticket x d claim =
     λ held. key_new lines old new d.count x lt d.closed d.rows (subst (λ (k : ℕ). HoldsKey new (key_of (get_or lines k x).op)) next.0 held)
 
 -- one insert more is done
-pub done_more : (lines : List Line) (fixed : Option ℕ) (old graph new : Graph) (b held after : Kept) (ticket : Ticket) (default : Line) (at now later : ℕ) →
+pub done_more : (lines : List Line) (fixed : Option ℕ) (old graph new : List Row) (b held after : Kept) (ticket : Ticket) (default : Line) (at now later : ℕ) →
     HasDone lines fixed old graph b → IsClaim b.schedule b.history 0 at (Go ticket) →
     held ≡ record b { history = b.history ++ Start ticket.op 0 (moment_after b.history now) ∷ [] } →
     Fits b.schedule b.workers b.history (Start ticket.op 0 (moment_after b.history now)) →
@@ -276,7 +277,7 @@ no_moments None = tt
 no_moments (Some told) = All-nil (IsAt (min told MAX_AT))
 
 -- at first nothing is done
-pub done_none : (lines : List Line) (fixed : Option ℕ) (graph : Graph) (b : Kept) → b ≡ record { schedule = plan_of lines; workers = 1; history = [] } → IsGraph graph → IsClosed (HoldsKey graph) lines → HasDone lines fixed graph graph b
+pub done_none : (lines : List Line) (fixed : Option ℕ) (graph : List Row) (b : Kept) → b ≡ record { schedule = plan_of lines; workers = 1; history = [] } → IsGraph graph → IsClosed (HoldsKey graph) lines → HasDone lines fixed graph graph b
 done_none lines fixed graph b is is_graph closed =
     subst (HasDone lines fixed graph graph) (sym is)
     (record {
@@ -291,6 +292,6 @@ done_none lines fixed graph b is is_graph closed =
       running = λ w. refl;
       moments = no_moments fixed;
       graph = is_graph;
-      rows = subst (IsPermutation (all_rows graph)) (sym (append-nil (all_rows graph))) (IsPermutation-refl (all_rows graph));
+      rows = subst (IsPermutation graph) (sym (append-nil graph)) (IsPermutation-refl graph);
       closed = closed;
     })

@@ -10,7 +10,8 @@ use Rattle.snb_schema.specs.declared.op.Line.{Line}
 use Rattle.snb_schema.specs.declared.refusal.Refusal.{Refusal}
 use Rattle.snb_schema.specs.declared.row.Row.{Row}
 use Rattle.snb_schema.specs.Closed.{IsClosed}
-use Rattle.snb_tables.specs.BuiltTables.{Graph, IsHeldIn, all_rows, final_text}
+use Rattle.snb_tables.specs.FinalText.{final_text}
+use Rattle.snb_tables.specs.Graphs.{HoldsKey}
 use Rattle.snb_loader.specs.Input.{IsFinal, IsInput, Refuses}
 use Rattle.snb_schema.specs.Plan.{plan_of}
 use Rattle.snb_schema.specs.Rules.{IsComplete, IsLegal}
@@ -20,9 +21,9 @@ use Rattle.snb_tool.specs.Output.{IsWrittenSoFar, on_screen, size_of}
 use Rattle.snb_tool.specs.Words.{IsRunLine}
 
 -- the four texts of a run of these inserts, with this history and this final graph
-abbrev pub run_texts : List Line → List Event → Graph → Written
+abbrev pub run_texts : List Line → List Event → List Row → Written
 run_texts inserts h g = record {
-  screen = summary_text (length inserts) (length inserts) 0 (length (all_rows g));
+  screen = summary_text (length inserts) (length inserts) 0 (length g);
   log = log_text 1 h;
   answers = no_answers_text;
   finals = final_text g;
@@ -62,12 +63,12 @@ pub record IsRun (words : List (List ℕ)) (files : Files) (fixed : Option ℕ) 
   pub dataset : List Row
   pub inserts : List Line
   pub input : IsInput folder files dataset inserts
-  pub closed : IsClosed (IsHeldIn dataset) inserts
+  pub closed : IsClosed (HoldsKey dataset) inserts
   pub history : List Event
   pub legal : IsLegal (plan_of inserts) 1 history
   pub complete : IsComplete (plan_of inserts) history
   pub moments : IfSome fixed (λ moment. All (IsAt (min moment MAX_AT)) history)
-  pub graph : Graph
+  pub graph : List Row
   pub final : IsFinal graph dataset inserts
   pub shown : texts ≡ run_texts inserts history graph
 

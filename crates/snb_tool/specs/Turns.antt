@@ -6,7 +6,9 @@ use Rattle.snb_schema.specs.declared.op.Line.{Line}
 use Rattle.snb_schema.specs.declared.op.Op.{Op}
 use Rattle.snb_schema.specs.declared.row.Row.{Row}
 use Rattle.snb_schema.specs.Closed.{IsClosed}
-use Rattle.snb_tables.specs.BuiltTables.{Graph, IsGraph, HasGained, HoldsKey, all_rows, rows_of}
+use Rattle.snb_schema.specs.UpdateLines.{IsLine}
+use Rattle.snb_loader.specs.Input.{run_row}
+use Rattle.snb_tables.specs.Graphs.{IsGraph, HasGained, HoldsKey}
 use Rattle.snb_schema.specs.History.{started, finished, halted, hand}
 use Rattle.snb_schema.specs.Plan.{plan_of}
 use Rattle.snb_schema.specs.Rules.{IsLegal}
@@ -16,14 +18,18 @@ use Rattle.snb_tool.specs.declared.run.Turn.TheVariants.{More, Over}
 use Rattle.snb_tool.specs.Running.{HasRun, rows_of_all}
 use Rattle.snb_tool.specs.Outcome.{IsAt}
 
+-- some line is the insert's
+abbrev pub HasInsertLine : Op → Type 0
+HasInsertLine op = (text : List ℕ) × (t : ℕ) × (t_d : ℕ) × IsLine text t t_d op
+
 -- the new graph is the old one with the row of this insert
-pub record IsAdded (op : Op) (old new : Graph) : Type 0 where
+pub record IsAdded (op : Op) (old new : List Row) : Type 0 where
   pub row : Row
-  pub is : rows_of op ≡ row ∷ []
-  pub gained : HasGained old row new
+  pub is : run_row op ≡ row ∷ []
+  pub gained : HasGained old (row ∷ []) new
 
 -- the first `count` inserts are started and finished and their rows are in the graph, and nothing else has happened to the book of their plan
-pub record HasDone (lines : List Line) (fixed : Option ℕ) (old new : Graph) (b : Kept) : Type 0 where
+pub record HasDone (lines : List Line) (fixed : Option ℕ) (old new : List Row) (b : Kept) : Type 0 where
   pub count : ℕ
   pub within : count ≤ length lines
   pub plan : b.schedule ≡ plan_of lines
@@ -35,10 +41,10 @@ pub record HasDone (lines : List Line) (fixed : Option ℕ) (old new : Graph) (b
   pub running : (w : ℕ) → halted b.history w ≡ false
   pub moments : IfSome fixed (λ moment. All (IsAt (min moment MAX_AT)) b.history)
   pub graph : IsGraph new
-  pub rows : IsPermutation (all_rows new) (all_rows old ++ rows_of_all (take count lines))
+  pub rows : IsPermutation new (old ++ rows_of_all (take count lines))
   pub closed : IsClosed (HoldsKey old) lines
 
 -- a turn after which there may be more to do leaves the run under way, and after the last one the run is over
-abbrev pub TurnsTo : List Line → Option ℕ → Graph → Graph → Kept → Turn → Type 0
+abbrev pub TurnsTo : List Line → Option ℕ → List Row → List Row → Kept → Turn → Type 0
 TurnsTo lines fixed old new b More = HasDone lines fixed old new b
 TurnsTo lines fixed old new b Over = HasRun lines fixed old new b.history × (b.schedule ≡ plan_of lines) × (b.workers ≡ 1)

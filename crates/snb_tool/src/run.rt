@@ -1,25 +1,30 @@
 //! The run of a plan by one worker.
 
-ghost use Rattle.std.specs.Prelude.{◌≡◌, ◌≢◌, ◌∷◌, [], true, max, min, IfOk, OnOk};
+ghost use Rattle.std.specs.Prelude.{◌≡◌, ◌≢◌, ◌∷◌, [], List, true, max, min, IfOk, OnOk};
 ghost use Rattle.snb_schema.specs.Closed.{key_of, IsClosed};
-ghost use Rattle.snb_tables.specs.BuiltTables.{Graph as AnyGraph, rows_of, HoldsKey, IsBuilt, IsGraph};
+ghost use Rattle.snb_loader.specs.Input.{run_row};
+ghost use Rattle.snb_loader.specs.Loading.{AreOfLines};
+ghost use Rattle.snb_tables.specs.Graphs.{HoldsKey, IsGraph};
 ghost use Rattle.snb_schema.specs.Plan.{adds_person, plan_of, ArePlanned, IsOfPersonStream};
-ghost use Rattle.snb_schema.specs.UpdateLines.{IsOfTwo};
+ghost use Rattle.snb_schema.specs.TableRows.{IsTableRow};
+ghost use Rattle.snb_schema.specs.declared.row.Row.{Row as AnyRow};
 ghost use Rattle.snb_schema.specs.declared.row.Row.TheVariants as row;
 ghost use Rattle.snb_schema.specs.declared.table.Table.TheVariants as table;
 ghost use Rattle.snb_tool.specs.Running.{HasRun};
-ghost use Rattle.snb_tool.specs.Turns.{IsAdded, HasDone, TurnsTo};
+ghost use Rattle.snb_tool.specs.Turns.{HasInsertLine, IsAdded, HasDone, TurnsTo};
 
 use snb_base::clock::Clock;
 use snb_base::gate::{Gate, Phase};
 use snb_book::book::Book;
 use snb_book::claim::Claim;
+use snb_fields::law::plain_fields;
+use snb_graph::graph::Graph;
 use snb_plan::plan::make_schedule;
 use snb_schema::op::{Line, Op};
 use snb_schema::person::Person;
 use snb_schema::row::Row;
 use snb_schema::table::Table;
-use snb_tables::graph::{Graph, Insert};
+use snb_store::insert::Insert;
 use std::alloc::{AllocError, Global};
 use std::sync::Wait;
 
@@ -33,7 +38,7 @@ enum Turn {
 // A copy of the person of an insert.
 fn person_of(op: &Op) -> Result<Person, AllocError>
     requires { adds_person op.now ≡ true }
-    ensures { IfOk result (λ person. rows_of op.now ≡ row.Person person ∷ []) }
+    ensures { IfOk result (λ person. run_row op.now ≡ row.Person person ∷ []) }
 {
     match op {
         Op::AddPerson {
@@ -63,10 +68,11 @@ fn person_of(op: &Op) -> Result<Person, AllocError>
 // The row that an insert adds.
 fn row_of(op: &Op) -> Result<Row, AllocError>
     requires of_persons { IsOfPersonStream op.now }
-    requires of_two { IsOfTwo op.now }
-    ensures row { IfOk result (λ r. rows_of op.now ≡ r ∷ []) }
-    ensures built { IfOk result IsBuilt }
+    requires line { HasInsertLine op.now }
+    ensures row { IfOk result (λ r. run_row op.now ≡ r ∷ []) }
+    ensures fits { IfOk result IsTableRow }
 {
+    plain_fields();
     match op {
         Op::AddPerson { .. } => Ok(Row::Person {
             person: person_of(op)?,
@@ -82,9 +88,7 @@ fn row_of(op: &Op) -> Result<Row, AllocError>
 
 // The row of a friendship: the lower id comes first.
 fn friendship(one: u64, other: u64, date: u64) -> Row
-    requires { one ≢ other }
-    ensures row { result ≡ row.Dated table.PersonKnowsPerson (min one other) (max one other) date }
-    ensures built { IsBuilt result }
+    ensures { result ≡ row.Dated table.PersonKnowsPerson (min one other) (max one other) date }
 {
     Row::Dated {
         table: Table::PersonKnowsPerson,
@@ -97,7 +101,7 @@ fn friendship(one: u64, other: u64, date: u64) -> Row
 // Adds the row of an insert, whose key is new.
 fn add_row(op: &Op, graph: &mut Graph) -> Result<(), AllocError>
     requires of_persons { IsOfPersonStream op.now }
-    requires of_two { IsOfTwo op.now }
+    requires line { HasInsertLine op.now }
     requires new { ¬ HoldsKey graph.old (key_of op.now) }
     ensures { OnOk result (IsAdded op.now graph.old graph.new) }
 {
@@ -120,8 +124,9 @@ fn take_turn<R: Wait, C: Clock, G: Gate>(
     gate: &G,
 ) -> Result<Turn, AllocError>
     requires planned { ArePlanned inserts.now }
-    requires under_way { (first : AnyGraph) × HasDone inserts.now (C.fixed clock.now) first graph.old book.old }
-    ensures { IfOk result (λ turn. (first : AnyGraph) → HasDone inserts.now (C.fixed clock.now) first graph.old book.old →
+    requires lines { AreOfLines inserts.now }
+    requires under_way { (first : List AnyRow) × HasDone inserts.now (C.fixed clock.now) first graph.old book.old }
+    ensures { IfOk result (λ turn. (first : List AnyRow) → HasDone inserts.now (C.fixed clock.now) first graph.old book.old →
         TurnsTo inserts.now (C.fixed clock.now) first graph.new book.new turn) }
 {
     match book.claim(0, clock.now()) {
@@ -156,6 +161,7 @@ pub fn run_alone<R: Wait, C: Clock, G: Gate>(
     gate: &G,
 ) -> Result<Book, AllocError>
     requires planned { ArePlanned inserts.now }
+    requires lines { AreOfLines inserts.now }
     requires closed { IsClosed (HoldsKey graph.old) inserts.now }
     requires graph { IsGraph graph.old }
     ensures ran { IfOk result (λ book. HasRun inserts.now (C.fixed clock.now) graph.old graph.new book.history) }

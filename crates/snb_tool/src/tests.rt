@@ -23,7 +23,7 @@ const STREAM: &str =
     "8000|0|1|12|Cy|Fox|male|0|8000|1.1.1.3|Opera|1|||||\n9000|8000|8|10|12|9000\n";
 
 // Room for the texts of a few persons.
-const ROOM: usize = 1000;
+const ROOM: usize = 2000;
 
 // What a run does to its clock and its gate.
 #[derive(Clone, Copy, Debug, PartialEq, Eq)]

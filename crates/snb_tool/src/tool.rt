@@ -7,12 +7,11 @@ ghost use Rattle.snb_loader.specs.Input.{Refuses};
 ghost use Rattle.snb_schema.specs.declared.refusal.Refusal.{Refusal as Refused};
 ghost use Rattle.snb_schema.specs.ScreenTexts.{refusal_text};
 ghost use Rattle.snb_schema.specs.Closed.{IsClosed};
-ghost use Rattle.snb_tables.specs.BuiltTables.{HoldsKey, IsGraph};
-ghost use Rattle.snb_loader.specs.Loading.{OnReadFault, OnRefused};
+ghost use Rattle.snb_tables.specs.Graphs.{HoldsKey, IsGraph};
+ghost use Rattle.snb_loader.specs.Loading.{AreOfLines, OnReadFault, OnRefused};
 ghost use Rattle.snb_tool.specs.Outcome.{IsRunCut, IsOtherLine, IsRefusal, IsRun, IsUsage, Wrote};
-ghost use Rattle.snb_tool.specs.Running.{IsLoaded, IsRunOutput};
-ghost use Rattle.snb_tool.specs.Output.{IsWrittenSoFar, on_screen, size_of};
-ghost use Rattle.snb_tool.specs.Running.{bytes_of};
+ghost use Rattle.snb_tool.specs.Output.{IsWrittenSoFar, on_screen};
+ghost use Rattle.snb_tool.specs.Running.{IsLoaded, IsRunBegun, IsRunOutput, bytes_of};
 ghost use Rattle.snb_schema.specs.Plan.{ArePlanned};
 ghost use Rattle.snb_tool.specs.Words.{IsRunLine, texts_of};
 
@@ -27,13 +26,13 @@ use snb_base::gate::Gate;
 use snb_base::outbox::Outbox;
 use snb_base::shelf::Shelf;
 use snb_csv::law::{one_column, one_row};
+use snb_graph::graph::Graph;
 use snb_loader::load::{Load, load_of};
 use snb_loader::loader::{PERSON_STREAM, load_inserts, load_persons};
 use snb_plan::closed::check_closed;
 use snb_schema::op::Line;
 use snb_schema::refusal::Refusal;
 use snb_streams::law::{one_fault, one_insert};
-use snb_tables::graph::Graph;
 use std::alloc::{AllocError, Global};
 use std::sync::Wait;
 
@@ -54,6 +53,7 @@ fn load_input<S: Shelf>(alloc: Global, shelf: &mut S, folder: &str) -> Result<In
     ensures closed { IfOk result (λ i. IsClosed (HoldsKey i.graph) i.inserts.items) }
     ensures graph { IfOk result (λ i. IsGraph i.graph) }
     ensures planned { IfOk result (λ i. ArePlanned i.inserts.items) }
+    ensures lines { IfOk result (λ i. AreOfLines i.inserts.items) }
     ensures refused { OnRefused result (λ r. IfSome (S.contents shelf.old) (λ files. Refuses folder.now files r)) }
     ensures fault { OnReadFault result (Rose (S.faults shelf.old) (S.faults shelf.new)) }
     ensures later { S.faults shelf.old ≤ S.faults shelf.new }
@@ -91,6 +91,7 @@ fn run_output<R: Wait, C: Clock, G: Gate>(
     requires closed { IsClosed (HoldsKey input.graph) input.inserts.items }
     requires graph { IsGraph input.graph }
     requires planned { ArePlanned input.inserts.items }
+    requires lines { AreOfLines input.inserts.items }
     ensures { IfOk result (λ output. IsRunOutput input.inserts.items (C.fixed clock.now) input.graph (bytes_of output)) }
 {
     let mut graph = input.graph;
@@ -140,11 +141,11 @@ fn run_input<R: Wait, O: Outbox, C: Clock, G: Gate>(
     requires closed { IsClosed (HoldsKey input.graph) input.inserts.items }
     requires graph { IsGraph input.graph }
     requires planned { ArePlanned input.inserts.items }
+    requires lines { AreOfLines input.inserts.items }
     ensures status { (result ≡ 0) ⊎ (result ≡ 5) ⊎ (result ≡ 6) }
     ensures shown { result ≡ 0 → (texts : Bytes) × IsRunOutput input.inserts.items (C.fixed clock.now) input.graph texts × Wrote (O.written out.old) (O.written out.new) texts }
     ensures fault { result ≡ 5 → Rose (O.faults out.old) (O.faults out.new) }
-    ensures part { result ≡ 5 → (texts : Bytes) × (part : Bytes) × IsRunOutput input.inserts.items (C.fixed clock.now) input.graph texts × IsWrittenSoFar part texts × Wrote (O.written out.old) (O.written out.new) part
-        × ((n : ℕ) → O.ready out.old n → n < size_of texts) }
+    ensures part { result ≡ 5 → IsRunBegun input.inserts.items (C.fixed clock.now) input.graph (O.ready out.old) (O.written out.old) (O.written out.new) }
     ensures memory { result ≡ 6 → O.written out.new ≡ O.written out.old }
     ensures later { O.faults out.old ≤ O.faults out.new }
 {

@@ -1,6 +1,6 @@
 use Rattle.std.proofs.Common.{◌≡◌, ◌≢◌, Err, length, rules, arith}
 use Rattle.snb_schema.specs.declared.fault.Fault.TheVariants.{Bad, Memory}
-use Rattle.snb_loader.proofs.InsertsFaults.{excess_refused, is_read, stop_refused, whole_good}
+use Rattle.snb_loader.proofs.InsertsFaults.{excess_refused, is_read, read_of_lines, stop_refused, whole_good}
 use Rattle.snb_loader.proofs.InsertsTakable.{planned}
 use Rattle.snb_loader.proofs.inserts.inserts_of.Goals as goal
 
@@ -15,6 +15,10 @@ pub returns-in-Ok-clause-ok : goal.returns-in-Ok-clause-ok
 returns-in-Ok-clause-ok c =
     whole_good c.args.used c.args.rows c.args.bytes.now c.read_inserts-read.new.lines.items c.one_insert.ensures c.one_fault.ensures.none (rw c.deref.ensures.value at c.in_default.ensures)
     (rw c.in-Ok.is at c.read_inserts-read.ensures.ok)
+
+pub returns-in-Ok-clause-lines : goal.returns-in-Ok-clause-lines
+returns-in-Ok-clause-lines c =
+    read_of_lines c.args.used c.args.rows c.args.bytes.now c.read_inserts-read.new.lines.items (rw c.in-Ok.is at c.read_inserts-read.ensures.few) (returns-in-Ok-clause-ok c)
 
 pub returns-in-Ok-clause-planned : goal.returns-in-Ok-clause-planned
 returns-in-Ok-clause-planned c = planned c.args.rows c.read_inserts-read.new.lines.items c.read_inserts-read.ensures.read (rw c.deref.ensures.value at c.in_default.ensures)

@@ -10,13 +10,13 @@ returns-in-Err-clause-refused c =
     clash_refused Persons c.in-Err.fault c.load_of.result c.args.bytes.now c.read_rows-read.new.placed.items c.one_row.ensures c.one_column.ensures.right c.load_of.ensures
     (is_read c.read_rows-read.result c.args.bytes.now c.read_rows-read.new.placed.items other c.read_rows-read.ensures.ok c.read_rows-read.ensures.bad) c.read_rows-read.ensures.persons c.in-Err.ensures.bad
 
-pub returns-in-Ok-read-clause-ok : goal.returns-in-Ok-read-clause-ok
-returns-in-Ok-read-clause-ok c =
+pub returns-in-Ok-clause-ok : goal.returns-in-Ok-clause-ok
+returns-in-Ok-clause-ok c =
     let counted : c.len-rows.result ≡ length c.read_rows-read.new.placed.items = search rules in
-    whole_good c.args.bytes.now c.read_rows-read.new.placed.items c.in-Ok.graph c.len-rows.result c.one_row.ensures c.one_column.ensures.right c.in-Ok.ensures.apart c.in-Ok.ensures.few c.in-Ok.ensures.kept counted
-    (rw c.in-Ok-read.is at c.read_rows-read.ensures.ok)
+    whole_good c.args.bytes.now c.read_rows-read.new.placed.items c.put_rows.new.graph c.len-rows.result c.one_row.ensures c.one_column.ensures.right c.in_default.ensures.apart c.in_default.ensures.few c.in_default.ensures.kept counted
+    (rw c.in-Ok.is at c.read_rows-read.ensures.ok)
 
 pub returns-in-Err-read-clause-refused : goal.returns-in-Err-read-clause-refused
 returns-in-Err-read-clause-refused c =
-    stop_refused Persons c.in-Err-read.fault c.load_of-in-Err-read.result c.args.bytes.now c.read_rows-read.new.placed.items c.one_row.ensures c.one_column.ensures.right c.load_of-in-Err-read.ensures c.in-Ok.ensures.apart c.in-Ok.ensures.few
+    stop_refused Persons c.in-Err-read.fault c.load_of-in-Err-read.result c.args.bytes.now c.read_rows-read.new.placed.items c.one_row.ensures c.one_column.ensures.right c.load_of-in-Err-read.ensures c.in_default.ensures.apart c.in_default.ensures.few
     (rw c.in-Err-read.is at c.read_rows-read.ensures.bad)

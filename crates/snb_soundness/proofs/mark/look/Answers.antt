@@ -1,6 +1,6 @@
 use Rattle.snb_soundness.specs.Marks.{HasChildren}
 use Rattle.snb_soundness.proofs.MarkLemmas.{marking_passed, marking_more}
-use Rattle.snb_soundness.proofs.MarkLemmas.{on_ok}
+use Rattle.snb_tables.proofs.Laws.{on_ok}
 use Rattle.snb_soundness.proofs.mark.look.Goals as goal
 
 pub add-requires : goal.add-requires

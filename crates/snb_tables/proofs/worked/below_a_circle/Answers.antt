@@ -8,7 +8,7 @@ use Rattle.snb_schema.specs.declared.table.Table.TheVariants as table
 use Rattle.snb_schema.specs.RowKeys.{RowKey, row_key}
 use Rattle.snb_tables.specs.Soundness.{EndsAfter, IsRooted}
 use Rattle.snb_tables.specs.Worked.{circle}
-use Rattle.snb_tables.proofs.SortedLemmas.{of_each}
+use Rattle.snb_tables.proofs.Laws.{of_each}
 use Rattle.snb_tables.proofs.worked.below_a_circle.Goals as goal
 
 -- one comment alone replies to a post

@@ -10,11 +10,13 @@ bounds-inserts-ticket g c =
     (go_is_next c.args.inserts.now (g.C.Clock.fixed c.args.clock.now) c.requires.under_way.0 c.args.graph.now c.args.book.now (moment_after c.args.book.now.history c.now.result) c.in-Go.ticket
     c.requires.under_way.1 c.in-Go.ensures.answer).1
 
-pub add_row-requires-clause-of_two : goal.add_row-requires-clause-of_two
-add_row-requires-clause-of_two g c =
-    c.requires.planned.of_two c.in-Go.ticket.op c.index-inserts-ticket.result
+pub add_row-requires-clause-line : goal.add_row-requires-clause-line
+add_row-requires-clause-line g c =
+    let own =
+    c.requires.lines c.in-Go.ticket.op c.index-inserts-ticket.result
     (go_is_next c.args.inserts.now (g.C.Clock.fixed c.args.clock.now) c.requires.under_way.0 c.args.graph.now c.args.book.now (moment_after c.args.book.now.history c.now.result) c.in-Go.ticket
-    c.requires.under_way.1 c.in-Go.ensures.answer).1
+    c.requires.under_way.1 c.in-Go.ensures.answer).1 in
+    (own.0, _, _, own.1)
 
 pub add_row-requires-clause-of_persons : goal.add_row-requires-clause-of_persons
 add_row-requires-clause-of_persons g c =

@@ -3,7 +3,7 @@ use Rattle.std.specs.Option.{IfSome}
 use Rattle.snb_base.specs.Shelf.{Files}
 use Rattle.snb_loader.specs.Input.{Refuses, person_stream, stream_of}
 use Rattle.snb_schema.specs.Closed.{IsClosed, IsFirstWrong}
-use Rattle.snb_tables.specs.BuiltTables.{HoldsKey}
+use Rattle.snb_tables.specs.Graphs.{HoldsKey}
 use Rattle.snb_schema.specs.declared.op.Line.{Line}
 use Rattle.std.specs.declared.alloc.Global.{Global}
 use Rattle.snb_loader.specs.declared.persons.Persons.{Persons}

@@ -1,7 +1,8 @@
 use Rattle.std.proofs.Common.{sym, subst}
 use Rattle.snb_links.specs.Kept.{IsIndexed}
 use Rattle.snb_links.proofs.Laws.{news_fresh, news_indexed, news_undone, same_indexed}
-use Rattle.snb_graph.proofs.GraphLemmas.{err_of, not_held, ok_of}
+use Rattle.snb_graph.proofs.GraphLemmas.{not_held}
+use Rattle.snb_tables.proofs.Laws.{err_of, ok_of}
 use Rattle.snb_graph.proofs.graph.Graph.insert_other.Goals as goal
 
 pub add_news-requires : goal.add_news-requires

@@ -1,4 +1,4 @@
-use Rattle.std.proofs.Common.{length, ℕ, List}
+use Rattle.std.proofs.Common.{length, List}
 use Rattle.snb_schema.specs.declared.row.Row.{Row}
 use Rattle.snb_graph.specs.Additions.{AddsUp}
 use Rattle.snb_graph.proofs.graph.Graph.take_all.Given as goal

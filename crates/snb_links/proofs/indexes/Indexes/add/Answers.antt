@@ -1,4 +1,5 @@
-use Rattle.snb_links.proofs.LinkLemmas.{comment_likes_alone, friends_alone, gained_at, messages_alone, new_at, on_ok, post_likes_alone, replies_alone}
+use Rattle.snb_links.proofs.LinkLemmas.{comment_likes_alone, friends_alone, gained_at, messages_alone, new_at, post_likes_alone, replies_alone}
+use Rattle.snb_tables.proofs.Laws.{on_ok}
 use Rattle.snb_links.specs.declared.link.Walk.TheVariants.{Friends, Messages, Replies, PostLikes, CommentLikes}
 use Rattle.snb_links.proofs.indexes.Indexes.add.Goals as goal
 

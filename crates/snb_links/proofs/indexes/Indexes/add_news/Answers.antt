@@ -1,6 +1,7 @@
 use Rattle.std.proofs.Common.{inl, subst}
 use Rattle.snb_links.specs.Kept.{HasLostSome}
-use Rattle.snb_links.proofs.LinkLemmas.{both_gained, err_of, first_undone, ok_of, still_new}
+use Rattle.snb_links.proofs.LinkLemmas.{both_gained, first_undone, still_new}
+use Rattle.snb_tables.proofs.Laws.{err_of, ok_of}
 use Rattle.snb_links.proofs.indexes.Indexes.add_news.Goals as goal
 
 pub add_some-requires : goal.add_some-requires

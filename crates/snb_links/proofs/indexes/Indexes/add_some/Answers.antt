@@ -1,4 +1,5 @@
-use Rattle.snb_links.proofs.LinkLemmas.{gained_some, on_ok}
+use Rattle.snb_links.proofs.LinkLemmas.{gained_some}
+use Rattle.snb_tables.proofs.Laws.{on_ok}
 use Rattle.snb_links.proofs.indexes.Indexes.add_some.Goals as goal
 
 pub returns-in-Some-clause-ok : goal.returns-in-Some-clause-ok

@@ -1,6 +1,7 @@
 use Rattle.std.proofs.Common.{◌∙◌, ap, sym}
 use Rattle.std.specs.Option.{is_some}
-use Rattle.snb_shelf.proofs.Entries.{found_iff, found_row, if_found, some_copied}
+use Rattle.snb_shelf.proofs.Entries.{found_iff, found_row, if_found}
+use Rattle.snb_shelf.proofs.Laws.{some_copied}
 use Rattle.snb_shelf.proofs.shelf.Shelf.find.Goals as goal
 
 pub returns-clause-held : goal.returns-clause-held

@@ -1,6 +1,6 @@
 use Rattle.std.proofs.Common.{◌≡◌, []}
 use Rattle.std.specs.Option.{is_some, option_copied}
-use Rattle.snb_shelf.proofs.Entries.{some_copied}
+use Rattle.snb_shelf.proofs.Laws.{some_copied}
 use Rattle.snb_schema.specs.RowKeys.{row_key}
 use Rattle.snb_shelf.specs.Edges.{edge_row}
 use Rattle.snb_store.specs.Parts.{parts}

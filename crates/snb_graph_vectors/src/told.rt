@@ -1,0 +1,61 @@
+//! Answers as texts.
+
+use crate::flaw::Flaw;
+use std::alloc::{AllocError, Global};
+
+// What a list without items and an absent value are told as.
+const NONE: &str = "none";
+
+/// A word as an answer.
+pub fn told(alloc: Global, word: &str) -> Result<String, Flaw> {
+    Ok(String::from_str(alloc, word)?)
+}
+
+/// Whether something is so.
+pub fn told_whether(alloc: Global, is: bool) -> Result<String, Flaw> {
+    told(alloc, if is { "yes" } else { "no" })
+}
+
+/// A number.
+pub fn told_number(alloc: Global, number: u64) -> Result<String, Flaw> {
+    Ok(format!(in alloc; "{number}")?)
+}
+
+/// A number, or that there is none.
+pub fn told_option(alloc: Global, number: Option<u64>) -> Result<String, Flaw> {
+    match number {
+        Some(number) => told_number(alloc, number),
+        None => told(alloc, NONE),
+    }
+}
+
+/// A list that is told item by item.
+#[derive(Drop)]
+pub struct List {
+    text: String,
+}
+
+impl List {
+    /// Without items.
+    pub fn new(alloc: Global) -> List {
+        List {
+            text: String::new(alloc),
+        }
+    }
+
+    /// Adds an item.
+    pub fn add(&mut self, item: &str) -> Result<(), AllocError> {
+        if !self.text.is_empty() {
+            self.text.push_str(", ")?;
+        }
+        self.text.push_str(item)
+    }
+
+    /// The items, with a comma and a space between two; `none` where there is none.
+    pub fn told(self, alloc: Global) -> Result<String, Flaw> {
+        if self.text.is_empty() {
+            return told(alloc, NONE);
+        }
+        Ok(self.text)
+    }
+}
