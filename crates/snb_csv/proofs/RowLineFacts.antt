@@ -24,6 +24,7 @@ use Rattle.snb_schema.specs.Columns.{Spells, SpellsAll, canonical_field}
 use Rattle.snb_schema.specs.Layouts.{columns, has_no_direction, shape, shape_columns}
 use Rattle.snb_schema.specs.Lines.{HasNoBar, HasNoEnd, fields}
 use Rattle.snb_schema.specs.RowLines.{Differ, IsRow, canonical, in_order, is_turned, table_of, values}
+use Rattle.snb_csv.specs.Laws.{RowsOfFieldsFit}
 use Rattle.snb_schema.specs.TableRows.{AreWithin, HasLine, HasLowerFirst, IsFieldText, IsTableRow, IsWithin, TableRowsAreOfLines}
 use Rattle.snb_fields.specs.Laws.{HasPlainFields, OwnLineOfValues}
 
@@ -196,12 +197,11 @@ lower_first undirected vs d = d
 field_texts : (line : List ℕ) → HasPlainFields line → IsUtf8 line → HasNoEnd line → All IsFieldText (fields line)
 field_texts line plain text ends = λ k d lt. record { utf8 = plain.texts text k d lt; no_bar = plain.no_bars k d lt; one_line = plain.no_ends ends k d lt }
 
--- the row of a line
-of_line : ((line : List ℕ) → HasPlainFields line) → (t : Table) (line : List ℕ) (r : Row) → IsRow t line r → (table_of r ≡ t) × IsTableRow r
-of_line plain t line r h =
-    let s = h.spelled in
+-- the row that fields of a line spell
+pub of_fields : RowsOfFieldsFit
+of_fields t fs r turned texts_are s =
     let u = has_no_direction t in
-    let texts = subst (All IsFieldText) s.split (field_texts line (plain line) h.text h.one_line) in
+    let texts = subst (All IsFieldText) s.split texts_are in
     let own = subst (All IsFieldText) (take-append_seam s.own s.extra) (All-take IsFieldText (length s.own) (s.own ++ s.extra) texts) in
     let said = within_order t s.said (within_all (columns t) s.own s.said (of_tables (shape t)) own s.spelled) in (
       s.table,
@@ -211,6 +211,10 @@ of_line plain t line r h =
         within = subst (λ (a : Table). AreWithin (columns a) (values r)) (sym s.table) (subst (AreWithin (columns t)) (sym s.kept) said);
       },
     )
+
+-- the row of a line
+of_line : ((line : List ℕ) → HasPlainFields line) → (t : Table) (line : List ℕ) (r : Row) → IsRow t line r → (table_of r ≡ t) × IsTableRow r
+of_line plain t line r h = of_fields t (fields line) r h.turned (field_texts line (plain line) h.text h.one_line) h.spelled
 
 -- the rows that a table can have are those of its lines
 pub of_lines : OwnNumbers → OwnLineOfValues → ((line : List ℕ) → HasPlainFields line) → TableRowsAreOfLines

@@ -1,8 +1,9 @@
 -- Laws of the tables' lines.
-use Rattle.std.specs.Prelude.{◌≡◌, ◌⊎◌, ℕ, Bool, List}
+use Rattle.std.specs.Prelude.{◌≡◌, ◌⊎◌, ℕ, Bool, List, All}
 use Rattle.snb_schema.specs.declared.row.Row.{Row}
 use Rattle.snb_schema.specs.declared.table.Table.{Table}
-use Rattle.snb_schema.specs.RowLines.{IsBadColumn, IsRow, SpellsRow, canonical}
+use Rattle.snb_schema.specs.RowLines.{IsBadColumn, IsRow, SpellsRow, canonical, table_of}
+use Rattle.snb_schema.specs.TableRows.{IsFieldText, IsTableRow}
 
 -- the fields of a line spell one row at most
 abbrev pub OneRow : Type 0
@@ -29,3 +30,7 @@ OneColumn = (t : Table) (fs : List (List ℕ)) (a b : ℕ) → IsBadColumn t fs 
 -- fields spell a row, or they have a bad column
 abbrev pub RowOrColumn : Type 0
 RowOrColumn = (t : Table) (fs : List (List ℕ)) → ((r : Row) × (turned : Bool) × SpellsRow t fs r turned) ⊎ ((column : ℕ) × IsBadColumn t fs column)
+
+-- a row that texts of fields spell is a row that its table can have
+abbrev pub RowsOfFieldsFit : Type 0
+RowsOfFieldsFit = (t : Table) (fs : List (List ℕ)) (r : Row) (turned : Bool) → All IsFieldText fs → SpellsRow t fs r turned → (table_of r ≡ t) × IsTableRow r

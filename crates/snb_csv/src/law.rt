@@ -1,7 +1,7 @@
 //! Laws of the tables' lines, over every line.
 
 ghost use Rattle.snb_schema.specs.TableRows.{TableRowsAreOfLines};
-ghost use Rattle.snb_csv.specs.Laws.{OneColumn, OneRow, OwnRowLine, RowOrColumn, RowsAreRight};
+ghost use Rattle.snb_csv.specs.Laws.{OneColumn, OneRow, OwnRowLine, RowOrColumn, RowsAreRight, RowsOfFieldsFit};
 
 use snb_base::number::one_spelling;
 use snb_fields::law::{one_value, own_line as own_line_of_values, plain_fields, spelled_or_not};
@@ -42,3 +42,8 @@ pub fn table_rows_are_of_lines()
     own_line_of_values();
     plain_fields();
 }
+
+/// A row that fields without bars and line ends spell is one that its table can have.
+pub fn rows_of_fields_fit()
+    ensures { RowsOfFieldsFit }
+{}

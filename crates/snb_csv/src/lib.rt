@@ -4,7 +4,7 @@
 pub mod files_law;
 pub mod law;
 mod make;
-mod read;
+pub mod read;
 pub mod rows;
 #[cfg(test)]
 mod tests;

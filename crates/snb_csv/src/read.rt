@@ -21,10 +21,12 @@ use snb_schema::row::Row;
 use snb_schema::table::Table;
 use std::alloc::Global;
 
-/// A row, and whether its line has its two ends the other way round.
+/// A row that is read out of a line.
 #[derive(Drop)]
 pub struct Spelled {
+    /// The row. That of a friendship has the lower id first.
     pub row: Row,
+    /// Whether the line has the two ends of a friendship the other way round.
     pub turned: bool,
 }
 
@@ -62,7 +64,12 @@ fn row_of(alloc: Global, table: Table, mut values: Vec<Value>) -> Result<Spelled
     })
 }
 
-/// The row of the table that the fields spell.
+/// The row of the table that the fields of a line spell. An extra field at the end is passed over
+/// where it is empty. Where the fields spell none, the error is the first bad column: 0 where they
+/// aren't one for each column; else 2 where a friendship leads back to the person it comes from; else
+/// the first that isn't in its grammar. The other error is want of memory.
+///
+/// The fields are UTF-8.
 pub fn read_row(alloc: Global, table: Table, fields: &ByteRecord) -> Result<Spelled, LineFault>
     requires { All IsUtf8 (fields_of fields.now) }
     ensures ok { IfOk result (λ read. SpellsRow table (fields_of fields.now) read.row read.turned) }

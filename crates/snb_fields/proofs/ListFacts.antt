@@ -177,11 +177,15 @@ own_listed S eq put each x items (all, s, k) =
     let again : items ≡ once_after eq [] items = k ∙ sym (once_again eq [] all) ∙ ap (once_after eq []) (sym k) in
     (items, subst (λ (xs : List (List ℕ)). EachSpells S xs items) (sym (put_elements S put items own)) (each_put S put items own), again)
 
+-- what each item has whose element has a property, which two texts have that are joined by a semicolon, the items of a list have that a text with the property spells
+pub items_all : {A : Type 0} (S : List ℕ → A → Type 0) (eq : A → A → Bool) (P : List ℕ → Type 0) (Q : A → Type 0) → ((a b : List ℕ) → P (a ++ 59 ∷ b) → P a × P b) → ((x : List ℕ) (a : A) → P x → S x a → Q a)
+    → (x : List ℕ) (items : List A) → Listed S eq x items → P x → All Q items
+items_all S eq P Q around each x items (all, s, k) p = subst (All Q) (sym k) (once_all Q eq [] all (each_all S P Q each (elements x) all s (elements_all P around x p)))
+
 -- what holds of no bytes, of the spelling of an item where of its element, and of two texts joined by a semicolon, holds of the list's spelling
 pub kept_listed : {A : Type 0} (S : List ℕ → A → Type 0) (eq : A → A → Bool) (put : A → List ℕ) (P : List ℕ → Type 0) → P [] → ((a b : List ℕ) → P (a ++ 59 ∷ b) → P a × P b) → ((a b : List ℕ) → P a → P b → P (a ++ 59 ∷ b))
     → ((x : List ℕ) (a : A) → P x → S x a → P (put a)) → (x : List ℕ) (items : List A) → Listed S eq x items → P x → P (join_with_byte 59 (map put items))
-kept_listed {A} S eq put P none around join each x items (all, s, k) p =
-    joined items (subst (All Q) (sym k) (once_all Q eq [] all (each_all S P Q each (elements x) all s (elements_all P around x p))))
+kept_listed {A} S eq put P none around join each x items listed p = joined items (items_all S eq P Q around each x items listed p)
   where
     Q : A → Type 0
     Q a = P (put a)

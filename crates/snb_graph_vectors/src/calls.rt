@@ -6,6 +6,7 @@ use crate::all::all;
 use crate::chain::{chain, told_sound};
 use crate::edges::{one, words};
 use crate::flaw::Flaw;
+use crate::inserts::applied;
 use crate::names::{first_word, kind_named, number_of, table_named, two_numbers};
 use crate::nodes::node;
 use crate::rows::{row_of, shown};
@@ -133,6 +134,7 @@ pub fn answer(alloc: Global, graph: &mut Graph, call: &str) -> Result<String, Fl
         "insert" => insert(alloc, graph, rest),
         "all" => all(alloc, graph, rest),
         "chain" => chain(alloc, graph, rest),
+        "apply" => applied(alloc, graph, rest),
         _ => answer_of(alloc, graph, word, rest),
     }
 }

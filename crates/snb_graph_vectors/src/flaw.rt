@@ -15,6 +15,8 @@ pub enum Flaw {
     NoTable,
     /// The line spells no row of the table, or too long a one.
     NoRow,
+    /// The line is no insert of an update stream.
+    NoInsert,
     /// The call is none for this table.
     OtherTable,
     /// Something follows what should stand alone, or stand last.
@@ -45,6 +47,7 @@ impl Flaw {
             Flaw::NoName => "a name is wanted",
             Flaw::NoTable => "no table has this name",
             Flaw::NoRow => "this is no row of the table",
+            Flaw::NoInsert => "this is no insert of an update stream",
             Flaw::OtherTable => "this is no call for this table",
             Flaw::Surplus => "something follows that doesn't belong here",
             Flaw::NothingWanted => "it isn't said what must come",

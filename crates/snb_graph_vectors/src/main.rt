@@ -9,6 +9,7 @@ mod case;
 mod chain;
 mod edges;
 mod flaw;
+mod inserts;
 mod names;
 mod nodes;
 mod rows;

@@ -67,6 +67,20 @@ pub fn kind_named(name: &str) -> Option<Kind> {
     }
 }
 
+/// The name of the table of nodes of the kind.
+pub fn kind_name(kind: Kind) -> &'static str {
+    match kind {
+        Kind::Place => "place",
+        Kind::TagClass => "tagclass",
+        Kind::Tag => "tag",
+        Kind::Organisation => "organisation",
+        Kind::Person => "person",
+        Kind::Forum => "forum",
+        Kind::Post => "post",
+        Kind::Comment => "comment",
+    }
+}
+
 /// The number that the text is.
 pub fn number_of(text: &str) -> Result<u64, Flaw> {
     read_number(text.as_bytes(), u64::MAX).ok_or(Flaw::NoNumber)

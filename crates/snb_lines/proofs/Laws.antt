@@ -1,11 +1,13 @@
 -- What other crates may cite of this one: facts about lines, and about what they are read as.
 use Rattle.std.proofs.Common.{◌≡◌, ◌++◌, ◌∷◌, ◌+◌, ◌≤◌, [], ℕ, List, All, length}
+use Rattle.snb_schema.specs.declared.file.FileId.{FileId}
+use Rattle.snb_schema.specs.declared.refusal.Refusal.{Refusal}
 use Rattle.snb_schema.specs.Lines.{HasNoEnd}
 use Rattle.snb_lines.specs.Cut.{rest_of, whole_lines}
 use Rattle.snb_lines.specs.Files.{AreEach, AreUnder, GivesOne, HeadsOf, ReadsUnder}
 use Rattle.snb_lines.specs.Headed.{Heads, IsBad}
 use Rattle.snb_lines.specs.Laws.{CutAnywhere, HeadedFiles, HeaderlessFiles, LinesAreWhole, LinesHaveNoEnd, OneHeadedReading, OneReading}
-use Rattle.snb_lines.specs.Reading.{Reads, Refuses, Takes}
+use Rattle.snb_lines.specs.Reading.{Reads, Refuses, Stops, Takes}
 use Rattle.snb_lines.proofs.CutFacts
 use Rattle.snb_lines.proofs.HeadedFacts
 use Rattle.snb_lines.proofs.OnceFacts
@@ -47,6 +49,11 @@ by_lines = CutFacts.by_cuts 10
 pub reads_append : {M T : Type 0} (takes : Takes M T) (before after : List (List ℕ)) (state mid new : M) (ended : ℕ) (items more : List T) → Reads takes state ended before items mid
     → Reads takes mid (ended + length before) after more new → Reads takes state ended (before ++ after) (items ++ more) new
 reads_append takes = ReadingFacts.reads_append takes
+
+-- where one of the later lines is refused, it is refused among all of them
+pub stops_later : {M T : Type 0} (takes : Takes M T) (refuses : Refuses M) (file : FileId) (before after : List (List ℕ)) (state mid : M) (ended : ℕ) (items more : List T) (r : Refusal) → Reads takes state ended before items mid
+    → Stops takes refuses file mid (ended + length before) after more r → Stops takes refuses file state ended (before ++ after) (items ++ more) r
+stops_later takes refuses file = ReadingFacts.stops_later takes refuses file
 
 -- lines are read in one way, and are not stopped where they are read
 pub one_reading : {M T : Type 0} (takes : Takes M T) (refuses : Refuses M) → OneReading takes refuses

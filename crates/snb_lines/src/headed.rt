@@ -3,6 +3,7 @@
 ghost use Rattle.std.specs.Prelude.{◌≡◌, ℕ, ◌++◌, List, All, IsUtf8, OnOk, OnErr, false};
 ghost use Rattle.csv.specs.Records.{fields_of};
 ghost use Rattle.snb_schema.specs.Faults.{OnBadColumn};
+ghost use Rattle.snb_schema.specs.TableRows.{IsFieldText};
 ghost use Rattle.snb_lines.specs.Headed.{unpassed};
 
 use crate::meaning::Meaning;
@@ -33,15 +34,17 @@ pub trait Body {
     /// In this state these fields are no line after the header, in this column first.
     ghost bad_line: { Self → List (List ℕ) → ℕ → Type 0 };
 
-    /// Takes the header. Each field is UTF-8. After an error the state is none that a caller knows.
+    /// Takes the header. Each field is UTF-8 (`utf8`), and has no bar and no line end (`plain`). After
+    /// an error the state is none that a caller knows.
     fn take_header(&mut self, fields: &ByteRecord) -> Result<(), LineFault>
         requires utf8 { All IsUtf8 (fields_of fields.now) }
+        requires plain { All IsFieldText (fields_of fields.now) }
         ensures ok { OnOk result (heads self.old (fields_of fields.now) self.new) }
         ensures bad { OnBadColumn result (bad_header self.old (fields_of fields.now)) };
 
     /// Takes the line of this number, counted from 1, after the header, and appends its items. Each
-    /// field is UTF-8. After an error the list is as it was, and the state is none that a caller
-    /// knows.
+    /// field is UTF-8 (`utf8`), and has no bar and no line end (`plain`). After an error the list is as
+    /// it was, and the state is none that a caller knows.
     fn take_line(
         &mut self,
         number: u32,
@@ -49,6 +52,7 @@ pub trait Body {
         into: &mut Vec<Self::Item>,
     ) -> Result<(), LineFault>
         requires utf8 { All IsUtf8 (fields_of fields.now) }
+        requires plain { All IsFieldText (fields_of fields.now) }
         ensures ok { OnOk result
             ((items : List Self.Item)
             × gives self.old number (fields_of fields.now) items self.new

@@ -91,6 +91,14 @@ impl<M> Lines<M> {
     {
         &self.progress.meaning
     }
+
+    /// What the lines so far mean, by value, as long as the reader keeps no fault. The reader is gone,
+    /// and with it the line begun.
+    pub fn into_meaning(self) -> M
+        ensures { result ≡ self.meaning }
+    {
+        self.progress.meaning
+    }
 }
 
 impl<M: Meaning> Lines<M> {

@@ -4,6 +4,7 @@ ghost use Rattle.std.specs.Prelude.{◌≡◌, ℕ, ◌++◌, List, Option, All,
 ghost use Rattle.csv.specs.Records.{fields_of};
 ghost use Rattle.snb_schema.specs.declared.refusal.Refusal.{Refusal as Refused};
 ghost use Rattle.snb_schema.specs.Faults.{OnBad};
+ghost use Rattle.snb_schema.specs.TableRows.{IsFieldText};
 
 use csv::ByteRecord;
 use snb_schema::fault::Fault;
@@ -24,7 +25,8 @@ pub trait Meaning {
     /// What is refused where the file ends in this state, if anything is.
     ghost ends: { Self → Option Refused };
 
-    /// Takes the line of this number, counted from 1, and appends its items. Each field is UTF-8. After
+    /// Takes the line of this number, counted from 1, and appends its items. Each field is UTF-8 (`utf8`), and has no bar
+    /// and no line end (`plain`). After
     /// an error the list is as it was, and the state is none that a caller knows.
     fn take(
         &mut self,
@@ -33,6 +35,7 @@ pub trait Meaning {
         into: &mut Vec<Self::Item>,
     ) -> Result<(), Fault>
         requires utf8 { All IsUtf8 (fields_of fields.now) }
+        requires plain { All IsFieldText (fields_of fields.now) }
         ensures ok { OnOk result
             ((items : List Self.Item)
             × takes self.old number (fields_of fields.now) items self.new

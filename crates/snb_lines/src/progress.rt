@@ -64,6 +64,7 @@ impl<M: Meaning> Progress<M> {
         into: &mut Vec<M::Item>,
     ) -> Result<(), Fault>
         requires room { self.old.ended + 1 < 2 ^ 32 }
+        requires one_line { HasNoEnd line.now }
         requires split { line.now ≢ [] → fields_of row.now ≡ fields line.now }
         ensures ok { OnOk result (LineRead M.takes line.now self.old into.old.items self.new into.new.items) }
         ensures bad { OnBad result (LineRefused M.refuses line.now self.old) }

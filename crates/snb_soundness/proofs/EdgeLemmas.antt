@@ -23,7 +23,8 @@ use Rattle.snb_shelf.specs.Keyed.{key_table}
 use Rattle.snb_soundness.specs.Edges.{Finds, IsEndEdge, TellsFirst, missing_of, needs_at}
 use Rattle.snb_soundness.specs.declared.unsound.Unsound.{Unsound}
 use Rattle.snb_soundness.specs.declared.unsound.Unsound.TheVariants.{Lacks, Cycle, Memory}
-use Rattle.snb_soundness.proofs.RowLemmas.{IsOf, are_of, fills_decides, id_small}
+use Rattle.snb_soundness.proofs.Laws.{fills_decides}
+use Rattle.snb_soundness.proofs.RowLemmas.{IsOf, are_of, id_small}
 use Rattle.snb_tables.specs.Graphs.{HasSlot, IsGraph, fills, rows}
 use Rattle.snb_tables.specs.Soundness.{Need, edges_of, needs, needs_of}
 

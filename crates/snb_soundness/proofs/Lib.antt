@@ -2,6 +2,7 @@ pub mod ChainCount
 pub mod ChainLemmas
 pub mod EdgeLemmas
 pub mod LawLemmas
+pub mod Laws
 pub mod MarkLemmas
 pub mod NumberLemmas
 pub mod RootLemmas

@@ -1,17 +1,11 @@
--- The rows of a table, and their keys and slots.
-use Rattle.std.proofs.Common.{◌≡◌, ◌≤◌, ℕ, List, ◌∷◌, Decides, Some, Result, Ok, sym, ap, subst}
-use Rattle.std.proofs.lemmas.Bool.Decides.{Decides-and, Decides-eqb, Decides-like}
+-- The rows of a table, and their order.
+use Rattle.std.proofs.Common.{◌≡◌, ◌≤◌, ℕ, List, ◌∷◌, Some, Result, Ok, sym, subst}
 use Rattle.std.proofs.lemmas.List.Elements.{All-contains, All-contains_itself, All-from_recursion, All-weaker}
-use Rattle.std.proofs.lemmas.List.Folds.{Any-from_list_any, list_any-from_Any}
 use Rattle.std.proofs.lemmas.List.Kept.{IsStrictlySortedBy-filter}
-use Rattle.std.proofs.lemmas.Slice.Eq.{bytes_eq-Decides}
 use Rattle.std.specs.Cmp.{tied_itself}
 use Rattle.std.specs.List.{All, Contains}
 use Rattle.std.specs.List.Sorted.{IsStrictlySortedBy}
-use Rattle.std.specs.Str.{bytes_eq}
 use Rattle.std.specs.declared.cmp.Ordering.TheVariants.{Less}
-use denote.Enum.Bare.{true_same}
-use Rattle.snb_schema.specs.contracts.table.Table.{the_type as the_table}
 use Rattle.snb_schema.specs.declared.layout.KeyColumns.{KeyColumns}
 use Rattle.snb_schema.specs.declared.layout.KeyColumns.TheVariants.{First, Second, FirstTwo}
 use Rattle.snb_schema.specs.declared.layout.Shape.TheVariants as shapes
@@ -19,33 +13,15 @@ use Rattle.snb_schema.specs.declared.row.Row.{Row}
 use Rattle.snb_schema.specs.declared.row.Row.TheVariants as row
 use Rattle.snb_schema.specs.declared.table.Table.{Table}
 use Rattle.snb_schema.specs.Layouts.{key_columns, shape_columns}
-use Rattle.snb_schema.specs.RowKeys.{RowKey, edge_key, row_key, slot_of}
+use Rattle.snb_schema.specs.RowKeys.{edge_key, row_key}
 use Rattle.snb_schema.specs.RowLines.{table_of, values}
 use Rattle.snb_schema.specs.TableOrder.{same_table}
 use Rattle.snb_schema.specs.TableRows.{AreWithin, IsTableRow}
 use Rattle.snb_shelf.specs.Rows.{GivesRow}
 use Rattle.snb_shelf.proofs.Laws.{in_filter}
-use Rattle.snb_tables.proofs.Laws.{row_total, same_is}
-use Rattle.snb_tables.specs.Graphs.{HasSlot, IsGraph, fills, row_order, rows, same_key}
-
--- ---- keys and slots
-
-pub table_decides : (t u : Table) → Decides (same_table t u) (t ≡ u)
-table_decides t u = (same_is t u, true_same the_table t u)
-
-key_decides : (j k : RowKey) → Decides (same_key j k) (j ≡ k)
-key_decides j k =
-    Decides-like (same_key j k) (λ p i. (p.0.0.0 i, p.0.0.1 i, p.0.1 i, p.1 i)) (λ e. (((ap (λ x. x.0) e, ap (λ x. x.1) e), ap (λ x. x.2) e), ap (λ x. x.3) e))
-    (Decides-and _ (bytes_eq j.3 k.3) (Decides-and _ _ (Decides-and (same_table j.0 k.0) _ (table_decides j.0 k.0) (Decides-eqb j.1 k.1)) (Decides-eqb j.2 k.2)) (bytes_eq-Decides j.3 k.3))
-
--- a slot is filled exactly where the test says so
-pub fills_decides : (g : List Row) (s : RowKey) → Decides (fills g s) (HasSlot g s)
-fills_decides g s = (
-  λ e.
-      let found = Any-from_list_any (λ r. same_key (slot_of r) s) g e in
-      record { it = found.1; held = (found.0, found.2, found.3); fills = (key_decides (slot_of found.1) s).0 found.4 },
-  λ has. list_any-from_Any (λ r. same_key (slot_of r) s) g (has.held.0, has.it, has.held.1, has.held.2, (key_decides (slot_of has.it) s).1 has.fills),
-)
+use Rattle.snb_soundness.proofs.Laws.{table_decides}
+use Rattle.snb_tables.proofs.Laws.{row_total}
+use Rattle.snb_tables.specs.Graphs.{IsGraph, row_order, rows}
 
 -- ---- the order of rows
 

@@ -1,6 +1,6 @@
 -- Laws of sound graphs: of messages and what they reply to, of the edges that must be there, and of authors.
-use Rattle.std.proofs.Common.{◌≡◌, ℕ, Bool, true, false, not, List, [], ◌∷◌, ◌++◌, filter, Some, refl, sym, ap, ◌∙◌, subst, inl, inr, arith}
-use Rattle.std.proofs.lemmas.List.Elements.{All-contains, All-from_recursion, Contains-append_left, Contains-append_right}
+use Rattle.std.proofs.Common.{◌≡◌, ℕ, Bool, true, false, not, List, [], ◌++◌, filter, Some, refl, sym, ap, ◌∙◌, subst, inl, inr, arith}
+use Rattle.std.proofs.lemmas.List.Elements.{All-contains, All-from_recursion}
 use Rattle.std.specs.List.{All, Contains, flat_map}
 use Rattle.snb_schema.specs.declared.layout.KeyColumns.TheVariants.{First}
 use Rattle.snb_schema.specs.declared.layout.Shape.TheVariants as shapes
@@ -17,10 +17,11 @@ use Rattle.snb_schema.specs.RowLines.{table_of}
 use Rattle.snb_schema.specs.TableOrder.{all_tables, same_table}
 use Rattle.snb_schema.specs.TableRows.{IsTableRow}
 use Rattle.snb_shelf.specs.Keyed.{key_table}
-use Rattle.snb_shelf.proofs.Laws.{contains_cases, contains_map, in_filter}
+use Rattle.snb_shelf.proofs.Laws.{contains_map, in_filter}
 use Rattle.snb_soundness.specs.Edges.{needs_at}
 use Rattle.snb_soundness.specs.SoundLaws.{CommentsHaveOneParent, MessagesAreOfOneKind, MessagesHaveOneAuthor, PostsHaveNoParent, RepliesAreHeld, RequiredEdgesAreThere}
-use Rattle.snb_soundness.proofs.RowLemmas.{among_rows, fills_decides, table_decides}
+use Rattle.snb_soundness.proofs.Laws.{fills_decides, in_flat_map, table_decides}
+use Rattle.snb_soundness.proofs.RowLemmas.{among_rows}
 use Rattle.snb_tables.specs.Graphs.{HasKey, HasSlot, IsGraph, fills, rows}
 use Rattle.snb_tables.specs.Soundness.{Need, Sound, edges_of, needs, needs_of}
 
@@ -64,14 +65,6 @@ one_parent g graph comment one other (inr a) (inl b) = (one_link g graph table.C
 one_parent g graph comment one other (inr a) (inr b) = (one_link g graph table.CommentReplyOfComment table.CommentReplyOfComment comment one comment other a b refl).1
 
 -- ---- the edges that a node must have
-
--- what one of the lists has is in all of them together
-in_flat_map : {X A : Type 0} (f : X → List A) (xs : List X) (x : X) (a : A) → Contains xs x → Contains (f x) a → Contains (flat_map f xs) a
-in_flat_map f [] x a c h = absurd (omega (arith, c.1))
-in_flat_map f (y ∷ ys) x a c h = elim (contains_cases y ys x c) [
-  | inl e ↦ Contains-append_left (f y) (flat_map f ys) a (subst (λ z. Contains (f z) a) (sym e) h)
-  | inr later ↦ Contains-append_right (f y) (flat_map f ys) a (in_flat_map f ys x a later h)
-]
 
 -- the tables whose nodes must have edges are among all tables
 nodes_are_tables : All (λ pair. Contains all_tables pair.0) required

@@ -44,6 +44,10 @@ one_spelled one fs t t_d op u u_d oq p q =
 pub one_insert : OneList → OneInsert
 one_insert one line t t_d op u u_d oq p q = one_spelled one (fields line) t t_d op u u_d oq p.spelled q.spelled
 
+-- fields spell one insert of some kinds
+pub one_insert_of_fields : OneList → laws.OneInsertOfFields
+one_insert_of_fields one allowed fs t t_d op u u_d oq p q = one_spelled one fs t t_d op u u_d oq p.1 q.1
+
 -- the canonical line of an insert is one of its lines
 pub own_line : ((line : List ℕ) → HasPlainFields line) → OwnLineOfValues → laws.OwnInsertLine
 own_line plain own line t t_d op p =

@@ -12,6 +12,10 @@ use Rattle.snb_streams.specs.Spelled.{SpellsInsert}
 abbrev pub OneInsert : Type 0
 OneInsert = (line : List ℕ) (t t_d : ℕ) (op : Op) (u u_d : ℕ) (oq : Op) → IsLine line t t_d op → IsLine line u u_d oq → (t ≡ u) × (t_d ≡ u_d) × (op ≡ oq)
 
+-- fields spell one insert of some kinds at most
+abbrev pub OneInsertOfFields : Type 0
+OneInsertOfFields = (allowed : List OpKind) (fs : List (List ℕ)) (t t_d : ℕ) (op : Op) (u u_d : ℕ) (oq : Op) → SpellsInsert allowed fs t t_d op → SpellsInsert allowed fs u u_d oq → (t ≡ u) × (t_d ≡ u_d) × (op ≡ oq)
+
 -- the canonical line of an insert that has a line is one of its lines
 abbrev pub OwnInsertLine : Type 0
 OwnInsertLine = (line : List ℕ) (t t_d : ℕ) (op : Op) → IsLine line t t_d op → IsLine (canonical_line t t_d op) t t_d op

@@ -1,6 +1,6 @@
 //! Laws of the lines of update streams and parameter files, over every line.
 
-ghost use Rattle.snb_streams.specs.Laws.{InsertOrColumn, InsertsAreRight, LineOrColumn, LinesAreRight, NoBadQuery, OneBadLine, OneBadQuery, OneFault, OneInsert, OneQuery, OwnInsertLine, QueryOrColumn};
+ghost use Rattle.snb_streams.specs.Laws.{InsertOrColumn, InsertsAreRight, LineOrColumn, LinesAreRight, NoBadQuery, OneBadLine, OneBadQuery, OneFault, OneInsert, OneInsertOfFields, OneQuery, OwnInsertLine, QueryOrColumn};
 
 use snb_fields::law::{
     one_value, own_line as own_fields, plain_fields, spelled_or_not, taken_again,
@@ -9,6 +9,13 @@ use snb_fields::law::{
 /// A text is the line of one insert at most, at one pair of times.
 pub fn one_insert()
     ensures { OneInsert }
+{
+    one_value();
+}
+
+/// The fields of a line spell one insert of some kinds at most, at one pair of times.
+pub fn one_insert_of_fields()
+    ensures { OneInsertOfFields }
 {
     one_value();
 }

@@ -15,8 +15,9 @@ use snb_schema::refusal::Refusal;
 use std::alloc::Global;
 use std::marker::Model;
 
-// The inserts of a kind of file.
-fn inserts_of(kind: FileKind) -> &'static [OpKind]
+/// The inserts that the lines of a kind of file may be: those of a person stream, those of a forum
+/// stream, and none of any other file.
+pub fn inserts_of(kind: FileKind) -> &'static [OpKind]
     ensures { result.now ≡ allowed_in kind }
 {
     match kind {

@@ -2,7 +2,6 @@ pub mod FieldLemmas
 pub mod OutcomeLemmas
 pub mod RefusalLemmas
 pub mod FinalLemmas
-pub mod InsertRows
 pub mod GraphLemmas
 pub mod Writing
 pub mod InputLemmas

@@ -6,7 +6,6 @@ use Rattle.snb_schema.specs.declared.op.Line.{Line}
 use Rattle.snb_schema.specs.declared.op.Op.{Op}
 use Rattle.snb_schema.specs.declared.row.Row.{Row}
 use Rattle.snb_schema.specs.Closed.{IsClosed}
-use Rattle.snb_schema.specs.UpdateLines.{IsLine}
 use Rattle.snb_loader.specs.Input.{run_row}
 use Rattle.snb_tables.specs.Graphs.{IsGraph, HasGained, HoldsKey}
 use Rattle.snb_schema.specs.History.{started, finished, halted, hand}
@@ -17,10 +16,6 @@ use Rattle.snb_tool.specs.declared.run.Turn.{Turn}
 use Rattle.snb_tool.specs.declared.run.Turn.TheVariants.{More, Over}
 use Rattle.snb_tool.specs.Running.{HasRun, rows_of_all}
 use Rattle.snb_tool.specs.Outcome.{IsAt}
-
--- some line is the insert's
-abbrev pub HasInsertLine : Op → Type 0
-HasInsertLine op = (text : List ℕ) × (t : ℕ) × (t_d : ℕ) × IsLine text t t_d op
 
 -- the new graph is the old one with the row of this insert
 pub record IsAdded (op : Op) (old new : List Row) : Type 0 where

@@ -1,29 +1,27 @@
 //! The run of a plan by one worker.
 
-ghost use Rattle.std.specs.Prelude.{◌≡◌, ◌≢◌, ◌∷◌, [], List, true, max, min, IfOk, OnOk};
+ghost use Rattle.std.specs.Prelude.{◌≡◌, ◌∷◌, [], List, IfOk, OnOk};
 ghost use Rattle.snb_schema.specs.Closed.{key_of, IsClosed};
 ghost use Rattle.snb_loader.specs.Input.{run_row};
 ghost use Rattle.snb_loader.specs.Loading.{AreOfLines};
 ghost use Rattle.snb_tables.specs.Graphs.{HoldsKey, IsGraph};
-ghost use Rattle.snb_schema.specs.Plan.{adds_person, plan_of, ArePlanned, IsOfPersonStream};
+ghost use Rattle.snb_schema.specs.Plan.{plan_of, ArePlanned, IsOfPersonStream};
 ghost use Rattle.snb_schema.specs.TableRows.{IsTableRow};
 ghost use Rattle.snb_schema.specs.declared.row.Row.{Row as AnyRow};
-ghost use Rattle.snb_schema.specs.declared.row.Row.TheVariants as row;
-ghost use Rattle.snb_schema.specs.declared.table.Table.TheVariants as table;
 ghost use Rattle.snb_tool.specs.Running.{HasRun};
-ghost use Rattle.snb_tool.specs.Turns.{HasInsertLine, IsAdded, HasDone, TurnsTo};
+ghost use Rattle.snb_inserts.specs.Applying.{HasLine};
+ghost use Rattle.snb_tool.specs.Turns.{IsAdded, HasDone, TurnsTo};
 
 use snb_base::clock::Clock;
 use snb_base::gate::{Gate, Phase};
 use snb_book::book::Book;
 use snb_book::claim::Claim;
-use snb_fields::law::plain_fields;
 use snb_graph::graph::Graph;
+use snb_inserts::law::inserts_are_kept;
+use snb_inserts::rows::first_row;
 use snb_plan::plan::make_schedule;
 use snb_schema::op::{Line, Op};
-use snb_schema::person::Person;
 use snb_schema::row::Row;
-use snb_schema::table::Table;
 use snb_store::insert::Insert;
 use std::alloc::{AllocError, Global};
 use std::sync::Wait;
@@ -35,73 +33,21 @@ enum Turn {
     Over,
 }
 
-// A copy of the person of an insert.
-fn person_of(op: &Op) -> Result<Person, AllocError>
-    requires { adds_person op.now ≡ true }
-    ensures { IfOk result (λ person. run_row op.now ≡ row.Person person ∷ []) }
-{
-    match op {
-        Op::AddPerson {
-            person_id,
-            first_name,
-            last_name,
-            gender,
-            birthday,
-            creation_date,
-            location_ip,
-            browser_used,
-            ..
-        } => Ok(Person {
-            id: *person_id,
-            first_name: first_name.try_copy()?,
-            last_name: last_name.try_copy()?,
-            gender: gender.try_copy()?,
-            birthday: *birthday,
-            creation_date: *creation_date,
-            location_ip: location_ip.try_copy()?,
-            browser_used: browser_used.try_copy()?,
-        }),
-        _ => unreachable!(),
-    }
-}
-
 // The row that an insert adds.
 fn row_of(op: &Op) -> Result<Row, AllocError>
     requires of_persons { IsOfPersonStream op.now }
-    requires line { HasInsertLine op.now }
+    requires line { HasLine op.now }
     ensures row { IfOk result (λ r. run_row op.now ≡ r ∷ []) }
     ensures fits { IfOk result IsTableRow }
 {
-    plain_fields();
-    match op {
-        Op::AddPerson { .. } => Ok(Row::Person {
-            person: person_of(op)?,
-        }),
-        Op::AddFriend {
-            person1_id,
-            person2_id,
-            date,
-        } => Ok(friendship(*person1_id, *person2_id, *date)),
-        _ => unreachable!(),
-    }
-}
-
-// The row of a friendship: the lower id comes first.
-fn friendship(one: u64, other: u64, date: u64) -> Row
-    ensures { result ≡ row.Dated table.PersonKnowsPerson (min one other) (max one other) date }
-{
-    Row::Dated {
-        table: Table::PersonKnowsPerson,
-        from: one.min(other),
-        to: one.max(other),
-        date,
-    }
+    inserts_are_kept();
+    first_row(op)
 }
 
 // Adds the row of an insert, whose key is new.
 fn add_row(op: &Op, graph: &mut Graph) -> Result<(), AllocError>
     requires of_persons { IsOfPersonStream op.now }
-    requires line { HasInsertLine op.now }
+    requires line { HasLine op.now }
     requires new { ¬ HoldsKey graph.old (key_of op.now) }
     ensures { OnOk result (IsAdded op.now graph.old graph.new) }
 {

@@ -1,6 +1,7 @@
 use Rattle.std.proofs.Common.{◌≢◌, [], subst, sym, ◌∙◌, All}
 use Rattle.std.specs.Str.{IsUtf8}
-use Rattle.snb_lines.proofs.FieldFacts.{fields_text}
+use Rattle.snb_schema.specs.TableRows.{IsFieldText}
+use Rattle.snb_lines.proofs.FieldFacts.{fields_plain, fields_text}
 use Rattle.snb_lines.proofs.BarFacts.{not-empty}
 use Rattle.snb_lines.proofs.progress.Progress.take_line.Goals as goal
 
@@ -10,4 +11,7 @@ take-requires g c =
     let filled : line ≢ [] = not-empty line (sym c.is_empty.ensures ∙ c.if-not-is_empty.true) in
     let checked = c.in_ok-check_line.ensures.ok in
     let same = c.requires.split filled in
-    record { utf8 = subst (All IsUtf8) (sym same) (fields_text line checked.1) }
+    record {
+      utf8 = subst (All IsUtf8) (sym same) (fields_text line checked.1);
+      plain = subst (All IsFieldText) (sym same) (fields_plain line checked.1 c.requires.one_line);
+    }

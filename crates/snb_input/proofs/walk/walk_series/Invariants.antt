@@ -1,0 +1,19 @@
+use Rattle.std.proofs.Common.{◌≡◌, ◌≤◌, List}
+use Rattle.snb_schema.specs.declared.limits.TheConstants.{MAX_BYTES, MAX_ROWS}
+use Rattle.snb_input.specs.Stages.{Walked}
+use Rattle.snb_input.specs.Walk.{Before, Look, first_role}
+use Rattle.snb_input.proofs.SeriesFacts.{Along}
+use Rattle.snb_input.proofs.walk.walk_series.Given as goal
+
+-- the files before this one were looked for, and the shelf has changed nothing but its count
+abbrev pub invariant-loop-part : goal.invariant-loop-part
+invariant-loop-part g l = record {
+  along :
+      (start : Before) (looked : List Look)
+      → Walked g.P.Taker.grammar g.P.Taker.heard start looked l.fn.walk
+      → Along g.P.Taker.grammar g.P.Taker.heard (g.S.Shelf.contents l.fn.shelf) l.folder l.series start looked l.part (first_role l.needed) l.so_far;
+  bytes : l.so_far.used.bytes ≤ MAX_BYTES;
+  rows : l.so_far.used.rows ≤ MAX_ROWS;
+  same : g.S.Shelf.contents l.shelf ≡ g.S.Shelf.contents l.fn.shelf;
+  later : g.S.Shelf.faults l.fn.shelf ≤ g.S.Shelf.faults l.shelf;
+}

@@ -1,0 +1,53 @@
+use Rattle.std.proofs.Common.{rules, ◌+◌, List, Option, Ok, Err, drop, get_or, subst}
+use Rattle.std.proofs.lemmas.List.{drop_all}
+use Rattle.snb_base.specs.Shelf.{Files}
+use Rattle.snb_input.specs.declared.series.Series.{Series}
+use Rattle.snb_input.specs.Looking.{IsSeries}
+use Rattle.snb_input.specs.Stages.{before}
+use Rattle.snb_input.proofs.StageFacts.{Staged, most_fits, next_series, no_series, staged_end, staged_err, staged_first, staged_more, walked_first}
+use Rattle.snb_input.proofs.walk.walk_stage.Goals as goal
+
+pub loop-series-init : goal.loop-series-init
+loop-series-init g c = record {
+  staged =
+      λ fresh.
+      staged_first g.P.Taker.grammar g.P.Taker.heard (g.S.Shelf.contents c.args.shelf.now) c.args.folder.now c.args.stage.now (before c.args.used) (record { used = c.args.used; taker = c.args.taker }) c.requires.rising
+      (walked_first g.P.Taker.grammar g.P.Taker.heard c.args.used c.args.taker fresh);
+  bytes = search rules;
+  rows = search rules;
+  same = search rules;
+  later = search rules;
+}
+
+pub walk_series-requires-clause-few : goal.walk_series-requires-clause-few
+walk_series-requires-clause-few g c = most_fits c.args.stage.now 0 c.loop-series.series-index c.requires.rising (search rules)
+
+pub returns-in-Err-clause-answer : goal.returns-in-Err-clause-answer
+returns-in-Err-clause-answer g c =
+    λ fresh.
+    let next = next_series c.args.stage.now c.loop-series.series-index (search rules) in
+    let one : Series = get_or c.args.stage.now c.loop-series.series-index no_series in
+    let k = subst (λ (left : List Series). Staged g.P.Taker.grammar g.P.Taker.heard (g.S.Shelf.contents c.args.shelf.now) c.args.folder.now c.args.stage.now (before c.args.used) left c.loop-series.so_far) next (c.loop-series.invariant.staged fresh) in
+    staged_err g.P.Taker.grammar g.P.Taker.heard (g.S.Shelf.contents c.args.shelf.now) c.args.folder.now c.args.stage.now (before c.args.used) one (drop (c.loop-series.series-index + 1) c.args.stage.now) c.loop-series.so_far c.in-Err.load k
+    (subst (λ (z : Option Files). IsSeries g.P.Taker.grammar g.P.Taker.heard z c.args.folder.now one (before c.args.used) k.ls (Err c.in-Err.load)) c.loop-series.invariant.same (c.in-Err.ensures.answer (before c.args.used) k.ls k.walked))
+
+pub loop-series-preserved : goal.loop-series-preserved
+loop-series-preserved g c = record {
+  staged =
+      λ fresh.
+      let next = next_series c.args.stage.now c.loop-series.series-index (search rules) in
+      let one : Series = get_or c.args.stage.now c.loop-series.series-index no_series in
+      let k = subst (λ (left : List Series). Staged g.P.Taker.grammar g.P.Taker.heard (g.S.Shelf.contents c.args.shelf.now) c.args.folder.now c.args.stage.now (before c.args.used) left c.loop-series.so_far) next (c.loop-series.invariant.staged fresh) in
+      staged_more g.P.Taker.grammar g.P.Taker.heard (g.S.Shelf.contents c.args.shelf.now) c.args.folder.now c.args.stage.now (before c.args.used) one (drop (c.loop-series.series-index + 1) c.args.stage.now) c.loop-series.so_far c.in-Ok.walk k
+      (subst (λ (z : Option Files). IsSeries g.P.Taker.grammar g.P.Taker.heard z c.args.folder.now one (before c.args.used) k.ls (Ok c.in-Ok.walk)) c.loop-series.invariant.same (c.in-Ok.ensures.answer (before c.args.used) k.ls k.walked));
+  bytes = search rules;
+  rows = search rules;
+  same = search rules;
+  later = search rules;
+}
+
+pub returns-clause-answer : goal.returns-clause-answer
+returns-clause-answer g c =
+    λ fresh.
+    staged_end g.P.Taker.grammar g.P.Taker.heard (g.S.Shelf.contents c.args.shelf.now) c.args.folder.now c.args.stage.now (before c.args.used) c.loop-series.so_far
+    (subst (λ (left : List Series). Staged g.P.Taker.grammar g.P.Taker.heard (g.S.Shelf.contents c.args.shelf.now) c.args.folder.now c.args.stage.now (before c.args.used) left c.loop-series.so_far) (drop_all c.loop-series.series-index c.args.stage.now (search rules)) (c.loop-series.invariant.staged fresh))

@@ -1,0 +1,12 @@
+pub mod Files
+pub mod FirstOf
+pub mod Grammar
+pub mod Intake
+pub mod Laws
+pub mod Loading
+pub mod Looking
+pub mod Pieces
+pub mod Places
+pub mod Ranks
+pub mod Stages
+pub mod Walk

@@ -1,0 +1,133 @@
+//! The loading of one file.
+
+ghost use Rattle.std.specs.Prelude.{◌≡◌, ◌+◌, ◌≤◌, ◌<◌, ℕ, [], List, IfOk, length, vec_len, None, false};
+ghost use Rattle.snb_base.specs.Shelf.{Rose};
+ghost use Rattle.snb_schema.specs.declared.limits.TheConstants.{MAX_BYTES, MAX_ROWS};
+ghost use Rattle.snb_input.specs.Grammar.{Lawful};
+ghost use Rattle.snb_input.specs.Intake.{Taken};
+ghost use Rattle.snb_input.specs.Loading.{IsAnswer, IsWithin, OnReadFault};
+ghost use Rattle.snb_input.specs.Pieces.{Fed, IsEnd, Opened};
+ghost use Rattle.snb_input.specs.Places.{FilesSay, Source};
+
+use crate::intake::Intake;
+use crate::load::{Load, Used, load_of};
+use crate::pieces::{Step, read_piece};
+use crate::taker::Taker;
+use snb_base::shelf::Shelf;
+use snb_lines::lines::Lines;
+use snb_schema::file::FileId;
+use snb_schema::limits::MAX_BYTES;
+use std::alloc::{AllocError, Global};
+
+// How many bytes are asked for at once.
+const PIECE: usize = 65536;
+
+// Room for one piece.
+fn piece_buffer(alloc: Global) -> Result<Vec<u8>, AllocError>
+    ensures { IfOk result (λ buffer. 0 < vec_len buffer) }
+{
+    vec![in alloc; 0u8; PIECE]
+}
+
+/// What the loading of a file gives.
+#[derive(Drop)]
+pub enum Loaded<P> {
+    /// The file isn't held. What takes the items is as it was.
+    Absent {
+        /// What takes the items.
+        taker: P,
+    },
+    /// Nothing is wrong with the file, and the items of all its data lines are taken.
+    Whole {
+        /// What takes the items, to which the file is open still.
+        taker: P,
+        /// How much was read, this file with those before.
+        used: Used,
+    },
+}
+
+// Ends a file that was read to its end, after so many bytes and data lines before it. The error is
+// what the last line, the lack of a header or too little that was said is refused for, or want of
+// memory.
+fn end_file<P: Taker + Drop>(
+    alloc: Global,
+    file: FileId,
+    used: Used,
+    mut reader: Lines<Intake<P>>,
+) -> Result<Loaded<P>, Load>
+    requires lawful { Lawful P.grammar }
+    requires few { used.bytes + reader.fed ≤ MAX_BYTES }
+    requires goes_on { reader.over ≡ false }
+    requires good { reader.fault ≡ None }
+    ensures end { (past : List Source) (start : Taken P) (text : List ℕ) → Opened P.grammar P.heard file used.rows past start → Fed P.grammar P.heard start reader text
+        → IsEnd P.grammar P.heard file used past text result }
+    ensures within { (start : Taken P) (text : List ℕ) → start.rows ≤ MAX_ROWS → Fed P.grammar P.heard start reader text → IfOk result IsWithin }
+    ensures fault { OnReadFault result ⊥ }
+{
+    let mut units = Vec::new(alloc);
+    match reader.end(&mut units) {
+        Err(fault) => Err(load_of(fault)),
+        Ok(()) => {
+            let bytes = used.bytes + reader.fed();
+            let intake = reader.into_meaning();
+            let rows = intake.rows();
+            let taker = intake.into_taker();
+            if let Some(refusal) = taker.at_end(file) {
+                return Err(Load::Refused { refusal });
+            }
+            Ok(Loaded::Whole {
+                taker,
+                used: Used { bytes, rows },
+            })
+        }
+    }
+}
+
+/// Reads a file out of the shelf by its path, after so many bytes and data lines of files before, and
+/// has the items of its data lines taken. Of the file it keeps one piece and the line begun. A file
+/// that is gone after its first piece ends there.
+///
+/// `Refused` is the first thing wrong with the file: the first of its lines that is refused; else that
+/// a header is due and none is there; else that what it said isn't enough. A line is refused, where it
+/// has a byte, for the first of these: bytes past the most that are read reach it (`TooLarge`); it
+/// begins with a byte order mark (`BadLine` in column 1); it isn't UTF-8; it should be the header and
+/// isn't one (`BadLine` in column 0); its bad column (`BadLine`); it is a data line too many
+/// (`TooMany`); the file's own check. A line without a byte is counted, and refused only as too large.
+/// The other errors are a read that failed and want of memory. The taker is gone with an error.
+///
+/// The grammar is lawful (`lawful`), and what was read before is within the limits on bytes (`bytes`)
+/// and on data lines (`rows`).
+pub fn load_file<S: Shelf, P: Taker + Drop>(
+    alloc: Global,
+    shelf: &mut S,
+    path: &str,
+    file: FileId,
+    used: Used,
+    taker: P,
+) -> Result<Loaded<P>, Load>
+    requires lawful { Lawful P.grammar }
+    requires bytes { used.bytes ≤ MAX_BYTES }
+    requires rows { used.rows ≤ MAX_ROWS }
+    ensures answer { (past : List Source) (done : List (List P.Item)) → FilesSay P.grammar past done → P.heard taker done []
+        → IsAnswer P.grammar P.heard (S.contents shelf.old) path.now file used past taker result }
+    ensures within { IfOk result IsWithin }
+    ensures fault { OnReadFault result (Rose (S.faults shelf.old) (S.faults shelf.new)) }
+    ensures later { S.faults shelf.old ≤ S.faults shelf.new }
+    ensures same { S.contents shelf.new ≡ S.contents shelf.old }
+{
+    let most = MAX_BYTES - used.bytes;
+    let mut buffer = piece_buffer(alloc)?;
+    let mut reader = Lines::of_file(alloc, file, Intake::new(file, used.rows, taker));
+    'pieces: loop {
+        match read_piece(alloc, shelf, path, file, most, &mut reader, &mut buffer) {
+            Err(load) => return Err(load),
+            Ok(Step::Absent) => {
+                return Ok(Loaded::Absent {
+                    taker: reader.into_meaning().into_taker(),
+                });
+            }
+            Ok(Step::End) => return end_file(alloc, file, used, reader),
+            Ok(Step::More) => {}
+        }
+    }
+}

@@ -1,0 +1,120 @@
+//! The pieces of a file, fed to its reader as they come.
+
+ghost use Rattle.std.specs.Prelude.{◌≡◌, ◌≢◌, ◌+◌, ◌<◌, ◌≤◌, [], IfOk, OnOk, length, None, false};
+ghost use Rattle.snb_base.specs.Shelf.{Rose};
+ghost use Rattle.snb_schema.specs.declared.limits.TheConstants.{MAX_BYTES};
+ghost use Rattle.snb_input.specs.Grammar.{Lawful};
+ghost use Rattle.snb_input.specs.Loading.{OnReadFault};
+ghost use Rattle.snb_input.specs.Pieces.{IsBadPiece, IsFedMore, IsStep, OnRefused};
+
+use crate::intake::Intake;
+use crate::load::{Load, load_of};
+use crate::taker::Taker;
+use snb_base::shelf::{Got, Shelf};
+use snb_lines::lines::Lines;
+use snb_schema::file::FileId;
+use snb_schema::limits::MAX_BYTES;
+use snb_schema::refusal::Refusal;
+use std::alloc::Global;
+
+/// What a read of a file was.
+#[derive(Clone, Copy)]
+pub enum Step {
+    /// A piece more was fed.
+    More,
+    /// The file ends.
+    End,
+    /// The file isn't held.
+    Absent,
+}
+
+// Feeds the reader the next piece of a file, of which `most` bytes may be read. The error is the first
+// line that is refused, which is the one that too many bytes reach where the piece goes on beyond
+// them, or want of memory.
+fn feed_piece<P: Taker + Drop>(
+    alloc: Global,
+    file: FileId,
+    most: u64,
+    reader: &mut Lines<Intake<P>>,
+    piece: &[u8],
+) -> Result<(), Load>
+    requires lawful { Lawful P.grammar }
+    requires most { most ≤ MAX_BYTES }
+    requires few { reader.old.fed ≤ most }
+    requires goes_on { reader.old.over ≡ false }
+    requires good { reader.old.fault ≡ None }
+    ensures ok { OnOk result (IsFedMore P.grammar P.heard reader.old piece.now reader.new) }
+    ensures fed { OnOk result (reader.new.fed ≡ reader.old.fed + length piece.now) }
+    ensures few { OnOk result (reader.new.fed ≤ most) }
+    ensures goes_on { OnOk result (reader.new.over ≡ false) }
+    ensures good { OnOk result (reader.new.fault ≡ None) }
+    ensures refused { OnRefused result (IsBadPiece P.grammar P.heard file most reader.old piece.now) }
+    ensures fault { OnReadFault result ⊥ }
+{
+    let kept = piece.len().min((most - reader.fed()) as usize);
+    let mut units = Vec::new(alloc);
+    match reader.feed(&piece[..kept], &mut units) {
+        Err(fault) => Err(load_of(fault)),
+        Ok(()) => {
+            if kept < piece.len() {
+                return Err(Load::Refused {
+                    refusal: Refusal::TooLarge { file },
+                });
+            }
+            Ok(())
+        }
+    }
+}
+
+/// Reads the next piece of a file, of which `most` bytes may be read, and feeds it to the reader: more
+/// bytes of it, its end, or that it isn't held. A file that is gone after its first piece ends there.
+/// The error is the first line that is refused, a read that failed, or want of memory.
+///
+/// The grammar is lawful (`lawful`). No more than the most bytes of an input may be read (`most`), and
+/// no more than these were (`few`); the reader has neither ended (`goes_on`) nor stopped (`good`). The
+/// buffer has room for a byte (`room`).
+pub fn read_piece<S: Shelf, P: Taker + Drop>(
+    alloc: Global,
+    shelf: &mut S,
+    name: &str,
+    file: FileId,
+    most: u64,
+    reader: &mut Lines<Intake<P>>,
+    buffer: &mut [u8],
+) -> Result<Step, Load>
+    requires lawful { Lawful P.grammar }
+    requires most { most ≤ MAX_BYTES }
+    requires few { reader.old.fed ≤ most }
+    requires goes_on { reader.old.over ≡ false }
+    requires good { reader.old.fault ≡ None }
+    requires room { 0 < length buffer.old }
+    ensures step { IsStep P.grammar P.heard (S.contents shelf.old) name.now file most reader.old reader.new result }
+    ensures more { IfOk result (λ step. step ≡ Step.More → reader.old.fed < reader.new.fed) }
+    ensures few { OnOk result (reader.new.fed ≤ most) }
+    ensures goes_on { OnOk result (reader.new.over ≡ false) }
+    ensures good { OnOk result (reader.new.fault ≡ None) }
+    ensures fault { OnReadFault result (Rose (S.faults shelf.old) (S.faults shelf.new)) }
+    ensures later { S.faults shelf.old ≤ S.faults shelf.new }
+    ensures same { S.contents shelf.new ≡ S.contents shelf.old }
+{
+    match shelf.read(name, reader.fed(), buffer) {
+        Got::Failed => Err(Load::ReadFault),
+        // A file that was there at first and isn't any longer ends here.
+        Got::Absent => {
+            if reader.fed() == 0 {
+                Ok(Step::Absent)
+            } else {
+                Ok(Step::End)
+            }
+        }
+        Got::Took { count } => {
+            if count == 0 {
+                return Ok(Step::End);
+            }
+            match feed_piece(alloc, file, most, reader, &buffer[..count]) {
+                Err(load) => Err(load),
+                Ok(()) => Ok(Step::More),
+            }
+        }
+    }
+}

@@ -1,0 +1,13 @@
+pub mod Apart
+pub mod Fields
+pub mod Fitting
+pub mod Fresh
+pub mod Gained
+pub mod Lists
+pub mod MissingLemmas
+pub mod Newness
+pub mod Owners
+pub mod Referring
+pub mod ListRows
+pub mod Settling
+pub mod TakenLemmas

@@ -1,0 +1,34 @@
+-- Rows of the elements of an insert's lists.
+use Rattle.std.proofs.Common.{◌≡◌, ◌∙◌, ◌++◌, ◌∷◌, [], ℕ, List, map, ap, append_assoc, sym, take, drop}
+use Rattle.std.proofs.lemmas.List.{take-append-drop}
+use Rattle.snb_schema.specs.declared.row.Row.{Row}
+use Rattle.snb_schema.specs.declared.row.Row.TheVariants as row
+use Rattle.snb_schema.specs.declared.table.Table.{Table}
+use Rattle.snb_schema.specs.declared.table.Table.TheVariants as table
+
+-- an edge from a node to each of these
+abbrev pub links : Table → ℕ → List ℕ → List Row
+links t from ends = map (row.Link t from) ends
+
+-- an edge with a year from a node to each of these
+abbrev pub stays : Table → ℕ → List (ℕ × ℕ) → List Row
+stays t from ends = map (λ to. row.Yeared t from to.0 to.1) ends
+
+-- each of these words of a person
+abbrev pub words : Table → ℕ → List (List ℕ) → List Row
+words t person texts = map (row.Word t person) texts
+
+-- the first of rows and then the others are appended: all of them are
+pub put_all : (old mid new : List Row) (r : Row) (all : List Row) → take 1 all ≡ r ∷ [] → mid ≡ old ++ r ∷ [] → new ≡ mid ++ drop 1 all → new ≡ old ++ all
+put_all old mid new r all first one more =
+    more ∙ ap (λ (xs : List Row). xs ++ drop 1 all) (one ∙ ap (λ (xs : List Row). old ++ xs) (sym first)) ∙ append_assoc old (take 1 all) (drop 1 all) ∙ ap (λ (xs : List Row). old ++ xs) (take-append-drop 1 all)
+
+-- the edges and words of a person
+abbrev pub edges : ℕ → ℕ → List (List ℕ) → List (List ℕ) → List ℕ → List (ℕ × ℕ) → List (ℕ × ℕ) → List Row
+edges id city emails languages tags study work =
+    row.Link table.PersonIsLocatedInPlace id city
+    ∷ words table.PersonEmailEmailAddress id emails
+    ++ words table.PersonSpeaksLanguage id languages
+    ++ links table.PersonHasInterestTag id tags
+    ++ stays table.PersonStudyAtOrganisation id study
+    ++ stays table.PersonWorkAtOrganisation id work

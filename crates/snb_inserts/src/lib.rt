@@ -1,0 +1,9 @@
+//! The eight inserts, applied to a graph.
+#![tactic(auto)]
+
+pub mod applied;
+pub mod apply;
+pub mod law;
+mod missing;
+pub mod rows;
+mod taken;

@@ -1,0 +1,481 @@
+//! The rows that an insert adds.
+
+ghost use Rattle.std.specs.Prelude.{map, take, drop, ◌≡◌, ◌∷◌, ◌++◌, [], IfOk, OnOk, max, min};
+ghost use Rattle.snb_schema.specs.declared.row.Row.TheVariants as row;
+ghost use Rattle.snb_schema.specs.declared.table.Table.TheVariants as table;
+ghost use Rattle.snb_schema.specs.Inserts.{parent_row, rows_of as rows_of_op};
+
+use snb_base::text::Text;
+use snb_schema::nodes::{Comment, Forum, Post};
+use snb_schema::op::{Op, Parent};
+use snb_schema::person::Person;
+use snb_schema::row::Row;
+use snb_schema::table::Table;
+use std::alloc::{AllocError, Global};
+
+// Appends a row.
+fn put(rows: &mut Vec<Row>, one: Row) -> Result<(), AllocError>
+    ensures { OnOk result (rows.new.items ≡ rows.old.items ++ one ∷ []) }
+{
+    rows.push(one)?;
+    Ok(())
+}
+
+// Appends an edge.
+fn put_link(rows: &mut Vec<Row>, table: Table, from: u64, to: u64) -> Result<(), AllocError>
+    ensures { OnOk result (rows.new.items ≡ rows.old.items ++ row.Link table from to ∷ []) }
+{
+    put(rows, Row::Link { table, from, to })
+}
+
+// Appends an edge from a node to each of these.
+fn put_links(rows: &mut Vec<Row>, table: Table, from: u64, ends: &[u64]) -> Result<(), AllocError>
+    ensures { OnOk result (rows.new.items ≡ rows.old.items ++ map (row.Link table from) ends.now) }
+{
+    for to in ends {
+        put_link(rows, table, from, *to)?;
+    }
+    Ok(())
+}
+
+// Appends an edge with a year from a node to each of these.
+fn put_stays(
+    rows: &mut Vec<Row>,
+    table: Table,
+    from: u64,
+    ends: &[(u64, u32)],
+) -> Result<(), AllocError>
+    ensures { OnOk result (rows.new.items ≡ rows.old.items ++ map (λ s. row.Yeared table from s.0 s.1) ends.now) }
+{
+    for end in ends {
+        put(
+            rows,
+            Row::Yeared {
+                table,
+                from,
+                to: end.0,
+                year: end.1,
+            },
+        )?;
+    }
+    Ok(())
+}
+
+// Appends each of these words of a person.
+fn put_words(
+    rows: &mut Vec<Row>,
+    table: Table,
+    person: u64,
+    texts: &[Text],
+) -> Result<(), AllocError>
+    ensures { OnOk result (rows.new.items ≡ rows.old.items ++ map (row.Word table person) texts.now) }
+{
+    for text in texts {
+        put(
+            rows,
+            Row::Word {
+                table,
+                person,
+                text: text.try_copy()?,
+            },
+        )?;
+    }
+    Ok(())
+}
+
+// The row of a person.
+fn person_row(
+    id: u64,
+    first_name: &Text,
+    last_name: &Text,
+    gender: &Text,
+    birthday: u64,
+    creation_date: u64,
+    location_ip: &Text,
+    browser_used: &Text,
+) -> Result<Row, AllocError>
+    ensures { IfOk result (λ r. r ≡ row.Person (record {
+      id = id;
+      first_name = first_name.now;
+      last_name = last_name.now;
+      gender = gender.now;
+      birthday = birthday;
+      creation_date = creation_date;
+      location_ip = location_ip.now;
+      browser_used = browser_used.now;
+    })) }
+{
+    Ok(Row::Person {
+        person: Person {
+            id,
+            first_name: first_name.try_copy()?,
+            last_name: last_name.try_copy()?,
+            gender: gender.try_copy()?,
+            birthday,
+            creation_date,
+            location_ip: location_ip.try_copy()?,
+            browser_used: browser_used.try_copy()?,
+        },
+    })
+}
+
+// Appends the edges and words of a person.
+fn put_person(
+    rows: &mut Vec<Row>,
+    id: u64,
+    city: u64,
+    languages: &[Text],
+    emails: &[Text],
+    tags: &[u64],
+    study: &[(u64, u32)],
+    work: &[(u64, u32)],
+) -> Result<(), AllocError>
+    ensures { OnOk result (rows.new.items ≡ rows.old.items ++ (row.Link table.PersonIsLocatedInPlace id city ∷ map (row.Word table.PersonEmailEmailAddress id) emails.now
+        ++ map (row.Word table.PersonSpeaksLanguage id) languages.now ++ map (row.Link table.PersonHasInterestTag id) tags.now
+        ++ map (λ s. row.Yeared table.PersonStudyAtOrganisation id s.0 s.1) study.now ++ map (λ s. row.Yeared table.PersonWorkAtOrganisation id s.0 s.1) work.now)) }
+{
+    put_link(rows, Table::PersonIsLocatedInPlace, id, city)?;
+    put_words(rows, Table::PersonEmailEmailAddress, id, emails)?;
+    put_words(rows, Table::PersonSpeaksLanguage, id, languages)?;
+    put_links(rows, Table::PersonHasInterestTag, id, tags)?;
+    put_stays(rows, Table::PersonStudyAtOrganisation, id, study)?;
+    put_stays(rows, Table::PersonWorkAtOrganisation, id, work)
+}
+
+// The row of a forum.
+fn forum_row(id: u64, title: &Text, creation_date: u64) -> Result<Row, AllocError>
+    ensures { IfOk result (λ r. r ≡ row.Forum (record { id = id; title = title.now; creation_date = creation_date })) }
+{
+    Ok(Row::Forum {
+        forum: Forum {
+            id,
+            title: title.try_copy()?,
+            creation_date,
+        },
+    })
+}
+
+// Appends the edges of a forum.
+fn put_forum(rows: &mut Vec<Row>, id: u64, moderator: u64, tags: &[u64]) -> Result<(), AllocError>
+    ensures { OnOk result (rows.new.items ≡ rows.old.items ++ row.Link table.ForumHasModeratorPerson id moderator ∷ map (row.Link table.ForumHasTagTag id) tags.now) }
+{
+    put_link(rows, Table::ForumHasModeratorPerson, id, moderator)?;
+    put_links(rows, Table::ForumHasTagTag, id, tags)
+}
+
+// The row of a post.
+fn post_row(
+    id: u64,
+    image_file: &Text,
+    creation_date: u64,
+    location_ip: &Text,
+    browser_used: &Text,
+    language: &Text,
+    content: &Text,
+    length: u32,
+) -> Result<Row, AllocError>
+    ensures { IfOk result (λ r. r ≡ row.Post (record {
+      id = id;
+      image_file = image_file.now;
+      creation_date = creation_date;
+      location_ip = location_ip.now;
+      browser_used = browser_used.now;
+      language = language.now;
+      content = content.now;
+      length = length;
+    })) }
+{
+    Ok(Row::Post {
+        post: Post {
+            id,
+            image_file: image_file.try_copy()?,
+            creation_date,
+            location_ip: location_ip.try_copy()?,
+            browser_used: browser_used.try_copy()?,
+            language: language.try_copy()?,
+            content: content.try_copy()?,
+            length,
+        },
+    })
+}
+
+// Appends the edges of a post.
+fn put_post(
+    rows: &mut Vec<Row>,
+    id: u64,
+    author: u64,
+    forum: u64,
+    country: u64,
+    tags: &[u64],
+) -> Result<(), AllocError>
+    ensures { OnOk result (rows.new.items ≡ rows.old.items ++ row.Link table.ForumContainerOfPost forum id ∷ row.Link table.PostHasCreatorPerson id author
+        ∷ row.Link table.PostIsLocatedInPlace id country ∷ map (row.Link table.PostHasTagTag id) tags.now) }
+{
+    put_link(rows, Table::ForumContainerOfPost, forum, id)?;
+    put_link(rows, Table::PostHasCreatorPerson, id, author)?;
+    put_link(rows, Table::PostIsLocatedInPlace, id, country)?;
+    put_links(rows, Table::PostHasTagTag, id, tags)
+}
+
+// The row of a comment.
+fn comment_row(
+    id: u64,
+    creation_date: u64,
+    location_ip: &Text,
+    browser_used: &Text,
+    content: &Text,
+    length: u32,
+) -> Result<Row, AllocError>
+    ensures { IfOk result (λ r. r ≡ row.Comment (record {
+      id = id;
+      creation_date = creation_date;
+      location_ip = location_ip.now;
+      browser_used = browser_used.now;
+      content = content.now;
+      length = length;
+    })) }
+{
+    Ok(Row::Comment {
+        comment: Comment {
+            id,
+            creation_date,
+            location_ip: location_ip.try_copy()?,
+            browser_used: browser_used.try_copy()?,
+            content: content.try_copy()?,
+            length,
+        },
+    })
+}
+
+// Appends the edge from a comment to its parent.
+fn put_parent(rows: &mut Vec<Row>, comment: u64, parent: Parent) -> Result<(), AllocError>
+    ensures { OnOk result (rows.new.items ≡ rows.old.items ++ parent_row comment parent ∷ []) }
+{
+    match parent {
+        Parent::Post { id } => put_link(rows, Table::CommentReplyOfPost, comment, id),
+        Parent::Comment { id } => put_link(rows, Table::CommentReplyOfComment, comment, id),
+    }
+}
+
+// Appends the edges of a comment.
+fn put_comment(
+    rows: &mut Vec<Row>,
+    id: u64,
+    author: u64,
+    country: u64,
+    parent: Parent,
+    tags: &[u64],
+) -> Result<(), AllocError>
+    ensures { OnOk result (rows.new.items ≡ rows.old.items ++ row.Link table.CommentHasCreatorPerson id author
+        ∷ row.Link table.CommentIsLocatedInPlace id country ∷ parent_row id parent ∷ map (row.Link table.CommentHasTagTag id) tags.now) }
+{
+    put_link(rows, Table::CommentHasCreatorPerson, id, author)?;
+    put_link(rows, Table::CommentIsLocatedInPlace, id, country)?;
+    put_parent(rows, id, parent)?;
+    put_links(rows, Table::CommentHasTagTag, id, tags)
+}
+
+// An edge with a date.
+fn dated(table: Table, from: u64, to: u64, date: u64) -> Row
+    ensures { result ≡ row.Dated table from to date }
+{
+    Row::Dated {
+        table,
+        from,
+        to,
+        date,
+    }
+}
+
+// A friendship: the lower id comes first.
+fn friendship(one: u64, other: u64, date: u64) -> Row
+    ensures { result ≡ row.Dated table.PersonKnowsPerson (min one other) (max one other) date }
+{
+    dated(
+        Table::PersonKnowsPerson,
+        one.min(other),
+        one.max(other),
+        date,
+    )
+}
+
+/// The first row that the insert adds: its node, or its edge.
+pub fn first_row(op: &Op) -> Result<Row, AllocError>
+    ensures { IfOk result (λ r. take 1 (rows_of_op op.now) ≡ r ∷ []) }
+{
+    match op {
+        Op::AddPerson {
+            person_id,
+            first_name,
+            last_name,
+            gender,
+            birthday,
+            creation_date,
+            location_ip,
+            browser_used,
+            ..
+        } => person_row(
+            *person_id,
+            first_name,
+            last_name,
+            gender,
+            *birthday,
+            *creation_date,
+            location_ip,
+            browser_used,
+        ),
+        Op::LikePost {
+            person_id,
+            post_id,
+            date,
+        } => Ok(dated(Table::PersonLikesPost, *person_id, *post_id, *date)),
+        Op::LikeComment {
+            person_id,
+            comment_id,
+            date,
+        } => Ok(dated(Table::PersonLikesComment, *person_id, *comment_id, *date)),
+        Op::AddForum {
+            forum_id,
+            title,
+            date,
+            ..
+        } => forum_row(*forum_id, title, *date),
+        Op::AddMember {
+            person_id,
+            forum_id,
+            join_date,
+        } => Ok(dated(
+            Table::ForumHasMemberPerson,
+            *forum_id,
+            *person_id,
+            *join_date,
+        )),
+        Op::AddPost {
+            post_id,
+            image_file,
+            date,
+            location_ip,
+            browser_used,
+            language,
+            content,
+            length,
+            ..
+        } => post_row(
+            *post_id,
+            image_file,
+            *date,
+            location_ip,
+            browser_used,
+            language,
+            content,
+            *length,
+        ),
+        Op::AddComment {
+            comment_id,
+            date,
+            location_ip,
+            browser_used,
+            content,
+            length,
+            ..
+        } => comment_row(
+            *comment_id,
+            *date,
+            location_ip,
+            browser_used,
+            content,
+            *length,
+        ),
+        Op::AddFriend {
+            person1_id,
+            person2_id,
+            date,
+        } => Ok(friendship(*person1_id, *person2_id, *date)),
+    }
+}
+
+// Appends the rows that the insert adds but for the first: the edges and words of its node.
+fn put_rest(rows: &mut Vec<Row>, op: &Op) -> Result<(), AllocError>
+    ensures { OnOk result (rows.new.items ≡ rows.old.items ++ drop 1 (rows_of_op op.now)) }
+{
+    match op {
+        Op::AddPerson {
+            person_id,
+            city_id,
+            languages,
+            emails,
+            tag_ids,
+            study_at,
+            work_at,
+            ..
+        } => put_person(
+            rows,
+            *person_id,
+            *city_id,
+            languages.as_slice(),
+            emails.as_slice(),
+            tag_ids.as_slice(),
+            study_at.as_slice(),
+            work_at.as_slice(),
+        ),
+        Op::AddForum {
+            forum_id,
+            moderator_id,
+            tag_ids,
+            ..
+        } => put_forum(rows, *forum_id, *moderator_id, tag_ids.as_slice()),
+        Op::AddPost {
+            post_id,
+            author_id,
+            forum_id,
+            country_id,
+            tag_ids,
+            ..
+        } => put_post(
+            rows,
+            *post_id,
+            *author_id,
+            *forum_id,
+            *country_id,
+            tag_ids.as_slice(),
+        ),
+        Op::AddComment {
+            comment_id,
+            author_id,
+            country_id,
+            parent,
+            tag_ids,
+            ..
+        } => put_comment(
+            rows,
+            *comment_id,
+            *author_id,
+            *country_id,
+            *parent,
+            tag_ids.as_slice(),
+        ),
+        // The others add one edge alone.
+        Op::LikePost { .. } => Ok(()),
+        Op::LikeComment { .. } => Ok(()),
+        Op::AddMember { .. } => Ok(()),
+        Op::AddFriend { .. } => Ok(()),
+    }
+}
+
+// Appends the rows that the insert adds.
+fn put_rows(rows: &mut Vec<Row>, op: &Op) -> Result<(), AllocError>
+    ensures { OnOk result (rows.new.items ≡ rows.old.items ++ rows_of_op op.now) }
+{
+    let first = first_row(op)?;
+    put(rows, first)?;
+    put_rest(rows, op)
+}
+
+/// The rows that the insert adds.
+pub fn rows_of(alloc: Global, op: &Op) -> Result<Vec<Row>, AllocError>
+    ensures { IfOk result (λ rows. rows.items ≡ rows_of_op op.now) }
+{
+    let mut rows = Vec::new(alloc);
+    put_rows(&mut rows, op)?;
+    Ok(rows)
+}
