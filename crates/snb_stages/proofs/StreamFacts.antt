@@ -1,0 +1,23 @@
+-- The grammar of the streams is lawful.
+use Rattle.std.proofs.Common.{◌≡◌, ◌∙◌, ℕ, List, sym}
+use Rattle.snb_schema.specs.declared.file.FileKind.{FileKind}
+use Rattle.snb_schema.specs.declared.op.Line.{Line}
+use Rattle.snb_streams.specs.Laws.{InsertsAreRight, OneFault, OneInsertOfFields}
+use Rattle.snb_streams.specs.Updates.{allowed_in}
+use Rattle.snb_input.specs.Grammar.{Lawful}
+use Rattle.snb_stages.specs.Lanes.{SpellsLine, stream_grammar}
+
+one_line : OneInsertOfFields → (k : FileKind) (n : ℕ) (fs : List (List ℕ)) (x y : Line) → SpellsLine k n fs x → SpellsLine k n fs y → x ≡ y
+one_line one k n fs x y p q =
+    let same = one (allowed_in k) fs x.t x.t_d x.op y.t y.t_d y.op p.spells q.spells in
+    let number : x.number ≡ y.number = p.number_is ∙ sym q.number_is in
+    λ i. record { t = same.0 i; t_d = same.1 i; op = same.2 i; number = number i }
+
+-- fields say one insert at most, and are refused in one way at most
+pub stream_lawful : OneInsertOfFields → InsertsAreRight → OneFault → Lawful stream_grammar
+stream_lawful one right fault = record {
+  one = λ file n fs x y p q. one_line one file.kind n fs x y p q;
+  right = λ file n fs x c p q. right (allowed_in file.kind) fs x.t x.t_d x.op c p.spells q;
+  one_column = λ file fs a b p q. fault (allowed_in file.kind) fs a b p q;
+  one_own = λ file done mine x r q a b. a.2 ∙ sym b.2;
+}

@@ -1,0 +1,3 @@
+pub mod Dataset
+pub mod Lanes
+pub mod Tables
