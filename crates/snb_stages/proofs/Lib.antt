@@ -4,5 +4,7 @@ mod HeardFacts
 mod LackingFacts
 mod LaneFacts
 mod OrderFacts
+mod ParamFacts
+mod ParamListFacts
 mod PastFacts
 mod StreamFacts

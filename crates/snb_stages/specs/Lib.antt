@@ -1,3 +1,4 @@
 pub mod Dataset
 pub mod Lanes
+pub mod Params
 pub mod Tables

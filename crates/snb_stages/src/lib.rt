@@ -1,4 +1,5 @@
-//! The stages in which the files of a folder are read: the tables of a dataset, and the streams.
+//! The stages in which the files of a folder are read: the tables of a dataset, the streams, and the
+//! parameter files.
 #![tactic(auto)]
 
 pub mod dataset;
@@ -7,6 +8,9 @@ mod lacking;
 mod lane_tests;
 pub mod lanes;
 pub mod order;
+#[cfg(test)]
+mod param_tests;
+pub mod params;
 pub mod tables;
 #[cfg(test)]
 mod tests;

@@ -34,8 +34,8 @@ const PLACED: [Column; 3] = [ID, Column::Words, Column::Small { most: MAX_YEAR }
 
 const PAIRED: [Column; 2] = [ID, ID];
 
-// The columns of the parameters of the query of this number.
-fn columns_of(query: u32) -> &'static [Column]
+/// The columns of the parameters of the query of this number: none, where it isn't one of the seven.
+pub fn columns_of(query: u32) -> &'static [Column]
     ensures { result.now ≡ query_columns query }
 {
     match query {
@@ -87,8 +87,12 @@ fn make_query(query: u32, values: &mut Values) -> Query
     }
 }
 
-// The query of this number whose parameters the fields spell.
-fn read_query(alloc: Global, query: u32, fields: &ByteRecord) -> Result<Query, LineFault>
+/// The query of this number whose parameters the fields spell. The number is one of the seven
+/// (`complex`), and the fields are UTF-8 (`texts`).
+///
+/// Where they spell none, the error is their bad column: 0 where they aren't one for each parameter,
+/// else the first that spells no value of its column, counted from 1. The other error is want of memory.
+pub fn read_query(alloc: Global, query: u32, fields: &ByteRecord) -> Result<Query, LineFault>
     requires texts { All IsUtf8 (fields_of fields.now) }
     requires complex { IsComplex query }
     ensures ok { IfOk result (SpellsQuery query (fields_of fields.now)) }
