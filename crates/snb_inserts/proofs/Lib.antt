@@ -8,6 +8,7 @@ pub mod MissingLemmas
 pub mod Newness
 pub mod Owners
 pub mod Referring
+pub mod Keys
 pub mod ListRows
 pub mod Settling
 pub mod TakenLemmas

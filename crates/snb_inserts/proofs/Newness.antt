@@ -9,7 +9,7 @@ use Rattle.snb_schema.specs.declared.row.Row.TheVariants as row
 use Rattle.snb_schema.specs.declared.table.Kind.TheVariants as kinds
 use Rattle.snb_schema.specs.declared.table.Table.{Table}
 use Rattle.snb_schema.specs.declared.table.Table.TheVariants as table
-use Rattle.snb_schema.specs.Closed.{key_of}
+use Rattle.snb_inserts.proofs.Keys.{key_of}
 use Rattle.snb_schema.specs.UpdateLines.{insert_columns, kind_of, op_values}
 use Rattle.snb_fields.specs.Laws.{HasPlainFields}
 use Rattle.snb_tables.specs.Graphs.{IsGraph}

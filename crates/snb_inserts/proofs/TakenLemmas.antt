@@ -9,7 +9,7 @@ use Rattle.snb_schema.specs.declared.row.Row.{Row}
 use Rattle.snb_schema.specs.declared.table.Kind.TheVariants as kinds
 use Rattle.snb_schema.specs.declared.table.Table.{Table}
 use Rattle.snb_schema.specs.declared.table.Table.TheVariants as table
-use Rattle.snb_schema.specs.Closed.{key_of}
+use Rattle.snb_inserts.proofs.Keys.{key_of}
 use Rattle.snb_schema.specs.Inserts.{keys_of, message_keys}
 use Rattle.snb_schema.specs.RowKeys.{RowKey, named_key, row_key, sharing, slot}
 use Rattle.snb_shelf.proofs.Laws.{contains_cases, contains_here, contains_there}

@@ -1,32 +1,205 @@
--- What other crates may cite of this one: facts about what there is, if there is something, and about what stops a loading.
-use Rattle.std.proofs.Common.{Option, Some, None, Err}
-use Rattle.std.specs.Option.{IfSome}
-use Rattle.snb_schema.specs.declared.fault.Fault.{Fault}
-use Rattle.snb_schema.specs.declared.fault.Fault.TheVariants.{Bad}
-use Rattle.snb_schema.specs.declared.fault.Fault.TheVariants as fault
+-- What other crates may cite of this one: facts about checks one after the other, and about what is read of one folder.
+use Rattle.std.proofs.Common.{◌≡◌, ◌≤◌, ◌∙◌, ◌⊎◌, ℕ, List, [], ◌∷◌, ◌++◌, Option, None, map, sym, ap, subst, inl, inr, arith, rules}
+use Rattle.snb_base.specs.Shelf.{Files}
+use Rattle.snb_schema.specs.declared.op.Line.{Line}
 use Rattle.snb_schema.specs.declared.refusal.Refusal.{Refusal}
-use Rattle.snb_loader.specs.declared.load.Load.{Load}
-use Rattle.snb_loader.specs.declared.load.Load.TheVariants.{Refused, ReadFault, Memory}
-use Rattle.snb_schema.specs.Faults.{OnBad}
-use Rattle.snb_loader.specs.Loading.{OnRefused, load_for}
+use Rattle.snb_schema.specs.declared.row.Row.{Row}
+use Rattle.snb_schema.specs.Frequencies.{FrequencyTable}
+use Rattle.snb_schema.specs.LineLanes.{LineLanes}
+use Rattle.snb_schema.specs.QueryLists.{QueryLists}
+use Rattle.snb_streams.specs.Parameters.{params_file}
+use Rattle.snb_input.specs.declared.series.Series.{Series}
+use Rattle.snb_input.specs.FirstOf.{FirstOf, NoneOf}
+use Rattle.snb_input.specs.Laws.{AreBelow, AreFrom, Joined}
+use Rattle.snb_input.specs.Places.{FilesSay}
+use Rattle.snb_input.specs.Walk.{Before, Held, Look, after_walk, looks_from, series_looks, stage_looks, walk_checks}
+use Rattle.snb_loader.specs.declared.order.TheConstants.{FIRST_STREAM, FORUM_STREAMS, PERSON_STREAMS, TABLES}
+use Rattle.snb_loader.specs.Dataset.{IsDataset, IsUnsound, after_tables, dataset_checks}
+use Rattle.snb_loader.specs.Lanes.{AreLanes, after_lanes, after_persons, lane_checks, next_stage, stream_grammar}
+use Rattle.snb_loader.specs.Laws.{RefuseOnce}
+use Rattle.snb_loader.specs.Params.{AreParams, after_params, asked, params_checks, params_grammar, params_series, params_stage}
+use Rattle.snb_loader.specs.Streams.{IsStream, after_stream, stream_checks}
+use Rattle.snb_loader.specs.Tables.{table_grammar}
 
--- two facts of what there is, if there is something
-pub if_some_both : {A : Type 0} (o : Option A) (P Q R : A → Type 0) → ((a : A) → P a → Q a → R a) → IfSome o P → IfSome o Q → IfSome o R
-if_some_both None P Q R more p q = p
-if_some_both (Some a) P Q R more p q = more a p q
+-- ---- checks, and then more checks
 
--- one fact
-pub if_some : {A : Type 0} (o : Option A) (P Q : A → Type 0) → ((a : A) → P a → Q a) → IfSome o P → IfSome o Q
-if_some None P Q more p = p
-if_some (Some a) P Q more p = more a p
+-- where one refuses, it is one of the first, or none of these refuses
+pub first_cases : (cs ds : List {1} (Refusal → Type 0)) (r : Refusal) → FirstOf (cs ++ ds) r → FirstOf cs r ⊎ (NoneOf cs × FirstOf ds r)
+first_cases [] ds r p = inr (tt, p)
+first_cases (A ∷ cs) ds r (inl p) = inl (inl p)
+first_cases (A ∷ cs) ds r (inr p) = elim (first_cases cs ds r p.1) [
+  | inl a ↦ inl (inr (p.0, a))
+  | inr b ↦ inr ((p.0, b.0), b.1)
+]
 
--- the same of what stops the loading, whatever it was to give
-pub refused_weaker : (A B : Type 0) (load : Load) (P Q : Refusal → Type 0) → ((x : Refusal) → P x → Q x) → OnRefused {A = A} (Err load) P → OnRefused {A = B} (Err load) Q
-refused_weaker A B (Refused x) P Q more h = more x h
-refused_weaker A B ReadFault P Q more h = tt
-refused_weaker A B Memory P Q more h = tt
+-- where none refuses, none of the first does, nor of the last
+pub none_cases : (cs ds : List {1} (Refusal → Type 0)) → NoneOf (cs ++ ds) → NoneOf cs × NoneOf ds
+none_cases [] ds p = (tt, p)
+none_cases (A ∷ cs) ds p = (let h = none_cases cs ds p.1 in ((p.0, h.0), h.1))
 
--- the refusal of a line is that of the loading
-pub refused_bad : (A B : Type 0) (fault : Fault) (P Q : Refusal → Type 0) → ((x : Refusal) → P x → Q x) → OnBad {A = A} (Err fault) P → OnRefused {A = B} (Err (load_for fault)) Q
-refused_bad A B (Bad x) P Q more h = more x h
-refused_bad A B fault.Memory P Q more h = tt
+-- checks that give one refusal at most do so one list after the other
+pub once_append : (cs ds : List {1} (Refusal → Type 0)) → RefuseOnce cs → RefuseOnce ds → RefuseOnce (cs ++ ds)
+once_append cs ds a b = record {
+  one = λ r q p s. one_of r q (first_cases cs ds r p) (first_cases cs ds q s);
+  or_not = λ r p none. not_none r (first_cases cs ds r p) (none_cases cs ds none);
+}
+  where
+    one_of : (r q : Refusal) → FirstOf cs r ⊎ (NoneOf cs × FirstOf ds r) → FirstOf cs q ⊎ (NoneOf cs × FirstOf ds q) → r ≡ q
+    one_of r q (inl p) (inl s) = a.one r q p s
+    one_of r q (inl p) (inr s) = absurd (a.or_not r p s.0)
+    one_of r q (inr p) (inl s) = absurd (a.or_not q s p.0)
+    one_of r q (inr p) (inr s) = b.one r q p.1 s.1
+
+    not_none : (r : Refusal) → FirstOf cs r ⊎ (NoneOf cs × FirstOf ds r) → ¬ (NoneOf cs × NoneOf ds)
+    not_none r (inl p) none = a.or_not r p none.0
+    not_none r (inr p) none = b.or_not r p.1 none.1
+
+-- one check that gives one refusal at most
+pub once_single : (A : Refusal → Type 0) → ((r q : Refusal) → A r → A q → r ≡ q) → RefuseOnce (A ∷ [])
+once_single A one = record {
+  one = λ r q p s. one_of r q p s;
+  or_not = λ r p none. not_none r p none;
+}
+  where
+    one_of : (r q : Refusal) → FirstOf (A ∷ []) r → FirstOf (A ∷ []) q → r ≡ q
+    one_of r q (inl p) (inl s) = one r q p s
+    one_of r q (inl p) (inr s) = absurd s.1
+    one_of r q (inr p) s = absurd p.1
+
+    not_none : (r : Refusal) → FirstOf (A ∷ []) r → ¬ NoneOf (A ∷ [])
+    not_none r (inl p) none = none.0 r p
+    not_none r (inr p) none = p.1
+
+-- ---- what two reads of one folder found, as files of one folder
+
+-- both have the same files of tables: they are refused alike, as much is read, and they are the same dataset
+pub record SameDataset (a b : Held) : Type 1 where
+  pub checks : (at : Before) → dataset_checks at a ≡ dataset_checks at b
+  pub after : (at : Before) → after_tables at a ≡ after_tables at b
+  pub is : (at : Before) (g : List Row) → IsDataset at a g → IsDataset at b g
+
+-- the same of the first person stream
+pub record SameStream (a b : Held) : Type 1 where
+  pub checks : (at : Before) → stream_checks at a ≡ stream_checks at b
+  pub after : (at : Before) → after_stream at a ≡ after_stream at b
+  pub is : (at : Before) (lines : List Line) → IsStream at a lines → IsStream at b lines
+
+-- the same of the streams
+pub record SameLanes (a b : Held) : Type 1 where
+  pub checks : (at : Before) → lane_checks at a ≡ lane_checks at b
+  pub after : (at : Before) → after_lanes at a ≡ after_lanes at b
+  pub are : (at : Before) (lanes : LineLanes) → AreLanes at a lanes → AreLanes at b lanes
+
+-- the same of the parameter files
+pub record SameParams (table : FrequencyTable) (a b : Held) : Type 1 where
+  pub checks : (at : Before) → params_checks at a table ≡ params_checks at b table
+  pub after : (at : Before) → after_params at a table ≡ after_params at b table
+  pub are : (at : Before) (lists : QueryLists) → AreParams at a table lists → AreParams at b table lists
+
+same_dataset : (a b : Held) → stage_looks a TABLES ≡ stage_looks b TABLES → SameDataset a b
+same_dataset a b e = record {
+  checks = λ at. checks at;
+  after = λ at. after at;
+  is = λ at g d. record {
+    clean = subst (λ (cs : List {1} (Refusal → Type 0)). NoneOf cs) (checks at) d.clean;
+    rows = d.rows;
+    said = subst (λ (z : Before). FilesSay table_grammar z.past d.rows) (after at) d.said;
+    heard = d.heard;
+    sound = d.sound;
+  };
+}
+  where
+    checks : (at : Before) → dataset_checks at a ≡ dataset_checks at b
+    checks at i = walk_checks table_grammar at (e i) ++ IsUnsound (after_walk table_grammar at (e i)).past ∷ []
+
+    after : (at : Before) → after_tables at a ≡ after_tables at b
+    after at = ap (λ (ls : List Look). after_walk table_grammar at ls) e
+
+same_stream : (a b : Held) → stage_looks a FIRST_STREAM ≡ stage_looks b FIRST_STREAM → SameStream a b
+same_stream a b e = record {
+  checks = λ at i. walk_checks stream_grammar at (e i);
+  after = λ at. after at;
+  is = λ at lines s. record {
+    clean = subst (λ (ls : List Look). NoneOf (walk_checks stream_grammar at ls)) e s.clean;
+    lists = s.lists;
+    said = subst (λ (z : Before). FilesSay stream_grammar z.past s.lists) (after at) s.said;
+    lines_are = s.lines_are;
+  };
+}
+  where
+    after : (at : Before) → after_stream at a ≡ after_stream at b
+    after at = ap (λ (ls : List Look). after_walk stream_grammar at ls) e
+
+same_lanes : (a b : Held) → stage_looks a PERSON_STREAMS ≡ stage_looks b PERSON_STREAMS → stage_looks a FORUM_STREAMS ≡ stage_looks b FORUM_STREAMS → SameLanes a b
+same_lanes a b e f = record {
+  checks = λ at. checks at;
+  after = λ at. after at;
+  are = λ at lanes k. record {
+    clean = subst (λ (cs : List {1} (Refusal → Type 0)). NoneOf cs) (checks at) k.clean;
+    persons = subst (λ (z : Before). FilesSay stream_grammar z.past lanes.persons) (persons at) k.persons;
+    forums = subst (λ (z : Before). FilesSay stream_grammar z.past lanes.forums) (after at) k.forums;
+  };
+}
+  where
+    persons : (at : Before) → after_persons at a ≡ after_persons at b
+    persons at = ap (λ (ls : List Look). after_walk stream_grammar at ls) e
+
+    checks : (at : Before) → lane_checks at a ≡ lane_checks at b
+    checks at i = walk_checks stream_grammar at (e i) ++ walk_checks stream_grammar (next_stage (persons at i)) (f i)
+
+    after : (at : Before) → after_lanes at a ≡ after_lanes at b
+    after at i = after_walk stream_grammar (next_stage (persons at i)) (f i)
+
+same_params : (table : FrequencyTable) (a b : Held) → stage_looks a (params_stage table) ≡ stage_looks b (params_stage table) → ((q : ℕ) → a (params_file q) ≡ b (params_file q)) → SameParams table a b
+same_params table a b e file = record {
+  checks = λ at i. walk_checks params_grammar at (e i);
+  after = λ at. ap (λ (ls : List Look). after_walk params_grammar at ls) e;
+  are = λ at lists k. record {
+    clean = subst (λ (ls : List Look). NoneOf (walk_checks params_grammar at ls)) e k.clean;
+    said = λ q l. (let h = k.said q l in (h.0, sym (file q) ∙ h.1, h.2));
+    others = k.others;
+  };
+}
+
+-- the file that is looked for first
+abbrev first_held : List Look → Option (List ℕ)
+first_held [] = None
+first_held (l ∷ ls) = l.held
+
+same_file : (a b : Held) (q : ℕ) → stage_looks a (params_series q ∷ []) ≡ stage_looks b (params_series q ∷ []) → a (params_file q) ≡ b (params_file q)
+unfolding series_looks looks_from
+same_file a b q e = ap first_held e
+
+below_more : (n m : ℕ) (stage : List Series) → n ≤ m → AreBelow n stage → AreBelow m stage
+below_more n m [] le h = tt
+below_more n m (s ∷ ss) le h = (let first = h.0 in omega (arith, le, first), below_more n m ss le h.1)
+
+tables_below : AreBelow 33 TABLES
+tables_below = search rules
+
+params_are_from : (n : ℕ) (qs : List ℕ) → n ≤ 35 → AreFrom n (map params_series qs)
+params_are_from n [] le = tt
+params_are_from n (q ∷ qs) le = (omega (arith, le), params_are_from n qs le)
+
+module _ (contents : Option Files) (folder : List ℕ) (first second held : Held) (n : ℕ) (join : Joined contents folder first second n held) where
+  -- the files below a number are those of the first read
+  pub dataset_below : 33 ≤ n → SameDataset first held
+  dataset_below le = same_dataset first held (sym (join.below TABLES (below_more 33 n TABLES le tables_below)))
+
+  pub stream_below : 34 ≤ n → SameStream first held
+  stream_below le = same_stream first held (sym (join.below FIRST_STREAM (omega (arith, le), tt)))
+
+  pub lanes_below : 35 ≤ n → SameLanes first held
+  lanes_below le = same_lanes first held (sym (join.below PERSON_STREAMS (omega (arith, le), tt))) (sym (join.below FORUM_STREAMS (omega (arith, le), tt)))
+
+  -- those from it on are those of the second
+  pub stream_from : n ≤ 33 → SameStream second held
+  stream_from le = same_stream second held (sym (join.from FIRST_STREAM (le, tt)))
+
+  pub lanes_from : n ≤ 33 → SameLanes second held
+  lanes_from le = same_lanes second held (sym (join.from PERSON_STREAMS (le, tt))) (sym (join.from FORUM_STREAMS (omega (arith, le), tt)))
+
+  pub params_from : (table : FrequencyTable) → n ≤ 35 → SameParams table second held
+  params_from table le =
+      same_params table second held (sym (join.from (params_stage table) (params_are_from n (asked table) le)))
+      (λ q. same_file second held q (sym (join.from (params_series q ∷ []) (params_are_from n (q ∷ []) le))))

@@ -1,14 +1,14 @@
+mod CountFacts
+mod DatasetFacts
+mod FirstStreamFacts
+mod GrammarFacts
+mod HeardFacts
+mod LackingFacts
+mod LaneFacts
+mod LawFacts
 pub mod Laws
-pub mod ComingFacts
-pub mod FileReading
-pub mod InsertsFaults
-pub mod InsertsReading
-pub mod InsertsSplit
-pub mod InsertsTakable
-pub mod LineLemmas
-pub mod LoaderLemmas
-pub mod PersonsFaults
-pub mod PersonsGraph
-pub mod PersonsReading
-pub mod SplitFacts
-pub mod TakeLemmas
+mod OrderFacts
+mod ParamFacts
+mod ParamListFacts
+mod PastFacts
+mod StreamFacts

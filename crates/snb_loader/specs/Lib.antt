@@ -1,6 +1,6 @@
-pub mod Coming
-pub mod Inserts
-pub mod Loading
-pub mod Persons
-pub mod Pieces
-pub mod Input
+pub mod Dataset
+pub mod Lanes
+pub mod Laws
+pub mod Params
+pub mod Streams
+pub mod Tables

@@ -1,8 +1,21 @@
-//! The files of an input, out of a shelf: the persons of a dataset and the inserts of its stream.
+//! The stages in which the files of a folder are read: the tables of a dataset, the streams, and the
+//! parameter files.
 #![tactic(auto)]
 
-mod inserts;
-pub mod load;
-pub mod loader;
-mod persons;
-mod take;
+pub mod dataset;
+mod lacking;
+#[cfg(test)]
+mod lane_tests;
+pub mod lanes;
+pub mod law;
+pub mod order;
+#[cfg(test)]
+mod param_tests;
+pub mod params;
+pub mod stream;
+#[cfg(test)]
+mod stream_tests;
+mod streams;
+pub mod tables;
+#[cfg(test)]
+mod tests;

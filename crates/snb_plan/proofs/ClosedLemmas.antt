@@ -1,183 +1,269 @@
--- Whether the inserts are closed, as far as they have been looked at.
-use Rattle.std.proofs.Common.{◌≡◌, ℕ, ◌+◌, ◌<◌, ◌≤◌, false, List, [], ◌∷◌, ◌++◌, length, take, drop, get_or, Some, None, ◌⊎◌, inl, inr, refl, sym, ap, ◌∙◌, subst, arith, add-one, drop-cons, take_all, length-take, length-append}
-use Rattle.std.specs.List.{All, Contains}
+-- Whether updates are closed, as far as they have been looked at.
+use Rattle.std.proofs.Common.{◌≡◌, ℕ, ◌+◌, ◌<◌, ◌≤◌, true, false, List, [], ◌∷◌, ◌++◌, length, map, take, drop, get_or, Some, None, ◌⊎◌, inl, inr, refl, sym, ap, ◌∙◌, subst, arith, length-take}
+use Rattle.std.specs.List.{All, AllPairs, Contains}
 use Rattle.std.proofs.lemmas.Bool.{cases_lt}
-use Rattle.std.proofs.lemmas.List.{take-append-drop, take_more, get_or-take, get_or_default}
-use Rattle.std.proofs.Math.Seq.{get_or-append_seam}
-use Rattle.std.proofs.lemmas.List.Elements.{Contains-push, Contains-push_cases, Contains-append_left}
-use Rattle.snb_schema.specs.declared.file.FileId.{FileId}
+use Rattle.std.proofs.lemmas.List.{take-append-drop, take_more, take_all, get_or-take, get_or_default}
+use Rattle.std.proofs.lemmas.List.Elements.{All-append, All-cons, All-head, All-nil, All-tail, Contains-push, Contains-push_cases, Contains-append_left}
+use Rattle.snb_base.proofs.Laws.{contains_here, contains_there, push_split, split_here}
+use Rattle.std.specs.Prelude.{Result, Ok, Err, IsErrAnd}
+use Rattle.snb_schema.specs.declared.fault.Fault.{Fault}
+use Rattle.snb_schema.specs.declared.fault.Fault.TheVariants.{Bad, Memory}
+use Rattle.snb_schema.specs.Faults.{OnBad}
 use Rattle.snb_schema.specs.declared.key.Key.{Key}
 use Rattle.snb_schema.specs.declared.key.Key.TheVariants.{Node}
-use Rattle.snb_schema.specs.declared.op.Line.{Line}
 use Rattle.snb_schema.specs.declared.op.Op.{Op}
-use Rattle.snb_schema.specs.declared.op.Op.TheVariants.{AddPerson}
+use Rattle.snb_schema.specs.declared.op.Op.TheVariants as ops
+use Rattle.snb_schema.specs.declared.refusal.Missing.{Missing}
 use Rattle.snb_schema.specs.declared.refusal.Refusal.{Refusal}
-use Rattle.snb_schema.specs.declared.table.Kind.TheVariants.{Person}
-use Rattle.snb_schema.specs.Closed.{key_of, persons_of, IsLate, IsTaken, IsMet, IsFirstLacking, IsWrongBy, IsWrong, IsFirstWrong, IsClosedAt, IsClosed}
-use Rattle.snb_schema.specs.Plan.{adds_person, AreOfPersonStream}
-use Rattle.snb_plan.proofs.Adding.{same_key}
-use Rattle.snb_plan.specs.declared.closed.Added.{Added}
-use Rattle.snb_plan.specs.Added.{time_of, HasAdded, IsTakenBy, IsMetBy, IsFine}
-use Rattle.snb_base.proofs.Laws.{push_split, split_here}
+use Rattle.snb_schema.specs.declared.table.Kind.TheVariants as kinds
+use Rattle.snb_schema.specs.Awaiting.{is_awaited, waits}
+use Rattle.snb_schema.specs.Inserts.{keys_of}
+use Rattle.snb_schema.specs.References.{ref, refs_of}
+use Rattle.snb_plan.specs.declared.added.Added.{Added}
+use Rattle.snb_plan.specs.declared.added.Mark.{Mark}
+use Rattle.snb_plan.specs.Closed.{Update, added_node, IsClosed, IsClosedAt, IsFirstUnmet, IsFirstWrong, IsLate, IsMet, IsTaken, IsWrong, IsWrongBy}
+use Rattle.snb_plan.specs.Added.{mark_at, mark_of, HasMore, IsFine, IsMetBy, IsTakenBy}
+use Rattle.snb_plan.proofs.Slots.{among}
 
--- the inserts so far are closed, and of each the t is kept for its key, and nothing else is kept
-pub record Stands (holds : Key → Type 0) (all before : List Line) (added : Added) : Type 0 where
-  pub closed : (front : List Line) (y : Line) (rest : List Line) → front ++ y ∷ rest ≡ before → IsClosedAt holds all front y
-  pub kept : (key : Key) (t : ℕ) → time_of added key ≡ Some t → (y : Line) × Contains before y × (key_of y.op ≡ key) × (y.t ≡ t)
-  pub has : (y : Line) → Contains before y → time_of added (key_of y.op) ≡ Some y.t
+-- the updates are in order of t
+abbrev pub Rises : List Update → Type 0
+Rises all = AllPairs (λ u v. u.line.t ≤ v.line.t) all
 
--- an insert that is earlier than the one at a place stands before it
-before_by_t : (xs : List Line) (i : ℕ) (x y : Line) → AreOfPersonStream xs → i < length xs → x ≡ get_or xs i x → Contains xs y → y.t < x.t → Contains (take i xs) y
-before_by_t xs i x y planned lt is at earlier =
+-- the mark of an update
+abbrev mark : Update → Mark
+mark u = mark_of u.lane u.line
+
+-- the updates so far are closed, the mark of each is kept at its keys, and nothing else is kept
+pub record Stands (holds : Key → Type 0) (all before : List Update) (added : Added) : Type 0 where
+  pub closed : (front : List Update) (v : Update) (rest : List Update) → front ++ v ∷ rest ≡ before → IsClosedAt holds all front v
+  pub kept : (key : Key) (m : Mark) → mark_at added key ≡ Some m → (v : Update) × Contains before v × Contains (keys_of v.line.op) key × (m ≡ mark v)
+  pub has : (v : Update) (key : Key) → Contains before v → Contains (keys_of v.line.op) key → mark_at added key ≡ Some (mark v)
+
+-- ---- inserts
+
+-- an update takes the key of the node that it adds
+node_is_taken : (op : Op) (node : Missing) → added_node op ≡ Some node → Contains (keys_of op) (Node node.kind node.id)
+node_is_taken (ops.AddPerson id first last gender birthday created ip browser city languages emails tags study work) node e =
+    subst (λ (n : Missing). Contains (Node kinds.Person id ∷ []) (Node n.kind n.id)) (let same : ref kinds.Person id ≡ node = cc in same) (contains_here (Node kinds.Person id) [])
+node_is_taken (ops.AddForum id title date moderator tags) node e =
+    subst (λ (n : Missing). Contains (Node kinds.Forum id ∷ []) (Node n.kind n.id)) (let same : ref kinds.Forum id ≡ node = cc in same) (contains_here (Node kinds.Forum id) [])
+node_is_taken (ops.AddPost id image date ip browser language content size author forum country tags) node e =
+    subst (λ (n : Missing). Contains (Node kinds.Post id ∷ Node kinds.Comment id ∷ []) (Node n.kind n.id)) (let same : ref kinds.Post id ≡ node = cc in same)
+    (contains_here (Node kinds.Post id) (Node kinds.Comment id ∷ []))
+node_is_taken (ops.AddComment id date ip browser content size author country parent tags) node e =
+    subst (λ (n : Missing). Contains (Node kinds.Post id ∷ Node kinds.Comment id ∷ []) (Node n.kind n.id)) (let same : ref kinds.Comment id ≡ node = cc in same)
+    (contains_there (Node kinds.Post id) (Node kinds.Comment id ∷ []) (Node kinds.Comment id) (contains_here (Node kinds.Comment id) []))
+node_is_taken (ops.LikePost person post date) node e = absurd cc
+node_is_taken (ops.LikeComment person comment date) node e = absurd cc
+node_is_taken (ops.AddMember person forum date) node e = absurd cc
+node_is_taken (ops.AddFriend one other date) node e = absurd cc
+
+-- the references are of kinds that aren't awaited
+AreFree : List Missing → Type 0
+AreFree refs = All (λ (n : Missing). is_awaited n.kind ≡ false) refs
+
+free_map : {X : Type 0} (f : X → Missing) → ((x : X) → is_awaited (f x).kind ≡ false) → (xs : List X) → AreFree (map f xs)
+unfolding AreFree
+free_map f each [] = All-nil (λ (n : Missing). is_awaited n.kind ≡ false)
+free_map f each (x ∷ xs) = All-cons (λ (n : Missing). is_awaited n.kind ≡ false) (f x) (map f xs) (each x) (free_map f each xs)
+
+free_append : (xs ys : List Missing) → AreFree xs → AreFree ys → AreFree (xs ++ ys)
+unfolding AreFree
+free_append xs ys a b = All-append (λ (n : Missing). is_awaited n.kind ≡ false) xs ys a b
+
+free_at : (refs : List Missing) (node : Missing) → AreFree refs → Contains refs node → is_awaited node.kind ≡ false
+unfolding AreFree
+free_at refs node free at = subst (λ (n : Missing). is_awaited n.kind ≡ false) at.2 (free at.0 node at.1)
+
+free_cons : (node : Missing) (refs : List Missing) → is_awaited node.kind ≡ false → AreFree refs → AreFree (node ∷ refs)
+unfolding AreFree
+free_cons node refs one rest = All-cons (λ (n : Missing). is_awaited n.kind ≡ false) node refs one rest
+
+-- an insert that refers to a node of an awaited kind waits
+refers_waits : (op : Op) (node : Missing) → Contains (refs_of op) node → is_awaited node.kind ≡ true → waits op ≡ true
+refers_waits (ops.AddPerson id first last gender birthday created ip browser city languages emails tags study work) node at awaited =
+    let tagged = free_append (map (ref kinds.Tag) tags) (map (λ s. ref kinds.Organisation s.0) study)
+    (free_map (ref kinds.Tag) (λ _. refl) tags) (free_map (λ s. ref kinds.Organisation s.0) (λ _. refl) study) in
+    let rest = free_append (map (ref kinds.Tag) tags ++ map (λ s. ref kinds.Organisation s.0) study) (map (λ w. ref kinds.Organisation w.0) work)
+    tagged (free_map (λ w. ref kinds.Organisation w.0) (λ _. refl) work) in
+    let free = free_at (refs_of (ops.AddPerson id first last gender birthday created ip browser city languages emails tags study work)) node
+    (free_cons (ref kinds.Place city) (map (ref kinds.Tag) tags ++ map (λ s. ref kinds.Organisation s.0) study ++ map (λ w. ref kinds.Organisation w.0) work) refl rest) at in
+    absurd (let same : true ≡ false = sym awaited ∙ free in cc)
+refers_waits _ node at awaited = refl
+
+-- ---- order
+
+-- an update that is earlier than the one at a place stands before it
+before_by_t : (all : List Update) (i : ℕ) (u v : Update) → Rises all → i < length all → u ≡ get_or all i u → Contains all v → v.line.t < u.line.t → Contains (take i all) v
+before_by_t all i u v rises lt is at earlier =
     elim (cases_lt at.0 i) [
-      | inl below ↦ (at.0, omega (arith, length-take i xs), get_or-take i xs at.0 y below ∙ at.2)
-      | inr later ↦ absurd (
-          let rises = planned.rises i at.0 x later at.1 in
-          let there : y.t ≡ (get_or xs at.0 x).t = ap (λ (z : Line). z.t) (sym at.2 ∙ get_or_default xs at.0 y x at.1) in
-          let here : x.t ≡ (get_or xs i x).t = ap (λ (z : Line). z.t) is in
-          omega arith)
+      | inl below ↦ (at.0, omega (arith, length-take i all), get_or-take i all at.0 v below ∙ at.2)
+      | inr later ↦ absurd (elim (cases_lt i at.0) [
+        | inl after ↦ (
+            let there : v.line.t ≡ (get_or all at.0 u).line.t = ap (λ (z : Update). z.line.t) (sym at.2 ∙ get_or_default all at.0 v u at.1) in
+            let here : u.line.t ≡ (get_or all i u).line.t = ap (λ (z : Update). z.line.t) is in
+            let le = rises i at.0 u after at.1 in
+            omega arith)
+        | inr here ↦ (
+            let place : at.0 ≡ i = omega arith in
+            let same : v ≡ u = sym at.2 ∙ get_or_default all at.0 v u at.1 ∙ ap (λ (k : ℕ). get_or all k u) place ∙ sym is in
+            let t : v.line.t ≡ u.line.t = ap (λ (z : Update). z.line.t) same in
+            omega arith)
+      ])
     ]
 
--- an insert before a place is among all
-among_all : (xs : List Line) (i : ℕ) (y : Line) → Contains (take i xs) y → Contains xs y
-among_all xs i y at = subst (λ (zs : List Line). Contains zs y) (take-append-drop i xs) (Contains-append_left (take i xs) (drop i xs) y at)
+-- an update before a place is among all
+among_all : (all : List Update) (i : ℕ) (v : Update) → Contains (take i all) v → Contains all v
+among_all all i v at = subst (λ (zs : List Update). Contains zs v) (take-append-drop i all) (Contains-append_left (take i all) (drop i all) v at)
 
--- whether a key is taken, by what is kept
-taken_by : (holds : Key → Type 0) (all before : List Line) (added : Added) (x : Line) → Stands holds all before added → IsTaken holds before x → IsTakenBy holds added (key_of x.op)
-taken_by holds all before added x s (inl held) = inl held
-taken_by holds all before added x s (inr y) = inr (y.0.t, subst (λ (k : Key). time_of added k ≡ Some y.0.t) y.2 (s.has y.0 y.1))
+-- ---- by what is kept
 
-by_taken : (holds : Key → Type 0) (all before : List Line) (added : Added) (x : Line) → Stands holds all before added → IsTakenBy holds added (key_of x.op) → IsTaken holds before x
-by_taken holds all before added x s (inl held) = inl held
-by_taken holds all before added x s (inr t) = (let y = s.kept (key_of x.op) t.0 t.1 in inr (y.0, y.1, y.2))
+-- whether a key is taken
+taken_by : (holds : Key → Type 0) (all before : List Update) (added : Added) (u : Update) → Stands holds all before added → IsTaken holds before u → IsTakenBy holds added u
+taken_by holds all before added u s (key, at, inl held) = (key, at, inl held)
+taken_by holds all before added u s (key, at, inr v) = (key, at, inr (mark v.0, s.has v.0 key v.1 v.2))
 
--- whether a person is met, by what is kept
-by_met : (holds : Key → Type 0) (xs : List Line) (i t_d id : ℕ) (added : Added) → Stands holds xs (take i xs) added → IsMetBy holds added t_d id → IsMet holds xs t_d id
-by_met holds xs i t_d id added s (inl held) = inl held
-by_met holds xs i t_d id added s (inr t) =
-    let y = s.kept (Node Person id) t.0 t.1 in
-    inr (y.0, among_all xs i y.0 y.1, y.2, let same = y.3 in let le = t.2 in omega arith)
+by_taken : (holds : Key → Type 0) (all before : List Update) (added : Added) (u : Update) → Stands holds all before added → IsTakenBy holds added u → IsTaken holds before u
+by_taken holds all before added u s (key, at, inl held) = (key, at, inl held)
+by_taken holds all before added u s (key, at, inr m) = (let v = s.kept key m.0 m.1 in (key, at, inr (v.0, v.1, v.2)))
 
-met_by : (holds : Key → Type 0) (xs : List Line) (i id : ℕ) (x : Line) (added : Added) → AreOfPersonStream xs → i < length xs → x ≡ get_or xs i x → x.t_d < x.t
-    → Stands holds xs (take i xs) added → IsMet holds xs x.t_d id → IsMetBy holds added x.t_d id
-met_by holds xs i id x added planned lt is timely s (inl held) = inl held
-met_by holds xs i id x added planned lt is timely s (inr y) =
-    let before = before_by_t xs i x y.0 planned lt is y.1 (let le = y.3 in omega arith) in
-    inr (y.0.t, subst (λ (k : Key). time_of added k ≡ Some y.0.t) y.2 (s.has y.0 before), y.3)
+-- whether a node is met
+by_met : (holds : Key → Type 0) (all : List Update) (i : ℕ) (u : Update) (node : Missing) (added : Added) → Stands holds all (take i all) added → IsMetBy holds added u node
+    → IsMet holds all (take i all) u node
+by_met holds all i u node added s (inl held) = inl held
+by_met holds all i u node added s (inr (m, at, meets)) =
+    let v = s.kept (Node node.kind node.id) m at in
+    let node_of : added_node v.0.line.op ≡ Some node = ap (λ (x : Mark). x.node) (sym v.3) ∙ meets.0 in
+    elim meets.1 [
+      | inl timely ↦ inr (inl (timely.0, (v.0, among_all all i v.0 v.1, node_of, subst (λ (x : Mark). x.t ≤ u.line.t_d) v.3 timely.1)))
+      | inr lane ↦ inr (inr (lane.0, (v.0, v.1, ap (λ (x : Mark). x.lane) (sym v.3) ∙ lane.1, node_of)))
+    ]
 
--- an insert that refers to a person waits for persons
-waits : (op : Op) (front : List ℕ) (id : ℕ) (rest : List ℕ) → front ++ id ∷ rest ≡ persons_of op → adds_person op ≡ false
-waits (AddPerson a b c d e f g h i j k l m n) [] id rest q = absurd cc
-waits (AddPerson a b c d e f g h i j k l m n) (x ∷ front) id rest q = absurd cc
-waits _ front id rest q = refl
+met_by : (holds : Key → Type 0) (all : List Update) (i : ℕ) (u : Update) (node : Missing) (added : Added) → Rises all → i < length all → u ≡ get_or all i u
+    → (is_awaited node.kind ≡ true → u.line.t_d < u.line.t) → Stands holds all (take i all) added → IsMet holds all (take i all) u node → IsMetBy holds added u node
+met_by holds all i u node added rises lt is timely s (inl held) = inl held
+met_by holds all i u node added rises lt is timely s (inr (inl (awaited, v))) =
+    let below = timely awaited in
+    let le = v.3 in
+    let before = before_by_t all i u v.0 rises lt is v.1 (omega (arith, le, below)) in
+    inr (mark v.0, s.has v.0 (Node node.kind node.id) before (node_is_taken v.0.line.op node v.2), (v.2, inl (awaited, le)))
+met_by holds all i u node added rises lt is timely s (inr (inr (kind, v))) =
+    inr (mark v.0, s.has v.0 (Node node.kind node.id) v.1 (node_is_taken v.0.line.op node v.3), (v.3, inr (kind, v.2)))
 
 -- what isn't late is in time
-timely_from : (x : Line) → (IsLate x → ⊥) → adds_person x.op ≡ false → x.t_d < x.t
-timely_from x not_late dependent = elim (cases_lt x.t_d x.t) [ inl lt ↦ lt | inr ge ↦ absurd (not_late (dependent, ge)) ]
+timely_from : (u : Update) → (IsLate u → ⊥) → waits u.line.op ≡ true → u.line.t_d < u.line.t
+timely_from u not_late dependent = elim (cases_lt u.line.t_d u.line.t) [ inl lt ↦ lt | inr ge ↦ absurd (not_late (dependent, ge)) ]
 
 -- at first nothing is kept
-pub stands_none : (holds : Key → Type 0) (all : List Line) (added : Added) → ((key : Key) → time_of added key ≡ None) → Stands holds all [] added
+pub stands_none : (holds : Key → Type 0) (all : List Update) (added : Added) → ((key : Key) → mark_at added key ≡ None) → Stands holds all [] added
 stands_none holds all added none = record {
   closed = nothing;
-  kept = λ key t e. absurd (let n = none key in cc);
-  has = λ y at. absurd (let l = at.1 in omega arith);
+  kept = λ key m e. absurd (let n = none key in cc);
+  has = λ v key at taken. absurd (let l = at.1 in omega arith);
 }
   where
-    nothing : (front : List Line) (y : Line) (rest : List Line) → front ++ y ∷ rest ≡ [] → IsClosedAt holds all front y
-    nothing [] y rest q = absurd cc
-    nothing (z ∷ front) y rest q = absurd cc
+    nothing : (front : List Update) (v : Update) (rest : List Update) → front ++ v ∷ rest ≡ [] → IsClosedAt holds all front v
+    nothing [] v rest q = absurd cc
+    nothing (z ∷ front) v rest q = absurd cc
 
--- an insert with which nothing is wrong is closed
-fine_is_closed : (holds : Key → Type 0) (xs : List Line) (i : ℕ) (x : Line) (added : Added) → Stands holds xs (take i xs) added → IsFine holds added x → IsClosedAt holds xs (take i xs) x
-fine_is_closed holds xs i x added s fine = record {
-  timely = timely_from x fine.timely;
-  new = λ taken. fine.new (taken_by holds xs (take i xs) added x s taken);
-  met = λ k d lt. by_met holds xs i x.t_d (get_or (persons_of x.op) k d) added s (fine.met k d lt);
+-- an update with which nothing is wrong is closed
+fine_is_closed : (holds : Key → Type 0) (all : List Update) (i : ℕ) (u : Update) (added : Added) → Stands holds all (take i all) added → IsFine holds added u → IsClosedAt holds all (take i all) u
+fine_is_closed holds all i u added s fine = record {
+  timely = timely_from u fine.timely;
+  new = λ taken. fine.new (taken_by holds all (take i all) added u s taken);
+  met = λ k d lt. by_met holds all i u (get_or (refs_of u.line.op) k d) added s (fine.met k d lt);
 }
 
-some_same : (a b : ℕ) → Some a ≡ Some b → a ≡ b
+some_same : (a b : Mark) → Some a ≡ Some b → a ≡ b
 some_same a b e = cc
 
--- one insert more, with which nothing is wrong
-pub stands_next : (holds : Key → Type 0) (xs : List Line) (i : ℕ) (x : Line) (old new : Added) → i < length xs → x ≡ get_or xs i x → Stands holds xs (take i xs) old → IsFine holds old x
-    → HasAdded old x new → Stands holds xs (take (i + 1) xs) new
-stands_next holds xs i x old new lt is s fine added =
-    subst (λ (ys : List Line). Stands holds xs ys new) (ap (λ (y : Line). take i xs ++ y ∷ []) is ∙ sym (take_more xs i x lt))
-    (record { closed = closed; kept = λ key t e. kept key t e (same_key (key_of x.op) key); has = has })
+-- one update more, with which nothing is wrong
+pub stands_next : (holds : Key → Type 0) (all : List Update) (i : ℕ) (u : Update) (old new : Added) → i < length all → u ≡ get_or all i u → Stands holds all (take i all) old → IsFine holds old u
+    → HasMore old (keys_of u.line.op) (mark_of u.lane u.line) new → Stands holds all (take (i + 1) all) new
+stands_next holds all i u old new lt is s fine added =
+    subst (λ (vs : List Update). Stands holds all vs new) (ap (λ (v : Update). take i all ++ v ∷ []) is ∙ sym (take_more all i u lt))
+    (record { closed = closed; kept = λ key m e. kept key m e (among (keys_of u.line.op) key); has = has })
   where
-    before : List Line
-    before = take i xs
-
-    closed : (front : List Line) (y : Line) (rest : List Line) → front ++ y ∷ rest ≡ take i xs ++ x ∷ [] → IsClosedAt holds xs front y
-    closed front y rest splits = elim (push_split front y rest (take i xs) x splits) [
+    closed : (front : List Update) (v : Update) (rest : List Update) → front ++ v ∷ rest ≡ take i all ++ u ∷ [] → IsClosedAt holds all front v
+    closed front v rest splits = elim (push_split front v rest (take i all) u splits) [
       | inl here ↦
-          subst (λ (z : Line). IsClosedAt holds xs front z) (sym here.1)
-          (subst (λ (zs : List Line). IsClosedAt holds xs zs x) (sym here.0) (fine_is_closed holds xs i x old s fine))
-      | inr earlier ↦ s.closed front y earlier.0 earlier.1
+          subst (λ (z : Update). IsClosedAt holds all front z) (sym here.1)
+          (subst (λ (zs : List Update). IsClosedAt holds all zs u) (sym here.0) (fine_is_closed holds all i u old s fine))
+      | inr earlier ↦ s.closed front v earlier.0 earlier.1
     ]
 
-    kept : (key : Key) (t : ℕ) → time_of new key ≡ Some t → (key_of x.op ≡ key) ⊎ (key_of x.op ≡ key → ⊥)
-        → (y : Line) × Contains (take i xs ++ x ∷ []) y × (key_of y.op ≡ key) × (y.t ≡ t)
-    kept key t e (inl here) =
-        (x, Contains-push (take i xs) x, here, some_same x.t t (sym (subst (λ (k : Key). time_of new k ≡ Some x.t) here added.here) ∙ e))
-    kept key t e (inr other) =
-        let y = s.kept key t (sym (added.others key other) ∙ e) in
-        (y.0, Contains-append_left (take i xs) (x ∷ []) y.0 y.1, y.2, y.3)
+    kept : (key : Key) (m : Mark) → mark_at new key ≡ Some m → Contains (keys_of u.line.op) key ⊎ (Contains (keys_of u.line.op) key → ⊥)
+        → (v : Update) × Contains (take i all ++ u ∷ []) v × Contains (keys_of v.line.op) key × (m ≡ mark v)
+    kept key m e (inl here) = (u, Contains-push (take i all) u, here, some_same m (mark u) (sym e ∙ added.here key here))
+    kept key m e (inr other) =
+        let v = s.kept key m (sym (added.others key other) ∙ e) in
+        (v.0, Contains-append_left (take i all) (u ∷ []) v.0 v.1, v.2, v.3)
 
-    has : (y : Line) → Contains (take i xs ++ x ∷ []) y → time_of new (key_of y.op) ≡ Some y.t
-    has y at = elim (Contains-push_cases (take i xs) x y at) [
-      | inl earlier ↦
-          added.others (key_of y.op) (λ same. fine.new (inr (y.t, subst (λ (k : Key). time_of old k ≡ Some y.t) (sym same) (s.has y earlier))))
-          ∙ s.has y earlier
-      | inr here ↦ subst (λ (z : Line). time_of new (key_of z.op) ≡ Some z.t) here added.here
+    has : (v : Update) (key : Key) → Contains (take i all ++ u ∷ []) v → Contains (keys_of v.line.op) key → mark_at new key ≡ Some (mark v)
+    has v key at taken = elim (Contains-push_cases (take i all) u v at) [
+      | inl earlier ↦ added.others key (λ again. fine.new (key, again, inr (mark v, s.has v key earlier taken))) ∙ s.has v key earlier taken
+      | inr here ↦ subst (λ (z : Update). Contains (keys_of z.line.op) key → mark_at new key ≡ Some (mark z)) here (λ at_u. added.here key at_u) taken
     ]
 
--- after the last insert all are closed
-pub closed_all : (holds : Key → Type 0) (xs : List Line) (i : ℕ) (added : Added) → length xs ≤ i → Stands holds xs (take i xs) added → IsClosed holds xs
-closed_all holds xs i added all s = record { each = λ before x after splits. s.closed before x after (splits ∙ sym (take_all i xs all)) }
+-- after the last update all are closed
+pub closed_all : (holds : Key → Type 0) (all : List Update) (i : ℕ) (added : Added) → length all ≤ i → Stands holds all (take i all) added → IsClosed holds all
+closed_all holds all i added past s = record { each = λ before u after splits. s.closed before u after (splits ∙ sym (take_all i all past)) }
 
--- with an insert that is closed nothing is wrong
-pub not_wrong : (holds : Key → Type 0) (file : FileId) (all before : List Line) (x : Line) (r : Refusal) → IsClosedAt holds all before x → IsWrong holds file all before x r → ⊥
-not_wrong holds file all before x r closed (inl late) = (let lt = closed.timely late.0.0 in let ge = late.0.1 in omega arith)
-not_wrong holds file all before x r closed (inr (inl taken)) = closed.new taken.1
-not_wrong holds file all before x r closed (inr (inr unmet)) =
-    let first : IsFirstLacking (IsMet holds all x.t_d) (persons_of x.op) unmet.2.0 = unmet.2.1 in
-    first.lacking (all_at (IsMet holds all x.t_d) first.front unmet.2.0 first.rest (subst (All (IsMet holds all x.t_d)) (sym first.splits) closed.met))
-  where
-    all_at : (P : ℕ → Type 0) (front : List ℕ) (id : ℕ) (rest : List ℕ) → All P (front ++ id ∷ rest) → P id
-    all_at P front id rest a =
-        subst P (get_or-append_seam front id rest id) (a (length front) id (omega (arith, length-append front (id ∷ rest))))
+-- what holds of all holds of the one between others
+all_at : {X : Type 0} (P : X → Type 0) (front : List X) (x : X) (rest : List X) → All P (front ++ x ∷ rest) → P x
+all_at P [] x rest a = All-head P x rest a
+all_at P (y ∷ front) x rest a = all_at P front x rest (All-tail P y (front ++ x ∷ rest) a)
 
--- what is wrong with an insert by what is kept is wrong with it
-pub first_wrong : (holds : Key → Type 0) (file : FileId) (xs : List Line) (i : ℕ) (x : Line) (added : Added) (r : Refusal) → AreOfPersonStream xs → i < length xs → x ≡ get_or xs i x
-    → Stands holds xs (take i xs) added → IsWrongBy (λ z. IsTakenBy holds added (key_of z.op)) (IsMetBy holds added) file x r → IsFirstWrong holds file xs r
-first_wrong holds file xs i x added r planned lt is s wrong = record {
-  before = take i xs;
-  insert = x;
-  after = drop (i + 1) xs;
-  splits = split_here xs i x lt is;
+-- an element between others is one of the list
+between : {X : Type 0} (front : List X) (x : X) (rest : List X) → Contains (front ++ x ∷ rest) x
+between [] x rest = contains_here x rest
+between (y ∷ front) x rest = contains_there y (front ++ x ∷ rest) x (between front x rest)
+
+-- with an update that is closed nothing is wrong
+pub not_wrong : (holds : Key → Type 0) (all before : List Update) (u : Update) (r : Refusal) → IsClosedAt holds all before u → IsWrong holds all before u r → ⊥
+not_wrong holds all before u r closed (inl late) = (let lt = closed.timely late.0.0 in let ge = late.0.1 in omega arith)
+not_wrong holds all before u r closed (inr (inl taken)) = closed.new taken.1
+not_wrong holds all before u r closed (inr (inr unmet)) =
+    let first : IsFirstUnmet (IsMet holds all before u) (refs_of u.line.op) unmet.2.0 = unmet.2.1 in
+    first.unmet (all_at (IsMet holds all before u) first.front unmet.2.0 first.rest (subst (All (IsMet holds all before u)) (sym first.splits) closed.met))
+
+-- what is wrong with an update by what is kept is wrong with it
+pub first_wrong : (holds : Key → Type 0) (all : List Update) (i : ℕ) (u : Update) (added : Added) (r : Refusal) → Rises all → i < length all → u ≡ get_or all i u
+    → Stands holds all (take i all) added → IsWrongBy (IsTakenBy holds added) (IsMetBy holds added) u r → IsFirstWrong holds all r
+first_wrong holds all i u added r rises lt is s wrong = record {
+  before = take i all;
+  update = u;
+  after = drop (i + 1) all;
+  splits = split_here all i u lt is;
   wrong = by_cause wrong;
-  none_before = λ front y rest q splits w. not_wrong holds file xs front y q (s.closed front y rest splits) w;
+  none_before = λ front v rest q splits w. not_wrong holds all front v q (s.closed front v rest splits) w;
 }
   where
-    by_cause : IsWrongBy (λ z. IsTakenBy holds added (key_of z.op)) (IsMetBy holds added) file x r → IsWrong holds file xs (take i xs) x r
+    by_cause : IsWrongBy (IsTakenBy holds added) (IsMetBy holds added) u r → IsWrong holds all (take i all) u r
     by_cause (inl late) = inl late
-    by_cause (inr (inl taken)) = inr (inl (taken.0, by_taken holds xs (take i xs) added x s taken.1, taken.2))
+    by_cause (inr (inl taken)) = inr (inl (taken.0, by_taken holds all (take i all) added u s taken.1, taken.2))
     by_cause (inr (inr unmet)) =
-        let first : IsFirstLacking (IsMetBy holds added x.t_d) (persons_of x.op) unmet.2.0 = unmet.2.1 in
-        let timely : x.t_d < x.t = timely_from x unmet.0 (waits x.op first.front unmet.2.0 first.rest first.splits) in
+        let node : Missing = unmet.2.0 in
+        let first : IsFirstUnmet (IsMetBy holds added u) (refs_of u.line.op) node = unmet.2.1 in
+        let at : Contains (refs_of u.line.op) node = subst (λ (refs : List Missing). Contains refs node) first.splits (between first.front node first.rest) in
         inr (inr (
           unmet.0,
-          λ taken. unmet.1 (taken_by holds xs (take i xs) added x s taken),
+          λ taken. unmet.1 (taken_by holds all (take i all) added u s taken),
           (
-            unmet.2.0,
+            node,
             record {
               front = first.front;
               rest = first.rest;
               splits = first.splits;
-              before = λ k d l. by_met holds xs i x.t_d (get_or first.front k d) added s (first.before k d l);
-              lacking = λ met. first.lacking (met_by holds xs i unmet.2.0 x added planned lt is timely s met);
+              before = λ k d l. by_met holds all i u (get_or first.front k d) added s (first.before k d l);
+              unmet = λ met. first.unmet (met_by holds all i u node added rises lt is (λ awaited. timely_from u unmet.0 (refers_waits u.line.op node at awaited)) s met);
             },
             unmet.2.2,
           ),
         ))
+
+-- a refusal that is handed on is the callee's
+pub passed_on : (given : Result (Unit {0}) Fault) (fault : Fault) (P Q : Refusal → Type 0) → IsErrAnd given (λ e. e ≡ fault) → OnBad {A = Unit {0}} (Err fault) P → ((r : Refusal) → P r → Q r) → OnBad given Q
+passed_on (Ok a) fault P Q same h more = tt
+passed_on (Err Memory) fault P Q same h more = tt
+passed_on (Err (Bad r)) fault P Q same h more = more r (subst (λ (f : Fault). OnBad {A = Unit {0}} (Err f) P) (sym same) h)

@@ -1,21 +1,16 @@
--- What other crates may cite of this one: facts about the plan of a stream, and about closed inserts.
+-- What other crates may cite of this one: facts about the plan of a stream, and about closed updates.
 use Rattle.std.proofs.Common.{◌≡◌, ℕ, ◌<◌, false, List, [], ◌∷◌, length, Some}
-use Rattle.snb_schema.specs.declared.file.FileId.{FileId}
-use Rattle.snb_schema.specs.declared.key.Key.{Key}
 use Rattle.snb_schema.specs.declared.op.Line.{Line}
-use Rattle.snb_schema.specs.declared.refusal.Refusal.{Refusal}
-use Rattle.snb_schema.specs.Closed.{IsWrong, IsClosedAt}
 use Rattle.std.specs.Prelude.{slice_get}
 use Rattle.snb_schema.specs.declared.step.LaneKind.TheVariants.{Person}
-use Rattle.snb_schema.specs.Plan.{plan_of, AreTimed}
+use Rattle.snb_plan.specs.Plan.{plan_of, AreTimed}
 use Rattle.snb_schema.specs.Schedule.{step_of, IsPlanned}
-use Rattle.snb_plan.proofs.ClosedLemmas
+use Rattle.snb_schema.specs.declared.key.Key.{Key}
+use Rattle.snb_plan.specs.PlanLaws.{ClosedIsOne, StreamsArePlanned}
+use Rattle.snb_plan.proofs.OneRefusal
 use Rattle.snb_plan.proofs.PlanLemmas
+use Rattle.snb_plan.proofs.Streams
 use Rattle.snb_plan.proofs.PlanLemmas.{HasTimes}
-
--- nothing is wrong with an insert that is closed
-pub not_wrong : (holds : Key → Type 0) (file : FileId) (all before : List Line) (x : Line) (r : Refusal) → IsClosedAt holds all before x → IsWrong holds file all before x r → ⊥
-not_wrong = ClosedLemmas.not_wrong
 
 -- the plan has an operation for each insert
 pub plan_length : (xs : List Line) → length (plan_of xs).steps ≡ length xs
@@ -36,3 +31,11 @@ planned_plan = PlanLemmas.planned_plan
 -- the one lane of the plan is of persons
 pub lane_of_persons : (lane : ℕ) → lane < 1 → slice_get (Person ∷ []) lane ≡ Some Person
 lane_of_persons = PlanLemmas.lane_of_persons
+
+-- updates are refused in one way at most, and aren't closed where they are
+pub closed_is_one : (holds : Key → Type 0) → ClosedIsOne holds
+closed_is_one = OneRefusal.closed_is_one
+
+-- the lines of a stream of persons can be planned
+pub streams_are_planned : StreamsArePlanned
+streams_are_planned = Streams.streams_are_planned

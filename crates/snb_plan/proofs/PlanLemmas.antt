@@ -1,13 +1,16 @@
 -- Facts on the plan of a stream's inserts.
-use Rattle.std.proofs.Common.{◌≡◌, ℕ, zero, suc, ◌+◌, ◌-◌, ◌<◌, ◌≤◌, List, [], ◌∷◌, ◌++◌, length, take, get_or, Bool, true, false, not, Some, inl, inr, refl, sym, ap, ◌∙◌, subst, arith, add-zero, length-take}
+use Rattle.std.proofs.Common.{◌≡◌, ℕ, zero, suc, ◌+◌, ◌-◌, ◌<◌, ◌≤◌, List, [], ◌∷◌, ◌++◌, length, take, get_or, Bool, true, false, Some, inl, inr, refl, sym, ap, ◌∙◌, subst, arith, add-zero, length-take}
 use Rattle.std.specs.Prelude.{◌==◌, count_by, slice_get}
 use Rattle.std.proofs.lemmas.Bool.{cases_lt, eq-eqb}
 use Rattle.std.proofs.lemmas.List.{take_more}
 use Rattle.std.proofs.lemmas.List.Sums.{count_by_more_yes}
 use Rattle.snb_schema.specs.declared.op.Line.{Line}
+use Rattle.snb_schema.specs.declared.op.Op.{Op}
+use Rattle.snb_schema.specs.declared.op.Op.TheVariants.{AddPerson}
 use Rattle.snb_schema.specs.declared.step.Step.{Step}
 use Rattle.snb_schema.specs.declared.step.LaneKind.TheVariants.{Person, Query}
-use Rattle.snb_schema.specs.Plan.{adds_person, insert_step, insert_steps, first_t, plan_of, AreTimed}
+use Rattle.snb_schema.specs.Awaiting.{adds_awaited, waits}
+use Rattle.snb_plan.specs.Plan.{insert_step, insert_steps, first_t, plan_of, AreTimed}
 use Rattle.snb_schema.specs.Schedule.{Schedule, no_step, step_of, ComesBefore, count_before, IsPlanned}
 
 -- there is a step for each insert
@@ -82,8 +85,8 @@ pub record HasTimes (xs : List Line) (k : ℕ) (d : Line) : Type 0 where
   pub t : (step_of (plan_of xs) k).t ≡ (get_or xs k d).t
   pub t_d : (step_of (plan_of xs) k).t_d ≡ (get_or xs k d).t_d
   pub due : (step_of (plan_of xs) k).due ≡ (get_or xs k d).t - first_t xs
-  pub lets : (step_of (plan_of xs) k).dependency ≡ adds_person (get_or xs k d).op
-  pub waits : (step_of (plan_of xs) k).dependent ≡ not (adds_person (get_or xs k d).op)
+  pub lets : (step_of (plan_of xs) k).dependency ≡ adds_awaited (get_or xs k d).op
+  pub waits : (step_of (plan_of xs) k).dependent ≡ waits (get_or xs k d).op
 
 -- each moment is the insert's, and it is due by its t
 pub plan_times : (x : Line) (xs : List Line) (k : ℕ) → k < length (x ∷ xs) → HasTimes (x ∷ xs) k x
@@ -98,6 +101,11 @@ no_query lane e h = (let q : slice_get (Person ∷ []) 0 ≡ Some Query = subst 
 -- a step that isn't behind in t and stands at a later place comes later
 comes_before : (one other : Step) → one.t ≤ other.t → one.lane ≡ other.lane → one.place < other.place → ComesBefore one other
 comes_before one other t lane place = elim (cases_lt one.t other.t) [ inl lt ↦ inl lt | inr ge ↦ inr ((let e : one.t ≡ other.t = omega arith in e), inr (lane, place)) ]
+
+-- what adds an awaited node doesn't wait
+pub apart : (op : Op) → adds_awaited op ≡ true → waits op ≡ false
+apart (AddPerson a b c d e f g h i j k l m n) awaited = refl
+apart _ awaited = absurd cc
 
 -- the plan of some inserts is a schedule's
 some_planned : (x : Line) (xs : List Line) → AreTimed (x ∷ xs) → IsPlanned (plan_of (x ∷ xs))
@@ -130,7 +138,7 @@ some_planned x xs a =
       needs_timed = λ k within. let lt : k < length all = omega arith in let one = plan_times x xs k lt in let t = a.needs_timed k x lt in omega (arith, one.t_d);
       due_timed = λ k within. let lt : k < length all = omega arith in let one = plan_times x xs k lt in let t = a.timed k x lt in omega (arith, one.due);
       reads = λ k within. (λ q. absurd (let p = (plan_plain (x ∷ xs) k).1 in cc), λ q. absurd (no_query (step_of s k).lane (plan_plain (x ∷ xs) k).0 q));
-      apart = λ k within q. let lt : k < length all = omega arith in let one = plan_times x xs k lt in one.waits ∙ ap not (sym one.lets ∙ q);
+      apart = λ k within q. let lt : k < length all = omega arith in let one = plan_times x xs k lt in one.waits ∙ apart (get_or all k x).op (sym one.lets ∙ q);
     }
 
 -- the plan of inserts that may be planned is a schedule's

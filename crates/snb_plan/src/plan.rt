@@ -1,7 +1,8 @@
 //! The plan of the inserts of a stream.
 
 ghost use Rattle.std.specs.Prelude.{◌≡◌, ◌≤◌, IfOk};
-ghost use Rattle.snb_schema.specs.Plan.{adds_person, first_t, insert_step, insert_steps, plan_of, AreTimed};
+ghost use Rattle.snb_schema.specs.Awaiting.{adds_awaited, waits};
+ghost use Rattle.snb_plan.specs.Plan.{first_t, insert_step, insert_steps, plan_of, AreTimed};
 
 use snb_schema::op::{Line, Op};
 use snb_schema::schedule::Schedule;
@@ -15,14 +16,24 @@ fn t_of_first(inserts: &[Line]) -> u64
     if inserts.is_empty() { 0 } else { inserts[0].t }
 }
 
-/// Whether dependents may wait for the insert. One of another kind is a dependent itself, by the
-/// dependency rule of Erling et al., SIGMOD 2015.
-pub fn adds_person(op: &Op) -> bool
-    ensures { result ≡ adds_person op.now }
+/// Whether the insert is a dependency: it adds a node that dependents may wait for, by the dependency
+/// rule of Erling et al., SIGMOD 2015.
+pub fn adds_awaited(op: &Op) -> bool
+    ensures { result ≡ adds_awaited op.now }
 {
     match op {
         Op::AddPerson { .. } => true,
         _ => false,
+    }
+}
+
+/// Whether the insert is a dependent: it waits for what is added up to its t_d.
+pub fn waits(op: &Op) -> bool
+    ensures { result ≡ waits op.now }
+{
+    match op {
+        Op::AddPerson { .. } => false,
+        _ => true,
     }
 }
 
@@ -31,15 +42,14 @@ fn insert_step(first: u64, place: u32, line: &Line) -> Step
     requires { first ≤ line.now.t }
     ensures { result ≡ insert_step first place line.now }
 {
-    let person = adds_person(&line.op);
     Step {
         lane: 0,
         place,
         t: line.t,
         t_d: line.t_d,
         due: line.t - first,
-        dependency: person,
-        dependent: !person,
+        dependency: adds_awaited(&line.op),
+        dependent: waits(&line.op),
         query: false,
     }
 }

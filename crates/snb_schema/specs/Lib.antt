@@ -1,5 +1,4 @@
 pub mod Columns
-pub mod Closed
 pub mod Completion
 pub mod Faults
 pub mod FileNames
@@ -13,7 +12,6 @@ pub mod LineFaults
 pub mod LineLanes
 pub mod Lines
 pub mod ParameterLines
-pub mod Plan
 pub mod Queries
 pub mod QueryLists
 pub mod RowLines
@@ -21,6 +19,7 @@ pub mod Rules
 pub mod RunTexts
 pub mod Schedule
 pub mod ScreenTexts
+pub mod StreamLines
 pub mod UpdateLines
 pub mod Violation
 pub mod Worked

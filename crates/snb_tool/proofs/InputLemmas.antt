@@ -1,101 +1,176 @@
--- Facts on the refusals of two files together.
-use Rattle.std.proofs.Common.{◌≡◌, ℕ, List, length, Option, Some, sym, subst, inl, inr}
+-- Facts on what a folder is refused for, and on what is read of it.
+use Rattle.std.proofs.Common.{◌≡◌, ℕ, List, [], ◌∷◌, ◌++◌, length, Option, Ok, Err, Vec, inl, inr, sym, subst, ap, ◌∙◌, arith}
+use Rattle.std.specs.declared.alloc.Global.{Global}
 use Rattle.snb_base.specs.Shelf.{Files}
+use Rattle.snb_input.specs.declared.load.Load.{Load}
+use Rattle.snb_input.specs.declared.load.Load.TheVariants.{Refused, ReadFault, Memory}
+use Rattle.snb_input.specs.declared.load.Used.{Used}
+use Rattle.snb_input.specs.FirstOf.{FirstOf, NoneOf}
+use Rattle.snb_input.specs.Laws.{StagesJoin}
+use Rattle.snb_input.specs.Stages.{before}
+use Rattle.snb_input.specs.Walk.{Before, Held, IsHeldTold}
+use Rattle.snb_input.proofs.Laws.{first_anyway, first_later, none_append}
+use Rattle.snb_loader.specs.Dataset.{IsDataset, IsDatasetAnswer, after_tables, dataset_checks}
+use Rattle.snb_loader.specs.Lanes.{AreLanes, IsLanesAnswer, lane_checks, lines_of, next_stage}
+use Rattle.snb_loader.specs.Laws.{DatasetIsOne, DatasetRefusesOnce, LanesRefuseOnce, RefuseOnce, StreamIsOne, StreamRefusesOnce}
+use Rattle.snb_loader.specs.Streams.{IsStream, IsStreamAnswer, stream_checks}
+use Rattle.snb_loader.proofs.Laws.{SameLanes, SameStream, dataset_below, lanes_from, once_append, once_single, stream_from}
+use Rattle.snb_plan.specs.Closed.{IsClosed, IsFirstWrong, updates_of}
+use Rattle.snb_plan.proofs.Laws.{closed_is_one}
 use Rattle.snb_schema.specs.declared.op.Line.{Line}
 use Rattle.snb_schema.specs.declared.refusal.Refusal.{Refusal}
-use Rattle.snb_schema.specs.Closed.{IsClosed, IsFirstWrong}
 use Rattle.snb_schema.specs.declared.row.Row.{Row}
+use Rattle.snb_schema.specs.LineLanes.{LineLanes}
 use Rattle.snb_tables.specs.Graphs.{HoldsKey}
-use Rattle.snb_loader.specs.Input.{FilesRefuse, FirstFault, NoFault, Refuses, RefusesHeld, held_in, person_file, person_stream, stream_of}
-use Rattle.snb_schema.specs.Lines.{data_lines, lines}
-use Rattle.snb_loader.specs.Loading.{PersonsBad, PersonsLoaded, PersonsRefused, StreamBad, StreamOf}
-use Rattle.snb_tool.specs.Running.{IsLoaded}
-use Rattle.snb_plan.proofs.Laws.{not_wrong}
-use Rattle.snb_tool.proofs.GraphLemmas.{closed_moved, first_wrong_moved, held_by, held_in_graph}
-use Rattle.snb_tool.proofs.RefusalLemmas.{Laws, over_one}
+use Rattle.snb_tool.specs.Commands.{Command, Check, Run}
+use Rattle.snb_tool.specs.declared.check.Counts.{Counts}
+use Rattle.snb_tool.specs.declared.run.Input.{Input}
+use Rattle.snb_tool.specs.Endings.{IsCountsAnswer, IsInputAnswer}
+use Rattle.snb_tool.specs.Inputs.{IsNotClosed, after_dataset, at_first, check_checks, checks_of, person_stream, run_checks}
 
--- without a fault there is no first one
-none_first : (F : List (List ℕ) → List ℕ → Refusal → Type 0) (ls : List (List ℕ)) (r : Refusal) → NoFault F ls → ¬ FirstFault F ls r
-none_first F ls r n f = n.none f.before f.line f.after r f.splits f.fault
+-- inserts that aren't closed are refused in one way
+not_closed_once : DatasetIsOne → StreamIsOne → (held : Held) (r q : Refusal) → IsNotClosed held r → IsNotClosed held q → r ≡ q
+not_closed_once d s held r q a b =
+    sym
+    ((closed_is_one (HoldsKey a.graph) (updates_of 0 person_stream a.inserts) r a.wrong).0 q
+    (subst (λ (xs : List Line). IsFirstWrong (HoldsKey a.graph) (updates_of 0 person_stream xs) q) (s (after_dataset held) held b.inserts a.inserts b.stream a.stream)
+    (subst (λ (g : List Row). IsFirstWrong (HoldsKey g) (updates_of 0 person_stream b.inserts) q) (d at_first held b.graph a.graph b.dataset a.dataset) b.wrong)))
 
--- refusals of held files
-held_refuses : (folder : List ℕ) (files : Files) (persons : List ℕ) (r : Refusal) → held_in folder files person_file ≡ Some persons → FilesRefuse persons (stream_of folder files) r → Refuses folder files r
-held_refuses folder files persons r e f = subst (λ (h : Option (List ℕ)). RefusesHeld h (stream_of folder files) r) (sym e) f
+-- and closed ones aren't
+closed_not : DatasetIsOne → StreamIsOne → (held : Held) (graph : List Row) (inserts : List Line) → IsDataset at_first held graph → IsStream (after_dataset held) held inserts
+    → IsClosed (HoldsKey graph) (updates_of 0 person_stream inserts) → (r : Refusal) → ¬ IsNotClosed held r
+closed_not d s held graph inserts tables stream closed r a =
+    (closed_is_one (HoldsKey graph) (updates_of 0 person_stream inserts) r
+    (subst (λ (xs : List Line). IsFirstWrong (HoldsKey graph) (updates_of 0 person_stream xs) r) (s (after_dataset held) held a.inserts inserts a.stream stream)
+    (subst (λ (g : List Row). IsFirstWrong (HoldsKey g) (updates_of 0 person_stream a.inserts) r) (d at_first held a.graph graph a.dataset tables) a.wrong))).1
+    closed
 
--- and back
-refuses_held : (folder : List ℕ) (files : Files) (persons : List ℕ) (r : Refusal) → held_in folder files person_file ≡ Some persons → Refuses folder files r → FilesRefuse persons (stream_of folder files) r
-refuses_held folder files persons r e f = subst (λ (h : Option (List ℕ)). RefusesHeld h (stream_of folder files) r) e f
+-- the checks of a command give one refusal at most
+pub once : DatasetRefusesOnce → LanesRefuseOnce → StreamRefusesOnce → DatasetIsOne → StreamIsOne → (command : Command) (held : Held) → RefuseOnce (checks_of command held)
+once tables lanes stream d s (Check folder) held = once_append (dataset_checks at_first held) (lane_checks (after_dataset held) held) (tables at_first held) (lanes (after_dataset held) held)
+once tables lanes stream d s (Run folder) held =
+    once_append (dataset_checks at_first held) (stream_checks (after_dataset held) held ++ IsNotClosed held ∷ []) (tables at_first held)
+    (once_append (stream_checks (after_dataset held) held) (IsNotClosed held ∷ []) (stream (after_dataset held) held) (once_single (IsNotClosed held) (not_closed_once d s held)))
 
--- what is wrong with the person file refuses
-pub persons_refuse : (folder : List ℕ) (files : Files) (r : Refusal) → PersonsRefused folder files r → Refuses folder files r
-persons_refuse folder files r (inl none) = subst (λ (h : Option (List ℕ)). RefusesHeld h (stream_of folder files) r) (sym none.0) none.1
-persons_refuse folder files r (inr some) = held_refuses folder files some.0 r some.1 (by_cause some.2)
-  where
-    by_cause : PersonsBad some.0 r → FilesRefuse some.0 (stream_of folder files) r
-    by_cause (inl first) = inl first
-    by_cause (inr bare) = inr (λ q f. none_first _ (lines some.0) q bare.0 f, inl bare.1)
+-- ---- what was read of one folder
 
--- what is wrong with the stream refuses
-pub stream_refuses : (folder : List ℕ) (files : Files) (graph : List Row) (size count : ℕ) (r : Refusal) → PersonsLoaded folder files graph size count → StreamBad (stream_of folder files) size count r → Refuses folder files r
-stream_refuses folder files graph size count r p bad =
-    held_refuses folder files p.0 r p.1
-    (inr (
-      λ q f. none_first _ (lines p.0) q p.2.clean f,
-      inr (
-        λ q h. p.2.headed h.0,
-        inl (subst (λ (n : ℕ). StreamBad (stream_of folder files) n (length (data_lines (lines p.0))) r) p.2.size
-            (subst (λ (n : ℕ). StreamBad (stream_of folder files) size n r) p.2.counted bad)),
-      ),
-    ))
+-- nothing was read before
+abbrev nothing_used : Used
+nothing_used = record { bytes = 0; rows = 0 }
 
--- a stream that was read has no bad line
-none_stream : (folder : List ℕ) (files : Files) (graph : List Row) (size count : ℕ) (xs : List Line) (q : Refusal) (p : PersonsLoaded folder files graph size count) → StreamOf (stream_of folder files) size count xs
-    → ¬ StreamBad (stream_of folder files) (length p.0) (length (data_lines (lines p.0))) q
-none_stream folder files graph size count xs q p s f =
-    none_first _ (lines (stream_of folder files)) q s.clean
-    (subst (λ (n : ℕ). StreamBad (stream_of folder files) n count q) (sym p.2.size)
-    (subst (λ (n : ℕ). StreamBad (stream_of folder files) (length p.0) n q) (sym p.2.counted) f))
+-- the streams begin where the tables end
+start_is : (used : Used) (held : Held) → used.bytes ≡ (after_tables at_first held).bytes → used.rows ≡ (after_tables at_first held).rows → before used ≡ after_dataset held
+start_is used held b r i = record { bytes = b i; rows = r i; past = [] }
 
--- an insert that isn't closed refuses
-pub wrong_refuses : (folder : List ℕ) (files : Files) (graph : List Row) (size count : ℕ) (xs : List Line) (r : Refusal) → PersonsLoaded folder files graph size count → StreamOf (stream_of folder files) size count xs
-    → IsFirstWrong (HoldsKey graph) person_stream xs r → Refuses folder files r
-wrong_refuses folder files graph size count xs r p s wrong =
-    held_refuses folder files p.0 r p.1
-    (inr (
-      λ q f. none_first _ (lines p.0) q p.2.clean f,
-      inr (
-        λ q h. p.2.headed h.0,
-        inr (
-          λ q f. none_stream folder files graph size count xs q p s f,
-          record {
-            dataset = p.2.dataset;
-            rows = p.2.read;
-            inserts = xs;
-            read = s.read;
-            wrong = first_wrong_moved (HoldsKey graph) (HoldsKey p.2.dataset) person_stream xs r (λ k. held_by graph p.2.dataset k p.2.kept) (λ k. held_in_graph graph p.2.dataset k p.2.kept) wrong;
-          },
-        ),
-      ),
-    ))
+module _ (stages : StagesJoin) (contents : Option Files) (folder : List ℕ) where
+  -- a dataset and something that was read after it are of one folder
+  record Both (used : Used) (graph : List Row) (second : Held) : Type 1 where
+    pub held : Held
+    pub told : IsHeldTold contents folder held
+    pub dataset : IsDataset at_first held graph
+    pub start : before used ≡ after_dataset held
+    pub stream : SameStream second held
+    pub lanes : SameLanes second held
 
--- files of which nothing is refused are loaded
-pub files_loaded : Laws → (folder : List ℕ) (files : Files) (graph : List Row) (size count : ℕ) (xs : List Line) → PersonsLoaded folder files graph size count → StreamOf (stream_of folder files) size count xs
-    → IsClosed (HoldsKey graph) xs → IsLoaded folder files graph xs
-files_loaded laws folder files graph size count xs p s closed = record {
-  accepted = λ r f. accept r (refuses_held folder files p.0 r p.1 f);
-  dataset = p.2.dataset;
-  input = record { persons = p.0; held = p.1; rows = p.2.read; stream = s.read };
-  closed = over_dataset;
-  kept = p.2.kept;
-}
-  where
-    over_dataset : IsClosed (HoldsKey p.2.dataset) xs
-    over_dataset = closed_moved (HoldsKey graph) (HoldsKey p.2.dataset) xs (λ k. held_by graph p.2.dataset k p.2.kept) (λ k. held_in_graph graph p.2.dataset k p.2.kept) closed
+  both : (used : Used) (graph : List Row) (second : Held) → IsDatasetAnswer contents folder nothing_used used (Ok graph) → IsHeldTold contents folder second → Both used graph second
+  both used graph second d told =
+      let j = stages contents folder d.0 second 33 d.1 told in
+      let same = dataset_below contents folder d.0 second j.0 33 j.1 (omega arith) in
+      record {
+        held = j.0;
+        told = j.1.told;
+        dataset = same.is at_first graph d.2;
+        start = start_is used d.0 d.3 d.4 ∙ ap next_stage (same.after at_first);
+        stream = stream_from contents folder d.0 second j.0 33 j.1 (omega arith);
+        lanes = lanes_from contents folder d.0 second j.0 33 j.1 (omega arith);
+      }
 
-    accept : (r : Refusal) → ¬ FilesRefuse p.0 (stream_of folder files) r
-    accept r (inl f) = none_first _ (lines p.0) r p.2.clean f
-    accept r (inr (n, inl h)) = p.2.headed h.0
-    accept r (inr (n, inr (m, inl f))) = none_stream folder files graph size count xs r p s f
-    accept r (inr (n, inr (m, inr f))) =
-        let w = over_one laws p.0 (stream_of folder files) p.2.dataset xs r p.2.read s.read f.1 in
-        not_wrong (HoldsKey p.2.dataset) person_stream xs w.before w.insert r (over_dataset.each w.before w.insert w.after w.splits) w.wrong
+  -- ---- of `check`
+
+  pub count_no_dataset : (used : Used) (load : Load) → IsDatasetAnswer contents folder nothing_used used (Err load) → IsCountsAnswer contents folder (Err load)
+  count_no_dataset used (Refused r) h = (h.0, h.1, first_anyway (dataset_checks at_first h.0) (lane_checks (after_dataset h.0) h.0) r h.2)
+  count_no_dataset used ReadFault h = tt
+  count_no_dataset used Memory h = tt
+
+  pub count_no_lanes : (used later : Used) (graph : List Row) (load : Load) → IsDatasetAnswer contents folder nothing_used used (Ok graph) → IsLanesAnswer contents folder used later (Err load)
+      → IsCountsAnswer contents folder (Err load)
+  count_no_lanes used later graph (Refused r) d h =
+      let b = both used graph h.0 d h.1 in (
+        b.held,
+        b.told,
+        first_later (dataset_checks at_first b.held) (lane_checks (after_dataset b.held) b.held) r b.dataset.clean
+            (subst (λ (cs : List {1} (Refusal → Type 0)). FirstOf cs r) (b.lanes.checks (before used) ∙ (λ i. lane_checks (b.start i) b.held)) h.2),
+      )
+  count_no_lanes used later graph ReadFault d h = tt
+  count_no_lanes used later graph Memory d h = tt
+
+  pub counted : (used later : Used) (graph : List Row) (lanes : LineLanes) (counts : Counts) → IsDatasetAnswer contents folder nothing_used used (Ok graph)
+      → IsLanesAnswer contents folder used later (Ok lanes) → counts.rows ≡ length graph → counts.updates ≡ length (lines_of lanes) → IsCountsAnswer contents folder (Ok counts)
+  counted used later graph lanes counts d h rows updates =
+      let b = both used graph h.0 d h.1 in
+      let streams : AreLanes (after_dataset b.held) b.held lanes = subst (λ (at : Before). AreLanes at b.held lanes) b.start (b.lanes.are (before used) lanes h.2) in (
+        b.held,
+        b.told,
+        record {
+          clean = none_append (dataset_checks at_first b.held) (lane_checks (after_dataset b.held) b.held) b.dataset.clean streams.clean;
+          graph = graph;
+          lanes = lanes;
+          dataset = b.dataset;
+          streams = streams;
+          rows = rows;
+          updates = updates;
+        },
+      )
+
+  -- ---- of `run`
+
+  pub input_no_dataset : (used : Used) (load : Load) → IsDatasetAnswer contents folder nothing_used used (Err load) → IsInputAnswer contents folder (Err load)
+  input_no_dataset used (Refused r) h = (h.0, h.1, first_anyway (dataset_checks at_first h.0) (stream_checks (after_dataset h.0) h.0 ++ IsNotClosed h.0 ∷ []) r h.2)
+  input_no_dataset used ReadFault h = tt
+  input_no_dataset used Memory h = tt
+
+  pub input_no_stream : (used later : Used) (graph : List Row) (load : Load) → IsDatasetAnswer contents folder nothing_used used (Ok graph) → IsStreamAnswer contents folder used later (Err load)
+      → IsInputAnswer contents folder (Err load)
+  input_no_stream used later graph (Refused r) d h =
+      let b = both used graph h.0 d h.1 in (
+        b.held,
+        b.told,
+        first_later (dataset_checks at_first b.held) (stream_checks (after_dataset b.held) b.held ++ IsNotClosed b.held ∷ []) r b.dataset.clean
+            (first_anyway (stream_checks (after_dataset b.held) b.held) (IsNotClosed b.held ∷ []) r
+            (subst (λ (cs : List {1} (Refusal → Type 0)). FirstOf cs r) (b.stream.checks (before used) ∙ (λ i. stream_checks (b.start i) b.held)) h.2)),
+      )
+  input_no_stream used later graph ReadFault d h = tt
+  input_no_stream used later graph Memory d h = tt
+
+  -- the stream of the files that both are of
+  stream_is : (used : Used) (graph : List Row) (second : Held) (lines : List Line) (b : Both used graph second) → IsStream (before used) second lines → IsStream (after_dataset b.held) b.held lines
+  stream_is used graph second lines b s = subst (λ (at : Before). IsStream at b.held lines) b.start (b.stream.is (before used) lines s)
+
+  pub input_not_closed : (used later : Used) (graph : List Row) (lines : Vec Line Global) (r : Refusal) → IsDatasetAnswer contents folder nothing_used used (Ok graph) → IsStreamAnswer contents folder used later (Ok lines)
+      → IsFirstWrong (HoldsKey graph) (updates_of 0 person_stream lines.items) r → IsInputAnswer contents folder (Err (Refused r))
+  input_not_closed used later graph lines r d h wrong =
+      let b = both used graph h.0 d h.1 in
+      let stream = stream_is used graph h.0 lines.items b h.2 in (
+        b.held,
+        b.told,
+        first_later (dataset_checks at_first b.held) (stream_checks (after_dataset b.held) b.held ++ IsNotClosed b.held ∷ []) r b.dataset.clean
+            (first_later (stream_checks (after_dataset b.held) b.held) (IsNotClosed b.held ∷ []) r stream.clean
+            (inl (record { graph = graph; inserts = lines.items; dataset = b.dataset; stream = stream; wrong = wrong }))),
+      )
+
+  pub input_loaded : DatasetIsOne → StreamIsOne → (used later : Used) (input : Input) → IsDatasetAnswer contents folder nothing_used used (Ok input.graph)
+      → IsStreamAnswer contents folder used later (Ok input.inserts) → IsClosed (HoldsKey input.graph) (updates_of 0 person_stream input.inserts.items) → IsInputAnswer contents folder (Ok input)
+  input_loaded one single used later input d h closed =
+      let b = both used input.graph h.0 d h.1 in
+      let stream = stream_is used input.graph h.0 input.inserts.items b h.2 in (
+        b.held,
+        b.told,
+        record {
+          clean = none_append (dataset_checks at_first b.held) (stream_checks (after_dataset b.held) b.held ++ IsNotClosed b.held ∷ []) b.dataset.clean
+              (none_append (stream_checks (after_dataset b.held) b.held) (IsNotClosed b.held ∷ []) stream.clean
+              (closed_not one single b.held input.graph input.inserts.items b.dataset stream closed, tt));
+          dataset = b.dataset;
+          stream = stream;
+          closed = closed;
+        },
+      )

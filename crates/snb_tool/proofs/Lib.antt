@@ -1,10 +1,4 @@
 pub mod FieldLemmas
-pub mod OutcomeLemmas
-pub mod RefusalLemmas
-pub mod FinalLemmas
-pub mod GraphLemmas
-pub mod Writing
 pub mod InputLemmas
-pub mod LogLemmas
-pub mod RunLemmas
-pub mod TurnLemmas
+pub mod OutcomeLemmas
+pub mod Writing

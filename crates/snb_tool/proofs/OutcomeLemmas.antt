@@ -1,47 +1,25 @@
--- Facts on what a call answers and writes.
-use Rattle.std.proofs.Common.{arith, ◌≡◌, ℕ, ◌<◌, ◌≤◌, List, [], length, Option, Some, None, refl, ap, ◌∙◌, inl, inr}
+-- Facts on how a call ends.
+use Rattle.std.proofs.Common.{arith, ◌≡◌, ℕ, ◌<◌, ◌≤◌, ◌⊎◌, List, [], ◌∷◌, length, Option, Some, None, Ok, Err, refl, sym, subst, ap, ◌∙◌, inl, inr, codes}
 use Rattle.std.proofs.lemmas.Bool.Decides.{leb_tells}
 use Rattle.std.specs.Option.{IfSome}
 use Rattle.snb_base.specs.Outbox.{Written}
 use Rattle.snb_base.specs.Shelf.{Files}
-use Rattle.snb_schema.specs.declared.op.Line.{Line}
+use Rattle.snb_input.specs.Files.{held_in}
+use Rattle.snb_input.specs.FirstOf.{FirstOf, NoneOf}
+use Rattle.snb_input.specs.Walk.{Held, IsHeldTold}
+use Rattle.snb_schema.specs.declared.file.FileId.{FileId}
 use Rattle.snb_schema.specs.declared.refusal.Refusal.{Refusal}
-use Rattle.snb_schema.specs.declared.event.Event.{Event}
-use Rattle.snb_schema.specs.declared.row.Row.{Row}
-use Rattle.snb_tables.specs.FinalText.{final_text}
-use Rattle.snb_schema.specs.RunTexts.{log_text, no_answers_text}
-use Rattle.snb_loader.specs.Input.{Refuses}
-use Rattle.snb_schema.specs.ScreenTexts.{refusal_text, summary_text, usage_text}
-use Rattle.snb_tool.specs.Outcome.{IsRunCut, IsOtherLine, IsRun, Wrote, run_texts}
-use Rattle.snb_tool.specs.Running.{IsLoaded, IsRunBegun, IsRunOutput}
-use Rattle.snb_tool.specs.Output.{IsWrittenSoFar, on_screen, size_of}
-use Rattle.snb_tool.specs.Words.{IsRunLine}
-use Rattle.snb_loader.proofs.Laws.{if_some}
-
--- what holds of all files holds of those that are told
-if_some_always : (contents : Option Files) (P : Files → Type 0) → ((files : Files) → P files) → IfSome contents P
-if_some_always None P all = tt
-if_some_always (Some files) P all = all files
-
--- the output of a run of what was loaded is a run's
-pub is_run : (words : List (List ℕ)) (folder : List ℕ) (files : Files) (fixed : Option ℕ) (graph : List Row) (inserts : List Line) (texts : Written)
-    → IsRunLine words folder → IsLoaded folder files graph inserts → IsRunOutput inserts fixed graph texts → IsRun words files fixed texts
-is_run words folder files fixed graph inserts texts line loaded output = record {
-  folder = folder;
-  line = line;
-  accepted = loaded.accepted;
-  dataset = loaded.dataset;
-  inserts = inserts;
-  input = loaded.input;
-  closed = loaded.closed;
-  history = output.history;
-  legal = output.ran.legal;
-  complete = output.ran.complete;
-  moments = output.ran.moments;
-  graph = output.graph;
-  final = output.ran.rows loaded.dataset loaded.kept;
-  shown = output.shown;
-}
+use Rattle.snb_tool.specs.Commands.{Command, Check, Run, IsLineOf, IsOtherLine, folder_of}
+use Rattle.snb_input.specs.declared.load.Load.TheVariants.{Refused}
+use Rattle.snb_schema.specs.ScreenTexts.{refusal_text}
+use Rattle.snb_texts.specs.Counts.{check_text}
+use Rattle.snb_tool.specs.declared.check.Counts.{Counts}
+use Rattle.snb_tool.specs.declared.run.Input.{Input}
+use Rattle.snb_tool.specs.Endings.{Ends, IsCountsAnswer, IsInputAnswer, IsRunOutput, Shows}
+use Rattle.snb_tool.specs.Inputs.{checks_of}
+use Rattle.snb_tool.specs.Laws.{RefusedOrNot}
+use Rattle.snb_tool.specs.Outcome.{Belongs, IsAnswer, IsCommandAnswer}
+use Rattle.snb_tool.specs.Output.{HasBegun, HasWritten, IsWrittenSoFar, Wrote, on_screen, size_of}
 
 -- what isn't at most so much is above it
 pub above : (n m : ℕ) → (m ≤ n → ⊥) → n < m
@@ -51,65 +29,210 @@ above n m h = elim (leb_tells m n) [ inl t ↦ absurd (h t.1) | inr t ↦ t.1 ]
 shown_size : (text : List ℕ) (n : ℕ) → n < length text → n < size_of (on_screen text)
 shown_size text n h = omega (arith, h)
 
--- a call that was cut at the usage
-pub cut_usage : (words : List (List ℕ)) (contents : Option Files) (fixed : Option ℕ) (ready : ℕ → Type 0) (old new : Option Written)
-    → IsOtherLine words → (part : Written) × IsWrittenSoFar part (on_screen usage_text) × Wrote old new part → ((n : ℕ) → ready n → n < length usage_text) → IfSome contents (λ files. IsRunCut words files fixed ready old new)
-cut_usage words contents fixed ready old new other p short =
-    if_some_always contents (λ files. IsRunCut words files fixed ready old new)
-    (λ files. record { status = 2; texts = on_screen usage_text; part = p.0; belongs = inr (inl (refl, record { other = other; shown = refl })); front = p.1; wrote = p.2; unsure = short })
+-- a text that was cut
+pub show_cut : (text : List ℕ) (ready : ℕ → Type 0) (old new : Option Written) → (part : Written) × IsWrittenSoFar part (on_screen text) × Wrote old new part
+    → ((n : ℕ) → ready n → length text ≤ n → ⊥) → HasBegun ready old new (λ texts. texts ≡ on_screen text)
+show_cut text ready old new p sure = record {
+  texts = on_screen text;
+  part = p.0;
+  are = refl;
+  front = p.1;
+  wrote = p.2;
+  unsure = λ n r. shown_size text n (above n (length text) (sure n r));
+}
 
--- a call that was cut at a refusal
-pub cut_refusal : (words : List (List ℕ)) (folder : List ℕ) (r : Refusal) (contents : Option Files) (fixed : Option ℕ) (ready : ℕ → Type 0) (old new : Option Written)
-    → IsRunLine words folder → IfSome contents (λ files. Refuses folder files r) → (part : Written) × IsWrittenSoFar part (on_screen (refusal_text r)) × Wrote old new part
-    → ((n : ℕ) → ready n → n < length (refusal_text r)) → IfSome contents (λ files. IsRunCut words files fixed ready old new)
-cut_refusal words folder r contents fixed ready old new line refused p short =
-    if_some contents (λ files. Refuses folder files r) (λ files. IsRunCut words files fixed ready old new)
-    (λ files b. record {
-      status = 3;
-      texts = on_screen (refusal_text r);
-      part = p.0;
-      belongs = inr (inr (refl, record { folder = folder; line = line; refusal = r; refused = b; shown = refl }));
-      front = p.1;
-      wrote = p.2;
-      unsure = λ n ready_is. shown_size (refusal_text r) n (short n ready_is);
-    }) refused
+-- a front of texts of which this holds is one of texts of which that holds, where the first gives the second
+pub begun_weaker : (ready : ℕ → Type 0) (old new : Option Written) (P Q : Written → Type 0) → ((texts : Written) → P texts → Q texts) → HasBegun ready old new P → HasBegun ready old new Q
+begun_weaker ready old new P Q f b = record { texts = b.texts; part = b.part; are = f b.texts b.are; front = b.front; wrote = b.wrote; unsure = b.unsure }
 
--- a call that was cut at the texts of a run
-pub cut_run : (words : List (List ℕ)) (folder : List ℕ) (contents : Option Files) (fixed : Option ℕ) (graph : List Row) (inserts : List Line) (ready : ℕ → Type 0) (old new : Option Written)
-    → IsRunLine words folder → IfSome contents (λ files. IsLoaded folder files graph inserts)
-    → IsRunBegun inserts fixed graph ready old new → IfSome contents (λ files. IsRunCut words files fixed ready old new)
-cut_run words folder contents fixed graph inserts ready old new line loaded p =
-    if_some contents (λ files. IsLoaded folder files graph inserts) (λ files. IsRunCut words files fixed ready old new)
-    (λ files l. record {
-      status = 0;
-      texts = p.texts;
-      part = p.part;
-      belongs = inl (refl, is_run words folder files fixed graph inserts p.texts line l p.output);
-      front = p.front;
-      wrote = p.wrote;
-      unsure = p.unsure;
-    }) loaded
+-- a call that shows a text that belongs to its status
+pub shows_ends : (status : ℕ) (text : List ℕ) (belongs : ℕ → Written → Type 0) (read wrote : Type 0) (ready : ℕ → Type 0) (old new : Option Written) (result : ℕ)
+    → (status ≡ 0) ⊎ (status ≡ 2) ⊎ (status ≡ 3) → belongs status (on_screen text) → Shows status text wrote ready old new result → Ends belongs read wrote ready old new result
+shows_ends status text belongs read wrote ready old new result k b (inl h) =
+    subst (λ (r : ℕ). Ends belongs read wrote ready old new r) (sym h.0) (inl (k, (on_screen text, b, h.1)))
+shows_ends status text belongs read wrote ready old new result k b (inr h) =
+    inr (inr (inl (h.0, h.1, (status, begun_weaker ready old new (λ texts. texts ≡ on_screen text) (belongs status) (λ texts e. subst (λ (t : Written). belongs status t) (sym e) b) h.2))))
 
--- a call that ran
-pub done_run : (words : List (List ℕ)) (folder : List ℕ) (contents : Option Files) (fixed : Option ℕ) (graph : List Row) (inserts : List Line) (old new : Option Written)
-    → IsRunLine words folder → IfSome contents (λ files. IsLoaded folder files graph inserts)
-    → (texts : Written) × IsRunOutput inserts fixed graph texts × Wrote old new texts → IfSome contents (λ files. (texts : Written) × IsRun words files fixed texts × Wrote old new texts)
-done_run words folder contents fixed graph inserts old new line loaded p =
-    if_some contents (λ files. IsLoaded folder files graph inserts) (λ files. (texts : Written) × IsRun words files fixed texts × Wrote old new texts)
-    (λ files l. (p.0, is_run words folder files fixed graph inserts p.0 line l p.1, p.2)) loaded
+-- a call that shows it, where memory suffices
+pub shows_or_not : (status : ℕ) (text : List ℕ) (belongs : ℕ → Written → Type 0) (read wrote : Type 0) (ready : ℕ → Type 0) (old new : Option Written) (result : ℕ)
+    → (status ≡ 0) ⊎ (status ≡ 2) ⊎ (status ≡ 3) → belongs status (on_screen text) → Shows status text wrote ready old new result ⊎ ((result ≡ 6) × (new ≡ old))
+    → Ends belongs read wrote ready old new result
+shows_or_not status text belongs read wrote ready old new result k b (inl h) = shows_ends status text belongs read wrote ready old new result k b h
+shows_or_not status text belongs read wrote ready old new result k b (inr h) = inr (inr (inr h))
 
--- what is written is the text of each channel
-by_channel : (s l a f screen log answers finals : List ℕ) → s ≡ screen → l ≡ log → a ≡ answers → f ≡ finals →
-    ◌≡◌ {A = Written} (record { screen = s; log = l; answers = a; finals = f; cases = [] }) (record { screen = screen; log = log; answers = answers; finals = finals; cases = [] })
-by_channel s l a f screen log answers finals p q r t = cc
+-- what belongs to a status by one rule may by another
+pub ends_weaker : (P Q : ℕ → Written → Type 0) (read wrote : Type 0) (ready : ℕ → Type 0) (old new : Option Written) (result : ℕ)
+    → ((s : ℕ) (texts : Written) → P s texts → Q s texts) → Ends P read wrote ready old new result → Ends Q read wrote ready old new result
+ends_weaker P Q read wrote ready old new result f (inl h) = inl (h.0, (h.1.0, f result h.1.0 h.1.1, h.1.2))
+ends_weaker P Q read wrote ready old new result f (inr (inl h)) = inr (inl h)
+ends_weaker P Q read wrote ready old new result f (inr (inr (inl h))) = inr (inr (inl (h.0, h.1, (h.2.0, begun_weaker ready old new (P h.2.0) (Q h.2.0) (f h.2.0) h.2.1))))
+ends_weaker P Q read wrote ready old new result f (inr (inr (inr h))) = inr (inr (inr h))
 
--- the summary of as many updates and rows
-summary_of : (text : List ℕ) (updates length_is rows rows_are : ℕ) → updates ≡ length_is → rows ≡ rows_are → text ≡ summary_text updates updates 0 rows → text ≡ summary_text length_is length_is 0 rows_are
-summary_of text updates length_is rows rows_are e f t = t ∙ ap (λ (n : ℕ). summary_text n n 0 rows) e ∙ ap (λ (n : ℕ). summary_text length_is length_is 0 n) f
+-- a run's texts that were written whole, or up to a failed write
+pub run_ends : (belongs : ℕ → Written → Type 0) (read wrote : Type 0) (ready : ℕ → Type 0) (old new : Option Written) (texts : Written) → belongs 0 texts → Wrote old new texts
+    → Ends belongs read wrote ready old new 0
+run_ends belongs read wrote ready old new texts b w = inl (inl refl, (texts, b, w))
 
--- four texts are those of the run
-pub is_output : (inserts : List Line) (history : List Event) (graph : List Row) (s l a f : List ℕ) (updates count : ℕ) → l ≡ log_text 1 history → a ≡ no_answers_text → f ≡ final_text graph
-    → updates ≡ length inserts → count ≡ length graph → s ≡ summary_text updates updates 0 count →
-    ◌≡◌ {A = Written} (record { screen = s; log = l; answers = a; finals = f; cases = [] }) (run_texts inserts history graph)
-is_output inserts history graph s l a f updates count p q r d e t =
-    by_channel s l a f _ _ _ _ (summary_of s updates (length inserts) count (length graph) d e t) p q r
+pub run_cut : (belongs : ℕ → Written → Type 0) (read wrote : Type 0) (ready : ℕ → Type 0) (old new : Option Written) (texts : Written) → belongs 0 texts → wrote
+    → (part : Written) × IsWrittenSoFar part texts × Wrote old new part → ((n : ℕ) → ready n → size_of texts ≤ n → ⊥) → Ends belongs read wrote ready old new 5
+run_cut belongs read wrote ready old new texts b failed p sure =
+    inr (inr (inl (refl, failed, (0, record { texts = texts; part = p.0; are = b; front = p.1; wrote = p.2; unsure = λ n r. above n (size_of texts) (sure n r) }))))
+
+-- ---- what an end says of a status
+
+-- a status of texts that are whole is below 4
+no_whole : (n m : ℕ) → (n ≡ 0) ⊎ (n ≡ 2) ⊎ (n ≡ 3) → n ≡ m → 4 ≤ m → ⊥
+no_whole n m (inl a) b c = omega (arith, a, b, c)
+no_whole n m (inr (inl a)) b c = omega (arith, a, b, c)
+no_whole n m (inr (inr a)) b c = omega (arith, a, b, c)
+
+module _ (belongs : ℕ → Written → Type 0) (read wrote : Type 0) (ready : ℕ → Type 0) (old new : Option Written) where
+  pub ends_known : (result : ℕ) → Ends belongs read wrote ready old new result → (result ≡ 0) ⊎ (result ≡ 2) ⊎ (result ≡ 3) ⊎ (result ≡ 4) ⊎ (result ≡ 5) ⊎ (result ≡ 6)
+  ends_known result (inl (inl e, h)) = inl e
+  ends_known result (inl (inr (inl e), h)) = inr (inl e)
+  ends_known result (inl (inr (inr e), h)) = inr (inr (inl e))
+  ends_known result (inr (inl h)) = inr (inr (inr (inl h.0)))
+  ends_known result (inr (inr (inl h))) = inr (inr (inr (inr (inl h.0))))
+  ends_known result (inr (inr (inr h))) = inr (inr (inr (inr (inr h.0))))
+
+  pub ends_whole : (result s : ℕ) → (s ≡ 0) ⊎ (s ≡ 2) ⊎ (s ≡ 3) → Ends belongs read wrote ready old new result → result ≡ s → HasWritten old new (belongs s)
+  ends_whole result s k (inl h) e = subst (λ (n : ℕ). HasWritten old new (belongs n)) e h.1
+  ends_whole result s k (inr (inl h)) e = absurd (no_whole s 4 k (sym e ∙ h.0) (omega arith))
+  ends_whole result s k (inr (inr (inl h))) e = absurd (no_whole s 5 k (sym e ∙ h.0) (omega arith))
+  ends_whole result s k (inr (inr (inr h))) e = absurd (no_whole s 6 k (sym e ∙ h.0) (omega arith))
+
+  pub ends_read_fault : (result : ℕ) → Ends belongs read wrote ready old new result → result ≡ 4 → read × (new ≡ old)
+  ends_read_fault result (inl (inl a, h)) e = absurd (omega (arith, a, e))
+  ends_read_fault result (inl (inr (inl a), h)) e = absurd (omega (arith, a, e))
+  ends_read_fault result (inl (inr (inr a), h)) e = absurd (omega (arith, a, e))
+  ends_read_fault result (inr (inl h)) e = (h.1, h.2)
+  ends_read_fault result (inr (inr (inl h))) e = let a = h.0 in absurd (omega (arith, a, e))
+  ends_read_fault result (inr (inr (inr h))) e = let a = h.0 in absurd (omega (arith, a, e))
+
+  pub ends_cut : (result : ℕ) → Ends belongs read wrote ready old new result → result ≡ 5 → wrote × ((s : ℕ) × HasBegun ready old new (belongs s))
+  ends_cut result (inl (inl a, h)) e = absurd (omega (arith, a, e))
+  ends_cut result (inl (inr (inl a), h)) e = absurd (omega (arith, a, e))
+  ends_cut result (inl (inr (inr a), h)) e = absurd (omega (arith, a, e))
+  ends_cut result (inr (inl h)) e = let a = h.0 in absurd (omega (arith, a, e))
+  ends_cut result (inr (inr (inl h))) e = (h.1, h.2)
+  ends_cut result (inr (inr (inr h))) e = let a = h.0 in absurd (omega (arith, a, e))
+
+  pub ends_short : (result : ℕ) → Ends belongs read wrote ready old new result → result ≡ 6 → new ≡ old
+  ends_short result (inl (inl a, h)) e = absurd (omega (arith, a, e))
+  ends_short result (inl (inr (inl a), h)) e = absurd (omega (arith, a, e))
+  ends_short result (inl (inr (inr a), h)) e = absurd (omega (arith, a, e))
+  ends_short result (inr (inl h)) e = let a = h.0 in absurd (omega (arith, a, e))
+  ends_short result (inr (inr (inl h))) e = let a = h.0 in absurd (omega (arith, a, e))
+  ends_short result (inr (inr (inr h))) e = h.1
+
+-- ---- the texts of a command
+
+pub check_refused : (contents : Option Files) (folder : List ℕ) (fixed : Option ℕ) (r : Refusal) → IsCountsAnswer contents folder (Err (Refused r))
+    → IsCommandAnswer (Check folder) contents fixed 3 (on_screen (refusal_text r))
+check_refused contents folder fixed r h = (h.0, h.1, inr (refl, (r, h.2, refl)))
+
+pub check_done : (contents : Option Files) (folder : List ℕ) (fixed : Option ℕ) (counts : Counts) (text : List ℕ) → IsCountsAnswer contents folder (Ok counts) → text ≡ check_text counts.rows counts.updates
+    → IsCommandAnswer (Check folder) contents fixed 0 (on_screen text)
+check_done contents folder fixed counts text h e = (
+  h.0,
+  h.1,
+  inl (
+    refl,
+    h.2.clean,
+    record {
+      graph = h.2.graph;
+      lanes = h.2.lanes;
+      dataset = h.2.dataset;
+      streams = h.2.streams;
+      shown = ap on_screen (e ∙ (λ i. check_text (h.2.rows i) (h.2.updates i)));
+    },
+  ),
+)
+
+pub run_refused : (contents : Option Files) (folder : List ℕ) (fixed : Option ℕ) (r : Refusal) → IsInputAnswer contents folder (Err (Refused r))
+    → IsCommandAnswer (Run folder) contents fixed 3 (on_screen (refusal_text r))
+run_refused contents folder fixed r h = (h.0, h.1, inr (refl, (r, h.2, refl)))
+
+pub run_done : (contents : Option Files) (folder : List ℕ) (fixed : Option ℕ) (input : Input) (texts : Written) → IsInputAnswer contents folder (Ok input) → IsRunOutput input.inserts.items fixed input.graph texts
+    → IsCommandAnswer (Run folder) contents fixed 0 texts
+run_done contents folder fixed input texts h output = (
+  h.0,
+  h.1,
+  inl (
+    refl,
+    h.2.clean,
+    record {
+      graph = input.graph;
+      inserts = input.inserts.items;
+      dataset = h.2.dataset;
+      stream = h.2.stream;
+      closed = h.2.closed;
+      history = output.history;
+      final = output.final;
+      ran = output.ran;
+      shown = output.shown;
+    },
+  ),
+)
+
+-- ---- words
+
+-- words are the line of one command at most
+pub one_line : (words : List (List ℕ)) (c d : Command) → IsLineOf words c → IsLineOf words d → c ≡ d
+one_line words (Check f) (Check g) p q = ap Check (second (sym p.0 ∙ q.0))
+  where
+    second : {a b c d : List ℕ} → ◌≡◌ {A = List (List ℕ)} (a ∷ b ∷ []) (c ∷ d ∷ []) → b ≡ d
+    second e = cc
+one_line words (Check f) (Run g) p q = let e = ap length (sym p.0 ∙ q.0) in absurd (omega (arith, e))
+one_line words (Run f) (Check g) p q = let e = ap length (sym p.0 ∙ q.0) in absurd (omega (arith, e))
+one_line words (Run f) (Run g) p q = ap Run (second (sym p.0 ∙ q.0))
+  where
+    second : {a b c d : List ℕ} {x y : List (List ℕ)} → ◌≡◌ {A = List (List ℕ)} (a ∷ b ∷ x) (c ∷ d ∷ y) → b ≡ d
+    second e = cc
+
+-- ---- completeness
+
+-- the files of a folder that a shelf tells
+told_files : (folder : List ℕ) (files : Files) (held : Held) → IsHeldTold (Some files) folder held → ◌≡◌ {A = Held} held (held_in folder files)
+told_files folder files held told = λ i file. told file i
+
+-- what a command answers where nothing is wrong with its files, and nothing failed
+complete_told : (words : List (List ℕ)) (files : Files) (fixed : Option ℕ) (read wrote : Type 0) (ready : ℕ → Type 0) (old new : Option Written) (result : ℕ)
+    → RefusedOrNot → Ends (IsAnswer words (Some files) fixed) read wrote ready old new result
+    → (command : Command) → IsLineOf words command → NoneOf (checks_of command (held_in (folder_of command) files)) → ¬ read → ¬ wrote → (result ≡ 0) ⊎ (result ≡ 6)
+complete_told words files fixed read wrote ready old new result law (inl (inl e, h)) command line clean a b = inl e
+complete_told words files fixed read wrote ready old new result law (inl (inr e, (texts, inl other, w))) command line clean a b = absurd (other.1 command line)
+complete_told words files fixed read wrote ready old new result law (inl (inr e, (texts, inr (c, l, (held, told, inl done)), w))) command line clean a b = inl done.0
+complete_told words files fixed read wrote ready old new result law (inl (inr e, (texts, inr (c, l, (held, told, inr bad)), w))) command line clean a b =
+    absurd (law c held bad.1.0 bad.1.1
+    (subst (λ (h : Held). NoneOf (checks_of c h)) (sym (told_files (folder_of c) files held told))
+    (subst (λ (d : Command). NoneOf (checks_of d (held_in (folder_of d) files))) (one_line words command c line l) clean)))
+complete_told words files fixed read wrote ready old new result law (inr (inl h)) command line clean a b = absurd (a h.1)
+complete_told words files fixed read wrote ready old new result law (inr (inr (inl h))) command line clean a b = absurd (b h.1)
+complete_told words files fixed read wrote ready old new result law (inr (inr (inr h))) command line clean a b = inr h.0
+
+-- and where something is
+refuses_told : (words : List (List ℕ)) (files : Files) (fixed : Option ℕ) (read wrote : Type 0) (ready : ℕ → Type 0) (old new : Option Written) (result : ℕ)
+    → RefusedOrNot → Ends (IsAnswer words (Some files) fixed) read wrote ready old new result
+    → (command : Command) → IsLineOf words command → (r : Refusal) → FirstOf (checks_of command (held_in (folder_of command) files)) r → ¬ read → ¬ wrote → (result ≡ 3) ⊎ (result ≡ 6)
+refuses_told words files fixed read wrote ready old new result law (inl (e, (texts, inl other, w))) command line r bad a b = absurd (other.1 command line)
+refuses_told words files fixed read wrote ready old new result law (inl (e, (texts, inr (c, l, (held, told, inl done)), w))) command line r bad a b =
+    absurd (law c held r
+    (subst (λ (h : Held). FirstOf (checks_of c h) r) (sym (told_files (folder_of c) files held told))
+    (subst (λ (d : Command). FirstOf (checks_of d (held_in (folder_of d) files)) r) (one_line words command c line l) bad)) done.1)
+refuses_told words files fixed read wrote ready old new result law (inl (e, (texts, inr (c, l, (held, told, inr refused)), w))) command line r bad a b = inl refused.0
+refuses_told words files fixed read wrote ready old new result law (inr (inl h)) command line r bad a b = absurd (a h.1)
+refuses_told words files fixed read wrote ready old new result law (inr (inr (inl h))) command line r bad a b = absurd (b h.1)
+refuses_told words files fixed read wrote ready old new result law (inr (inr (inr h))) command line r bad a b = inr h.0
+
+pub complete : (words : List (List ℕ)) (contents : Option Files) (fixed : Option ℕ) (read wrote : Type 0) (ready : ℕ → Type 0) (old new : Option Written) (result : ℕ)
+    → RefusedOrNot → Ends (IsAnswer words contents fixed) read wrote ready old new result
+    → IfSome contents (λ files. (command : Command) → IsLineOf words command → NoneOf (checks_of command (held_in (folder_of command) files)) → ¬ read → ¬ wrote → (result ≡ 0) ⊎ (result ≡ 6))
+complete words None fixed read wrote ready old new result law ends = tt
+complete words (Some files) fixed read wrote ready old new result law ends = complete_told words files fixed read wrote ready old new result law ends
+
+pub refuses : (words : List (List ℕ)) (contents : Option Files) (fixed : Option ℕ) (read wrote : Type 0) (ready : ℕ → Type 0) (old new : Option Written) (result : ℕ)
+    → RefusedOrNot → Ends (IsAnswer words contents fixed) read wrote ready old new result
+    → IfSome contents (λ files. (command : Command) → IsLineOf words command → (r : Refusal) → FirstOf (checks_of command (held_in (folder_of command) files)) r → ¬ read → ¬ wrote → (result ≡ 3) ⊎ (result ≡ 6))
+refuses words None fixed read wrote ready old new result law ends = tt
+refuses words (Some files) fixed read wrote ready old new result law ends = refuses_told words files fixed read wrote ready old new result law ends

@@ -1,7 +1,6 @@
-pub mod InputLaws
-pub mod LogLaws
+pub mod Commands
+pub mod Endings
+pub mod Inputs
+pub mod Laws
 pub mod Outcome
 pub mod Output
-pub mod Running
-pub mod Turns
-pub mod Words

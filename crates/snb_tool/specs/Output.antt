@@ -1,6 +1,7 @@
 -- What a call writes.
-use Rattle.std.specs.Prelude.{◌≡◌, ℕ, ◌+◌, ◌⊎◌, List, [], ◌++◌, length}
-use Rattle.snb_base.specs.Outbox.{Written}
+use Rattle.std.specs.Prelude.{◌≡◌, ℕ, ◌+◌, ◌<◌, ◌⊎◌, List, [], ◌++◌, length, Option}
+use Rattle.std.specs.Option.{option_map}
+use Rattle.snb_base.specs.Outbox.{Written, joined}
 
 -- a text on the screen, and nothing on the other channels
 abbrev pub on_screen : List ℕ → Written
@@ -25,3 +26,21 @@ pub record IsWrittenSoFar (part whole : Written) : Type 0 where
   pub after_answers : (part.answers ≡ whole.answers) ⊎ ((part.finals ≡ []) × (part.cases ≡ []) × (part.screen ≡ []))
   pub after_finals : (part.finals ≡ whole.finals) ⊎ ((part.cases ≡ []) × (part.screen ≡ []))
   pub after_cases : (part.cases ≡ whole.cases) ⊎ (part.screen ≡ [])
+
+-- the texts were added to the channels, where they are told
+abbrev pub Wrote : Option Written → Option Written → Written → Type 0
+Wrote old new texts = new ≡ option_map (λ w. joined w texts) old
+
+-- texts of which this holds were added to the channels
+abbrev pub HasWritten : Option Written → Option Written → (Written → Type 0) → Type 0
+HasWritten old new P = (texts : Written) × P texts × Wrote old new texts
+
+-- a front of texts of which this holds was added to the channels, and an outbox that was sure to take so many bytes wasn't sure of all of
+-- the texts
+pub record HasBegun (ready : ℕ → Type 0) (old new : Option Written) (P : Written → Type 0) : Type 0 where
+  pub texts : Written
+  pub part : Written
+  pub are : P texts
+  pub front : IsWrittenSoFar part texts
+  pub wrote : Wrote old new part
+  pub unsure : (n : ℕ) → ready n → n < size_of texts

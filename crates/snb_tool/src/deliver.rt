@@ -5,7 +5,7 @@ ghost use Rattle.std.specs.Option.{option_map};
 ghost use Rattle.snb_base.specs.Outbox.{Written as Bytes, appended, joined};
 ghost use Rattle.snb_base.specs.Shelf.{Rose};
 ghost use Rattle.snb_tool.specs.Output.{on_screen, size_of, IsWrittenSoFar};
-ghost use Rattle.snb_tool.specs.Running.{bytes_of};
+ghost use Rattle.snb_tool.specs.Endings.{bytes_of};
 
 use snb_base::outbox::{Channel, Outbox, Put};
 

@@ -1,23 +1,15 @@
-//! Laws over the definitions that the contracts cite. Each function does nothing; its contract is the
-//! law.
+//! A law of what the program refuses. The function does nothing; its contract is the law.
 
-ghost use Rattle.snb_tool.specs.InputLaws.{RefusalIsOne};
-ghost use Rattle.snb_tool.specs.LogLaws.{LogIsOfOneHistory};
+ghost use Rattle.snb_tool.specs.Laws.{RefusalIsOne, RefusedOrNot};
 
-use snb_csv::law::{one_column, one_row};
-use snb_streams::law::{one_fault, one_insert};
+use snb_loader::law::{one_dataset, one_lanes, one_stream};
 
-/// Files are refused for one thing at most.
+/// The files of a command are refused for one thing at most, and then something is wrong with them.
 pub fn refusal_is_one()
-    ensures { RefusalIsOne }
+    ensures one { RefusalIsOne }
+    ensures or_not { RefusedOrNot }
 {
-    one_row();
-    one_column();
-    one_insert();
-    one_fault();
+    one_dataset();
+    one_stream();
+    one_lanes();
 }
-
-/// A log is the text of one history alone.
-pub fn log_is_of_one_history()
-    ensures { LogIsOfOneHistory }
-{}

@@ -1,125 +1,142 @@
-//! The run of a plan by one worker.
+//! The command `run`.
 
-ghost use Rattle.std.specs.Prelude.{◌≡◌, ◌∷◌, [], List, IfOk, OnOk};
-ghost use Rattle.snb_schema.specs.Closed.{key_of, IsClosed};
-ghost use Rattle.snb_loader.specs.Input.{run_row};
-ghost use Rattle.snb_loader.specs.Loading.{AreOfLines};
-ghost use Rattle.snb_tables.specs.Graphs.{HoldsKey, IsGraph};
-ghost use Rattle.snb_schema.specs.Plan.{plan_of, ArePlanned, IsOfPersonStream};
-ghost use Rattle.snb_schema.specs.TableRows.{IsTableRow};
-ghost use Rattle.snb_schema.specs.declared.row.Row.{Row as AnyRow};
-ghost use Rattle.snb_tool.specs.Running.{HasRun};
-ghost use Rattle.snb_inserts.specs.Applying.{HasLine};
-ghost use Rattle.snb_tool.specs.Turns.{IsAdded, HasDone, TurnsTo};
+ghost use Rattle.std.specs.Prelude.{◌≡◌, ◌≤◌, IfOk, length};
+ghost use Rattle.snb_base.specs.Shelf.{Rose};
+ghost use Rattle.snb_input.specs.Loading.{OnReadFault};
+ghost use Rattle.snb_plan.specs.Closed.{IsClosed, updates_of};
+ghost use Rattle.snb_schema.specs.StreamLines.{AreOfStream};
+ghost use Rattle.snb_schema.specs.UpdateLines.{person_inserts};
+ghost use Rattle.snb_schema.specs.declared.limits.TheConstants.{MAX_ROWS};
+ghost use Rattle.snb_tables.specs.Graphs.{HoldsKey};
+ghost use Rattle.snb_tables.specs.Soundness.{Sound};
+ghost use Rattle.snb_tool.specs.Commands.{Run};
+ghost use Rattle.snb_tool.specs.Endings.{Ends, IsInputAnswer, IsRunOutput, bytes_of};
+ghost use Rattle.snb_tool.specs.Inputs.{person_stream};
+ghost use Rattle.snb_tool.specs.Outcome.{IsCommandAnswer};
 
+use crate::deliver::{Output, deliver};
+use crate::show::refuse;
 use snb_base::clock::Clock;
-use snb_base::gate::{Gate, Phase};
-use snb_book::book::Book;
-use snb_book::claim::Claim;
+use snb_base::gate::Gate;
+use snb_base::outbox::Outbox;
+use snb_base::shelf::Shelf;
 use snb_graph::graph::Graph;
-use snb_inserts::law::inserts_are_kept;
-use snb_inserts::rows::first_row;
-use snb_plan::plan::make_schedule;
-use snb_schema::op::{Line, Op};
-use snb_schema::row::Row;
-use snb_store::insert::Insert;
+use snb_input::law::stages_join;
+use snb_input::load::{Load, Used};
+use snb_loader::dataset::load_dataset;
+use snb_loader::law::{one_dataset, one_stream};
+use snb_loader::stream::load_stream;
+use snb_plan::closed::check_closed;
+use snb_schema::fault::Fault;
+use snb_schema::file::{FileId, FileKind};
+use snb_schema::op::Line;
+use snb_texts::counts::summary_lines;
+use snb_texts::final_lines::final_lines;
+use snb_texts::log_lines::log_lines;
+use snb_workers::run::run_alone;
 use std::alloc::{AllocError, Global};
 use std::sync::Wait;
 
-// Whether there may be more to do.
-#[derive(Clone, Copy)]
-enum Turn {
-    More,
-    Over,
+// The stream whose inserts are run.
+const PERSON_STREAM: FileId = FileId {
+    kind: FileKind::PersonStream,
+    part: 0,
+};
+
+// A dataset, and the inserts of its person stream.
+#[derive(Drop)]
+struct Input {
+    graph: Graph,
+    inserts: Vec<Line>,
 }
 
-// The row that an insert adds.
-fn row_of(op: &Op) -> Result<Row, AllocError>
-    requires of_persons { IsOfPersonStream op.now }
-    requires line { HasLine op.now }
-    ensures row { IfOk result (λ r. run_row op.now ≡ r ∷ []) }
-    ensures fits { IfOk result IsTableRow }
+// Reads the tables and the person stream of a folder, whose inserts are closed over the dataset.
+fn load_input<S: Shelf>(alloc: Global, shelf: &mut S, folder: &str) -> Result<Input, Load>
+    ensures answer { IsInputAnswer (S.contents shelf.old) folder.now result }
+    ensures stream { IfOk result (λ i. AreOfStream person_inserts i.inserts.items) }
+    ensures few { IfOk result (λ i. length i.inserts.items ≤ MAX_ROWS) }
+    ensures closed { IfOk result (λ i. IsClosed (HoldsKey i.graph) (updates_of 0 person_stream i.inserts.items)) }
+    ensures sound { IfOk result (λ i. Sound i.graph) }
+    ensures fault { OnReadFault result (Rose (S.faults shelf.old) (S.faults shelf.new)) }
+    ensures later { S.faults shelf.old ≤ S.faults shelf.new }
+    ensures same { S.contents shelf.new ≡ S.contents shelf.old }
 {
-    inserts_are_kept();
-    first_row(op)
-}
-
-// Adds the row of an insert, whose key is new.
-fn add_row(op: &Op, graph: &mut Graph) -> Result<(), AllocError>
-    requires of_persons { IsOfPersonStream op.now }
-    requires line { HasLine op.now }
-    requires new { ¬ HoldsKey graph.old (key_of op.now) }
-    ensures { OnOk result (IsAdded op.now graph.old graph.new) }
-{
-    let row = row_of(op)?;
-    match graph.insert_row(row) {
-        Ok(()) => Ok(()),
-        Err(Insert::Memory) => Err(AllocError),
-        // The key is new.
-        Err(Insert::Duplicate) => unreachable!(),
+    stages_join();
+    one_dataset();
+    one_stream();
+    let mut used = Used { bytes: 0, rows: 0 };
+    let graph = match load_dataset(alloc, shelf, folder, &mut used) {
+        Ok(graph) => graph,
+        Err(load) => return Err(load),
+    };
+    let inserts = match load_stream(alloc, shelf, folder, &mut used) {
+        Ok(inserts) => inserts,
+        Err(load) => return Err(load),
+    };
+    match check_closed(alloc, &graph, PERSON_STREAM, &inserts) {
+        Ok(()) => Ok(Input { graph, inserts }),
+        Err(Fault::Bad { refusal }) => Err(Load::Refused { refusal }),
+        Err(Fault::Memory) => Err(Load::Memory),
     }
 }
 
-// Claims an operation, puts its row into the graph and finishes it; or rests until one is due.
-fn take_turn<R: Wait, C: Clock, G: Gate>(
-    rt: &R,
-    inserts: &[Line],
-    graph: &mut Graph,
-    book: &mut Book,
-    clock: &C,
-    gate: &G,
-) -> Result<Turn, AllocError>
-    requires planned { ArePlanned inserts.now }
-    requires lines { AreOfLines inserts.now }
-    requires under_way { (first : List AnyRow) × HasDone inserts.now (C.fixed clock.now) first graph.old book.old }
-    ensures { IfOk result (λ turn. (first : List AnyRow) → HasDone inserts.now (C.fixed clock.now) first graph.old book.old →
-        TurnsTo inserts.now (C.fixed clock.now) first graph.new book.new turn) }
-{
-    match book.claim(0, clock.now()) {
-        Claim::AllStarted => Ok(Turn::Over),
-        Claim::NotDue { until } => {
-            clock.rest(rt, until);
-            Ok(Turn::More)
-        }
-        Claim::Go { ticket } => {
-            gate.pass(rt, 0, ticket.op, Phase::Held);
-            add_row(&inserts[ticket.op as usize].op, graph)?;
-            book.finish(ticket, clock.now(), 0);
-            gate.pass(rt, 0, ticket.op, Phase::Done);
-            Ok(Turn::More)
-        }
-        // The one worker has nothing in hand when it claims, and what is due first waits only for
-        // what is due no later and so is finished.
-        Claim::Halted => unreachable!(),
-        Claim::Busy { .. } => unreachable!(),
-        Claim::Blocked { .. } => unreachable!(),
-    }
-}
-
-/// Runs the plan of the inserts on this thread: each insert is claimed, its row goes into the graph,
-/// and it is finished.
-pub fn run_alone<R: Wait, C: Clock, G: Gate>(
+// Runs the inserts, and makes the texts of the run.
+fn run_output<R: Wait, C: Clock, G: Gate>(
     rt: &R,
     alloc: Global,
-    inserts: &[Line],
-    graph: &mut Graph,
+    input: Input,
     clock: &C,
     gate: &G,
-) -> Result<Book, AllocError>
-    requires planned { ArePlanned inserts.now }
-    requires lines { AreOfLines inserts.now }
-    requires closed { IsClosed (HoldsKey graph.old) inserts.now }
-    requires graph { IsGraph graph.old }
-    ensures ran { IfOk result (λ book. HasRun inserts.now (C.fixed clock.now) graph.old graph.new book.history) }
-    ensures kept { IfOk result (λ book. (book.schedule ≡ plan_of inserts.now) × (book.workers ≡ 1)) }
+) -> Result<Output, AllocError>
+    requires stream { AreOfStream person_inserts input.inserts.items }
+    requires few { length input.inserts.items ≤ MAX_ROWS }
+    requires closed { IsClosed (HoldsKey input.graph) (updates_of 0 person_stream input.inserts.items) }
+    requires sound { Sound input.graph }
+    ensures { IfOk result (λ output. IsRunOutput input.inserts.items (C.fixed clock.now) input.graph (bytes_of output)) }
 {
-    let schedule = make_schedule(alloc, inserts)?;
-    let mut book = Book::make(alloc, &schedule, 1)?;
-    for _ in rt.forever() {
-        match take_turn(rt, inserts, graph, &mut book, clock, gate)? {
-            Turn::More => {}
-            Turn::Over => return Ok(book),
-        }
+    let mut graph = input.graph;
+    let book = run_alone(rt, alloc, &input.inserts, &mut graph, clock, gate)?;
+    let log = log_lines(alloc, 1, book.events())?;
+    let answers = Vec::from_slice(alloc, b"answers|1\n")?;
+    let finals = final_lines(alloc, &graph)?;
+    let updates = input.inserts.len() as u64;
+    let screen = summary_lines(alloc, updates, updates, 0, graph.rows())?;
+    Ok(Output {
+        log,
+        answers,
+        finals,
+        screen,
+    })
+}
+
+/// Reads the tables and the person stream of a folder, runs each insert once, writes the texts of the
+/// run, and gives the status; or shows what is wrong with the files first.
+pub fn run<R: AllocGlobal + Wait, S: Shelf, O: Outbox, C: Clock, G: Gate>(
+    rt: &R,
+    shelf: &mut S,
+    folder: &str,
+    out: &mut O,
+    clock: &C,
+    gate: &G,
+) -> u8
+    ensures ends { Ends (IsCommandAnswer (Run folder.now) (S.contents shelf.old) (C.fixed clock.now)) (Rose (S.faults shelf.old) (S.faults shelf.new))
+        (Rose (O.faults out.old) (O.faults out.new)) (O.ready out.old) (O.written out.old) (O.written out.new) result }
+    ensures reads_later { S.faults shelf.old ≤ S.faults shelf.new }
+    ensures writes_later { O.faults out.old ≤ O.faults out.new }
+    ensures same { S.contents shelf.new ≡ S.contents shelf.old }
+{
+    let input = match load_input(rt.alloc(), shelf, folder) {
+        Ok(input) => input,
+        Err(Load::Refused { refusal }) => return refuse(rt.alloc(), refusal, out),
+        Err(Load::ReadFault) => return 4,
+        Err(Load::Memory) => return 6,
+    };
+    let output = match run_output(rt, rt.alloc(), input, clock, gate) {
+        Ok(output) => output,
+        Err(_) => return 6,
+    };
+    match deliver(out, &output) {
+        Ok(()) => 0,
+        Err(_) => 5,
     }
-    unreachable!()
 }

@@ -1,5 +1,5 @@
 //! What no case of `snb_vectors` reaches: a clock that moves, a gate that notes who passes, and a shelf
-//! whose file goes away.
+//! whose files go away.
 
 ghost use Rattle.std.specs.Prelude.{None};
 
@@ -7,7 +7,6 @@ use crate::tool::snb;
 use snb_base::clock::{Clock, FarClock};
 use snb_base::gate::{Gate, OpenGate, Phase};
 use snb_base::memory_outbox::MemoryOutbox;
-use snb_base::memory_shelf::MemoryShelf;
 use snb_base::outbox::Channel;
 use snb_base::shelf::{Got, Shelf};
 use std::sync::{Mutex, Wait};
@@ -15,15 +14,98 @@ use std::test::Fail;
 
 const WORDS: [&str; 4] = ["run", "d", "--workers", "1"];
 
-const PERSONS: &str =
-    "id|firstName|lastName|gender|birthday|creationDate|locationIP|browserUsed\n10|Ann|Lee|female|0|1000|1.1.1.1|Firefox\n";
-
-// A person, and a friendship that is due 1000 milliseconds later.
-const STREAM: &str =
-    "8000|0|1|12|Cy|Fox|male|0|8000|1.1.1.3|Opera|1|||||\n9000|8000|8|10|12|9000\n";
+// A dataset of one place, and a stream of two persons, of whom the second is due 1000 milliseconds after
+// the first.
+const FILES: [(&str, &str); 34] = [
+    ("d/place_0_0.csv", "id|name|url|type\n1|Town|u|city\n"),
+    ("d/tagclass_0_0.csv", "id|name|url\n"),
+    ("d/tag_0_0.csv", "id|name|url\n"),
+    ("d/organisation_0_0.csv", "id|type|name|url\n"),
+    (
+        "d/person_0_0.csv",
+        "id|firstName|lastName|gender|birthday|creationDate|locationIP|browserUsed\n",
+    ),
+    ("d/forum_0_0.csv", "id|title|creationDate\n"),
+    (
+        "d/post_0_0.csv",
+        "id|imageFile|creationDate|locationIP|browserUsed|language|content|length\n",
+    ),
+    (
+        "d/comment_0_0.csv",
+        "id|creationDate|locationIP|browserUsed|content|length\n",
+    ),
+    ("d/place_isPartOf_place_0_0.csv", "id|id\n"),
+    ("d/tagclass_isSubclassOf_tagclass_0_0.csv", "id|id\n"),
+    ("d/tag_hasType_tagclass_0_0.csv", "id|id\n"),
+    ("d/organisation_isLocatedIn_place_0_0.csv", "id|id\n"),
+    ("d/person_email_emailaddress_0_0.csv", "id|id\n"),
+    ("d/person_speaks_language_0_0.csv", "id|id\n"),
+    ("d/person_hasInterest_tag_0_0.csv", "id|id\n"),
+    ("d/person_isLocatedIn_place_0_0.csv", "id|id\n"),
+    ("d/person_knows_person_0_0.csv", "id|id|date\n"),
+    ("d/person_likes_post_0_0.csv", "id|id|date\n"),
+    ("d/person_likes_comment_0_0.csv", "id|id|date\n"),
+    ("d/person_studyAt_organisation_0_0.csv", "id|id|date\n"),
+    ("d/person_workAt_organisation_0_0.csv", "id|id|date\n"),
+    ("d/forum_containerOf_post_0_0.csv", "id|id\n"),
+    ("d/forum_hasMember_person_0_0.csv", "id|id|date\n"),
+    ("d/forum_hasModerator_person_0_0.csv", "id|id\n"),
+    ("d/forum_hasTag_tag_0_0.csv", "id|id\n"),
+    ("d/post_hasCreator_person_0_0.csv", "id|id\n"),
+    ("d/post_hasTag_tag_0_0.csv", "id|id\n"),
+    ("d/post_isLocatedIn_place_0_0.csv", "id|id\n"),
+    ("d/comment_hasCreator_person_0_0.csv", "id|id\n"),
+    ("d/comment_hasTag_tag_0_0.csv", "id|id\n"),
+    ("d/comment_isLocatedIn_place_0_0.csv", "id|id\n"),
+    ("d/comment_replyOf_post_0_0.csv", "id|id\n"),
+    ("d/comment_replyOf_comment_0_0.csv", "id|id\n"),
+    (
+        "d/updateStream_0_0_person.csv",
+        "8000|0|1|12|Cy|Fox|male|0|8000|1.1.1.3|Opera|1|||||\n9000|0|1|13|Di|Orr|female|0|9000|1.1.1.4|Safari|1|||||\n",
+    ),
+];
 
 // Room for the texts of a few persons.
-const ROOM: usize = 2000;
+const ROOM: usize = 3000;
+
+// The text of a file.
+fn text_of(name: &str) -> Option<&'static str> {
+    for (file, text) in FILES.iter() {
+        if *file == name {
+            return Some(*text);
+        }
+    }
+    None
+}
+
+// A shelf with these files, or one that has each at its first read alone. It tells nothing, and counts
+// its reads.
+#[derive(Drop)]
+struct TextShelf {
+    fading: bool,
+    reads: u64,
+}
+
+impl Shelf for TextShelf {
+    ghost contents = { λ _. None };
+
+    ghost faults = { λ _. 0 };
+
+    fn read(&mut self, name: &str, at: u64, into: &mut [u8]) -> Got {
+        self.reads = self.reads.saturating_add(1);
+        if self.fading && at > 0 {
+            return Got::Absent;
+        }
+        let Some(text) = text_of(name) else {
+            return Got::Absent;
+        };
+        let bytes = text.as_bytes();
+        let from = (at as usize).min(bytes.len());
+        let count = (bytes.len() - from).min(into.len());
+        into[..count].copy_from_slice(&bytes[from..from + count]);
+        Got::Took { count }
+    }
+}
 
 // What a run does to its clock and its gate.
 #[derive(Clone, Copy, Debug, PartialEq, Eq)]
@@ -100,9 +182,10 @@ fn pass(op: u32, phase: Phase) -> Note {
 
 #[test]
 fn follows_a_moving_clock(rt: HostRuntime) -> Result<(), Fail> {
-    let mut shelf = MemoryShelf::new(rt.alloc());
-    shelf.add("d/person_0_0.csv", PERSONS.as_bytes())?;
-    shelf.add("d/updateStream_0_0_person.csv", STREAM.as_bytes())?;
+    let mut shelf = TextShelf {
+        fading: false,
+        reads: 0,
+    };
     let mut out = MemoryOutbox::new(rt.alloc(), ROOM)?;
     let given = Given {
         moments: &[5, 7, 999, 1000, 1003, 1004],
@@ -137,40 +220,20 @@ fn follows_a_moving_clock(rt: HostRuntime) -> Result<(), Fail> {
     Ok(())
 }
 
-// A shelf that has the person file at the first read alone. It tells nothing.
-#[derive(Drop)]
-struct FadingShelf {
-    reads: u64,
-}
-
-impl Shelf for FadingShelf {
-    ghost contents = { λ _. None };
-
-    ghost faults = { λ _. 0 };
-
-    fn read(&mut self, _name: &str, _at: u64, into: &mut [u8]) -> Got {
-        let gone = self.reads > 0;
-        self.reads = self.reads.saturating_add(1);
-        if gone {
-            return Got::Absent;
-        }
-        let bytes = PERSONS.as_bytes();
-        let count = bytes.len().min(into.len());
-        into[..count].copy_from_slice(&bytes[..count]);
-        Got::Took { count }
-    }
-}
-
 #[test]
 fn a_file_that_goes_away_ends_there(rt: HostRuntime) -> Result<(), Fail> {
-    let mut shelf = FadingShelf { reads: 0 };
+    let mut shelf = TextShelf {
+        fading: true,
+        reads: 0,
+    };
     let mut out = MemoryOutbox::new(rt.alloc(), ROOM)?;
-    let clock = FarClock::new(0);
+    let clock = FarClock::new(1000);
     let status = snb(&rt, &WORDS, &mut shelf, &mut out, &clock, &OpenGate);
     assert_eq!(rt; status, 0);
-    // The read after the first piece, and the one of the stream.
-    assert_eq!(rt; shelf.reads, 3);
-    let screen = "operations 0\nupdates 0\nreads 0\nrows 1\n";
+    // Of each table the first piece, the read after it and the one of a second part; of the stream the
+    // first two.
+    assert_eq!(rt; shelf.reads, 101);
+    let screen = "operations 2\nupdates 2\nreads 0\nrows 5\n";
     assert_eq!(rt; out.bytes(Channel::Screen), screen.as_bytes());
     Ok(())
 }

@@ -1,7 +1,7 @@
 use Rattle.std.proofs.Common.{◌∙◌, ◌∷◌, [], List, ℕ, ap, sym, subst}
 use Rattle.snb_schema.specs.declared.step.Step.{Step}
 use Rattle.snb_schema.specs.declared.step.LaneKind.TheVariants.{Person}
-use Rattle.snb_schema.specs.Plan.{insert_steps}
+use Rattle.snb_plan.specs.Plan.{insert_steps}
 use Rattle.snb_schema.specs.Schedule.{IsPlanned}
 use Rattle.snb_plan.proofs.PlanLemmas.{planned_plan}
 use Rattle.snb_plan.proofs.plan.make_schedule.Goals as goal

@@ -1,7 +1,7 @@
 use Rattle.std.proofs.Common.{◌≤◌, ◌∙◌, ◌++◌, ◌∷◌, [], List, ap, subst, sym, take}
 use Rattle.snb_schema.specs.declared.step.Step.{Step}
 use Rattle.snb_schema.specs.declared.op.Line.{Line}
-use Rattle.snb_schema.specs.Plan.{insert_step, insert_steps}
+use Rattle.snb_plan.specs.Plan.{insert_step, insert_steps}
 use Rattle.snb_plan.proofs.PlanLemmas.{first_least, steps_more}
 use Rattle.snb_plan.proofs.plan.steps_of.Goals as goal
 

@@ -1,6 +1,6 @@
 -- The steps so far are those of the first inserts.
 use Rattle.std.proofs.Common.{◌≡◌, take}
-use Rattle.snb_schema.specs.Plan.{insert_steps}
+use Rattle.snb_plan.specs.Plan.{insert_steps}
 use Rattle.snb_plan.proofs.plan.steps_of.Given as goal
 
 abbrev pub invariant-loop-place : goal.invariant-loop-place

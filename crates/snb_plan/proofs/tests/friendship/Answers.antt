@@ -1,7 +1,7 @@
 use Rattle.std.proofs.Common.{ℕ, zero, suc, ◌<◌, ◌≤◌, [], ◌∷◌, length, get_or, arith}
-use Rattle.snb_schema.specs.declared.op.Line.{Line}
 use Rattle.snb_schema.specs.declared.limits.TheConstants.{MAX_TIME}
-use Rattle.snb_schema.specs.Plan.{AreOfPersonStream, AreTimed, IsOfPersonStream}
+use Rattle.snb_schema.specs.declared.op.Line.{Line}
+use Rattle.snb_plan.specs.Plan.{AreTimed}
 use Rattle.snb_plan.proofs.tests.friendship.Goals as goal
 
 at : (x : Line) (P : Line → Type 0) → P x → (k : ℕ) (d : Line) → k < length (x ∷ []) → P (get_or (x ∷ []) k d)
@@ -13,10 +13,6 @@ alone x zero zero d l m = omega arith
 alone x zero (suc j) d l m = absurd (omega arith)
 alone x (suc i) j d l m = absurd (omega arith)
 
--- one insert is in order
-of_stream : (x : Line) → IsOfPersonStream x.op → AreOfPersonStream (x ∷ [])
-of_stream x of_persons = record { of_persons = at x (λ y. IsOfPersonStream y.op) of_persons; rises = λ i j d le lt. alone x i j d (omega arith) lt }
-
 -- one insert is few
 timed_one : (x : Line) → x.t ≤ MAX_TIME → x.t_d ≤ MAX_TIME → AreTimed (x ∷ [])
 timed_one x t t_d = record {
@@ -25,9 +21,6 @@ timed_one x t t_d = record {
   needs_timed = at x (λ y. y.t_d ≤ MAX_TIME) t_d;
   rises = λ i j d le lt. alone x i j d (omega arith) lt;
 }
-
-pub returns-clause-stream : goal.returns-clause-stream
-returns-clause-stream c = rw (c.in_ok-push.ensures.items, c.new-lines.ensures.items) (of_stream _ tt)
 
 pub returns-clause-times : goal.returns-clause-times
 returns-clause-times c = rw (c.in_ok-push.ensures.items, c.new-lines.ensures.items) (timed_one _ (omega arith) c.requires)

@@ -1,6 +1,6 @@
 use Rattle.std.proofs.Common.{refl}
 use Rattle.std.proofs.lemmas.Result.{on_err_weaker}
-use Rattle.snb_tool.specs.Running.{bytes_of}
+use Rattle.snb_tool.specs.Endings.{bytes_of}
 use Rattle.snb_tool.proofs.Writing.{stopped_in_log, stopped_in_answers, stopped_in_finals, stopped_in_screen}
 use Rattle.snb_tool.proofs.deliver.deliver.Goals as goal
 

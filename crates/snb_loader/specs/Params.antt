@@ -1,0 +1,118 @@
+-- What the parameter files of a folder are refused for, and the lists of parameters that they are.
+use Rattle.std.specs.Prelude.{◌≡◌, ℕ, ◌<◌, ltb, true, ◌⊎◌, List, [], ◌∷◌, length, filter, map, Option, Some, None, Result, Ok, Err}
+use Rattle.snb_base.specs.Shelf.{Files}
+use Rattle.snb_schema.specs.declared.file.FileId.{FileId}
+use Rattle.snb_schema.specs.declared.file.FileKind.{FileKind}
+use Rattle.snb_schema.specs.declared.file.FileKind.TheVariants.{Table, PersonStream, ForumStream, Params, Log, Cases}
+use Rattle.snb_schema.specs.declared.query.Query.{Query}
+use Rattle.snb_schema.specs.declared.refusal.Refusal.{Refusal}
+use Rattle.snb_schema.specs.declared.refusal.Refusal.TheVariants.{NoParameters}
+use Rattle.snb_schema.specs.Frequencies.{FrequencyTable, frequency_at}
+use Rattle.snb_schema.specs.ParameterLines.{IsBadQuery, SpellsQuery, query_columns}
+use Rattle.snb_schema.specs.Queries.{IsComplex}
+use Rattle.snb_schema.specs.QueryLists.{AreOf, QueryLists, list_of}
+use Rattle.snb_streams.specs.Parameters.{params_file}
+use Rattle.snb_input.specs.declared.load.Load.{Load}
+use Rattle.snb_input.specs.declared.load.Load.TheVariants.{Refused, ReadFault, Memory}
+use Rattle.snb_input.specs.declared.load.Used.{Used}
+use Rattle.snb_input.specs.declared.series.Series.{Series}
+use Rattle.snb_input.specs.FirstOf.{FirstOf, NoneOf}
+use Rattle.snb_input.specs.Grammar.{Grammar}
+use Rattle.snb_input.specs.Places.{FileSays}
+use Rattle.snb_input.specs.Stages.{before}
+use Rattle.snb_input.specs.Walk.{Before, Held, IsHeldTold, after_walk, stage_checks, stage_looks}
+use Rattle.snb_loader.specs.declared.params.TheConstants.{COMPLEX_QUERIES}
+
+-- the queries with a frequency, by rising number
+abbrev pub asked : FrequencyTable → List ℕ
+asked table = filter (λ q. ltb 0 (frequency_at table q)) COMPLEX_QUERIES
+
+-- the parameter file of a query, which must be there
+abbrev pub params_series : ℕ → Series
+params_series q = record { kind = Params q; needed = true; most = 1; what = None }
+
+-- the parameter files of the queries with a frequency
+abbrev pub params_stage : FrequencyTable → List Series
+params_stage table = map params_series (asked table)
+
+-- the number of the query whose parameters a file of this kind has; any other file gives 0
+abbrev pub query_in : FileKind → ℕ
+query_in (Table t) = 0
+query_in PersonStream = 0
+query_in ForumStream = 0
+query_in (Params q) = q
+query_in Log = 0
+query_in Cases = 0
+
+-- these fields are no parameters of the query, in this column first; where the number isn't one of the seven, none are
+abbrev pub IsBadParams : ℕ → List (List ℕ) → ℕ → Type 0
+IsBadParams q fs column = (IsComplex q × IsBadQuery q fs column) ⊎ ((¬ IsComplex q) × (column ≡ 0))
+
+-- what is wrong with a file that has these parameters: there must be one
+abbrev pub no_parameters : FileId → List Query → Option Refusal
+no_parameters file [] = Some (NoParameters file)
+no_parameters file (x ∷ xs) = None
+
+-- what parameter files say: of the header only the number of fields counts, and each later line has the parameters of one query
+abbrev pub params_grammar : Grammar Query
+params_grammar = record {
+  has_header = λ file. true;
+  heads = λ file fs. length fs ≡ length (query_columns (query_in file.kind));
+  spells = λ file n fs x. IsComplex (query_in file.kind) × SpellsQuery (query_in file.kind) fs x;
+  column = λ file fs column. IsBadParams (query_in file.kind) fs column;
+  own = λ file done mine x r. ⊥;
+  bare = no_parameters;
+}
+
+-- what the files before said, and what this one has said so far
+pub record ParamLines : Type 0 where
+  pub done : List (List Query)
+  pub mine : List Query
+
+-- these are what the files before said, and what this one has said so far
+abbrev pub HasHeard : ParamLines → List (List Query) → List Query → Type 0
+HasHeard s done mine = (s.done ≡ done) × (s.mine ≡ mine)
+
+-- there is a list for each of these queries, with queries of its kind alone
+abbrev pub AreOfEach : List ℕ → List (List Query) → Type 0
+AreOfEach [] [] = Unit {0}
+AreOfEach [] (xs ∷ xss) = ⊥
+AreOfEach (q ∷ qs) [] = ⊥
+AreOfEach (q ∷ qs) (xs ∷ xss) = AreOf q xs × AreOfEach qs xss
+
+-- what was read after the parameter files
+abbrev pub after_params : Before → Held → FrequencyTable → Before
+after_params at held table = after_walk params_grammar at (stage_looks held (params_stage table))
+
+-- what is tried of the parameter files, in order
+abbrev pub params_checks : Before → Held → FrequencyTable → List {1} (Refusal → Type 0)
+params_checks at held table = stage_checks params_grammar at held (params_stage table)
+
+-- the parameter file of the query is there, and says this list
+abbrev pub IsListSaid : Held → ℕ → List Query → Type 0
+IsListSaid held q list = (bytes : List ℕ) × (held (params_file q) ≡ Some bytes) × FileSays params_grammar (record { file = params_file q; bytes = bytes }) list
+
+-- nothing is wrong with the parameter files, and these are the lists of parameters
+pub record AreParams (at : Before) (held : Held) (table : FrequencyTable) (lists : QueryLists) : Type 0 where
+  pub clean : NoneOf (params_checks at held table)
+  -- the list of a query with a frequency is what its file says
+  pub said : (query : ℕ) → 0 < frequency_at table query → IsListSaid held query (list_of lists query)
+  -- any other is empty
+  pub others : (query : ℕ) → frequency_at table query ≡ 0 → list_of lists query ≡ []
+
+-- each query with a frequency has a parameter
+abbrev pub AreFull : FrequencyTable → QueryLists → Type 0
+AreFull table lists = (query : ℕ) → 0 < frequency_at table query → 0 < length (list_of lists query)
+
+-- what the loading of the parameter files answers: there are files in the folder, which are those that the shelf tells where it tells
+-- any, of which nothing is wrong and these are the lists of parameters, or which are refused so
+abbrev pub IsParamsAnswer : Option Files → List ℕ → FrequencyTable → Used → Used → Result QueryLists Load → Type 0
+IsParamsAnswer contents folder table old new (Ok lists) =
+    (held : Held)
+    × IsHeldTold contents folder held
+    × AreParams (before old) held table lists
+    × (new.bytes ≡ (after_params (before old) held table).bytes)
+    × (new.rows ≡ (after_params (before old) held table).rows)
+IsParamsAnswer contents folder table old new (Err (Refused r)) = (held : Held) × IsHeldTold contents folder held × FirstOf (params_checks (before old) held table) r
+IsParamsAnswer contents folder table old new (Err ReadFault) = Unit {0}
+IsParamsAnswer contents folder table old new (Err Memory) = Unit {0}

@@ -1,0 +1,74 @@
+//! The dataset of a folder.
+
+ghost use Rattle.std.specs.Prelude.{◌≡◌, ◌≤◌, ℕ, IfOk, OnOk, OnErr};
+ghost use Rattle.snb_base.specs.Shelf.{Rose};
+ghost use Rattle.snb_input.specs.Loading.{OnReadFault};
+ghost use Rattle.snb_schema.specs.declared.limits.TheConstants.{MAX_BYTES, MAX_ROWS};
+ghost use Rattle.snb_loader.specs.Dataset.{IsDatasetAnswer, refusal_for};
+ghost use Rattle.snb_tables.specs.Soundness.{Sound};
+
+use crate::tables::{TableGraph, load_tables, tables_are_lawful};
+use snb_base::shelf::Shelf;
+use snb_graph::graph::Graph;
+use snb_input::law::one_saying;
+use snb_input::load::{Load, Used};
+use snb_schema::refusal::Refusal;
+use snb_soundness::unsound::Unsound;
+use snb_tables::law::graphs_are_their_rows;
+use std::alloc::Global;
+
+// Why a graph that isn't sound isn't taken.
+fn refusal_of(why: Unsound) -> Load
+    ensures { result ≡ refusal_for why }
+{
+    match why {
+        Unsound::Lacks { table, id, edge } => Load::Refused {
+            refusal: Refusal::Lacks { table, id, edge },
+        },
+        Unsound::Cycle { comment } => Load::Refused {
+            refusal: Refusal::Cycle { comment },
+        },
+        Unsound::Memory => Load::Memory,
+    }
+}
+
+/// Reads the tables of the folder, and gives their graph, which is sound. `used` is how much was read
+/// before, and after an Ok how much was read then. `Refused` says what is wrong first: with a file or
+/// with one of its lines, in the order of tables, parts and lines; or, where nothing is, `Lacks` or
+/// `Cycle`. `ReadFault` says that the shelf failed, and `Memory` that memory doesn't suffice. After an
+/// error `used` is as it was.
+///
+/// What was read before keeps within the limits (`bytes`, `rows`).
+pub fn load_dataset<S: Shelf>(
+    alloc: Global,
+    shelf: &mut S,
+    folder: &str,
+    used: &mut Used,
+) -> Result<Graph, Load>
+    requires bytes { used.old.bytes ≤ MAX_BYTES }
+    requires rows { used.old.rows ≤ MAX_ROWS }
+    ensures answer { IsDatasetAnswer (S.contents shelf.old) folder.now used.old used.new result }
+    ensures sound { IfOk result Sound }
+    ensures within { OnOk result ((used.new.bytes ≤ MAX_BYTES) × (used.new.rows ≤ MAX_ROWS)) }
+    ensures err { OnErr result (used.new ≡ used.old) }
+    ensures fault { OnReadFault result (Rose (S.faults shelf.old) (S.faults shelf.new)) }
+    ensures later { S.faults shelf.old ≤ S.faults shelf.new }
+    ensures same { S.contents shelf.new ≡ S.contents shelf.old }
+{
+    tables_are_lawful();
+    one_saying::<TableGraph>();
+    graphs_are_their_rows();
+    let walk = match load_tables(alloc, shelf, folder, *used) {
+        Ok(walk) => walk,
+        Err(load) => return Err(load),
+    };
+    let now = walk.used;
+    let graph = walk.taker.into_graph();
+    match graph.sound() {
+        Ok(()) => {
+            *used = now;
+            Ok(graph)
+        }
+        Err(why) => Err(refusal_of(why)),
+    }
+}

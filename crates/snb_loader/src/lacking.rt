@@ -1,0 +1,168 @@
+//! The references of a row whose nodes aren't held.
+
+ghost use Rattle.std.specs.Prelude.{◌≡◌, ◌++◌, ◌↔◌, true, IsTrue};
+ghost use Rattle.snb_schema.specs.References.{edge_refs, end_ref, from_kind, refs_of_row, to_kind};
+ghost use Rattle.snb_loader.specs.Tables.{FindsLacking, may_repeat};
+
+use snb_graph::graph::Graph;
+use snb_schema::key::{Held, Key};
+use snb_schema::row::Row;
+use snb_schema::table::{Kind, Table};
+
+// The kind of node that the first id of a table's rows refers to.
+fn from_kind(table: Table) -> Option<Kind>
+    ensures { result ≡ from_kind table }
+{
+    match table {
+        Table::Place
+        | Table::TagClass
+        | Table::Tag
+        | Table::Organisation
+        | Table::Person
+        | Table::Forum
+        | Table::Post
+        | Table::Comment => None,
+        Table::PlaceIsPartOfPlace => Some(Kind::Place),
+        Table::TagClassIsSubclassOfTagClass => Some(Kind::TagClass),
+        Table::TagHasTypeTagClass => Some(Kind::Tag),
+        Table::OrganisationIsLocatedInPlace => Some(Kind::Organisation),
+        Table::PersonEmailEmailAddress
+        | Table::PersonSpeaksLanguage
+        | Table::PersonHasInterestTag
+        | Table::PersonIsLocatedInPlace
+        | Table::PersonKnowsPerson
+        | Table::PersonLikesPost
+        | Table::PersonLikesComment
+        | Table::PersonStudyAtOrganisation
+        | Table::PersonWorkAtOrganisation => Some(Kind::Person),
+        Table::ForumContainerOfPost
+        | Table::ForumHasMemberPerson
+        | Table::ForumHasModeratorPerson
+        | Table::ForumHasTagTag => Some(Kind::Forum),
+        Table::PostHasCreatorPerson | Table::PostHasTagTag | Table::PostIsLocatedInPlace => Some(
+            Kind::Post,
+        ),
+        Table::CommentHasCreatorPerson
+        | Table::CommentHasTagTag
+        | Table::CommentIsLocatedInPlace
+        | Table::CommentReplyOfPost
+        | Table::CommentReplyOfComment => Some(Kind::Comment),
+    }
+}
+
+// The kind of node that the second column of a table refers to.
+fn to_kind(table: Table) -> Option<Kind>
+    ensures { result ≡ to_kind table }
+{
+    match table {
+        Table::Place
+        | Table::TagClass
+        | Table::Tag
+        | Table::Organisation
+        | Table::Person
+        | Table::Forum
+        | Table::Post
+        | Table::Comment
+        | Table::PersonEmailEmailAddress
+        | Table::PersonSpeaksLanguage => None,
+        Table::PlaceIsPartOfPlace
+        | Table::OrganisationIsLocatedInPlace
+        | Table::PersonIsLocatedInPlace
+        | Table::PostIsLocatedInPlace
+        | Table::CommentIsLocatedInPlace => Some(Kind::Place),
+        Table::TagClassIsSubclassOfTagClass | Table::TagHasTypeTagClass => Some(Kind::TagClass),
+        Table::PersonHasInterestTag
+        | Table::ForumHasTagTag
+        | Table::PostHasTagTag
+        | Table::CommentHasTagTag => Some(Kind::Tag),
+        Table::PersonKnowsPerson
+        | Table::ForumHasMemberPerson
+        | Table::ForumHasModeratorPerson
+        | Table::PostHasCreatorPerson
+        | Table::CommentHasCreatorPerson => Some(Kind::Person),
+        Table::PersonLikesPost | Table::ForumContainerOfPost | Table::CommentReplyOfPost => Some(
+            Kind::Post,
+        ),
+        Table::PersonLikesComment | Table::CommentReplyOfComment => Some(Kind::Comment),
+        Table::PersonStudyAtOrganisation | Table::PersonWorkAtOrganisation => Some(
+            Kind::Organisation,
+        ),
+    }
+}
+
+// The column, where the node to which it refers isn't held.
+fn lacking_end(graph: &Graph, column: u32, kind: Option<Kind>, id: u64) -> Option<u32>
+    ensures { FindsLacking graph.now (end_ref column kind id) result }
+{
+    match kind {
+        None => None,
+        Some(kind) => {
+            if graph.has(&Key::Node { kind, id }) {
+                None
+            } else {
+                Some(column)
+            }
+        }
+    }
+}
+
+// The first of the columns 1 and 2 that refers to a node that isn't held.
+fn lacking_of_two(
+    graph: &Graph,
+    first: Option<Kind>,
+    one: u64,
+    second: Option<Kind>,
+    other: u64,
+) -> Option<u32>
+    ensures { FindsLacking graph.now (end_ref 1 first one ++ end_ref 2 second other) result }
+{
+    match lacking_end(graph, 1, first, one) {
+        Some(column) => Some(column),
+        None => lacking_end(graph, 2, second, other),
+    }
+}
+
+// The first column of an edge's line that refers to a node that isn't held.
+fn lacking_of_edge(graph: &Graph, table: Table, from: u64, to: u64, turned: bool) -> Option<u32>
+    ensures { FindsLacking graph.now (edge_refs table from to turned) result }
+{
+    if turned {
+        lacking_of_two(graph, to_kind(table), to, from_kind(table), from)
+    } else {
+        lacking_of_two(graph, from_kind(table), from, to_kind(table), to)
+    }
+}
+
+/// The first column of a row's line that refers to a node that isn't held; none where all are. A
+/// line may have the ends of its row the other way round.
+pub fn first_lacking(graph: &Graph, row: &Row, turned: bool) -> Option<u32>
+    ensures { FindsLacking graph.now (refs_of_row row.now turned) result }
+{
+    match row {
+        Row::Link { table, from, to } => lacking_of_edge(graph, *table, *from, *to, turned),
+        Row::Dated {
+            table,
+            from,
+            to,
+            ..
+        } => lacking_of_edge(graph, *table, *from, *to, turned),
+        Row::Yeared {
+            table,
+            from,
+            to,
+            ..
+        } => lacking_of_edge(graph, *table, *from, *to, turned),
+        Row::Word { table, person, .. } => lacking_end(graph, 1, from_kind(*table), *person),
+        _ => None,
+    }
+}
+
+/// Whether a line may repeat the row: an edge or a word, and not a node.
+pub fn may_repeat(row: &Row) -> bool
+    ensures { result ≡ may_repeat row.now }
+{
+    match row {
+        Row::Link { .. } | Row::Dated { .. } | Row::Yeared { .. } | Row::Word { .. } => true,
+        _ => false,
+    }
+}

@@ -1,0 +1,54 @@
+//! Laws of what a folder is refused for and of what is read of it, over every folder.
+
+ghost use Rattle.snb_loader.specs.Laws.{DatasetIsOne, DatasetRefusesOnce, LanesAreOne, LanesRefuseOnce, ParamsAreOne, ParamsRefuseOnce, StreamIsOne, StreamRefusesOnce};
+
+use crate::params::{ParamTaker, params_are_lawful};
+use crate::streams::{StreamTaker, streams_are_lawful};
+use crate::tables::{TableGraph, tables_are_lawful};
+use snb_input::law::{one_refusal, one_saying};
+use snb_tables::law::graphs_are_their_rows;
+
+/// Something is wrong with the tables of a folder in one first way, or nothing is, and they have one
+/// graph.
+pub fn one_dataset()
+    ensures one { DatasetIsOne }
+    ensures refusal { DatasetRefusesOnce }
+{
+    tables_are_lawful();
+    one_refusal::<TableGraph>();
+    one_saying::<TableGraph>();
+    graphs_are_their_rows();
+}
+
+/// Something is wrong with the first person stream of a folder in one first way, or nothing is, and it
+/// has one list of lines.
+pub fn one_stream()
+    ensures one { StreamIsOne }
+    ensures refusal { StreamRefusesOnce }
+{
+    streams_are_lawful();
+    one_refusal::<StreamTaker>();
+    one_saying::<StreamTaker>();
+}
+
+/// Something is wrong with the update streams of a folder in one first way, or nothing is, and they
+/// have the same lanes.
+pub fn one_lanes()
+    ensures one { LanesAreOne }
+    ensures refusal { LanesRefuseOnce }
+{
+    streams_are_lawful();
+    one_refusal::<StreamTaker>();
+    one_saying::<StreamTaker>();
+}
+
+/// Something is wrong with the parameter files of a folder in one first way, or nothing is, and they
+/// have the same lists.
+pub fn one_params()
+    ensures one { ParamsAreOne }
+    ensures refusal { ParamsRefuseOnce }
+{
+    params_are_lawful();
+    one_refusal::<ParamTaker>();
+    one_saying::<ParamTaker>();
+}

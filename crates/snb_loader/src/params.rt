@@ -1,0 +1,232 @@
+//! The parameter files of a folder, read into lists.
+
+ghost use Rattle.std.specs.Prelude.{◌≡◌, ◌≢◌, ◌≤◌, ◌++◌, ℕ, [], IfOk, OnErr, OnOk, map};
+ghost use Rattle.snb_base.specs.Shelf.{Rose};
+ghost use Rattle.snb_schema.specs.declared.limits.TheConstants.{MAX_BYTES, MAX_ROWS};
+ghost use Rattle.snb_schema.specs.Frequencies.{frequency_at};
+ghost use Rattle.snb_schema.specs.Queries.{IsComplex};
+ghost use Rattle.snb_schema.specs.QueryLists.{AreOf, list_of};
+ghost use Rattle.snb_input.specs.Grammar.{Lawful};
+ghost use Rattle.snb_input.specs.Loading.{OnReadFault};
+ghost use Rattle.snb_input.specs.Stages.{AreRising, IsStage, IsWalkWithin, before};
+ghost use Rattle.snb_loader.specs.Params.{AreFull, AreOfEach, HasHeard, IsParamsAnswer, asked, params_grammar, params_stage, query_in as query_within};
+
+use csv::ByteRecord;
+use snb_base::shelf::Shelf;
+use snb_input::load::{Load, Used};
+use snb_input::series::Series;
+use snb_input::taker::Taker;
+use snb_input::walk::{Walk, walk_stage};
+use snb_schema::fault::{Fault, LineFault};
+use snb_schema::file::{FileId, FileKind};
+use snb_schema::frequencies::Frequencies;
+use snb_schema::lists::Lists;
+use snb_schema::query::{Query, is_complex};
+use snb_schema::refusal::Refusal;
+use snb_streams::law::one_query;
+use snb_streams::params::{columns_of, read_query};
+use std::alloc::{AllocError, Global};
+use std::marker::Model;
+use std::mem;
+
+/// The numbers of the complex queries.
+pub const COMPLEX_QUERIES: [u32; 7] = [1, 2, 7, 8, 9, 11, 13];
+
+// The number of the query whose parameters a file of this kind has; any other file gives 0.
+fn query_in(kind: FileKind) -> u32
+    ensures { result ≡ query_within kind }
+{
+    match kind {
+        FileKind::Params { query } => query,
+        FileKind::Table { .. }
+        | FileKind::PersonStream
+        | FileKind::ForumStream
+        | FileKind::Log
+        | FileKind::Cases => 0,
+    }
+}
+
+/// Takes the parameters of files, file by file.
+#[derive(Drop)]
+pub(crate) struct ParamTaker {
+    alloc: Global,
+    done: Vec<Vec<Query>>,
+    mine: Vec<Query>,
+}
+
+impl Model for ParamTaker {
+    ghost use Rattle.std.specs.Prelude.{map};
+    ghost use Rattle.snb_loader.specs.Params.{ParamLines};
+
+    ghost Value = { ParamLines };
+
+    ghost view = { λ s. record { done = map (λ v. v.items) s.done.items; mine = s.mine.items } };
+}
+
+impl ParamTaker {
+    // No parameters. Takes no memory.
+    fn new(alloc: Global) -> ParamTaker
+        ensures { result ≡ record { done = []; mine = [] } }
+    {
+        ParamTaker {
+            alloc,
+            done: Vec::new(alloc),
+            mine: Vec::new(alloc),
+        }
+    }
+}
+
+impl Taker for ParamTaker {
+    type Item = Query;
+
+    ghost use Rattle.snb_loader.specs.Params.{HasHeard, params_grammar};
+
+    ghost grammar = { params_grammar };
+
+    ghost heard = { HasHeard };
+
+    fn has_header(&self, _file: FileId) -> bool {
+        true
+    }
+
+    fn is_header(&self, file: FileId, fields: &ByteRecord) -> bool {
+        fields.len() == columns_of(query_in(file.kind)).len()
+    }
+
+    fn read_item(
+        &self,
+        file: FileId,
+        _number: u32,
+        fields: &ByteRecord,
+    ) -> Result<Query, LineFault> {
+        let query = query_in(file.kind);
+        if !is_complex(query) {
+            return Err(LineFault::Bad { column: 0 });
+        }
+        read_query(self.alloc, query, fields)
+    }
+
+    fn put(&mut self, _file: FileId, item: Query) -> Result<(), Fault> {
+        self.mine.push(item)?;
+        Ok(())
+    }
+
+    fn at_end(&self, file: FileId) -> Option<Refusal> {
+        if self.mine.is_empty() {
+            Some(Refusal::NoParameters { file })
+        } else {
+            None
+        }
+    }
+
+    fn next_file(&mut self) -> Result<(), AllocError> {
+        let queries = mem::replace(&mut self.mine, Vec::new(self.alloc));
+        self.done.push(queries)?;
+        Ok(())
+    }
+}
+
+/// A line of a parameter file says one query at most, and is refused in one way at most.
+pub(crate) fn params_are_lawful()
+    ensures { Lawful params_grammar }
+{
+    one_query();
+}
+
+// The parameter files of the queries with a frequency.
+fn stage_of(alloc: Global, frequencies: &Frequencies) -> Result<Vec<Series>, AllocError>
+    ensures { IfOk result (λ stage. stage.items ≡ params_stage frequencies.now) }
+{
+    COMPLEX_QUERIES
+        .iter()
+        .copied()
+        .filter(|query| frequencies.of(*query) > 0)
+        .map(|query| Series {
+            kind: FileKind::Params { query },
+            needed: true,
+            most: 1,
+            what: None,
+        })
+        .collect(alloc)
+}
+
+// Appends these to the list of the query.
+fn add_list(lists: &mut Lists, query: u32, list: Vec<Query>) -> Result<(), AllocError>
+    requires complex { IsComplex query }
+    requires kind { AreOf query list.items }
+    ensures added { OnOk result (list_of lists.new query ≡ list_of lists.old query ++ list.items) }
+    ensures others { OnOk result ((other : ℕ) → other ≢ query → list_of lists.new other ≡ list_of lists.old other) }
+{
+    for one in list {
+        lists.push(query, one)?;
+    }
+    Ok(())
+}
+
+// The lists of the queries with a frequency, which are in turn what this taker took; the others are
+// empty.
+fn lists_of(
+    alloc: Global,
+    frequencies: &Frequencies,
+    taker: ParamTaker,
+) -> Result<Lists, AllocError>
+    requires kinds { AreOfEach (asked frequencies.now) taker.done }
+    ensures lists { IfOk result (λ lists. map (list_of lists) (asked frequencies.now) ≡ taker.done) }
+    ensures others { IfOk result (λ lists. (query : ℕ) → frequency_at frequencies.now query ≡ 0 → list_of lists query ≡ []) }
+{
+    let mut lists = Lists::new(alloc);
+    let mut left = taker.done.into_iter();
+    for query in COMPLEX_QUERIES {
+        if frequencies.of(query) > 0 {
+            match left.next() {
+                Some(list) => add_list(&mut lists, query, list)?,
+                None => unreachable!(),
+            }
+        }
+    }
+    Ok(lists)
+}
+
+/// Reads the parameter files of the complex queries into lists. The files of the queries with a
+/// frequency are read, by the rising numbers of the queries; no other is looked for. The list of such a
+/// query has an item for each data line of its file, in order, and so at least one (`full`); the list
+/// of any other query is empty. Each file must be there, and begins with a header.
+///
+/// `used` is what was read of the input before, within the limits on bytes (`bytes`) and on data lines
+/// (`rows`). With an `Ok` it counts the parameter files too, and is within both limits again
+/// (`within`). With an error it stays as it was (`err`).
+///
+/// `Refused` is the first thing wrong, file after file: it isn't held (`Absent`); one of its lines is
+/// refused; none of its lines has a byte (`NoHeader`); it has no data line (`NoParameters`). A line is
+/// refused for the first of these: bytes past the most that are read reach it (`TooLarge`); it begins
+/// with a byte order mark (`BadLine` in column 1); it isn't UTF-8 (`NotUtf8`); it is the header, and
+/// hasn't a field for each parameter of the query (`BadLine` in column 0); its bad column by
+/// `read_query` (`BadLine`); it is a data line too many (`TooMany`). A line without a byte is refused
+/// only as too large. `ReadFault` is a read that failed, and `Memory` want of memory.
+pub fn load_params<S: Shelf>(
+    alloc: Global,
+    shelf: &mut S,
+    folder: &str,
+    frequencies: &Frequencies,
+    used: &mut Used,
+) -> Result<Lists, Load>
+    requires bytes { used.old.bytes ≤ MAX_BYTES }
+    requires rows { used.old.rows ≤ MAX_ROWS }
+    ensures answer { IsParamsAnswer (S.contents shelf.old) folder.now frequencies.now used.old used.new result }
+    ensures full { IfOk result (AreFull frequencies.now) }
+    ensures within { OnOk result ((used.new.bytes ≤ MAX_BYTES) × (used.new.rows ≤ MAX_ROWS)) }
+    ensures err { OnErr result (used.new ≡ used.old) }
+    ensures fault { OnReadFault result (Rose (S.faults shelf.old) (S.faults shelf.new)) }
+    ensures later { S.faults shelf.old ≤ S.faults shelf.new }
+    ensures same { S.contents shelf.new ≡ S.contents shelf.old }
+{
+    params_are_lawful();
+    let stage = stage_of(alloc, frequencies)?;
+    let walk = match walk_stage(alloc, shelf, folder, &stage, *used, ParamTaker::new(alloc)) {
+        Ok(walk) => walk,
+        Err(load) => return Err(load),
+    };
+    let lists = lists_of(alloc, frequencies, walk.taker)?;
+    *used = walk.used;
+    Ok(lists)
+}

@@ -1,0 +1,5 @@
+//! The first rows in an order.
+#![tactic(auto)]
+
+pub mod first;
+pub mod law;

@@ -1,0 +1,32 @@
+use Rattle.std.proofs.Common.{◌≡◌, suc, ◌-◌, arith, refl, sym, subst}
+use Rattle.std.specs.BTreeMap.{get}
+use Rattle.std.specs.Ordering.{nat_cmp}
+use Rattle.snb_graph.specs.Walks.{AreFriendsOf}
+use Rattle.snb_shelf.proofs.Laws.{contains_here}
+use Rattle.snb_reach.proofs.LevelLemmas.{all_looked, growing_met, looked, looks, met_stays}
+use Rattle.snb_reach.proofs.levels.meet_friends.Goals as goal
+
+pub loop-friend-init : goal.loop-friend-init
+loop-friend-init c = record {
+  growing = c.requires.growing;
+  stays = λ q h. h;
+  looking = looks c.args.graph.now c.args.person _ _ c.requires.sound.held
+      (subst (AreFriendsOf c.args.graph.now c.args.person) (sym c.into_iter-friend-iterator.ensures.into_iter_gives) c.friends-friend-items.ensures);
+  len = omega arith;
+}
+
+pub loop-friend-preserved : goal.loop-friend-preserved
+loop-friend-preserved c =
+    let g = c.args.graph.now in
+    let up : c.args.level ≡ suc (c.args.level - 1) = omega (arith, c.requires.above) in
+    let (knows, known) = c.loop-friend.invariant.looking.friends c.in-Some.friend c.in-Some.field-0-1 (rw c.in-Some.ensures.steps (contains_here (c.in-Some.friend, c.in-Some.field-0-1) c.next.new.self)) in
+    let (stays, here) = met_stays g c.args.start _ c.args.level _ _ _ _ c.in_ok-meet.ensures.met in
+    record {
+      growing = growing_met g c.args.start c.args.level _ _ c.loop-friend.invariant.growing c.args.person _ (c.args.level - 1) _ _ up c.requires.reached knows known c.in_ok-meet.ensures.met;
+      stays = λ q h. stays q (c.loop-friend.invariant.stays q h);
+      looking = looked g c.args.person _ _ _ _ _ _ c.in-Some.ensures.steps stays here c.loop-friend.invariant.looking;
+      len = omega (arith, c.in_ok-meet.ensures.len, c.loop-friend.invariant.len);
+    }
+
+pub returns-clause-friends : goal.returns-clause-friends
+returns-clause-friends c = all_looked c.args.graph.now c.args.person c.loop-friend.friend-iterator (get nat_cmp c.loop-friend.met) c.in-None.ensures.steps.0 c.loop-friend.invariant.looking

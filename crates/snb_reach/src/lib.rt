@@ -1,0 +1,6 @@
+//! Distances between persons over friendships.
+#![tactic(auto)]
+
+mod levels;
+pub mod near;
+pub mod reach;

@@ -1,0 +1,8 @@
+pub mod Around
+pub mod Cells
+pub mod ComplexReads
+pub mod Distance
+pub mod Order
+pub mod Replies
+pub mod ShortReads
+pub mod Worked

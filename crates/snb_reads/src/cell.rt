@@ -1,0 +1,56 @@
+//! The cells of an answer.
+
+ghost use Rattle.std.specs.Prelude.{◌≡◌, ◌<◌, ◌^◌, pos, IfOk};
+ghost use Rattle.snb_reads.specs.declared.cell.Cell.TheVariants.{Number};
+
+use crate::stays::Stays;
+use snb_base::text::Text;
+use snb_base::texts::Texts;
+use std::alloc::AllocError;
+
+/// One value of an answer's row.
+#[derive(Drop)]
+pub enum Cell {
+    /// A number, or a moment in milliseconds since 1970-01-01 UTC.
+    Number { value: i64 },
+    /// Yes or no.
+    Flag { value: bool },
+    /// A text.
+    Words { text: Text },
+    /// Texts, in byte order.
+    List { texts: Texts },
+    /// Where a person studied or worked, in order.
+    Stays { stays: Stays },
+}
+
+impl Cell {
+    /// The cell of a number that isn't below zero. Takes no memory.
+    /// The condition: the number is below 2^63.
+    pub fn number(value: u64) -> Cell
+        requires { value < 2 ^ 63 }
+        ensures { result ≡ Number (pos value) }
+    {
+        Cell::Number {
+            value: value as i64,
+        }
+    }
+
+    /// An equal cell.
+    pub fn try_copy(&self) -> Result<Cell, AllocError>
+        ensures { IfOk result (λ c. c ≡ self.now) }
+    {
+        match self {
+            Cell::Number { value } => Ok(Cell::Number { value: *value }),
+            Cell::Flag { value } => Ok(Cell::Flag { value: *value }),
+            Cell::Words { text } => Ok(Cell::Words {
+                text: text.try_copy()?,
+            }),
+            Cell::List { texts } => Ok(Cell::List {
+                texts: texts.try_copy()?,
+            }),
+            Cell::Stays { stays } => Ok(Cell::Stays {
+                stays: stays.try_copy()?,
+            }),
+        }
+    }
+}

@@ -1,0 +1,72 @@
+//! Where a person studied or worked, as a cell of an answer.
+
+ghost use Rattle.std.specs.Prelude.{◌≡◌, ◌∷◌, ◌++◌, [], IfOk, OnOk, OnErr};
+
+use snb_base::text::Text;
+use std::alloc::{AllocError, Global};
+use std::marker::Model;
+
+/// An owned list of stays, each the name of an organisation, a year, and the name of the place where
+/// the organisation is. A contract sees the list.
+#[derive(Drop)]
+pub struct Stays {
+    alloc: Global,
+    items: Vec<(Text, u32, Text)>,
+}
+
+impl Model for Stays {
+    ghost use Rattle.std.specs.Prelude.{ℕ, List};
+
+    ghost Value = { List (List ℕ × ℕ × List ℕ) };
+
+    ghost view = { λ s. s.items.items };
+}
+
+impl Stays {
+    /// The empty list. Takes no memory.
+    pub fn new(alloc: Global) -> Stays
+        ensures { result ≡ [] }
+    {
+        Stays {
+            alloc,
+            items: Vec::new(alloc),
+        }
+    }
+
+    /// The list that the vector has. Takes no memory.
+    pub fn from_vec(alloc: Global, items: Vec<(Text, u32, Text)>) -> Stays
+        ensures { result ≡ items.items }
+    {
+        Stays { alloc, items }
+    }
+
+    /// The stays in order.
+    pub fn as_slice(&self) -> &[(Text, u32, Text)]
+        ensures { result.now ≡ self.now }
+    {
+        self.items.as_slice()
+    }
+
+    /// Appends a stay. Want of memory leaves the list as it was.
+    pub fn push(&mut self, stay: (Text, u32, Text)) -> Result<(), AllocError>
+        ensures ok { OnOk result (self.new ≡ self.old ++ stay ∷ []) }
+        ensures err { OnErr result (self.new ≡ self.old) }
+    {
+        self.items.push(stay)?;
+        Ok(())
+    }
+
+    /// An equal list.
+    pub fn try_copy(&self) -> Result<Stays, AllocError>
+        ensures { IfOk result (λ s. s ≡ self.now) }
+    {
+        let mut items = Vec::new(self.alloc);
+        for (name, year, place) in &self.items {
+            items.push((name.try_copy()?, *year, place.try_copy()?))?;
+        }
+        Ok(Stays {
+            alloc: self.alloc,
+            items,
+        })
+    }
+}

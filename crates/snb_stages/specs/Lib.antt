@@ -1,4 +1,0 @@
-pub mod Dataset
-pub mod Lanes
-pub mod Params
-pub mod Tables

@@ -1,0 +1,8 @@
+//! The texts that the program writes: of a run, of a count, and of a refusal.
+#![tactic(auto)]
+
+pub mod counts;
+pub mod final_lines;
+pub mod law;
+pub mod log_lines;
+pub mod refusal_text;

@@ -1,0 +1,7 @@
+use Rattle.snb_tool.proofs.tool.obey.Goals as goal
+
+pub returns-in-Check-clause-ends : goal.returns-in-Check-clause-ends
+returns-in-Check-clause-ends g c = rw c.in-Check.is c.check.ensures.ends
+
+pub returns-in-Run-clause-ends : goal.returns-in-Run-clause-ends
+returns-in-Run-clause-ends g c = rw c.in-Run.is c.run.ensures.ends

@@ -1,0 +1,4 @@
+pub mod Planning
+pub mod Replay
+pub mod Single
+pub mod TurnLemmas
