@@ -1,24 +1,27 @@
 -- What the book's fields answer to a claim.
 use Rattle.std.proofs.Common.{◌≡◌, ℕ, suc, ◌<◌, ◌≤◌, List, [], ◌∷◌, length, get_or, Bool, true, false, inl, inr, refl, sym, ◌∙◌, subst, arith, Option, Some, None}
-use Rattle.std.specs.Prelude.{ℤ, pos, ◌<ℤ◌, MatchOption}
+use Rattle.std.specs.Prelude.{ℤ, pos, ◌<ℤ◌, ◌≤ℤ◌, ◌-ℤ◌}
 use Rattle.std.specs.List.{list_all}
 use Rattle.std.proofs.lemmas.Bool.{cases_Bool}
+use Rattle.std.proofs.lemmas.Int.{ints}
 use Rattle.std.proofs.lemmas.List.Folds.{list_all_at}
+use Rattle.snb_base.proofs.Laws.{least_failing}
 use Rattle.snb_schema.specs.declared.event.Event.{Event}
-use Rattle.snb_schema.specs.declared.limits.TheConstants.{MAX_TIME}
 use Rattle.snb_schema.specs.Schedule.{Schedule, step_of, IsOperation, IsPlanned}
 use Rattle.snb_schema.specs.History.{started, finished, halted, hand}
-use Rattle.snb_schema.specs.Completion.{time_left, completion}
-use Rattle.snb_schema.specs.Rules.{IsComplete, IsNotBusy}
+use Rattle.snb_schema.specs.Completion.{time_left, completion, is_awaited, least_t}
+use Rattle.snb_schema.specs.Rules.{IsCleared, IsComplete, IsNotBusy}
 use Rattle.snb_completion.specs.Progress.{Progress, flag}
+use Rattle.snb_book.specs.declared.book.Firsts.{Firsts}
 use Rattle.snb_book.specs.Kept.{Kept}
 use Rattle.snb_book.specs.Book.{IsSoundBook, IsTold, IsNext}
-use Rattle.snb_book.specs.Kept.{IsOfPersons}
-use Rattle.snb_book.specs.Heads.{IsWithin}
-use Rattle.snb_book.specs.declared.claim.Claim.TheVariants.{Busy, Blocked}
-use Rattle.snb_book.specs.Claims.{IsPlanHead, IsDueHead, IsAdmitted, IsFirst, IsUnderWay, IsClaim}
+use Rattle.snb_book.specs.Heads.{AreFirsts, AreFirstsBelow, IsLate, IsWithin, TellsFirst}
+use Rattle.snb_book.specs.declared.claim.Claim.TheVariants.{Busy, Go, Blocked}
+use Rattle.snb_book.specs.Claims.{HoldsBefore, IsPlanHead, IsDueHead, IsAdmitted, IsFirst, IsUnderWay, IsClaim}
 use Rattle.snb_book.proofs.Blocking.{blocked_below}
-use Rattle.snb_book.proofs.Heads.{head_from_next, next_from_head, all_begun, due_no_later, within_all}
+use Rattle.snb_book.proofs.Firsts.{TellsFirst-same, none_due}
+use Rattle.snb_book.proofs.Heads.{head_from_next, next_from_head}
+use Rattle.snb_book.proofs.Waiting.{not_busy_where_free, free_where_not_busy}
 use Rattle.snb_schema.proofs.Laws.{completion_decides, time_left-same}
 
 -- the completion time is told by the flags of what is finished
@@ -26,74 +29,69 @@ pub completion_is : (b : Kept) (times : Progress) (heads : List ℕ) (held : Lis
     → IsTold b times heads held latest stopped → time_left b.schedule (flag times.finished) ≡ completion b.schedule b.history
 completion_is b times heads held latest stopped told = time_left-same b.schedule (flag times.finished) (finished b.history) told.over
 
--- of the operations that stand at their lanes' places, the first within the limit, or that there is none
-abbrev pub TellsFirst : Schedule → List ℕ → ℤ → Option ℕ → Type 0
-TellsFirst s heads limit first =
-    MatchOption first ((j : ℕ) → IsNext s heads j → ¬ IsWithin s limit j) (λ op. IsFirst s (λ j. IsNext s heads j × IsWithin s limit j) op)
+-- a dependent is cleared exactly where its t_d is below the least t that is waited for
+within_cleared : (s : Schedule) (h : List Event) → IsPlanned s → (op : ℕ) → IsOperation s op → IsWithin s (least_t s (is_awaited s h)) op → IsCleared s h op
+within_cleared s h planned op within below =
+    (completion_decides s h op (planned.needs_timed op within)).1 (λ dependent. at_most (step_of s op).t_d (least_t s (is_awaited s h)) (below dependent))
+  where
+    at_most : (c l : ℕ) → c < l → pos c ≤ℤ (pos l -ℤ pos 1)
+    at_most c l lt = omega (arith, ints)
 
-pub TellsFirst-same : (s s' : Schedule) (heads heads' : List ℕ) (limit limit' : ℤ) (first : Option ℕ) → s ≡ s' → heads ≡ heads' → limit ≡ limit'
-    → TellsFirst s heads limit first → TellsFirst s' heads' limit' first
-TellsFirst-same s s' heads heads' limit limit' first schedules places limits told =
-    subst (λ (z : ℤ). TellsFirst s' heads' z first) limits
-    (subst (λ (l : List ℕ). TellsFirst s' l limit first) places (subst (λ (t : Schedule). TellsFirst t heads limit first) schedules told))
+cleared_within : (s : Schedule) (h : List Event) → IsPlanned s → (op : ℕ) → IsOperation s op → IsCleared s h op → IsWithin s (least_t s (is_awaited s h)) op
+cleared_within s h planned op within cleared dependent =
+    below (step_of s op).t_d (least_t s (is_awaited s h)) ((completion_decides s h op (planned.needs_timed op within)).0 cleared dependent)
+  where
+    below : (c l : ℕ) → pos c ≤ℤ (pos l -ℤ pos 1) → c < l
+    below c l le = omega (arith, ints)
 
--- within the greatest limit: where there is none all is started, and else the first head
-pub unstarted_told : (b : Kept) (capacity : ℕ) (times : Progress) (heads : List ℕ) (held : List (Option ℕ)) (latest : ℕ) (stopped : Bool) (first : Option ℕ)
-    → IsSoundBook b capacity → IsTold b times heads held latest stopped → TellsFirst b.schedule heads (pos MAX_TIME) first
-    → MatchOption first ((k : ℕ) → IsOperation b.schedule k → started b.history k ≡ true) (λ op. IsFirst b.schedule (IsPlanHead b.schedule b.history) op)
-unstarted_told b capacity times heads held latest stopped None kept told none =
-    all_begun b.schedule b.history heads kept.planned told.begun (λ j next. none j next (within_all b.schedule kept.planned j next.0))
-unstarted_told b capacity times heads held latest stopped (Some op) kept told first = (
-  head_from_next b.schedule b.history heads kept.planned told.begun op first.0.0,
-  λ j head.
-      let next : IsNext b.schedule heads j = next_from_head b.schedule b.history heads kept.planned told.begun j head in
-      first.1 j (next, within_all b.schedule kept.planned j next.0),
-)
+-- the firsts of all lanes are those of the heads
+pub firsts_told : (b : Kept) (capacity : ℕ) (times : Progress) (heads : List ℕ) (held : List (Option ℕ)) (latest : ℕ) (stopped : Bool) (firsts : Firsts)
+    → IsSoundBook b capacity → IsTold b times heads held latest stopped
+    → AreFirstsBelow b.schedule heads times.finished (least_t b.schedule (is_awaited b.schedule b.history)) (length b.schedule.kinds) firsts
+    → AreFirsts b.schedule b.history firsts
+firsts_told b capacity times heads held latest stopped firsts kept told is = record {
+  all = TellsFirst-same s _ (IsPlanHead s h) firsts.all (λ j q. head j q.0) (λ j q. (next j q, low j q)) is.all;
+  free = TellsFirst-same s _ (λ j. IsPlanHead s h j × IsNotBusy s h j) firsts.free
+      (λ j q. (head j q.0.0, not_busy_where_free s b.workers h times.finished kept.planned kept.legal told.over j (head j q.0.0) q.0.1))
+      (λ j q. ((next j q.0, free_where_not_busy s h times.finished told.over j q.0 q.1), low j q.0))
+      is.free;
+  ready = TellsFirst-same s _ (λ j. IsPlanHead s h j × IsAdmitted s h j) firsts.ready
+      (λ j q. (
+        head j q.0.0,
+        (
+          not_busy_where_free s b.workers h times.finished kept.planned kept.legal told.over j (head j q.0.0) q.0.1,
+          within_cleared s h kept.planned j q.0.0.0 q.0.2,
+        ),
+      ))
+      (λ j q. (
+        (next j q.0, free_where_not_busy s h times.finished told.over j q.0 q.1.0, cleared_within s h kept.planned j q.0.0 q.1.1),
+        low j q.0,
+      ))
+      is.ready;
+}
+  where
+    s : Schedule
+    s = b.schedule
 
--- in lanes of persons no head is busy
-not_busy : (s : Schedule) (h : List Event) → IsPlanned s → IsOfPersons s → (k : ℕ) → IsOperation s k → IsNotBusy s h k
-not_busy s h planned persons k within = λ forum. absurd (let p = persons.persons (step_of s k).lane (planned.in_lanes k within) in cc)
+    h : List Event
+    h = b.history
 
--- there a head may start exactly where it is within the completion time
-admitted_within : (b : Kept) (capacity k : ℕ) → IsSoundBook b capacity → IsOperation b.schedule k → IsWithin b.schedule (completion b.schedule b.history) k
-    → IsAdmitted b.schedule b.history k
-admitted_within b capacity k kept operation within = (
-  not_busy b.schedule b.history kept.planned kept.persons k operation,
-  (completion_decides b.schedule b.history k (kept.planned.needs_timed k operation)).1 within,
-)
+    head : (j : ℕ) → IsNext b.schedule heads j → IsPlanHead b.schedule b.history j
+    head = head_from_next b.schedule b.history heads kept.planned told.begun
 
-within_admitted : (b : Kept) (capacity k : ℕ) → IsSoundBook b capacity → IsOperation b.schedule k → IsAdmitted b.schedule b.history k
-    → IsWithin b.schedule (completion b.schedule b.history) k
-within_admitted b capacity k kept operation admitted = (completion_decides b.schedule b.history k (kept.planned.needs_timed k operation)).0 admitted.1
+    next : (j : ℕ) → IsPlanHead b.schedule b.history j → IsNext b.schedule heads j
+    next = next_from_head b.schedule b.history heads kept.planned told.begun
 
--- within the completion time: where there is none, no due head may start
-pub none_ready : (b : Kept) (capacity : ℕ) (times : Progress) (heads : List ℕ) (held : List (Option ℕ)) (latest : ℕ) (stopped : Bool) (at : ℕ)
-    → IsSoundBook b capacity → IsTold b times heads held latest stopped → TellsFirst b.schedule heads (completion b.schedule b.history) None
-    → (j : ℕ) → IsDueHead b.schedule b.history at j → ¬ IsAdmitted b.schedule b.history j
-none_ready b capacity times heads held latest stopped at kept told none j head admitted =
-    none j (next_from_head b.schedule b.history heads kept.planned told.begun j (head.0, head.1)) (within_admitted b capacity j kept head.0 admitted)
+    low : (j : ℕ) → IsPlanHead b.schedule b.history j → (step_of b.schedule j).lane < length b.schedule.kinds
+    low j q = kept.planned.in_lanes j q.0
 
--- nor where the first is due later
-pub late_ready : (b : Kept) (capacity : ℕ) (times : Progress) (heads : List ℕ) (held : List (Option ℕ)) (latest : ℕ) (stopped : Bool) (at op : ℕ)
-    → IsSoundBook b capacity → IsTold b times heads held latest stopped → TellsFirst b.schedule heads (completion b.schedule b.history) (Some op)
-    → at < (step_of b.schedule op).due → (j : ℕ) → IsDueHead b.schedule b.history at j → ¬ IsAdmitted b.schedule b.history j
-late_ready b capacity times heads held latest stopped at op kept told first late j head admitted =
-    let next : IsNext b.schedule heads j = next_from_head b.schedule b.history heads kept.planned told.begun j (head.0, head.1) in
-    let later = due_no_later b.schedule op j (first.1 j (next, within_admitted b capacity j kept head.0 admitted)) in
-    let due = head.2 in
-    omega arith
-
-pub first_ready : (b : Kept) (capacity : ℕ) (times : Progress) (heads : List ℕ) (held : List (Option ℕ)) (latest : ℕ) (stopped : Bool) (at op : ℕ)
-    → IsSoundBook b capacity → IsTold b times heads held latest stopped → TellsFirst b.schedule heads (completion b.schedule b.history) (Some op)
-    → (step_of b.schedule op).due ≤ at → IsFirst b.schedule (λ j. IsDueHead b.schedule b.history at j × IsAdmitted b.schedule b.history j) op
-first_ready b capacity times heads held latest stopped at op kept told first due =
-    let head = head_from_next b.schedule b.history heads kept.planned told.begun op first.0.0 in (
-      ((head.0, head.1, due), admitted_within b capacity op kept head.0 first.0.1),
-      λ j both. first.1 j (
-        next_from_head b.schedule b.history heads kept.planned told.begun j (both.0.0, both.0.1),
-        within_admitted b capacity j kept both.0.0 both.1,
-      ),
-    )
+-- where no lane has a head all is started
+pub all_started : (s : Schedule) (h : List Event) → ((j : ℕ) → ¬ IsPlanHead s h j) → (k : ℕ) → IsOperation s k → started h k ≡ true
+all_started s h none =
+    elim (least_failing (started h) (length s.steps)) [
+      | inl all ↦ all
+      | inr found ↦ absurd (none found.0 (found.1.within, record { fresh = found.1.fails; led = λ j before. found.1.before j before.0 }))
+    ]
 
 pub own_busy : (s : Schedule) (h : List Event) (first worker at k : ℕ) → ((w : ℕ) → halted h w ≡ false) → IsFirst s (IsPlanHead s h) first → hand h worker ≡ Some k
     → IsClaim s h worker at (Busy k worker)
@@ -103,19 +101,44 @@ pub under_way : (s : Schedule) (h : List Event) (first worker : ℕ) → ((w : �
     → IsUnderWay s h worker
 under_way s h first worker running is free = record { running = running; left = (first, is.0.0, is.0.1.fresh); free = free }
 
--- where a head is due and none that is due may start, the first head is blocked
-pub blocked : (s : Schedule) (h : List Event) (first worker at needs : ℕ) (time : ℤ) → IsPlanned s → IsOfPersons s → IsUnderWay s h worker
-    → IsFirst s (IsPlanHead s h) first → (step_of s first).due ≤ at → ((j : ℕ) → IsDueHead s h at j → ¬ IsAdmitted s h j)
-    → needs ≡ (step_of s first).t_d → time ≡ completion s h → IsClaim s h worker at (Blocked first needs time)
-blocked s h first worker at needs time planned persons idle is due none needed reached = (
+-- where a head is due, the first of all is the first of those that are due
+pub first_due_head : (s : Schedule) (h : List Event) (at first : ℕ) → IsFirst s (IsPlanHead s h) first → (step_of s first).due ≤ at → IsFirst s (IsDueHead s h at) first
+first_due_head s h at first is due = ((is.0.0, is.0.1, due), λ j head. is.1 j (head.0, head.1))
+
+pub none_admitted : (s : Schedule) (h : List Event) (at : ℕ) (ready : Option ℕ) → TellsFirst s (λ j. IsPlanHead s h j × IsAdmitted s h j) ready → IsLate s at ready
+    → (j : ℕ) → IsDueHead s h at j → ¬ IsAdmitted s h j
+none_admitted s h at ready is late j head admitted = none_due s (λ j. IsPlanHead s h j × IsAdmitted s h j) at ready is late j ((head.0, head.1), admitted) head.2
+
+pub goes : (s : Schedule) (h : List Event) (worker at op start : ℕ) → IsUnderWay s h worker → TellsFirst s (λ j. IsPlanHead s h j × IsAdmitted s h j) (Some op)
+    → (step_of s op).due ≤ at → start ≡ length h → IsClaim s h worker at (Go (record { op = op; worker = worker; start = start }))
+goes s h worker at op start idle is due counted = (
+  idle,
+  (((is.0.0.0, is.0.0.1, due), is.0.1), λ j q. is.1 j ((q.0.0, q.0.1), q.1)),
+  refl,
+  counted,
+)
+
+pub blocked : (s : Schedule) (h : List Event) (worker at op needs : ℕ) (time : ℤ) → IsUnderWay s h worker → ((j : ℕ) → IsDueHead s h at j → ¬ IsAdmitted s h j)
+    → TellsFirst s (λ j. IsPlanHead s h j × IsNotBusy s h j) (Some op) → (step_of s op).due ≤ at
+    → needs ≡ (step_of s op).t_d → time ≡ completion s h → IsClaim s h worker at (Blocked op needs time)
+blocked s h worker at op needs time idle none is due needed reached = (
   idle,
   none,
-  (((is.0.0, is.0.1, due), not_busy s h planned persons first is.0.0), λ j both. is.1 j (both.0.0, both.0.1)),
+  (((is.0.0.0, is.0.0.1, due), is.0.1), λ j q. is.1 j ((q.0.0, q.0.1), q.1)),
   needed,
   reached,
   subst (λ (c : ℤ). c <ℤ pos needs) (sym reached)
-      (subst (λ (n : ℕ). completion s h <ℤ pos n) (sym needed) (blocked_below s h at first none (is.0.0, is.0.1, due) (not_busy s h planned persons first is.0.0))),
+      (subst (λ (n : ℕ). completion s h <ℤ pos n) (sym needed) (blocked_below s h at op none (is.0.0.0, is.0.0.1, due) is.0.1)),
 )
+
+-- each due head is busy where the first that isn't is due later
+pub all_busy : (s : Schedule) (h : List Event) (at : ℕ) (free : Option ℕ) → TellsFirst s (λ j. IsPlanHead s h j × IsNotBusy s h j) free → IsLate s at free
+    → (j : ℕ) → IsDueHead s h at j → ¬ IsNotBusy s h j
+all_busy s h at free is late j head not_busy = none_due s (λ j. IsPlanHead s h j × IsNotBusy s h j) at free is late j ((head.0, head.1), not_busy) head.2
+
+pub lane_busy : (s : Schedule) (h : List Event) (worker at first by_whom : ℕ) → IsUnderWay s h worker → IsFirst s (IsDueHead s h at) first
+    → ((j : ℕ) → IsDueHead s h at j → ¬ IsNotBusy s h j) → HoldsBefore s h first by_whom → IsClaim s h worker at (Busy first by_whom)
+lane_busy s h worker at first by_whom idle is busy held = inr (record { under_way = idle; all_busy = busy; first = is; held = held })
 
 all_set-at : (flags : List Bool) (i : ℕ) → i < length flags → list_all (λ flag. flag) flags ≡ true → get_or flags i false ≡ true
 all_set-at flags i lt all = flag_is (get_or flags i false) (λ q. let a = list_all_at (λ flag. flag) flags i false lt q in cc)

@@ -12,7 +12,7 @@ use Rattle.snb_book.specs.Claims.{IsAdmitted, IsDueHead}
 use Rattle.snb_schema.proofs.Laws.{completion_decides}
 
 -- a least value isn't above the top
-least_top : (f : ℕ → ℕ) (top : ℕ) (p : ℕ → Bool) (n : ℕ) → least_of f top p n ≤ top
+pub least_top : (f : ℕ → ℕ) (top : ℕ) (p : ℕ → Bool) (n : ℕ) → least_of f top p n ≤ top
 least_top f top p zero = omega arith
 least_top f top p (suc n) = let rest = least_top f top p n in omega arith
 

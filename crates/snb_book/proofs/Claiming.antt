@@ -5,16 +5,16 @@ use Rattle.std.proofs.lemmas.Option.{slice_get-get_or}
 use Rattle.std.proofs.Math.Seq.{get_or-append_seam}
 use Rattle.snb_schema.specs.declared.event.Event.{Event}
 use Rattle.snb_schema.specs.declared.event.Event.TheVariants.{Start}
-use Rattle.snb_schema.specs.Schedule.{Schedule, step_of, IsOperation}
+use Rattle.snb_schema.specs.Schedule.{Schedule, step_of, IsOperation, IsPlanned}
 use Rattle.snb_book.specs.Kept.{IsInHand}
 use Rattle.snb_schema.specs.History.{started, last}
-use Rattle.snb_schema.specs.Rules.{Rule, V1, V2, V3, V4, V5, V6, V7, V8, V9, StartObeys, Fits}
+use Rattle.snb_schema.specs.Rules.{Rule, V1, V2, V3, V4, V5, V6, V7, V8, V9, StartObeys, Fits, IsLegal, MayAct}
 use Rattle.snb_book.specs.declared.claim.Ticket.{Ticket}
 use Rattle.snb_book.specs.declared.claim.Claim.{Claim}
 use Rattle.snb_book.specs.declared.claim.Claim.TheVariants.{Halted, AllStarted, Busy, NotDue, Go, Blocked}
-use Rattle.snb_book.specs.Claims.{IsDueHead, IsAdmitted, IsClaim}
+use Rattle.snb_book.specs.Claims.{IsDueHead, IsAdmitted, IsClaim, IsIdle, MovesOn, NeedsEarlier}
 use Rattle.snb_book.specs.ClaimLaws.{ClaimFits, ClaimIsBlocked, ClaimIsNotStuck}
-use Rattle.snb_schema.proofs.Laws.{hand-push, never_stuck}
+use Rattle.snb_schema.proofs.Laws.{halted-push, hand-push, never_stuck, planned_is_timely}
 
 pub claim_fits : ClaimFits
 claim_fits s workers h worker at ticket known later claim = record { obeys = by_rule }
@@ -66,6 +66,23 @@ claim_is_not_stuck s workers h worker at claim timely legal known later idle run
     by_claim (NotDue until) is = inr (until, refl, λ j head. let a = is.1 j (head.0, head.1) in let d = head.2 in omega arith)
     by_claim (Go ticket) is = inl (ticket, refl)
     by_claim (Blocked o needs time) is = absurd (let r = ready o is.2.0.0 in is.1 op r.0 r.1)
+
+-- where each dependent needs only what lies before it, a book in which nobody has anything in hand moves on
+pub moves_on : (s : Schedule) (workers : ℕ) (h : List Event) (worker at : ℕ) (claim : Claim) → IsPlanned s → IsLegal s workers h → worker < workers → last h ≤ at
+    → IsClaim s h worker at claim → NeedsEarlier s → IsIdle s h → MovesOn s h at claim
+moves_on s workers h worker at claim planned legal known later is earlier idle =
+    elim (claim_is_not_stuck s workers h worker at claim (planned_is_timely s planned earlier) legal known later idle.empty idle.running idle.left.0 idle.left.1 idle.left.2 is) [
+      | inl go ↦ record { moves = inl go; starts = λ j due. go }
+      | inr rests ↦ record { moves = inr (rests.0, rests.1); starts = λ j due. absurd (rests.2 j due) }
+    ]
+
+-- who is given an operation may act once its Start is there
+pub go_acts : (workers : ℕ) (h : List Event) (worker at : ℕ) (s : Schedule) (ticket : Ticket) → worker < workers → IsClaim s h worker at (Go ticket)
+    → MayAct workers (h ++ Start ticket.op worker at ∷ []) ticket.worker
+go_acts workers h worker at s ticket known claim = record {
+  known = (let mine : ticket.worker ≡ worker = claim.2 in omega arith);
+  running = halted-push h (Start ticket.op worker at) ticket.worker ∙ claim.0.running ticket.worker;
+}
 
 -- what a Go gives is in hand once its Start is there
 pub go_in_hand : (s : Schedule) (h : List Event) (worker at : ℕ) (ticket : Ticket) → IsClaim s h worker at (Go ticket)

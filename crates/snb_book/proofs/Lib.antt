@@ -3,6 +3,8 @@ pub mod Blocking
 pub mod Claiming
 pub mod Places
 pub mod Heads
+pub mod Firsts
+pub mod Waiting
 pub mod OneClaim
 pub mod Telling
 pub mod Answering

@@ -15,7 +15,6 @@ use Rattle.snb_schema.specs.Rules.{Rule, V1, V2, V3, V4, V5, V6, V7, V8, V9, May
 use Rattle.snb_completion.specs.Progress.{Progress, nothing_started, IsNextInLane, IsOpen}
 use Rattle.snb_book.specs.Kept.{Kept, IsAdding, moment_after}
 use Rattle.snb_book.specs.Book.{IsSoundBook, IsTold}
-use Rattle.snb_book.specs.Kept.{IsOfPersons}
 use Rattle.snb_book.proofs.Places.{same_place}
 use Rattle.snb_book.proofs.Heads.{next_from_head}
 use Rattle.snb_schema.proofs.Laws.{IsLegal-nil, IsLegal-push, completion_rises, finished-push, halted-push, hand-push, hand_has_start, keeps_legal, last-push, last_is_bounded, legal_is_short, started-push}
@@ -43,7 +42,6 @@ pub IsSoundBook-push : (b : Kept) (capacity capacity' : ℕ) (e : Event) → IsS
     → capacity ≤ capacity' → IsSoundBook (with_event b e) capacity'
 IsSoundBook-push b capacity capacity' e kept fits small more = record {
   planned = kept.planned;
-  persons = kept.persons;
   few = kept.few;
   legal = IsLegal-push b.schedule b.workers b.history e kept.legal fits small;
   room = (let r = kept.room in omega arith);
@@ -133,10 +131,9 @@ begun_after one k lane_one lane_k place_one place_k head begun same one_place at
 abbrev pub of_nothing : Schedule → ℕ → Kept
 of_nothing s workers = record { schedule = s; workers = workers; history = [] }
 
-pub IsSoundBook-none : (s : Schedule) (workers capacity : ℕ) → IsPlanned s → IsOfPersons s → workers ≤ MAX_WORKERS → 2 * length s.steps + workers ≤ capacity → IsSoundBook (of_nothing s workers) capacity
-IsSoundBook-none s workers capacity planned persons few room = record {
+pub IsSoundBook-none : (s : Schedule) (workers capacity : ℕ) → IsPlanned s → workers ≤ MAX_WORKERS → 2 * length s.steps + workers ≤ capacity → IsSoundBook (of_nothing s workers) capacity
+IsSoundBook-none s workers capacity planned few room = record {
   planned = planned;
-  persons = persons;
   few = few;
   legal = IsLegal-nil s workers;
   room = room;

@@ -5,7 +5,7 @@ use Rattle.snb_schema.specs.Schedule.{Schedule, step_of, IsOperation, IsPlanned}
 use Rattle.snb_schema.specs.History.{started, finished, halted, hand, last}
 use Rattle.snb_schema.specs.Rules.{IsLegal}
 use Rattle.snb_completion.specs.Progress.{Progress, flag}
-use Rattle.snb_book.specs.Kept.{IsOfPersons, Kept}
+use Rattle.snb_book.specs.Kept.{Kept}
 
 -- the operation stands at the place that is kept for its lane
 abbrev pub IsNext : Schedule → List ℕ → ℕ → Type 0
@@ -28,7 +28,6 @@ pub record IsTold (b : Kept) (times : Progress) (heads : List ℕ) (held : List 
 -- what is true of every book, whose log has this capacity
 pub record IsSoundBook (b : Kept) (capacity : ℕ) : Type 0 where
   pub planned : IsPlanned b.schedule
-  pub persons : IsOfPersons b.schedule
   pub few : b.workers ≤ MAX_WORKERS
   pub legal : IsLegal b.schedule b.workers b.history
   pub room : 2 * length b.schedule.steps + b.workers ≤ capacity

@@ -42,12 +42,16 @@ pub record IsOwnBusy (s : Schedule) (h : List Event) (worker op holder : ℕ) : 
   pub held : hand h worker ≡ Some op
   pub own : holder ≡ worker
 
+-- the worker has in hand an unfinished one before the operation in its lane
+abbrev pub HoldsBefore : Schedule → List Event → ℕ → ℕ → Type 0
+HoldsBefore s h op by_whom = (j : ℕ) × IsBefore s j op × (finished h j ≡ false) × (holder h j ≡ Some by_whom)
+
 -- each due head waits for one before it in its lane, and this holder has that of the first in hand
 pub record IsLaneBusy (s : Schedule) (h : List Event) (worker at op by_whom : ℕ) : Type 0 where
   pub under_way : IsUnderWay s h worker
   pub all_busy : (j : ℕ) → IsDueHead s h at j → ¬ IsNotBusy s h j
   pub first : IsFirst s (IsDueHead s h at) op
-  pub held : (j : ℕ) × IsBefore s j op × (finished h j ≡ false) × (holder h j ≡ Some by_whom)
+  pub held : HoldsBefore s h op by_whom
 
 -- the answer to a claim by the worker at this moment
 abbrev pub IsClaim : Schedule → List Event → ℕ → ℕ → Claim → Type 0
@@ -70,6 +74,21 @@ IsClaim s h worker at (Blocked op needs time) =
     × (needs ≡ (step_of s op).t_d)
     × (time ≡ completion s h)
     × (time <ℤ pos needs)
+
+-- each dependent needs only what lies before it
+abbrev pub NeedsEarlier : Schedule → Type 0
+NeedsEarlier s = (k : ℕ) → (step_of s k).dependent ≡ true → (step_of s k).t_d < (step_of s k).t
+
+-- nobody has an operation in hand, nobody has halted, and not all is started
+pub record IsIdle (s : Schedule) (h : List Event) : Type 0 where
+  pub empty : (w : ℕ) → hand h w ≡ None
+  pub running : (w : ℕ) → halted h w ≡ false
+  pub left : (k : ℕ) × IsOperation s k × (started h k ≡ false)
+
+-- the answer is a Go or a NotDue, and it is a Go where some head is due
+pub record MovesOn (s : Schedule) (h : List Event) (at : ℕ) (claim : Claim) : Type 0 where
+  pub moves : ((ticket : Ticket) × (claim ≡ Go ticket)) ⊎ ((until : ℕ) × (claim ≡ NotDue until))
+  pub starts : (j : ℕ) → IsDueHead s h at j → (ticket : Ticket) × (claim ≡ Go ticket)
 
 -- P of the ticket of a Go
 abbrev pub IfGo : Claim → (Ticket → Type 0) → Type 0

@@ -3,7 +3,6 @@ use Rattle.std.specs.Prelude.{◌≡◌, ℕ, max, min, ◌<◌, ◌^◌, ◌++�
 use Rattle.snb_schema.specs.declared.event.Event.{Event}
 use Rattle.snb_schema.specs.declared.event.Event.TheVariants.{Start}
 use Rattle.snb_schema.specs.declared.limits.TheConstants.{MAX_AT}
-use Rattle.snb_schema.specs.declared.step.LaneKind.TheVariants.{Person}
 use Rattle.snb_schema.specs.Schedule.{Schedule}
 use Rattle.snb_schema.specs.History.{is_by, hand, last}
 use Rattle.snb_schema.specs.Rules.{IsLegal}
@@ -14,10 +13,6 @@ pub record Kept : Type 0 where
   pub schedule : Schedule
   pub workers : ℕ
   pub history : List Event
-
--- every lane holds a person stream
-pub record IsOfPersons (s : Schedule) : Type 0 where
-  pub persons : (lane : ℕ) → lane < length s.kinds → slice_get s.kinds lane ≡ Some Person
 
 -- the moment of the next event where the clock shows now: no earlier than the last, and no later than the greatest
 abbrev pub moment_after : List Event → ℕ → ℕ

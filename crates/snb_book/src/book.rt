@@ -1,23 +1,24 @@
 //! The book of a run: its schedule, its count of workers, and what has happened.
 
-ghost use Rattle.std.specs.Prelude.{◌≡◌, ℕ, pos, ◌<◌, ◌≤◌, ◌<ℤ◌, ◌≤ℤ◌, ◌^◌, ◌↔◌, ◌++◌, ◌∷◌, [], IfOk, IfSome, IsTrue, MatchOption, length, replicate, vec_capacity, None, true, false};
+ghost use Rattle.std.specs.Prelude.{◌≡◌, ℕ, pos, ◌+◌, ◌<◌, ◌≤◌, ◌<ℤ◌, ◌≤ℤ◌, ◌^◌, ◌↔◌, ◌++◌, ◌∷◌, []};
+ghost use Rattle.std.specs.Prelude.{IfOk, IfSome, IsTrue, MatchOption, length, replicate, slice_index_or, vec_capacity, None, Some, true, false};
 ghost use Rattle.std.specs.List.{list_all};
 ghost use Rattle.snb_schema.specs.Schedule.{IsOperation, IsPlanned, is_dependency, step_of};
-ghost use Rattle.snb_schema.specs.History.{finished, started};
-ghost use Rattle.snb_schema.specs.Completion.{completion};
-ghost use Rattle.snb_schema.specs.Rules.{Fits, IsComplete, IsFront, IsLegal, MayAct};
+ghost use Rattle.snb_schema.specs.History.{finished};
+ghost use Rattle.snb_schema.specs.Completion.{completion, is_awaited, least_t};
+ghost use Rattle.snb_schema.specs.Rules.{Fits, IsComplete, IsFront, IsLegal, IsNotBusy, MayAct};
 ghost use Rattle.snb_book.specs.Kept.{IsAdding, IsInHand, moment_after};
-ghost use Rattle.snb_book.specs.Claims.{IfGo, IfNotGo, IsAdmitted, IsClaim, IsDueHead, IsFirst, IsPlanHead, IsUnderWay};
-ghost use Rattle.snb_book.specs.Book.{IsNext};
-ghost use Rattle.snb_book.specs.Kept.{IsOfPersons};
-ghost use Rattle.snb_book.specs.Heads.{HasNoneWithin, IsAtPlace, IsHeadWithin, IsPassed, IsWithin, earlier_of};
+ghost use Rattle.snb_book.specs.Claims.{IsAdmitted, IsClaim, IsDueHead, IsFirst, IsPlanHead, IsUnderWay};
+ghost use Rattle.snb_book.specs.Claims.{HoldsBefore, IfGo, IfNotGo, IsIdle, MovesOn, NeedsEarlier};
+ghost use Rattle.snb_book.specs.Heads.{HasNoPredecessor, IsAtPlace, IsFree, IsLate, IsPassed, IsPredecessor, IsWithin};
+ghost use Rattle.snb_book.specs.Heads.{AreFirsts, AreFirstsBelow, TellsFirst, earlier_where};
 
 use crate::claim::{Claim, Ticket};
 use snb_completion::times::Times;
 use snb_schema::event::Event;
-use snb_schema::limits::{MAX_AT, MAX_TIME, MAX_WORKERS};
+use snb_schema::limits::{MAX_AT, MAX_WORKERS};
 use snb_schema::schedule::Schedule;
-use snb_schema::step::Step;
+use snb_schema::step::{LaneKind, Step};
 use std::alloc::{AllocError, Global};
 use std::marker::Model;
 
@@ -56,6 +57,14 @@ impl Model for Book {
         b.times b.heads.items b.held.items b.last b.halted };
 }
 
+/// The first head, the first that isn't busy, and the first that may start.
+#[derive(Clone, Copy)]
+struct Firsts {
+    all: Option<u32>,
+    free: Option<u32>,
+    ready: Option<u32>,
+}
+
 /// The operation at a place of a lane, where the lane is that long.
 fn at_place(schedule: &Schedule, lane: u32, place: u32) -> Option<u32>
     requires { lane < length schedule.now.kinds }
@@ -69,43 +78,124 @@ fn at_place(schedule: &Schedule, lane: u32, place: u32) -> Option<u32>
     }
 }
 
-/// The one that is due earlier; `first`, where there is one, if both are due at once.
-fn earlier(steps: &[Step], first: Option<u32>, op: u32) -> u32
+/// The operation before one of a forum lane.
+fn predecessor(schedule: &Schedule, op: u32) -> Option<u32>
+    requires { IsOperation schedule.now op }
+    ensures { MatchOption result (HasNoPredecessor schedule.now op) (λ j. IsPredecessor schedule.now op j) }
+{
+    let step = schedule.steps()[op as usize];
+    if step.place == 0 {
+        return None;
+    }
+    match schedule.kinds()[step.lane as usize] {
+        LaneKind::Forum => at_place(schedule, step.lane, step.place - 1),
+        LaneKind::Person => None,
+        LaneKind::Query => None,
+    }
+}
+
+/// Whether what an operation of a forum lane comes after is finished. `finished` has a flag for
+/// each operation.
+fn is_free(schedule: &Schedule, finished: &[bool], op: u32) -> bool
+    requires op { IsOperation schedule.now op }
+    requires each { length finished.now ≡ length schedule.now.steps }
+    ensures { IsTrue result ↔ IsFree schedule.now finished.now op }
+{
+    match predecessor(schedule, op) {
+        None => true,
+        Some(before) => finished[before as usize],
+    }
+}
+
+/// Whether an operation is free, and the dependency rule lets it start where `least` is the least
+/// `t` of a dependency that isn't finished.
+fn is_ready(schedule: &Schedule, least: u64, op: u32, free: bool) -> bool
+    requires { IsOperation schedule.now op }
+    ensures { IsTrue result ↔ ((free ≡ true) × IsWithin schedule.now least op) }
+{
+    let step = schedule.steps()[op as usize];
+    free && (!step.dependent || step.t_d < least)
+}
+
+/// The one that is due earlier, of `first` and an operation that counts; `first`, where there is
+/// one, if both are due at once.
+fn earlier(steps: &[Step], first: Option<u32>, op: u32, counts: bool) -> Option<u32>
     requires first { IfSome first (λ k. k < length steps.now) }
     requires op { op < length steps.now }
-    ensures { result ≡ earlier_of steps.now first op }
+    ensures { result ≡ earlier_where steps.now first op counts }
 {
+    if !counts {
+        return first;
+    }
     match first {
-        None => op,
+        None => Some(op),
         Some(best) => {
             if steps[op as usize].due < steps[best as usize].due {
-                op
+                Some(op)
             } else {
-                best
+                Some(best)
             }
         }
     }
 }
 
-/// Whether the dependency rule lets an operation start where all up to `limit` is finished.
-fn is_within(schedule: &Schedule, op: u32, limit: i64) -> bool
-    requires { IsOperation schedule.now op }
-    ensures within { IsTrue result ↔ IsWithin schedule.now limit op }
-    ensures planned { IsPlanned schedule.now }
+/// The firsts of one lane more. `heads` has each lane's place, `finished` a flag for each operation.
+fn with_lane(
+    schedule: &Schedule,
+    heads: &[u32],
+    finished: &[bool],
+    least: u64,
+    lane: u32,
+    firsts: Firsts,
+) -> Firsts
+    requires lane { lane < length heads.now }
+    requires heads { length heads.now ≡ length schedule.now.kinds }
+    requires finished { length finished.now ≡ length schedule.now.steps }
+    requires firsts { AreFirstsBelow schedule.now heads.now finished.now least lane firsts }
+    ensures { AreFirstsBelow schedule.now heads.now finished.now least (lane + 1) result }
 {
-    let step = schedule.steps()[op as usize];
-    !step.dependent || step.t_d as i64 <= limit
+    match at_place(schedule, lane, heads[lane as usize]) {
+        None => firsts,
+        Some(op) => {
+            let steps = schedule.steps();
+            let free = is_free(schedule, finished, op);
+            let ready = is_ready(schedule, least, op, free);
+            Firsts {
+                all: earlier(steps, firsts.all, op, true),
+                free: earlier(steps, firsts.free, op, free),
+                ready: earlier(steps, firsts.ready, op, ready),
+            }
+        }
+    }
 }
 
-/// The operation at a place of a lane, where it may start once all up to `limit` is finished.
-fn head_within(schedule: &Schedule, lane: u32, place: u32, limit: i64) -> Option<u32>
-    requires { lane < length schedule.now.kinds }
-    ensures { MatchOption result (HasNoneWithin schedule.now lane place limit) (λ op. IsHeadWithin schedule.now lane place limit op) }
+/// The firsts of all lanes.
+fn first_heads(schedule: &Schedule, heads: &[u32], finished: &[bool], least: u64) -> Firsts
+    requires heads { length heads.now ≡ length schedule.now.kinds }
+    requires finished { length finished.now ≡ length schedule.now.steps }
+    ensures { AreFirstsBelow schedule.now heads.now finished.now least (length schedule.now.kinds) result }
 {
-    match at_place(schedule, lane, place) {
+    let mut firsts = Firsts {
+        all: None,
+        free: None,
+        ready: None,
+    };
+    for lane in 0..schedule.kinds().len() {
+        firsts = with_lane(schedule, heads, finished, least, lane as u32, firsts);
+    }
+    firsts
+}
+
+/// An operation, if there is one and it is due.
+fn due_by(schedule: &Schedule, first: Option<u32>, at: u64) -> Option<u32>
+    requires { IfSome first (λ op. IsOperation schedule.now op) }
+    ensures { MatchOption result (IsLate schedule.now at first)
+        (λ op. (first ≡ Some op) × ((step_of schedule.now op).due ≤ at)) }
+{
+    match first {
         None => None,
         Some(op) => {
-            if is_within(schedule, op, limit) {
+            if schedule.steps()[op as usize].due <= at {
                 Some(op)
             } else {
                 None
@@ -114,22 +204,19 @@ fn head_within(schedule: &Schedule, lane: u32, place: u32, limit: i64) -> Option
     }
 }
 
-/// The first of the heads that may start once all up to `limit` is finished: that of least due
-/// time, lowest lane first. `heads` has each lane's place.
-fn first_head(schedule: &Schedule, heads: &[u32], limit: i64) -> Option<u32>
-    requires { length heads.now ≡ length schedule.now.kinds }
-    ensures { MatchOption result ((j : ℕ) → IsNext schedule.now heads.now j → ¬ IsWithin schedule.now limit j)
-        (λ op. IsFirst schedule.now (λ j. IsNext schedule.now heads.now j × IsWithin schedule.now limit j) op) }
+/// The worker that has an operation in hand. `held` has what each worker has in hand.
+fn holder_of(held: &[Option<u32>], op: u32) -> u32
+    requires few { length held.now ≤ MAX_WORKERS }
+    requires held { (w : ℕ) × (w < length held.now) × (slice_index_or held.now w None ≡ Some op) }
+    ensures within { result < length held.now }
+    ensures holds { slice_index_or held.now result None ≡ Some op }
 {
-    let steps = schedule.steps();
-    let mut first = None;
-    for lane in 0..heads.len() {
-        match head_within(schedule, lane as u32, heads[lane], limit) {
-            None => {}
-            Some(op) => first = Some(earlier(steps, first, op)),
+    for worker in 0..held.len() {
+        if held[worker] == Some(op) {
+            return worker as u32;
         }
     }
-    first
+    unreachable!()
 }
 
 /// Appends an event to a log that has room for it.
@@ -163,14 +250,12 @@ fn all_set(flags: &[bool]) -> bool
 }
 
 impl Book {
-    /// A book of 1 to 8 workers and a schedule whose lanes are all of a person stream, in which
-    /// nothing has happened.
+    /// A book of 1 to 8 workers and a schedule, in which nothing has happened.
     ///
     /// It has room for all that can happen, so that no later call takes memory.
     pub fn make(alloc: Global, schedule: &Schedule, workers: u32) -> Result<Book, AllocError>
         requires some { 1 ≤ workers }
         requires few { workers ≤ MAX_WORKERS }
-        requires persons { IsOfPersons schedule.now }
         ensures { IfOk result (λ b. b ≡ record { schedule = schedule.now; workers = workers; history = [] }) }
     {
         let ops = schedule.steps().len();
@@ -200,7 +285,7 @@ impl Book {
         self.workers
     }
 
-    /// What has happened.
+    /// What has happened: a legal history, in which each event fits those before it.
     pub fn events(&self) -> &[Event]
         ensures value { result.now ≡ self.now.history }
         ensures legal { IsLegal self.now.schedule self.now.workers self.now.history }
@@ -233,60 +318,82 @@ impl Book {
     fn moment(&self, now: u64) -> u64
         ensures value { result ≡ moment_after self.now.history now }
         ensures bounded { result ≤ MAX_AT }
+        ensures planned { IsPlanned self.now.schedule }
         ensures legal { IsLegal self.now.schedule self.now.workers self.now.history }
         ensures short { length self.now.history < 2 ^ 32 }
     {
         self.last.max(now.min(MAX_AT))
     }
 
-    /// The first head, due or not; none where every operation is started.
-    fn first_unstarted(&self) -> Option<u32>
-        ensures { MatchOption result ((k : ℕ) → IsOperation self.now.schedule k → started self.now.history k ≡ true)
-            (λ op. IsFirst self.now.schedule (IsPlanHead self.now.schedule self.now.history) op) }
+    /// The least `t` of a dependency that isn't finished, or one past the greatest date and time.
+    fn least(&self) -> u64
+        ensures { result ≡ least_t self.now.schedule (is_awaited self.now.schedule self.now.history) }
     {
-        first_head(self.times.schedule(), &self.heads, MAX_TIME as i64)
+        (self.completion() + 1) as u64
     }
 
-    /// The first of the heads that are due and may start.
-    fn first_ready(&self, at: u64) -> Option<u32>
-        ensures { MatchOption result ((j : ℕ) → IsDueHead self.now.schedule self.now.history at j → ¬ IsAdmitted self.now.schedule self.now.history j)
-            (λ op. IsFirst self.now.schedule (λ j. IsDueHead self.now.schedule self.now.history at j × IsAdmitted self.now.schedule self.now.history j) op) }
+    /// The first heads.
+    fn firsts(&self) -> Firsts
+        ensures { AreFirsts self.now.schedule self.now.history result }
     {
         let schedule = self.times.schedule();
-        match first_head(schedule, &self.heads, self.completion()) {
-            None => None,
-            Some(op) => {
-                if schedule.steps()[op as usize].due <= at {
-                    Some(op)
-                } else {
-                    None
-                }
-            }
+        first_heads(schedule, &self.heads, self.times.finished(), self.least())
+    }
+
+    /// The worker that has in hand what a head waits for.
+    fn holder_before(&self, op: u32) -> u32
+        requires head { IsPlanHead self.now.schedule self.now.history op }
+        requires busy { ¬ IsNotBusy self.now.schedule self.now.history op }
+        ensures { HoldsBefore self.now.schedule self.now.history op result }
+    {
+        match predecessor(self.schedule(), op) {
+            Some(before) => holder_of(&self.held, before),
+            None => unreachable!(),
+        }
+    }
+
+    /// What a claim answers where some head is due and none that is due may start. `first` is the
+    /// first head, `free` the first that isn't busy.
+    fn answer_waiting(&self, worker: u32, at: u64, first: u32, free: Option<u32>) -> Claim
+        requires idle { IsUnderWay self.now.schedule self.now.history worker }
+        requires first { IsFirst self.now.schedule (IsDueHead self.now.schedule self.now.history at) first }
+        requires none { (j : ℕ) → IsDueHead self.now.schedule self.now.history at j → ¬ IsAdmitted self.now.schedule self.now.history j }
+        requires free { TellsFirst self.now.schedule
+            (λ j. IsPlanHead self.now.schedule self.now.history j × IsNotBusy self.now.schedule self.now.history j) free }
+        ensures { IsClaim self.now.schedule self.now.history worker at result }
+    {
+        match due_by(self.schedule(), free, at) {
+            Some(op) => Claim::Blocked {
+                op,
+                needs: self.schedule().steps()[op as usize].t_d,
+                completion: self.completion(),
+            },
+            None => Claim::Busy {
+                op: first,
+                holder: self.holder_before(first),
+            },
         }
     }
 
     /// What a claim answers to a worker with nothing in hand, where `first` is the first head.
-    fn answer_idle(&self, worker: u32, at: u64, first: u32) -> Claim
+    fn answer_idle(&self, worker: u32, at: u64, first: u32, firsts: Firsts) -> Claim
         requires idle { IsUnderWay self.now.schedule self.now.history worker }
         requires first { IsFirst self.now.schedule (IsPlanHead self.now.schedule self.now.history) first }
+        requires firsts { AreFirsts self.now.schedule self.now.history firsts }
         ensures { IsClaim self.now.schedule self.now.history worker at result }
     {
-        let step = self.times.schedule().steps()[first as usize];
-        if at < step.due {
-            return Claim::NotDue { until: step.due };
+        let due = self.schedule().steps()[first as usize].due;
+        if at < due {
+            return Claim::NotDue { until: due };
         }
-        match self.first_ready(at) {
-            None => Claim::Blocked {
-                op: first,
-                needs: step.t_d,
-                completion: self.completion(),
-            },
+        match due_by(self.schedule(), firsts.ready, at) {
             Some(op) => {
                 let start = self.events.len() as u32;
                 Claim::Go {
                     ticket: Ticket { op, worker, start },
                 }
             }
+            None => self.answer_waiting(worker, at, first, firsts.free),
         }
     }
 
@@ -298,11 +405,12 @@ impl Book {
         if self.halted {
             return Claim::Halted;
         }
-        match self.first_unstarted() {
+        let firsts = self.firsts();
+        match firsts.all {
             None => Claim::AllStarted,
             Some(first) => match self.held[worker as usize] {
                 Some(op) => Claim::Busy { op, holder: worker },
-                None => self.answer_idle(worker, at, first),
+                None => self.answer_idle(worker, at, first, firsts),
             },
         }
     }
@@ -325,7 +433,9 @@ impl Book {
     /// Gives the worker, one of the book's, an operation, if one may start, where the clock shows
     /// `now`.
     ///
-    /// Only a `Go` changes the book, by one Start.
+    /// Only a `Go` changes the book, by one Start. Where each dependent needs only what lies before
+    /// it, nobody has an operation in hand, nobody has halted and not all is started, the answer is
+    /// `Go` or `NotDue`, and it is `Go` where some head is due. Each lane is looked at once.
     pub fn claim(&mut self, worker: u32, now: u64) -> Claim
         requires { worker < self.old.workers }
         ensures answer { IsClaim self.old.schedule self.old.history worker (moment_after self.old.history now) result }
@@ -335,7 +445,10 @@ impl Book {
         ensures fits { IfGo result (λ ticket. Fits self.old.schedule self.old.workers self.old.history
             (Event.Start ticket.op worker (moment_after self.old.history now))) }
         ensures held { IfGo result (λ ticket. IsInHand self.new.history ticket) }
+        ensures acts { IfGo result (λ ticket. MayAct self.new.workers self.new.history ticket.worker) }
         ensures same { IfNotGo result (self.new ≡ self.old) }
+        ensures moves { NeedsEarlier self.old.schedule → IsIdle self.old.schedule self.old.history →
+            MovesOn self.old.schedule self.old.history (moment_after self.old.history now) result }
         ensures rises { completion self.old.schedule self.old.history ≤ℤ completion self.new.schedule self.new.history }
         ensures adds { IsAdding worker self.old self.new }
     {
@@ -352,8 +465,9 @@ impl Book {
     /// Appends the Finish of a ticket's operation, where the clock shows `now`. The ticket's worker
     /// has that operation in hand, by that Start, and hasn't halted.
     ///
-    /// `front` is the number of events whose inserts a read saw, and 0 of an insert. That another
-    /// worker has halted doesn't hinder it.
+    /// `front` is the number of events whose inserts a read saw: greater than the number of its Start,
+    /// and at most the length of the history. It is 0 of an insert. That another worker has halted
+    /// doesn't hinder it.
     pub fn finish(&mut self, ticket: Ticket, now: u64, front: u32)
         requires held { IsInHand self.old.history ticket }
         requires acts { MayAct self.old.workers self.old.history ticket.worker }

@@ -1,5 +1,5 @@
 -- Each line of the streams is a data line.
-use Rattle.std.proofs.Common.{◌≡◌, ◌∙◌, ◌+◌, ℕ, false, List, [], ◌∷◌, ◌++◌, length, refl, sym, ap, subst, arith}
+use Rattle.std.proofs.Common.{◌≡◌, ◌+◌, ℕ, false, List, [], ◌∷◌, length, refl, sym, ap, subst, arith}
 use Rattle.std.proofs.lemmas.List.{length-append}
 use Rattle.snb_schema.specs.declared.file.FileId.{FileId}
 use Rattle.snb_schema.specs.declared.op.Line.{Line}

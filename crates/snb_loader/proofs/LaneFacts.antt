@@ -3,10 +3,9 @@ use Rattle.std.proofs.Common.{◌≡◌, ◌≤◌, ◌+◌, ℕ, List, [], ◌�
 use Rattle.std.proofs.lemmas.List.{length-append}
 use Rattle.snb_base.specs.Shelf.{Files}
 use Rattle.snb_schema.specs.declared.limits.TheConstants.{MAX_LANES}
-use Rattle.snb_schema.specs.declared.op.Line.{Line}
 use Rattle.snb_schema.specs.declared.refusal.Refusal.{Refusal}
 use Rattle.snb_schema.specs.LineLanes.{LineLanes}
-use Rattle.snb_schema.specs.StreamLines.{AreInserts, AreOfStream, AreOfStreams}
+use Rattle.snb_schema.specs.StreamLines.{AreInserts, AreOfStreams}
 use Rattle.snb_schema.specs.UpdateLines.{forum_inserts, person_inserts}
 use Rattle.snb_streams.specs.Updates.{allowed_in}
 use Rattle.snb_input.specs.declared.load.Load.{Load}

@@ -1,18 +1,17 @@
 -- What a folder is refused for is one thing, and so is what is read of it.
-use Rattle.std.proofs.Common.{◌≡◌, ◌∙◌, ◌<◌, ◌≤◌, ℕ, zero, suc, List, [], ◌∷◌, Some, refl, sym, ap, subst, arith}
-use Rattle.snb_schema.specs.declared.op.Line.{Line}
+use Rattle.std.proofs.Common.{◌≡◌, ◌∙◌, ◌<◌, ℕ, zero, suc, List, [], ◌∷◌, Some, refl, sym, ap, subst, arith}
 use Rattle.snb_schema.specs.declared.query.Query.{Query}
 use Rattle.snb_schema.specs.declared.refusal.Refusal.{Refusal}
 use Rattle.snb_schema.specs.declared.refusal.Refusal.TheVariants.{Lacks, Cycle}
 use Rattle.snb_schema.specs.declared.row.Placed.{Placed}
 use Rattle.snb_schema.specs.declared.row.Row.{Row}
-use Rattle.snb_schema.specs.Frequencies.{FrequencyTable, frequency_at}
-use Rattle.snb_schema.specs.QueryLists.{QueryLists, list_of}
+use Rattle.snb_schema.specs.Frequencies.{frequency_at}
+use Rattle.snb_schema.specs.QueryLists.{list_of}
 use Rattle.snb_streams.specs.Parameters.{params_file}
 use Rattle.snb_input.specs.declared.series.Series.{Series}
 use Rattle.snb_input.specs.Grammar.{Grammar}
 use Rattle.snb_input.specs.Laws.{OneRefusal, OneSaying, RefusedOrNot}
-use Rattle.snb_input.specs.Places.{FileSays, FilesSay, Source}
+use Rattle.snb_input.specs.Places.{FileSays, Source}
 use Rattle.snb_input.specs.Walk.{Before, Held, stage_checks}
 use Rattle.snb_tables.specs.Laws.{GraphsAreTheirRows}
 use Rattle.snb_tables.specs.Soundness.{Need, missing}

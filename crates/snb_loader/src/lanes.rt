@@ -34,8 +34,9 @@ fn lanes_of(alloc: Global, persons: StreamTaker, forums: StreamTaker) -> Result<
 
 /// Reads the update streams of the folder into lanes: the person streams by their parts from 0 on up to
 /// the first that isn't held, then the forum streams likewise. There may be none. A stream is a lane,
-/// and each of its lines that has a byte is a line of the lane, numbered as in the file. In a lane t
-/// never falls; a lane of persons has the inserts 1 and 8 alone, a forum lane 2 to 7 alone (`streams`).
+/// and each of its lines that has a byte is a line of the lane, numbered as in the file. Each line is
+/// that of some text, in a lane t never falls, and a lane of persons has the inserts 1 and 8 alone, a
+/// forum lane 2 to 7 alone (`streams`).
 ///
 /// `used` is what was read of the input before, within the limits on bytes (`bytes`) and on data lines
 /// (`rows`). With an `Ok` it counts the streams too, of which each line of the lanes is a data line

@@ -13,9 +13,5 @@ pub mod order;
 mod param_tests;
 pub mod params;
 pub mod stream;
-#[cfg(test)]
-mod stream_tests;
 mod streams;
 pub mod tables;
-#[cfg(test)]
-mod tests;

@@ -1,6 +1,6 @@
 //! The first person stream of a folder.
 
-ghost use Rattle.std.specs.Prelude.{◌≡◌, ◌≤◌, IfOk, OnErr, OnOk, length};
+ghost use Rattle.std.specs.Prelude.{◌≡◌, ◌≤◌, ◌+◌, IfOk, OnErr, OnOk, length};
 ghost use Rattle.snb_base.specs.Shelf.{Rose};
 ghost use Rattle.snb_schema.specs.declared.limits.TheConstants.{MAX_BYTES, MAX_ROWS};
 ghost use Rattle.snb_schema.specs.StreamLines.{AreOfStream};
@@ -30,11 +30,12 @@ fn lines_of(alloc: Global, taker: StreamTaker) -> Vec<Line>
 
 /// Reads the first person stream of the folder, `updateStream_0_0_person.csv`, and no other file. Where
 /// it isn't held there are no lines. Each of its lines that has a byte is a line, numbered as in the
-/// file, with an insert 1 or 8; t never falls (`stream`). There are at most `MAX_ROWS` (`few`).
+/// file. Each is that of some text with an insert 1 or 8, and t never falls (`stream`). There are at
+/// most `MAX_ROWS` (`few`).
 ///
 /// `used` is what was read of the input before, within the limits on bytes (`bytes`) and on data lines
-/// (`rows`). With an `Ok` it counts the stream too, and is within both limits again (`within`). With an
-/// error it stays as it was (`err`).
+/// (`rows`). With an `Ok` it counts the stream too, of which each line is a data line (`counted`), and is
+/// within both limits again (`within`). With an error it stays as it was (`err`).
 ///
 /// `Refused` is the first thing wrong. A line is refused for the first of these: bytes past the most
 /// that are read reach it (`TooLarge`); it begins with a byte order mark (`BadLine` in column 1); it
@@ -52,6 +53,7 @@ pub fn load_stream<S: Shelf>(
     requires rows { used.old.rows ≤ MAX_ROWS }
     ensures answer { IsStreamAnswer (S.contents shelf.old) folder.now used.old used.new result }
     ensures stream { IfOk result (λ lines. AreOfStream person_inserts lines.items) }
+    ensures counted { IfOk result (λ lines. used.new.rows ≡ used.old.rows + length lines.items) }
     ensures few { IfOk result (λ lines. length lines.items ≤ MAX_ROWS) }
     ensures within { OnOk result ((used.new.bytes ≤ MAX_BYTES) × (used.new.rows ≤ MAX_ROWS)) }
     ensures err { OnErr result (used.new ≡ used.old) }

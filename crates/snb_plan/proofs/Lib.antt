@@ -1,7 +1,16 @@
+pub mod Assembly
 pub mod ClosedLemmas
 pub mod Laws
+pub mod Making
 pub mod Meeting
+pub mod OnePlan
 pub mod OneRefusal
+pub mod Ordered
 pub mod PlanLemmas
+pub mod Planned
 pub mod Slots
+pub mod Spotting
 pub mod Streams
+pub mod Turns
+pub mod Viewing
+pub mod Walking

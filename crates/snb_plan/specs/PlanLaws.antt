@@ -1,13 +1,17 @@
 -- Laws of plans and of closed updates.
-use Rattle.std.specs.Prelude.{◌≡◌, ◌≤◌, List, length}
+use Rattle.std.specs.Prelude.{◌≡◌, ℕ, ◌≤◌, List, length}
 use Rattle.snb_schema.specs.declared.key.Key.{Key}
 use Rattle.snb_schema.specs.declared.limits.TheConstants.{MAX_ROWS}
 use Rattle.snb_schema.specs.declared.op.Line.{Line}
 use Rattle.snb_schema.specs.declared.refusal.Refusal.{Refusal}
+use Rattle.snb_schema.specs.Frequencies.{FrequencyTable}
+use Rattle.snb_schema.specs.LineLanes.{LineLanes}
+use Rattle.snb_schema.specs.QueryLists.{QueryLists}
 use Rattle.snb_schema.specs.StreamLines.{AreOfStream}
 use Rattle.snb_schema.specs.UpdateLines.{person_inserts}
 use Rattle.snb_plan.specs.Closed.{Update, IsClosed, IsFirstWrong}
 use Rattle.snb_plan.specs.Plan.{ArePlanned}
+use Rattle.snb_plan.specs.Plans.{IsPlan, Plan}
 
 -- the lines of a stream of persons can be planned, where they aren't too many
 abbrev pub StreamsArePlanned : Type 0
@@ -18,3 +22,9 @@ abbrev pub ClosedIsOne : (Key → Type 0) → Type 0
 ClosedIsOne holds =
     (all : List Update) (r : Refusal) → IsFirstWrong holds all r
     → ((q : Refusal) → IsFirstWrong holds all q → q ≡ r) × (¬ IsClosed holds all)
+
+-- lanes, parameters, frequencies and a ratio have one plan at most
+abbrev pub PlanIsOne : Type 0
+PlanIsOne =
+    (lanes : LineLanes) (lists : QueryLists) (frequencies : FrequencyTable) (ratio : ℕ) (one other : Plan)
+    → IsPlan lanes lists frequencies ratio one → IsPlan lanes lists frequencies ratio other → one ≡ other

@@ -150,8 +150,8 @@ fn wrong_with<H: Held>(
     }
 }
 
-// Adds an update, unless something is wrong with it.
-fn check_update<H: Held>(
+/// Adds an update, unless something is wrong with it.
+pub fn check_update<H: Held>(
     alloc: Global,
     held: &H,
     added: &mut Added,

@@ -1,6 +1,6 @@
 //! Laws of plans and of closed updates.
 
-ghost use Rattle.snb_plan.specs.PlanLaws.{ClosedIsOne, StreamsArePlanned};
+ghost use Rattle.snb_plan.specs.PlanLaws.{ClosedIsOne, PlanIsOne, StreamsArePlanned};
 
 use snb_schema::key::Held;
 
@@ -13,4 +13,9 @@ pub fn streams_are_planned()
 /// are.
 pub fn closed_is_one<H: Held>(_held: &H)
     ensures { ClosedIsOne (H.holds _held.now) }
+{}
+
+/// Lanes, parameters, frequencies and a ratio have one plan at most.
+pub fn plan_is_one()
+    ensures { PlanIsOne }
 {}

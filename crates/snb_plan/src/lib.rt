@@ -1,10 +1,12 @@
-//! The plan of a person stream: its schedule, and whether each of its inserts finds what it needs.
+//! Plans: what is done in a run, in order, and whether each update finds what it needs.
 #![tactic(auto)]
 
 mod added;
 pub mod closed;
+mod instances;
 pub mod law;
 pub mod plan;
 mod references;
+mod spots;
 #[cfg(test)]
 mod tests;

@@ -1,13 +1,37 @@
-//! The plan of the inserts of a stream.
+//! Plans: what is done in a run, in order.
 
-ghost use Rattle.std.specs.Prelude.{◌≡◌, ◌≤◌, IfOk};
+ghost use Rattle.std.specs.Prelude.{◌≡◌, ◌<◌, ◌≤◌, All, IfOk, OnOk, length, map};
+ghost use Rattle.snb_schema.specs.declared.limits.TheConstants.{MAX_AT, MAX_READS, MAX_ROWS, MAX_TIME};
+ghost use Rattle.snb_plan.specs.declared.plan.PlanFault.TheVariants.{Memory};
+ghost use Rattle.snb_schema.specs.declared.refusal.Counted.TheVariants.{Reads};
+ghost use Rattle.snb_schema.specs.declared.refusal.Refusal.TheVariants.{TooMany};
 ghost use Rattle.snb_schema.specs.Awaiting.{adds_awaited, waits};
+ghost use Rattle.snb_schema.specs.Faults.{OnBad};
+ghost use Rattle.snb_schema.specs.StreamLines.{AreOfStreams};
+ghost use Rattle.snb_plan.specs.Closed.{IsClosed, IsFirstWrong};
 ghost use Rattle.snb_plan.specs.Plan.{first_t, insert_step, insert_steps, plan_of, AreTimed};
+ghost use Rattle.snb_plan.specs.Plans.{kinds_of, read_count, schedule_of, update_count, updates_in, HaveParameters, IsPlan, IsSource, IsTask, OnRefused};
+ghost use Rattle.snb_plan.specs.Spots.{read_step, spot_step, spot_t, update_step, updates_at, AreLines, IsScheduled, IsThere, StepsRise};
 
+use crate::added::Added;
+use crate::closed::check_update;
+use crate::instances::{Instance, read_count, reads_of};
+use crate::spots::{Spot, file_of, kinds_of, lane_of, operation_spots, read_lane, update_spots};
+use snb_clock::ratio::Ratio;
+use snb_schema::fault::Fault;
+use snb_schema::file::FileId;
+use snb_schema::frequencies::Frequencies;
+use snb_schema::key::Held;
+use snb_schema::lanes::Lanes;
+use snb_schema::limits::MAX_READS;
+use snb_schema::lists::Lists;
 use snb_schema::op::{Line, Op};
+use snb_schema::query::Query;
+use snb_schema::refusal::{Counted, Refusal};
 use snb_schema::schedule::Schedule;
 use snb_schema::step::{LaneKind, Step};
-use std::alloc::{AllocError, Global};
+use std::alloc::{AllocError, AllocFailed, Global};
+use std::marker::Model;
 
 // The t of the first insert, or 0 where there is none.
 fn t_of_first(inserts: &[Line]) -> u64
@@ -77,4 +101,288 @@ pub fn make_schedule(alloc: Global, inserts: &[Line]) -> Result<Schedule, AllocE
 {
     let steps = steps_of(alloc, t_of_first(inserts), inserts)?;
     Schedule::make(alloc, &[LaneKind::Person], steps)
+}
+
+/// Why there is no plan, or why it isn't closed.
+#[derive(Clone, Copy, Debug, PartialEq, Eq)]
+pub enum PlanFault {
+    /// The input is refused.
+    Refused { refusal: Refusal },
+    /// Memory ran out.
+    Memory,
+}
+
+impl From<AllocError> for PlanFault {
+    ghost use Rattle.std.specs.Prelude.{◌≡◌};
+
+    ghost from_gives = { λ _ e. e ≡ Memory };
+
+    fn from(_error: AllocError) -> PlanFault {
+        PlanFault::Memory
+    }
+}
+
+impl<T: Drop> From<AllocFailed<T>> for PlanFault {
+    ghost use Rattle.std.specs.Prelude.{◌≡◌};
+
+    ghost from_gives = { λ _ e. e ≡ Memory };
+
+    fn from(_error: AllocFailed<T>) -> PlanFault {
+        PlanFault::Memory
+    }
+}
+
+/// What an operation does.
+#[derive(Clone, Copy)]
+pub enum Task<'a> {
+    /// The insert of a line.
+    Insert { line: &'a Line },
+    /// A read.
+    Ask { query: &'a Query },
+}
+
+/// The line that an update comes from, counted from 1 in its file.
+#[derive(Clone, Copy, Debug, PartialEq, Eq)]
+pub struct Source {
+    pub file: FileId,
+    pub line: u32,
+}
+
+// The step of a line.
+fn update_step(ratio: Ratio, t0: u64, spot: Spot, line: &Line) -> Step
+    requires order { t0 ≤ line.now.t }
+    requires last { line.now.t ≤ MAX_TIME }
+    ensures step { result ≡ update_step ratio t0 spot line.now }
+    ensures due { result.due ≤ MAX_AT }
+{
+    Step {
+        lane: spot.lane,
+        place: spot.place,
+        t: line.t,
+        t_d: line.t_d,
+        due: ratio.due(t0, line.t),
+        dependency: adds_awaited(&line.op),
+        dependent: waits(&line.op),
+        query: false,
+    }
+}
+
+// The step of a read.
+fn read_step(ratio: Ratio, t0: u64, spot: Spot) -> Step
+    requires order { t0 ≤ spot.t }
+    requires last { spot.t ≤ MAX_TIME }
+    ensures step { result ≡ read_step ratio t0 spot }
+    ensures due { result.due ≤ MAX_AT }
+{
+    Step {
+        lane: spot.lane,
+        place: spot.place,
+        t: spot.t,
+        t_d: 0,
+        due: ratio.due(t0, spot.t),
+        dependency: false,
+        dependent: false,
+        query: true,
+    }
+}
+
+// The step at a spot.
+fn spot_step(lanes: &Lanes, ratio: Ratio, t0: u64, spot: Spot) -> Step
+    requires there { IsThere lanes.now spot }
+    requires order { t0 ≤ spot.t }
+    requires last { spot.t ≤ MAX_TIME }
+    ensures step { result ≡ spot_step lanes.now ratio t0 spot }
+    ensures due { result.due ≤ MAX_AT }
+{
+    if spot.lane == read_lane(lanes) {
+        return read_step(ratio, t0, spot);
+    }
+    let line = &lane_of(lanes, spot.lane)[spot.place as usize];
+    update_step(ratio, t0, spot, line)
+}
+
+// The t of the first spot, or 0 where there is none.
+fn spot_t(spots: &[Spot]) -> u64
+    ensures { result ≡ spot_t spots.now }
+{
+    if spots.is_empty() { 0 } else { spots[0].t }
+}
+
+// The steps at the spots.
+fn spot_steps(
+    alloc: Global,
+    lanes: &Lanes,
+    ratio: Ratio,
+    spots: &[Spot],
+) -> Result<Vec<Step>, AllocError>
+    requires there { All (IsThere lanes.now) spots.now }
+    requires order { All (λ s. spot_t spots.now ≤ s.t) spots.now }
+    requires last { All (λ s. s.t ≤ MAX_TIME) spots.now }
+    ensures steps { IfOk result (λ steps. steps.items ≡ map (spot_step lanes.now ratio (spot_t spots.now)) spots.now) }
+    ensures due { IfOk result (λ steps. All (λ step. step.due ≤ MAX_AT) steps.items) }
+{
+    let t0 = spot_t(spots);
+    let mut steps = Vec::with_capacity(alloc, spots.len())?;
+    for spot in spots {
+        steps.push(spot_step(lanes, ratio, t0, *spot))?;
+    }
+    Ok(steps)
+}
+
+// The reads of a plan, and its schedule.
+fn schedule_of(
+    alloc: Global,
+    lanes: &Lanes,
+    frequencies: &Frequencies,
+    ratio: Ratio,
+) -> Result<(Vec<Instance>, Schedule), PlanFault>
+    requires few { update_count lanes.now ≤ MAX_ROWS }
+    requires streams { AreOfStreams lanes.now }
+    ensures planned { IfOk result (λ pair. IsScheduled lanes.now frequencies.now ratio pair.0.items pair.1) }
+    ensures reads { OnOk result (read_count frequencies.now (update_count lanes.now) ≤ MAX_READS) }
+    ensures refused { OnRefused result (λ r. (r ≡ TooMany Reads) × (MAX_READS < read_count frequencies.now (update_count lanes.now))) }
+{
+    let updates = update_spots(alloc, lanes)?;
+    let count = updates.len() as u32;
+    if read_count(frequencies, count) > u64::from(MAX_READS) {
+        let refusal = Refusal::TooMany {
+            what: Counted::Reads,
+        };
+        return Err(PlanFault::Refused { refusal });
+    }
+    let reads = reads_of(alloc, frequencies, count)?;
+    let spots = operation_spots(alloc, lanes, &updates, &reads)?;
+    let steps = spot_steps(alloc, lanes, ratio, &spots)?;
+    let kinds = kinds_of(alloc, lanes)?;
+    let schedule = Schedule::make(alloc, &kinds, steps)?;
+    Ok((reads, schedule))
+}
+
+/// The plan of update streams and parameters.
+///
+/// A contract sees the kinds of its lanes and its operations in the order of their numbers, each with
+/// what the scheduler sees of it, what it does, and of an update the line that it comes from.
+#[derive(Drop)]
+pub struct Plan {
+    lanes: Lanes,
+    lists: Lists,
+    reads: Vec<Instance>,
+    schedule: Schedule,
+}
+
+impl Model for Plan {
+    ghost use Rattle.std.specs.Prelude.{map};
+    ghost use Rattle.snb_plan.specs.Plans.{Plan as AnyPlan};
+    ghost use Rattle.snb_plan.specs.Spots.{operation_of, AreKept};
+
+    ghost Value = { AnyPlan };
+
+    ghost view = { λ p. record { kinds = p.schedule.kinds; operations = map (operation_of p.lanes p.lists p.reads.items) p.schedule.steps } };
+
+    ghost invariant = { λ p. AreKept p.lanes p.lists p.reads.items p.schedule.steps };
+}
+
+impl Plan {
+    /// The plan of these lanes of lines, lists of parameters and frequencies, under the ratio.
+    ///
+    /// All lanes together have at most `MAX_ROWS` lines. Some text has each line; the lanes of persons
+    /// have the inserts 1 and 8 alone and the others the inserts 2 to 7 alone, and t never falls in a
+    /// lane. Each query with a frequency has a parameter. Refused exactly where there are more than
+    /// `MAX_READS` reads. On a fault the lanes and lists are dropped.
+    pub fn make(
+        alloc: Global,
+        lanes: Lanes,
+        lists: Lists,
+        frequencies: Frequencies,
+        ratio: Ratio,
+    ) -> Result<Plan, PlanFault>
+        requires few { update_count lanes ≤ MAX_ROWS }
+        requires streams { AreOfStreams lanes }
+        requires parameters { HaveParameters lists frequencies }
+        ensures plan { IfOk result (IsPlan lanes lists frequencies ratio) }
+        ensures reads { OnOk result (read_count frequencies (update_count lanes) ≤ MAX_READS) }
+        ensures refused { OnRefused result (λ r. (r ≡ TooMany Reads) × (MAX_READS < read_count frequencies (update_count lanes))) }
+    {
+        let (reads, schedule) = schedule_of(alloc, &lanes, &frequencies, ratio)?;
+        Ok(Plan {
+            lanes,
+            lists,
+            reads,
+            schedule,
+        })
+    }
+
+    /// What the scheduler sees of it. Takes no memory.
+    pub fn schedule(&self) -> &Schedule
+        ensures { result.now ≡ schedule_of self.now }
+    {
+        &self.schedule
+    }
+
+    /// What an operation does. The operation is in the plan. Takes no memory.
+    pub fn task(&self, op: u32) -> Task<'_>
+        requires { op < length self.now.operations }
+        ensures { IsTask self.now op result }
+    {
+        let step = self.schedule.steps()[op as usize];
+        if step.query {
+            let instance = self.reads[step.place as usize];
+            let list = self.lists.of(instance.query);
+            let at = (instance.turn as usize - 1) % list.len();
+            return Task::Ask { query: &list[at] };
+        }
+        Task::Insert {
+            line: &lane_of(&self.lanes, step.lane)[step.place as usize],
+        }
+    }
+
+    /// The line that an update comes from; none for a read. The operation is in the plan. Takes no
+    /// memory.
+    pub fn source(&self, op: u32) -> Option<Source>
+        requires { op < length self.now.operations }
+        ensures { IsSource self.now op result }
+    {
+        let step = self.schedule.steps()[op as usize];
+        if step.query {
+            return None;
+        }
+        let line = &lane_of(&self.lanes, step.lane)[step.place as usize];
+        Some(Source {
+            file: file_of(&self.lanes, step.lane),
+            line: line.number,
+        })
+    }
+
+    /// Refuses the first update in merged order that waits and whose t_d isn't below its t, that takes
+    /// a key which is held or is taken by an update before it, or that refers to a node which is
+    /// neither held nor added in time: a person by an update whose t is at most this t_d, a forum or a
+    /// message by an update before it in its lane. `held` tells the keys of the dataset.
+    pub fn closed<H: Held>(&self, alloc: Global, held: &H) -> Result<(), PlanFault>
+        ensures ok { OnOk result (IsClosed (H.holds held.now) (updates_in self.now)) }
+        ensures bad { OnRefused result (IsFirstWrong (H.holds held.now) (updates_in self.now)) }
+    {
+        match check_steps(alloc, held, &self.lanes, self.schedule.steps()) {
+            Ok(()) => Ok(()),
+            Err(Fault::Bad { refusal }) => Err(PlanFault::Refused { refusal }),
+            Err(Fault::Memory) => Err(PlanFault::Memory),
+        }
+    }
+}
+
+// Refuses the first update among the steps that isn't closed.
+fn check_steps<H: Held>(alloc: Global, held: &H, lanes: &Lanes, steps: &[Step]) -> Result<(), Fault>
+    requires kept { AreLines lanes.now steps.now }
+    requires rises { StepsRise steps.now }
+    ensures ok { OnOk result (IsClosed (H.holds held.now) (updates_at lanes.now steps.now)) }
+    ensures bad { OnBad result (IsFirstWrong (H.holds held.now) (updates_at lanes.now steps.now)) }
+{
+    let mut added = Added::new(alloc);
+    for step in steps {
+        if !step.query {
+            let line = &lane_of(lanes, step.lane)[step.place as usize];
+            let file = file_of(lanes, step.lane);
+            check_update(alloc, held, &mut added, step.lane, file, line)?;
+        }
+    }
+    Ok(())
 }

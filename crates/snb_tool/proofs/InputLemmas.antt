@@ -18,14 +18,15 @@ use Rattle.snb_loader.proofs.Laws.{SameLanes, SameStream, dataset_below, lanes_f
 use Rattle.snb_plan.specs.Closed.{IsClosed, IsFirstWrong, updates_of}
 use Rattle.snb_plan.proofs.Laws.{closed_is_one}
 use Rattle.snb_schema.specs.declared.op.Line.{Line}
+use Rattle.snb_schema.specs.declared.query.Query.{Query}
 use Rattle.snb_schema.specs.declared.refusal.Refusal.{Refusal}
 use Rattle.snb_schema.specs.declared.row.Row.{Row}
 use Rattle.snb_schema.specs.LineLanes.{LineLanes}
 use Rattle.snb_tables.specs.Graphs.{HoldsKey}
-use Rattle.snb_tool.specs.Commands.{Command, Check, Run}
+use Rattle.snb_tool.specs.Commands.{Command, Check, Run, Read}
 use Rattle.snb_tool.specs.declared.check.Counts.{Counts}
 use Rattle.snb_tool.specs.declared.run.Input.{Input}
-use Rattle.snb_tool.specs.Endings.{IsCountsAnswer, IsInputAnswer}
+use Rattle.snb_tool.specs.Endings.{IsCountsAnswer, IsInputAnswer, IsReplyAnswer, IsReplyLine}
 use Rattle.snb_tool.specs.Inputs.{IsNotClosed, after_dataset, at_first, check_checks, checks_of, person_stream, run_checks}
 
 -- inserts that aren't closed are refused in one way
@@ -47,6 +48,7 @@ closed_not d s held graph inserts tables stream closed r a =
 
 -- the checks of a command give one refusal at most
 pub once : DatasetRefusesOnce → LanesRefuseOnce → StreamRefusesOnce → DatasetIsOne → StreamIsOne → (command : Command) (held : Held) → RefuseOnce (checks_of command held)
+once tables lanes stream d s (Read folder query) held = tables at_first held
 once tables lanes stream d s (Check folder) held = once_append (dataset_checks at_first held) (lane_checks (after_dataset held) held) (tables at_first held) (lanes (after_dataset held) held)
 once tables lanes stream d s (Run folder) held =
     once_append (dataset_checks at_first held) (stream_checks (after_dataset held) held ++ IsNotClosed held ∷ []) (tables at_first held)
@@ -174,3 +176,15 @@ module _ (stages : StagesJoin) (contents : Option Files) (folder : List ℕ) whe
           closed = closed;
         },
       )
+
+-- ---- of `read`
+
+module _ (contents : Option Files) (folder : List ℕ) (query : Query) where
+  pub read_no_dataset : (used : Used) (load : Load) → IsDatasetAnswer contents folder nothing_used used (Err load) → IsReplyAnswer contents folder query (Err load)
+  read_no_dataset used (Refused r) h = (h.0, h.1, h.2)
+  read_no_dataset used ReadFault h = tt
+  read_no_dataset used Memory h = tt
+
+  pub replied : (used : Used) (graph : List Row) (line : Vec ℕ Global) → IsDatasetAnswer contents folder nothing_used used (Ok graph) → IsReplyLine graph query line.items
+      → IsReplyAnswer contents folder query (Ok line)
+  replied used graph line d r = (d.0, d.1, record { graph = graph; dataset = d.2; shown = r })

@@ -1,4 +1,5 @@
 pub mod FieldLemmas
 pub mod InputLemmas
 pub mod OutcomeLemmas
+pub mod ReadLemmas
 pub mod Writing

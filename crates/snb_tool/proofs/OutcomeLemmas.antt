@@ -1,21 +1,23 @@
 -- Facts on how a call ends.
-use Rattle.std.proofs.Common.{arith, ◌≡◌, ℕ, ◌<◌, ◌≤◌, ◌⊎◌, List, [], ◌∷◌, length, Option, Some, None, Ok, Err, refl, sym, subst, ap, ◌∙◌, inl, inr, codes}
+use Rattle.std.proofs.Common.{arith, ◌≡◌, ℕ, ◌<◌, ◌≤◌, ◌⊎◌, List, [], ◌∷◌, length, Option, Some, None, Ok, Err, Vec, refl, sym, subst, ap, ◌∙◌, inl, inr, codes}
 use Rattle.std.proofs.lemmas.Bool.Decides.{leb_tells}
 use Rattle.std.specs.Option.{IfSome}
+use Rattle.std.specs.declared.alloc.Global.{Global}
 use Rattle.snb_base.specs.Outbox.{Written}
 use Rattle.snb_base.specs.Shelf.{Files}
 use Rattle.snb_input.specs.Files.{held_in}
 use Rattle.snb_input.specs.FirstOf.{FirstOf, NoneOf}
 use Rattle.snb_input.specs.Walk.{Held, IsHeldTold}
 use Rattle.snb_schema.specs.declared.file.FileId.{FileId}
+use Rattle.snb_schema.specs.declared.query.Query.{Query}
 use Rattle.snb_schema.specs.declared.refusal.Refusal.{Refusal}
-use Rattle.snb_tool.specs.Commands.{Command, Check, Run, IsLineOf, IsOtherLine, folder_of}
+use Rattle.snb_tool.specs.Commands.{Command, Check, Run, Read, IsLineOf, IsOtherLine, folder_of}
 use Rattle.snb_input.specs.declared.load.Load.TheVariants.{Refused}
 use Rattle.snb_schema.specs.ScreenTexts.{refusal_text}
 use Rattle.snb_texts.specs.Counts.{check_text}
 use Rattle.snb_tool.specs.declared.check.Counts.{Counts}
 use Rattle.snb_tool.specs.declared.run.Input.{Input}
-use Rattle.snb_tool.specs.Endings.{Ends, IsCountsAnswer, IsInputAnswer, IsRunOutput, Shows}
+use Rattle.snb_tool.specs.Endings.{Ends, IsCountsAnswer, IsInputAnswer, IsReplyAnswer, IsRunOutput, Shows}
 use Rattle.snb_tool.specs.Inputs.{checks_of}
 use Rattle.snb_tool.specs.Laws.{RefusedOrNot}
 use Rattle.snb_tool.specs.Outcome.{Belongs, IsAnswer, IsCommandAnswer}
@@ -175,26 +177,72 @@ run_done contents folder fixed input texts h output = (
   ),
 )
 
+pub read_refused : (contents : Option Files) (folder : List ℕ) (query : Query) (fixed : Option ℕ) (r : Refusal) → IsReplyAnswer contents folder query (Err (Refused r))
+    → IsCommandAnswer (Read folder query) contents fixed 3 (on_screen (refusal_text r))
+read_refused contents folder query fixed r h = (h.0, h.1, inr (refl, (r, h.2, refl)))
+
+pub read_done : (contents : Option Files) (folder : List ℕ) (query : Query) (fixed : Option ℕ) (line : Vec ℕ Global) (text : List ℕ) → IsReplyAnswer contents folder query (Ok line) → text ≡ line.items
+    → IsCommandAnswer (Read folder query) contents fixed 0 (on_screen text)
+read_done contents folder query fixed line text h e = (
+  h.0,
+  h.1,
+  inl (
+    refl,
+    h.2.dataset.clean,
+    record {
+      graph = h.2.graph;
+      reply = h.2.shown.reply;
+      dataset = h.2.dataset;
+      replies = h.2.shown.replies;
+      shown = ap on_screen (e ∙ h.2.shown.shown);
+    },
+  ),
+)
+
 -- ---- words
 
--- words are the line of one command at most
-pub one_line : (words : List (List ℕ)) (c d : Command) → IsLineOf words c → IsLineOf words d → c ≡ d
-one_line words (Check f) (Check g) p q = ap Check (second (sym p.0 ∙ q.0))
-  where
-    second : {a b c d : List ℕ} → ◌≡◌ {A = List (List ℕ)} (a ∷ b ∷ []) (c ∷ d ∷ []) → b ≡ d
-    second e = cc
-one_line words (Check f) (Run g) p q = let e = ap length (sym p.0 ∙ q.0) in absurd (omega (arith, e))
-one_line words (Run f) (Check g) p q = let e = ap length (sym p.0 ∙ q.0) in absurd (omega (arith, e))
-one_line words (Run f) (Run g) p q = ap Run (second (sym p.0 ∙ q.0))
-  where
-    second : {a b c d : List ℕ} {x y : List (List ℕ)} → ◌≡◌ {A = List (List ℕ)} (a ∷ b ∷ x) (c ∷ d ∷ y) → b ≡ d
-    second e = cc
-
--- ---- completeness
+-- words that are no line of any command
+pub other_line : (words : List (List ℕ)) → ((folder : List ℕ) → ¬ IsLineOf words (Check folder)) → ((folder : List ℕ) → ¬ IsLineOf words (Run folder))
+    → ((folder : List ℕ) (query : Query) → ¬ IsLineOf words (Read folder query)) → IsOtherLine words
+other_line words check run read (Check folder) line = check folder line
+other_line words check run read (Run folder) line = run folder line
+other_line words check run read (Read folder query) line = read folder query line
 
 -- the files of a folder that a shelf tells
 told_files : (folder : List ℕ) (files : Files) (held : Held) → IsHeldTold (Some files) folder held → ◌≡◌ {A = Held} held (held_in folder files)
 told_files folder files held told = λ i file. told file i
+
+-- words that begin alike
+first_word : {a b : List ℕ} {x y : List (List ℕ)} → ◌≡◌ {A = List (List ℕ)} (a ∷ x) (b ∷ y) → a ≡ b
+first_word e = cc
+
+second_word : {a b c d : List ℕ} {x y : List (List ℕ)} → ◌≡◌ {A = List (List ℕ)} (a ∷ b ∷ x) (c ∷ d ∷ y) → b ≡ d
+second_word e = cc
+
+-- words are the line of commands that try the same of one folder
+record SameChecks (c d : Command) : Type 1 where
+  folder : folder_of c ≡ folder_of d
+  checks : (held : Held) → checks_of c held ≡ checks_of d held
+
+same_checks : (words : List (List ℕ)) (c d : Command) → IsLineOf words c → IsLineOf words d → SameChecks c d
+same_checks words (Check f) (Check g) p q = record { folder = second_word (sym p.0 ∙ q.0); checks = λ held. refl }
+same_checks words (Check f) (Run g) p q = let e = ap length (sym p.0 ∙ q.0) in absurd (omega (arith, e))
+same_checks words (Check f) (Read g r) p q = let e = ap length (first_word (sym p.0 ∙ q.2)) in absurd (omega (arith, e))
+same_checks words (Run f) (Check g) p q = let e = ap length (sym p.0 ∙ q.0) in absurd (omega (arith, e))
+same_checks words (Run f) (Run g) p q = record { folder = second_word (sym p.0 ∙ q.0); checks = λ held. refl }
+same_checks words (Run f) (Read g r) p q = let e = ap length (first_word (sym p.0 ∙ q.2)) in absurd (omega (arith, e))
+same_checks words (Read f r) (Check g) p q = let e = ap length (first_word (sym p.2 ∙ q.0)) in absurd (omega (arith, e))
+same_checks words (Read f r) (Run g) p q = let e = ap length (first_word (sym p.2 ∙ q.0)) in absurd (omega (arith, e))
+same_checks words (Read f r) (Read g s) p q = record { folder = second_word (sym p.2 ∙ q.2); checks = λ held. refl }
+
+-- what a command tries of the files that a shelf tells, as another with these words tries it
+checks_told : (words : List (List ℕ)) (files : Files) (c d : Command) (held : Held) → IsLineOf words c → IsLineOf words d → IsHeldTold (Some files) (folder_of c) held
+    → checks_of d (held_in (folder_of d) files) ≡ checks_of c held
+checks_told words files c d held p q told =
+    let same = same_checks words c d p q in
+    sym (same.checks (held_in (folder_of d) files)) ∙ (λ i. checks_of c (held_in (sym same.folder i) files)) ∙ (λ i. checks_of c (sym (told_files (folder_of c) files held told) i))
+
+-- ---- completeness
 
 -- what a command answers where nothing is wrong with its files, and nothing failed
 complete_told : (words : List (List ℕ)) (files : Files) (fixed : Option ℕ) (read wrote : Type 0) (ready : ℕ → Type 0) (old new : Option Written) (result : ℕ)
@@ -204,9 +252,7 @@ complete_told words files fixed read wrote ready old new result law (inl (inl e,
 complete_told words files fixed read wrote ready old new result law (inl (inr e, (texts, inl other, w))) command line clean a b = absurd (other.1 command line)
 complete_told words files fixed read wrote ready old new result law (inl (inr e, (texts, inr (c, l, (held, told, inl done)), w))) command line clean a b = inl done.0
 complete_told words files fixed read wrote ready old new result law (inl (inr e, (texts, inr (c, l, (held, told, inr bad)), w))) command line clean a b =
-    absurd (law c held bad.1.0 bad.1.1
-    (subst (λ (h : Held). NoneOf (checks_of c h)) (sym (told_files (folder_of c) files held told))
-    (subst (λ (d : Command). NoneOf (checks_of d (held_in (folder_of d) files))) (one_line words command c line l) clean)))
+    absurd (law c held bad.1.0 bad.1.1 (subst (λ (cs : List {1} (Refusal → Type 0)). NoneOf cs) (checks_told words files c command held l line told) clean))
 complete_told words files fixed read wrote ready old new result law (inr (inl h)) command line clean a b = absurd (a h.1)
 complete_told words files fixed read wrote ready old new result law (inr (inr (inl h))) command line clean a b = absurd (b h.1)
 complete_told words files fixed read wrote ready old new result law (inr (inr (inr h))) command line clean a b = inr h.0
@@ -217,9 +263,7 @@ refuses_told : (words : List (List ℕ)) (files : Files) (fixed : Option ℕ) (r
     → (command : Command) → IsLineOf words command → (r : Refusal) → FirstOf (checks_of command (held_in (folder_of command) files)) r → ¬ read → ¬ wrote → (result ≡ 3) ⊎ (result ≡ 6)
 refuses_told words files fixed read wrote ready old new result law (inl (e, (texts, inl other, w))) command line r bad a b = absurd (other.1 command line)
 refuses_told words files fixed read wrote ready old new result law (inl (e, (texts, inr (c, l, (held, told, inl done)), w))) command line r bad a b =
-    absurd (law c held r
-    (subst (λ (h : Held). FirstOf (checks_of c h) r) (sym (told_files (folder_of c) files held told))
-    (subst (λ (d : Command). FirstOf (checks_of d (held_in (folder_of d) files)) r) (one_line words command c line l) bad)) done.1)
+    absurd (law c held r (subst (λ (cs : List {1} (Refusal → Type 0)). FirstOf cs r) (checks_told words files c command held l line told) bad) done.1)
 refuses_told words files fixed read wrote ready old new result law (inl (e, (texts, inr (c, l, (held, told, inr refused)), w))) command line r bad a b = inl refused.0
 refuses_told words files fixed read wrote ready old new result law (inr (inl h)) command line r bad a b = absurd (a h.1)
 refuses_told words files fixed read wrote ready old new result law (inr (inr (inl h))) command line r bad a b = absurd (b h.1)

@@ -1,17 +1,21 @@
 -- How the parts of a call end. Cited by contracts of private functions alone.
-use Rattle.std.specs.Prelude.{◌≡◌, ℕ, ◌⊎◌, List, [], length, Option, Result, Ok, Err}
+use Rattle.std.specs.Prelude.{◌≡◌, ℕ, ◌⊎◌, List, [], length, Option, Result, Ok, Err, Vec}
+use Rattle.std.specs.declared.alloc.Global.{Global}
 use Rattle.snb_base.specs.Outbox.{Written}
 use Rattle.snb_base.specs.Shelf.{Files}
 use Rattle.snb_input.specs.FirstOf.{FirstOf, NoneOf}
 use Rattle.snb_input.specs.Walk.{Held, IsHeldTold}
 use Rattle.snb_input.specs.declared.load.Load.{Load}
 use Rattle.snb_input.specs.declared.load.Load.TheVariants.{Refused, ReadFault, Memory}
-use Rattle.snb_loader.specs.Dataset.{IsDataset}
+use Rattle.snb_loader.specs.Dataset.{IsDataset, dataset_checks}
 use Rattle.snb_loader.specs.Lanes.{AreLanes, lines_of}
 use Rattle.snb_loader.specs.Streams.{IsStream}
 use Rattle.snb_plan.specs.Closed.{IsClosed, updates_of}
+use Rattle.snb_reads.specs.declared.cell.Cell.{Cell}
+use Rattle.snb_reads.specs.Replies.{IsReply}
 use Rattle.snb_schema.specs.declared.event.Event.{Event}
 use Rattle.snb_schema.specs.declared.op.Line.{Line}
+use Rattle.snb_schema.specs.declared.query.Query.{Query}
 use Rattle.snb_schema.specs.declared.row.Row.{Row}
 use Rattle.snb_schema.specs.LineLanes.{LineLanes}
 use Rattle.snb_tables.specs.Graphs.{HoldsKey}
@@ -20,7 +24,7 @@ use Rattle.snb_tool.specs.declared.check.Counts.{Counts}
 use Rattle.snb_tool.specs.declared.deliver.Output.{Output}
 use Rattle.snb_tool.specs.declared.run.Input.{Input}
 use Rattle.snb_tool.specs.Inputs.{after_dataset, at_first, check_checks, person_stream, run_checks}
-use Rattle.snb_tool.specs.Outcome.{run_texts}
+use Rattle.snb_tool.specs.Outcome.{reply_line, run_texts}
 use Rattle.snb_tool.specs.Output.{HasBegun, HasWritten, Wrote, on_screen}
 
 -- a text is shown whole, with this status; or a front of it, where the outbox failed, which wasn't sure of all of it
@@ -79,3 +83,22 @@ pub record IsRunOutput (inserts : List Line) (fixed : Option ℕ) (old : List Ro
 -- the bytes of each channel
 abbrev pub bytes_of : Output → Written
 bytes_of o = record { screen = o.screen.items; log = o.log.items; answers = o.answers.items; finals = o.finals.items; cases = [] }
+
+-- the line is that of the reply to the query on a graph
+pub record IsReplyLine (graph : List Row) (query : Query) (line : List ℕ) : Type 0 where
+  pub reply : List (List (List Cell))
+  pub replies : IsReply graph query reply
+  pub shown : line ≡ reply_line reply
+
+-- nothing is wrong with the tables, and the line is that of the reply on their graph
+pub record IsReplied (held : Held) (query : Query) (line : List ℕ) : Type 0 where
+  pub graph : List Row
+  pub dataset : IsDataset at_first held graph
+  pub shown : IsReplyLine graph query line
+
+-- what the reading of a reply answers
+abbrev pub IsReplyAnswer : Option Files → List ℕ → Query → Result (Vec ℕ Global) Load → Type 0
+IsReplyAnswer contents folder query (Ok line) = (held : Held) × IsHeldTold contents folder held × IsReplied held query line.items
+IsReplyAnswer contents folder query (Err (Refused r)) = (held : Held) × IsHeldTold contents folder held × FirstOf (dataset_checks at_first held) r
+IsReplyAnswer contents folder query (Err ReadFault) = Unit {0}
+IsReplyAnswer contents folder query (Err Memory) = Unit {0}

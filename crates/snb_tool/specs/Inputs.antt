@@ -11,7 +11,7 @@ use Rattle.snb_schema.specs.declared.op.Line.{Line}
 use Rattle.snb_schema.specs.declared.refusal.Refusal.{Refusal}
 use Rattle.snb_schema.specs.declared.row.Row.{Row}
 use Rattle.snb_tables.specs.Graphs.{HoldsKey}
-use Rattle.snb_tool.specs.Commands.{Command, Check, Run}
+use Rattle.snb_tool.specs.Commands.{Command, Check, Run, Read}
 
 -- before the first file nothing is read
 abbrev pub at_first : Before
@@ -45,3 +45,4 @@ run_checks held = dataset_checks at_first held ++ (stream_checks (after_dataset 
 abbrev pub checks_of : Command → Held → List {1} (Refusal → Type 0)
 checks_of (Check folder) held = check_checks held
 checks_of (Run folder) held = run_checks held
+checks_of (Read folder query) held = dataset_checks at_first held

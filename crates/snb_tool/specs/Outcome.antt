@@ -1,5 +1,6 @@
 -- What a call of the program answers and writes.
-use Rattle.std.specs.Prelude.{◌≡◌, ℕ, List, [], length, Option, ◌⊎◌}
+use Rattle.std.specs.Prelude.{◌≡◌, ℕ, List, [], ◌∷◌, ◌++◌, length, Option, ◌⊎◌}
+use Rattle.serde_json.specs.Written.{compact_text}
 use Rattle.snb_base.specs.Outbox.{Written}
 use Rattle.snb_base.specs.Shelf.{Files}
 use Rattle.snb_input.specs.FirstOf.{FirstOf, NoneOf}
@@ -8,8 +9,11 @@ use Rattle.snb_loader.specs.Dataset.{IsDataset}
 use Rattle.snb_loader.specs.Lanes.{AreLanes, lines_of}
 use Rattle.snb_loader.specs.Streams.{IsStream}
 use Rattle.snb_plan.specs.Closed.{IsClosed, updates_of}
+use Rattle.snb_reads.specs.declared.cell.Cell.{Cell}
+use Rattle.snb_reads.specs.Replies.{IsReply}
 use Rattle.snb_schema.specs.declared.event.Event.{Event}
 use Rattle.snb_schema.specs.declared.op.Line.{Line}
+use Rattle.snb_schema.specs.declared.query.Query.{Query}
 use Rattle.snb_schema.specs.declared.refusal.Refusal.{Refusal}
 use Rattle.snb_schema.specs.declared.row.Row.{Row}
 use Rattle.snb_schema.specs.LineLanes.{LineLanes}
@@ -18,8 +22,9 @@ use Rattle.snb_schema.specs.ScreenTexts.{refusal_text, summary_text, usage_text}
 use Rattle.snb_tables.specs.FinalText.{final_text}
 use Rattle.snb_tables.specs.Graphs.{HoldsKey}
 use Rattle.snb_texts.specs.Counts.{check_text}
+use Rattle.snb_validation.specs.ReplyData.{reply_data}
 use Rattle.snb_workers.specs.Runs.{HasRun}
-use Rattle.snb_tool.specs.Commands.{Command, Check, Run, IsLineOf, IsOtherLine, folder_of}
+use Rattle.snb_tool.specs.Commands.{Command, Check, Run, Read, IsLineOf, IsOtherLine, folder_of}
 use Rattle.snb_tool.specs.Inputs.{after_dataset, at_first, checks_of, person_stream}
 use Rattle.snb_tool.specs.Output.{on_screen}
 
@@ -54,10 +59,23 @@ pub record IsRun (held : Held) (fixed : Option ℕ) (texts : Written) : Type 0 w
   pub ran : HasRun inserts fixed graph final history
   pub shown : texts ≡ run_texts inserts history final
 
+-- the line of a reply: its JSON text, and a line feed
+abbrev pub reply_line : List (List (List Cell)) → List ℕ
+reply_line reply = compact_text (reply_data reply) ++ 10 ∷ []
+
+-- the files are a dataset, and the text is the line of the reply to the query on it
+pub record IsRead (held : Held) (query : Query) (texts : Written) : Type 0 where
+  pub graph : List Row
+  pub reply : List (List (List Cell))
+  pub dataset : IsDataset at_first held graph
+  pub replies : IsReply graph query reply
+  pub shown : texts ≡ on_screen (reply_line reply)
+
 -- the texts of a command that is done
 abbrev pub IsDone : Command → Held → Option ℕ → Written → Type 0
 IsDone (Check folder) held fixed texts = IsChecked held texts
 IsDone (Run folder) held fixed texts = IsRun held fixed texts
+IsDone (Read folder query) held fixed texts = IsRead held query texts
 
 -- the texts that belong to a command's files and a status: nothing is wrong with the files and the command is done; or what is wrong with
 -- them first is shown

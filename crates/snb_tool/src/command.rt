@@ -1,7 +1,13 @@
 //! The words of a command line.
 
-ghost use Rattle.std.specs.Prelude.{◌≡◌, ℕ, List, IsTrue, ◌↔◌, MatchOption};
-ghost use Rattle.snb_tool.specs.Commands.{Check, Run, IsLineOf, IsOtherLine, IsPlainWord, meant, texts_of};
+ghost use Rattle.std.specs.Prelude.{◌≡◌, ℕ, List, [], ◌∷◌, IsTrue, ◌↔◌, MatchOption};
+ghost use Rattle.snb_tool.specs.Commands.{Check, Run, Read, IsLineOf, IsOtherLine, IsPlainWord, IsReadOf, asked, meant, texts_of};
+ghost use Rattle.snb_schema.specs.declared.query.Query.{Query as AnyQuery};
+
+use crate::request::Request;
+use snb_base::number::read_number;
+use snb_clock::date::read_date;
+use snb_schema::limits::{MAX_ID, MAX_YEAR};
 
 /// What the words of a command line say.
 #[derive(Clone, Copy, Debug)]
@@ -15,6 +21,13 @@ pub enum Command<'a> {
     Run {
         /// The folder.
         folder: &'a str,
+    },
+    /// `read DIR KIND`, with the parameters of the read.
+    Read {
+        /// The folder.
+        folder: &'a str,
+        /// The read, with its parameters.
+        request: Request<'a>,
     },
 }
 
@@ -60,6 +73,103 @@ fn run_folder<'a>(words: &[&'a str]) -> Option<&'a str>
     }
 }
 
+// The read of this kind with an id, or None where there is none.
+fn read_of_one<'a>(kind: &str, id: &str) -> Option<Request<'a>>
+    ensures { MatchOption result ((query : AnyQuery) → ¬ IsReadOf kind.now (id.now ∷ []) query) (λ r. IsReadOf kind.now (id.now ∷ []) (asked r)) }
+{
+    let id = read_number(id.as_bytes(), MAX_ID)?;
+    match kind {
+        "IS1" => Some(Request::Is1 { person: id }),
+        "IS2" => Some(Request::Is2 { person: id }),
+        "IS3" => Some(Request::Is3 { person: id }),
+        "IS4" => Some(Request::Is4 { message: id }),
+        "IS5" => Some(Request::Is5 { message: id }),
+        "IS6" => Some(Request::Is6 { message: id }),
+        "IS7" => Some(Request::Is7 { message: id }),
+        "IC7" => Some(Request::Ic7 { person: id }),
+        "IC8" => Some(Request::Ic8 { person: id }),
+        _ => None,
+    }
+}
+
+// The read of this kind with an id and a text, a date or an id, or None where there is none.
+fn read_of_two<'a>(kind: &str, first: &str, second: &'a str) -> Option<Request<'a>>
+    ensures { MatchOption result ((query : AnyQuery) → ¬ IsReadOf kind.now (first.now ∷ second.now ∷ []) query)
+        (λ r. IsReadOf kind.now (first.now ∷ second.now ∷ []) (asked r)) }
+{
+    let person = read_number(first.as_bytes(), MAX_ID)?;
+    match kind {
+        "IC1" => Some(Request::Ic1 {
+            person,
+            first_name: second,
+        }),
+        "IC2" => {
+            let max_date = read_date(second.as_bytes())?;
+            Some(Request::Ic2 { person, max_date })
+        }
+        "IC9" => {
+            let max_date = read_date(second.as_bytes())?;
+            Some(Request::Ic9 { person, max_date })
+        }
+        "IC13" => {
+            let to = read_number(second.as_bytes(), MAX_ID)?;
+            Some(Request::Ic13 { from: person, to })
+        }
+        _ => None,
+    }
+}
+
+// The read of this kind with an id, a text and a year, or None where there is none.
+fn read_of_three<'a>(kind: &str, first: &str, second: &'a str, third: &str) -> Option<Request<'a>>
+    ensures { MatchOption result ((query : AnyQuery) → ¬ IsReadOf kind.now (first.now ∷ second.now ∷ third.now ∷ []) query)
+        (λ r. IsReadOf kind.now (first.now ∷ second.now ∷ third.now ∷ []) (asked r)) }
+{
+    if kind != "IC11" {
+        return None;
+    }
+    let person = read_number(first.as_bytes(), MAX_ID)?;
+    let year = read_number(third.as_bytes(), u64::from(MAX_YEAR))?;
+    Some(Request::Ic11 {
+        person,
+        country: second,
+        year: year as u32,
+    })
+}
+
+// The read of this kind with these parameters, or None where there is none.
+fn request_of<'a>(kind: &str, parameters: &[&'a str]) -> Option<Request<'a>>
+    ensures { MatchOption result ((query : AnyQuery) → ¬ IsReadOf kind.now (texts_of parameters.now) query) (λ r. IsReadOf kind.now (texts_of parameters.now) (asked r)) }
+{
+    match parameters {
+        [] => None,
+        [only] => read_of_one(kind, only),
+        [first, second] => read_of_two(kind, first, second),
+        [first, second, third] => read_of_three(kind, first, second, third),
+        _ => None,
+    }
+}
+
+// The folder and the read of the line `read DIR KIND` with the parameters of the read, or None where the
+// words are another line.
+fn read_request<'a>(words: &[&'a str]) -> Option<(&'a str, Request<'a>)>
+    ensures { MatchOption result ((folder : List ℕ) (query : AnyQuery) → ¬ IsLineOf (texts_of words.now) (Read folder query))
+        (λ pair. IsLineOf (texts_of words.now) (Read pair.0.now (asked pair.1))) }
+{
+    match words {
+        [command, folder, kind, parameters @ ..] => {
+            if *command == "read" && is_plain(folder) {
+                match request_of(kind, parameters) {
+                    Some(request) => Some((*folder, request)),
+                    None => None,
+                }
+            } else {
+                None
+            }
+        }
+        _ => None,
+    }
+}
+
 /// The command that the words are the line of, or None where they are another line.
 pub fn command_of<'a>(words: &[&'a str]) -> Option<Command<'a>>
     ensures { MatchOption result (IsOtherLine (texts_of words.now)) (λ command. IsLineOf (texts_of words.now) (meant command)) }
@@ -67,8 +177,11 @@ pub fn command_of<'a>(words: &[&'a str]) -> Option<Command<'a>>
     if let Some(folder) = check_folder(words) {
         return Some(Command::Check { folder });
     }
-    match run_folder(words) {
-        Some(folder) => Some(Command::Run { folder }),
+    if let Some(folder) = run_folder(words) {
+        return Some(Command::Run { folder });
+    }
+    match read_request(words) {
+        Some((folder, request)) => Some(Command::Read { folder, request }),
         None => None,
     }
 }

@@ -5,6 +5,8 @@ mod check;
 mod command;
 mod deliver;
 pub mod law;
+mod read;
+mod request;
 mod run;
 mod show;
 #[cfg(test)]

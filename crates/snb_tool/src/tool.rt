@@ -14,6 +14,7 @@ ghost use Rattle.snb_tool.specs.Output.{HasBegun, HasWritten};
 use crate::check::check;
 use crate::command::{Command, command_of};
 use crate::law::refusal_is_one;
+use crate::read::read;
 use crate::run::run;
 use crate::show::show_as;
 use snb_base::clock::Clock;
@@ -44,6 +45,7 @@ fn obey<R: AllocGlobal + Wait, S: Shelf, O: Outbox, C: Clock, G: Gate>(
     match command {
         Command::Check { folder } => check(rt.alloc(), shelf, folder, out),
         Command::Run { folder } => run(rt, shelf, folder, out, clock, gate),
+        Command::Read { folder, request } => read(rt.alloc(), shelf, folder, request, out),
     }
 }
 
@@ -77,6 +79,11 @@ fn answer<R: AllocGlobal + Wait, S: Shelf, O: Outbox, C: Clock, G: Gate>(
 ///   it is there, runs each of its inserts once, and writes the log, the answers, the final graph and
 ///   the summary on their channels. The inserts must be closed over the dataset: each has a new key,
 ///   and each finds the nodes that it refers to there, or among the persons added up to its t_d.
+/// - `read DIR KIND P1 P2 P3` reads the tables and shows the reply to one read: its answer, and those of
+///   the short reads that follow. KIND is `IS1` to `IS7`, `IC1`, `IC2`, `IC7`, `IC8`, `IC9`, `IC11` or
+///   `IC13`, with as many parameters as it has: an id of a person or a message for a short read, of a
+///   person first for a complex one; then a first name for `IC1`, a date for `IC2` and `IC9`, the name of
+///   a country and a year for `IC11`, and a second person for `IC13`.
 ///
 /// What was read is the files that the shelf tells; of a shelf that tells none there are some files of
 /// which all this is true, each read once.

@@ -1,6 +1,5 @@
-use Rattle.snb_book.proofs.Alone.{persons_tie}
 use Rattle.snb_book.proofs.tests.tie_is_usable.Goals as goal
 use Rattle.snb_schema.proofs.Laws.{planned_tie}
 
 pub returns : goal.returns
-returns c = record { planned = planned_tie; persons = persons_tie }
+returns c = planned_tie

@@ -14,6 +14,9 @@ returns-clause-answer g c = stream_ok (g.S.Shelf.contents c.args.shelf.now) c.ar
 pub returns-clause-stream : goal.returns-clause-stream
 returns-clause-stream g c = stream_of (g.S.Shelf.contents c.args.shelf.now) c.args.folder.now c.args.used.now c.in-Ok.walk c.in-Ok.ensures.answer c.lines_of.result c.lines_of.ensures.value c.lines_of.ensures.taken
 
+pub returns-clause-counted : goal.returns-clause-counted
+returns-clause-counted g c = stream_counted (g.S.Shelf.contents c.args.shelf.now) c.args.folder.now c.args.used.now c.in-Ok.walk c.in-Ok.ensures.answer c.lines_of.result c.lines_of.ensures.value
+
 pub returns-clause-few : goal.returns-clause-few
 returns-clause-few g c =
     let counted = stream_counted (g.S.Shelf.contents c.args.shelf.now) c.args.folder.now c.args.used.now c.in-Ok.walk c.in-Ok.ensures.answer c.lines_of.result c.lines_of.ensures.value in

@@ -5,3 +5,6 @@ returns-in-Check-clause-ends g c = rw c.in-Check.is c.check.ensures.ends
 
 pub returns-in-Run-clause-ends : goal.returns-in-Run-clause-ends
 returns-in-Run-clause-ends g c = rw c.in-Run.is c.run.ensures.ends
+
+pub returns-in-Read-clause-ends : goal.returns-in-Read-clause-ends
+returns-in-Read-clause-ends g c = rw c.in-Read.is c.read.ensures.ends

@@ -1,16 +1,11 @@
 use Rattle.std.proofs.Common.{[], ◌∙◌, ap, subst, sym}
 use Rattle.snb_schema.specs.Schedule.{Schedule}
-use Rattle.snb_book.specs.Kept.{IsOfPersons}
-use Rattle.snb_plan.proofs.Laws.{lane_of_persons}
 use Rattle.snb_workers.specs.declared.run.Turn.{Turn}
 use Rattle.snb_workers.specs.Turns.{TurnsTo}
 use Rattle.snb_workers.proofs.TurnLemmas.{done_none, on_err, stopped_none}
 use Rattle.snb_workers.proofs.Planning.{plan_timely}
 use Rattle.snb_tables.specs.Graphs.{HoldsKey}
 use Rattle.snb_workers.proofs.run.run_alone.Goals as goal
-
-pub make-requires-clause-persons : goal.make-requires-clause-persons
-make-requires-clause-persons g c = subst IsOfPersons (sym c.in_ok-schedule.ensures) (record { persons = λ lane lt. lane_of_persons lane lt })
 
 pub make_schedule-requires : goal.make_schedule-requires
 make_schedule-requires g c = (c.streams_are_planned.ensures c.args.inserts.now c.requires.stream c.requires.few).with_times

@@ -2,7 +2,9 @@ use Rattle.std.proofs.Common.{◌≡◌, ℕ, ◌<◌, List, length, get_or, tru
 use Rattle.std.proofs.lemmas.List.{get_or_default}
 use Rattle.snb_schema.specs.History.{halted, hand}
 use Rattle.snb_book.specs.Kept.{Kept}
-use Rattle.snb_book.proofs.Answering.{own_busy, under_way}
+use Rattle.snb_book.specs.Claims.{IsPlanHead}
+use Rattle.snb_book.specs.Heads.{TellsFirst}
+use Rattle.snb_book.proofs.Answering.{all_started, own_busy, under_way}
 use Rattle.snb_book.proofs.book.Book.answer.Goals as goal
 
 -- what stands at the worker's place, whatever is read past the end
@@ -15,7 +17,8 @@ returns-then-self c = subst (λ (b : Kept). (w : ℕ) × (halted b.history w ≡
 pub returns-in-None : goal.returns-in-None
 returns-in-None c = (
   subst (λ (b : Kept). (w : ℕ) → halted b.history w ≡ false) c.self.view_is (c.self.invariant.1.runs c.if-self.false),
-  c.in-None.ensures,
+  all_started c.args.self.now.schedule c.args.self.now.history
+      (subst (λ (o : Option ℕ). TellsFirst c.args.self.now.schedule (IsPlanHead c.args.self.now.schedule c.args.self.now.history) o) c.in-None.is c.firsts-firsts.ensures.all),
 )
 
 pub returns-in-Some-index : goal.returns-in-Some-index
@@ -25,7 +28,7 @@ returns-in-Some-index c =
     held_is c.self.inside.held.items c.args.worker c.index.result.now (Some c.in-Some-index.op) (let l = c.self.invariant.1.a_hand_each in omega arith) c.index.ensures c.in-Some-index.is in
     own_busy c.args.self.now.schedule c.args.self.now.history c.in-Some.first c.args.worker c.args.at c.in-Some-index.op
     (subst (λ (b : Kept). (w : ℕ) → halted b.history w ≡ false) c.self.view_is (c.self.invariant.1.runs c.if-self.false))
-    c.in-Some.ensures
+    (subst (λ (o : Option ℕ). TellsFirst c.args.self.now.schedule (IsPlanHead c.args.self.now.schedule c.args.self.now.history) o) c.in-Some.is c.firsts-firsts.ensures.all)
     (subst (λ (b : Kept). hand b.history c.args.worker ≡ Some c.in-Some-index.op) c.self.view_is (sym (c.self.invariant.1.hands c.args.worker known) ∙ has))
 
 pub answer_idle-requires-clause-idle : goal.answer_idle-requires-clause-idle
@@ -35,5 +38,5 @@ answer_idle-requires-clause-idle c =
     held_is c.self.inside.held.items c.args.worker c.index.result.now None (let l = c.self.invariant.1.a_hand_each in omega arith) c.index.ensures c.in-None-index.is in
     under_way c.args.self.now.schedule c.args.self.now.history c.in-Some.first c.args.worker
     (subst (λ (b : Kept). (w : ℕ) → halted b.history w ≡ false) c.self.view_is (c.self.invariant.1.runs c.if-self.false))
-    c.in-Some.ensures
+    (subst (λ (o : Option ℕ). TellsFirst c.args.self.now.schedule (IsPlanHead c.args.self.now.schedule c.args.self.now.history) o) c.in-Some.is c.firsts-firsts.ensures.all)
     (subst (λ (b : Kept). hand b.history c.args.worker ≡ None) c.self.view_is (sym (c.self.invariant.1.hands c.args.worker known) ∙ has))

@@ -1,9 +1,10 @@
 use Rattle.std.proofs.Common.{ℕ, ◌≤◌, subst, sym}
 use Rattle.snb_schema.specs.declared.event.Event.TheVariants.{Start}
 use Rattle.snb_schema.specs.History.{last}
-use Rattle.snb_schema.specs.Rules.{Fits}
-use Rattle.snb_book.specs.Kept.{Kept, IsInHand}
-use Rattle.snb_book.proofs.Claiming.{claim_fits, go_in_hand}
+use Rattle.snb_schema.specs.Rules.{Fits, MayAct}
+use Rattle.snb_book.specs.Claims.{IsClaim}
+use Rattle.snb_book.specs.Kept.{Kept, IsInHand, moment_after}
+use Rattle.snb_book.proofs.Claiming.{claim_fits, go_acts, go_in_hand, moves_on}
 use Rattle.snb_book.proofs.Telling.{moment_later, adds_none, adding_rises}
 use Rattle.snb_book.proofs.book.Book.claim.Goals as goal
 
@@ -25,6 +26,11 @@ returns-in-Go-clause-held c =
     subst (λ (b : Kept). IsInHand b.history c.in-Go.ticket) (sym c.start.ensures.appended)
     (go_in_hand c.args.self.now.schedule c.args.self.now.history c.args.worker c.moment-at.result c.in-Go.ticket c.in-Go.ensures)
 
+pub returns-in-Go-clause-acts : goal.returns-in-Go-clause-acts
+returns-in-Go-clause-acts c =
+    subst (λ (b : Kept). MayAct b.workers b.history c.in-Go.ticket.worker) (sym c.start.ensures.appended)
+    (go_acts c.args.self.now.workers c.args.self.now.history c.args.worker c.moment-at.result c.args.self.now.schedule c.in-Go.ticket c.requires c.in-Go.ensures)
+
 pub returns-in-Go-clause-rises : goal.returns-in-Go-clause-rises
 returns-in-Go-clause-rises c = adding_rises c.args.worker _ _ c.start.ensures.adds
 
@@ -33,3 +39,10 @@ returns-in_default-clause-adds c = adds_none _ c.args.worker c.moment-at.ensures
 
 pub returns-in_default-clause-rises : goal.returns-in_default-clause-rises
 returns-in_default-clause-rises c = adding_rises c.args.worker _ _ (returns-in_default-clause-adds c)
+
+pub returns-in_default-clause-moves : goal.returns-in_default-clause-moves
+returns-in_default-clause-moves c =
+    let at : ℕ = moment_after c.args.self.now.history c.args.now in
+    moves_on c.args.self.now.schedule c.args.self.now.workers c.args.self.now.history c.args.worker at c.answer.result
+    c.moment-at.ensures.planned c.moment-at.ensures.legal c.requires (moment_later c.args.self.now.history c.args.now)
+    (subst (λ (m : ℕ). IsClaim c.args.self.now.schedule c.args.self.now.history c.args.worker m c.answer.result) c.moment-at.ensures.value c.answer.ensures)

@@ -1,0 +1,10 @@
+mod Columns
+mod FoundLemmas
+mod Heads
+mod JobLemmas
+mod LikeLemmas
+mod Moves
+mod NamesakeLemmas
+mod ReplyLemmas
+mod SentLemmas
+mod StayLemmas

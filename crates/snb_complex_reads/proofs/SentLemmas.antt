@@ -1,0 +1,55 @@
+-- Rows of messages that were sent, side by side with what they show.
+use Rattle.std.proofs.Common.{◌≡◌, ℕ, Bool, List, get_or, refl, ap}
+use Rattle.std.proofs.lemmas.Cmp.{back_total, nat_cmp_total, on_total, then_total}
+use Rattle.std.proofs.lemmas.List.Elements.{All-filter, All-map, All-weaker}
+use Rattle.std.proofs.lemmas.List.Sorted.{IsPermutation-refl}
+use Rattle.std.specs.Cmp.{IsTotalOrder}
+use Rattle.std.specs.List.{All, AllZip, filter}
+use Rattle.std.specs.Ordering.{flip_args, is_lt, nat_cmp, on, then_cmp}
+use Rattle.std.specs.declared.cmp.Ordering.{Ordering}
+use Rattle.snb_schema.specs.declared.row.Row.{Row}
+use Rattle.snb_soundness.specs.SoundLaws.{NumbersFit}
+use Rattle.snb_tables.specs.Graphs.{IsGraph}
+use Rattle.snb_order.proofs.Laws.{answers_from, two_columns}
+use Rattle.snb_reads.specs.declared.cell.Cell.{Cell}
+use Rattle.snb_reads.specs.Around.{messages}
+use Rattle.snb_reads.specs.ComplexReads.{IsSent, latest, messages_of}
+use Rattle.snb_reads.specs.Distance.{IsPerson}
+use Rattle.snb_reads.specs.Order.{Answers, First, FirstOf, by}
+use Rattle.snb_short_reads.proofs.LookupLemmas.{found_person, person_at}
+use Rattle.snb_short_reads.proofs.RowLemmas.{shows}
+use Rattle.snb_short_reads.specs.Found.{IsMessageFound}
+use Rattle.snb_complex_reads.proofs.FoundLemmas.{messages_found, person_fits}
+use Rattle.snb_complex_reads.proofs.Moves.{All-flat_map}
+use Rattle.snb_complex_reads.specs.Found.{IsSentFound, sent_by}
+
+-- dates falling, message ids rising, of (person, message, date)
+abbrev pub sent_first : ℕ × ℕ × ℕ → ℕ × ℕ × ℕ → Ordering
+sent_first = then_cmp (flip_args (on (λ (p : ℕ × ℕ × ℕ). p.2) nat_cmp)) (on (λ (p : ℕ × ℕ × ℕ). p.1) nat_cmp)
+
+pub sent_total : IsTotalOrder sent_first
+sent_total = then_total (back_total (on_total (λ (p : ℕ × ℕ × ℕ). p.2) nat_cmp_total)) (on_total (λ (p : ℕ × ℕ × ℕ). p.1) nat_cmp_total)
+
+module _ (g : List Row) (graph : IsGraph g) (fit : NumbersFit) where
+  -- what persons sent is found
+  pub all_sent : (passes : ℕ → Bool) (ps : List (ℕ × ℕ)) → All (λ p. IsPerson g p.0) ps → All (IsSentFound g) (messages_of g passes ps)
+  all_sent passes ps all = All-flat_map (λ p. sent_by g passes p.0) (IsSentFound g) ps (λ i e there. (let p = get_or ps i e in let person = all i e there in
+      All-map (IsSentFound g) (λ m. (p.0, m.0, m.1)) (filter (λ m. passes m.1) (messages g p.0)) (All-filter (λ m. passes m.1) (λ (m : ℕ × ℕ). IsSentFound g (p.0, m.0, m.1)) (messages g p.0)
+      (All-weaker (IsMessageFound g) (λ (m : ℕ × ℕ). IsSentFound g (p.0, m.0, m.1)) (λ m found. record { person = person; fits = person_fits g graph fit p.0 person; message = found }) (messages g p.0) (messages_found g graph fit p.0)))))
+
+  sent_agree : (x y : ℕ × ℕ × ℕ) (a b : List Cell) → IsSent g x a → IsSent g y b → is_lt (by latest a b) ≡ is_lt (sent_first x y)
+  sent_agree x y a b r s = rw (r.is, s.is) (ap is_lt (two_columns y.2 x.2 x.1 y.1))
+
+  -- each message has a row
+  sent_any : (s : ℕ × ℕ × ℕ) → IsSentFound g s → (a : List Cell) × IsSent g s a
+  sent_any s f =
+      let (p, c, named) = person_at g graph s.0 f.person in
+      let (m, is) = shows g graph fit s.1 f.message.held in
+      (_, record { person = p; held = (found_person g graph fit s.0 p (named, c)).only; message = m; sent = is; is = refl })
+
+  -- the rows of the latest messages are the answer
+  pub sent_answers : (found first : List (ℕ × ℕ × ℕ)) (answer : List (List Cell)) → All (IsSentFound g) found → FirstOf sent_first (First 20) found first → AllZip (IsSent g) first answer
+      → Answers found (IsSent g) latest (First 20) answer
+  sent_answers found first answer all taken z =
+      answers_from (IsSent g) sent_first latest sent_agree (First 20) found found first answer (IsPermutation-refl found) taken
+      (All-weaker (IsSentFound g) (λ s. (a : List Cell) × IsSent g s a) sent_any found all) z

@@ -1,0 +1,11 @@
+use Rattle.std.proofs.Common.{◌++◌, ℕ, map}
+use Rattle.std.specs.List.{flat_map}
+use Rattle.std.specs.List.Sorted.{IsPermutation}
+use Rattle.snb_reads.specs.Around.{likes}
+use Rattle.snb_complex_reads.specs.Found.{like_of}
+use Rattle.snb_complex_reads.proofs.liked.ic7.Given as goal
+
+abbrev pub invariant-loop-message : goal.invariant-loop-message
+invariant-loop-message l =
+    IsPermutation (flat_map (λ (m : ℕ × ℕ). map (like_of m) (likes l.graph m.0)) l.initial.message-iterator)
+    (l.found.items ++ flat_map (λ (m : ℕ × ℕ). map (like_of m) (likes l.graph m.0)) l.message-iterator)

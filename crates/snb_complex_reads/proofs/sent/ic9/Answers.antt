@@ -1,0 +1,27 @@
+use Rattle.std.proofs.Common.{nat_lt}
+use Rattle.std.proofs.lemmas.List.Sorted.{All-permutation}
+use Rattle.std.proofs.lemmas.Result.{IfOk-weaker}
+use Rattle.snb_reads.specs.ComplexReads.{IsSent, latest}
+use Rattle.snb_reads.specs.Order.{First}
+use Rattle.snb_complex_reads.proofs.FoundLemmas.{near_found}
+use Rattle.snb_complex_reads.proofs.Moves.{answers_moved, joined_all, joined_more}
+use Rattle.snb_complex_reads.proofs.SentLemmas.{all_sent}
+use Rattle.snb_complex_reads.specs.Found.{IsSentFound, sent_by}
+use Rattle.snb_complex_reads.proofs.sent.ic9.Goals as goal
+
+pub loop-one-preserved : goal.loop-one-preserved
+loop-one-preserved c =
+    joined_more (λ p. sent_by c.args.graph.now (λ date. nat_lt date c.args.max_date) p.0) c.as_slice-one-items.result.now c.loop-one.one-index (0, 0) _ _ c.loop-one-test.true c.loop-one.invariant c.in_ok-add_before.ensures
+
+pub latest_sent-requires : goal.latest_sent-requires
+latest_sent-requires c =
+    let g = c.args.graph.now in
+    All-permutation (IsSentFound g) _ _
+    (joined_all (λ p. sent_by g (λ date. nat_lt date c.args.max_date) p.0) c.in_ok-near.near _ c.loop-one.one-index _ c.as_slice-one-items.ensures c.loop-one-test.false c.loop-one.invariant)
+    (all_sent g c.known.ensures c.sound_graphs.ensures.numbers (λ date. nat_lt date c.args.max_date) c.in_ok-near.near (near_found g c.args.person 2 c.in_ok-near.near c.in_ok-near.ensures))
+
+pub returns : goal.returns
+returns c =
+    let g = c.args.graph.now in
+    let moves = joined_all (λ p. sent_by g (λ date. nat_lt date c.args.max_date) p.0) c.in_ok-near.near _ c.loop-one.one-index _ c.as_slice-one-items.ensures c.loop-one-test.false c.loop-one.invariant in
+    IfOk-weaker c.latest_sent.result _ _ (λ a is. record { near = c.in_ok-near.near; within = c.in_ok-near.ensures; answers = answers_moved (IsSent g) latest (First 20) _ _ a moves is }) c.latest_sent.ensures

@@ -1,0 +1,96 @@
+//! The complex read of the replies to a person's messages.
+
+ghost use Rattle.std.specs.Prelude.{◌∷◌, [], IfOk, OnOk};
+ghost use Rattle.std.specs.List.{All, AllZip};
+ghost use Rattle.snb_complex_reads.specs.Found.{HasAppended, IsCommentFound};
+ghost use Rattle.snb_reads.specs.Around.{replies};
+ghost use Rattle.snb_reads.specs.ComplexReads.{Ic8, IsAnswered};
+ghost use Rattle.snb_reads.specs.Order.{Answers, Falling, First, Rising};
+ghost use Rattle.snb_tables.specs.Soundness.{Sound};
+
+use snb_graph::graph::Graph;
+use snb_order::first::first_of;
+use snb_reads::answer::Answer;
+use snb_reads::answer_row::AnswerRow;
+use snb_reads::cell::Cell;
+use snb_short_reads::lookups::{author_id, known, words};
+use snb_soundness::law::sound_graphs;
+use std::alloc::{AllocError, Global};
+
+// The row of a reply: (comment, date).
+fn reply_row(alloc: Global, graph: &Graph, reply: (u64, u64)) -> Result<AnswerRow, AllocError>
+    requires sound { Sound graph.now }
+    requires found { IsCommentFound graph.now reply }
+    ensures { IfOk result (IsAnswered graph.now reply) }
+{
+    graph.known();
+    let Some(comment) = graph.comment(reply.0) else {
+        unreachable!()
+    };
+    let author = known(graph, author_id(graph, reply.0));
+    let cells = vec![in alloc;
+        Cell::number(author.id),
+        words(&author.first_name)?,
+        words(&author.last_name)?,
+        Cell::number(reply.1),
+        Cell::number(reply.0),
+        words(&comment.content)?,
+    ]?;
+    Ok(AnswerRow::from_vec(alloc, cells))
+}
+
+// The rows of replies.
+fn reply_rows(alloc: Global, graph: &Graph, replies: &[(u64, u64)]) -> Result<Answer, AllocError>
+    requires sound { Sound graph.now }
+    requires found { All (IsCommentFound graph.now) replies.now }
+    ensures { IfOk result (AllZip (IsAnswered graph.now) replies.now) }
+{
+    let mut answer = Answer::new(alloc);
+    for reply in replies {
+        answer.push(reply_row(alloc, graph, *reply)?)?;
+    }
+    Ok(answer)
+}
+
+// The rows of the latest twenty of the replies that were found.
+fn latest_replies(
+    alloc: Global,
+    graph: &Graph,
+    found: Vec<(u64, u64)>,
+) -> Result<Answer, AllocError>
+    requires sound { Sound graph.now }
+    requires found { All (IsCommentFound graph.now) found.items }
+    ensures { IfOk result (Answers found.items (IsAnswered graph.now) (Falling 4 ∷ Rising 5 ∷ []) (First 20)) }
+{
+    graph.known();
+    sound_graphs();
+    let first = first_of(found, 20, |a, b| b.1.cmp(&a.1).then(a.0.cmp(&b.0)));
+    reply_rows(alloc, graph, &first)
+}
+
+// Appends the direct replies to a message, each as (comment, date).
+fn add_replies(graph: &Graph, message: u64, found: &mut Vec<(u64, u64)>) -> Result<(), AllocError>
+    ensures { OnOk result (HasAppended (replies graph.now message) found.old.items found.new.items) }
+{
+    graph.known();
+    for (comment, date) in graph.replies(message) {
+        found.push((comment, date))?;
+    }
+    Ok(())
+}
+
+/// Complex read 8: the twenty latest direct replies to a person's messages, each with its author; of replies
+/// of one date the one of the lower id first. A person who isn't held gives no rows.
+/// The condition: the graph is sound.
+pub fn ic8(alloc: Global, graph: &Graph, person: u64) -> Result<Answer, AllocError>
+    requires sound { Sound graph.now }
+    ensures { IfOk result (Ic8 graph.now person) }
+{
+    graph.known();
+    sound_graphs();
+    let mut found = Vec::new(alloc);
+    for (message, _) in graph.messages(person) {
+        add_replies(graph, message, &mut found)?;
+    }
+    latest_replies(alloc, graph, found)
+}

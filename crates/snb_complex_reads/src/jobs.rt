@@ -1,0 +1,128 @@
+//! The complex read of the jobs of persons around one.
+
+ghost use Rattle.std.specs.Prelude.{◌≡◌, ◌&&◌, ◌∷◌, ◌++◌, ℕ, List, [], IfOk, OnOk, bytes_eq, map, nat_lt};
+ghost use Rattle.std.specs.List.{All, AllZip};
+ghost use Rattle.snb_complex_reads.specs.Jobs.{AreJobs, IsJobFound, job_of, jobs_by};
+ghost use Rattle.snb_reads.specs.ComplexReads.{Ic11, IsJob};
+ghost use Rattle.snb_reads.specs.Distance.{IsPerson};
+ghost use Rattle.snb_reads.specs.Order.{Answers, Falling, First, Rising};
+ghost use Rattle.snb_tables.specs.Soundness.{Sound};
+
+use crate::places::located;
+use snb_base::text::Text;
+use snb_graph::graph::Graph;
+use snb_order::first::first_of;
+use snb_reach::reach::within;
+use snb_reads::answer::Answer;
+use snb_reads::answer_row::AnswerRow;
+use snb_reads::cell::Cell;
+use snb_schema::nodes::Place;
+use snb_short_reads::lookups::{known, words};
+use snb_soundness::law::sound_graphs;
+use std::alloc::{AllocError, Global};
+
+// The row of a work row: (person, organisation, year), with the organisation's name.
+fn job_row(
+    alloc: Global,
+    graph: &Graph,
+    job: &((u64, u64, u64), &Text),
+) -> Result<AnswerRow, AllocError>
+    requires { IsJobFound graph.now job.now }
+    ensures { IfOk result (IsJob graph.now (job_of job.now)) }
+{
+    let person = known(graph, job.0.0);
+    let cells = vec![in alloc;
+        Cell::number(job.0.0),
+        words(&person.first_name)?,
+        words(&person.last_name)?,
+        words(job.1)?,
+        Cell::number(job.0.2),
+    ]?;
+    Ok(AnswerRow::from_vec(alloc, cells))
+}
+
+// The rows of work rows.
+fn job_rows(
+    alloc: Global,
+    graph: &Graph,
+    jobs: &[((u64, u64, u64), &Text)],
+) -> Result<Answer, AllocError>
+    requires { All (IsJobFound graph.now) jobs.now }
+    ensures { IfOk result (AllZip (λ job row. IsJob graph.now (job_of job) row) jobs.now) }
+{
+    let mut answer = Answer::new(alloc);
+    for job in jobs {
+        answer.push(job_row(alloc, graph, job)?)?;
+    }
+    Ok(answer)
+}
+
+// The rows of the first ten of the work rows that were found.
+fn first_jobs(
+    alloc: Global,
+    graph: &Graph,
+    found: Vec<((u64, u64, u64), &Text)>,
+) -> Result<Answer, AllocError>
+    requires { All (IsJobFound graph.now) found.items }
+    ensures { IfOk result (Answers (map job_of found.entry.items) (IsJob graph.now) (Rising 5 ∷ Rising 1 ∷ Falling 4 ∷ []) (First 10)) }
+{
+    graph.known();
+    sound_graphs();
+    let first = first_of(found, 10, |a, b| {
+        a.0.2.cmp(&b.0.2).then(a.0.0.cmp(&b.0.0)).then(b.1.cmp(a.1))
+    });
+    job_rows(alloc, graph, &first)
+}
+
+// Whether a year is before another, and a place has a name.
+fn is_passing(since: u64, year: u32, place: &Place, name: &Text) -> bool
+    ensures { result ≡ (nat_lt since year && bytes_eq place.now.name name.now) }
+{
+    since < u64::from(year) && place.name == *name
+}
+
+// Appends the work rows of a person before a year in a country, each with the organisation's name.
+fn add_jobs<'a>(
+    graph: &'a Graph,
+    person: u64,
+    country: &Text,
+    year: u32,
+    found: &mut Vec<((u64, u64, u64), &'a Text)>,
+) -> Result<(), AllocError>
+    requires sound { Sound graph.now }
+    requires held { IsPerson graph.now person }
+    ensures { OnOk result ((all : List (ℕ × ℕ × ℕ)) → AreJobs graph.now all found.old.items
+        → AreJobs graph.now (all ++ jobs_by graph.now country.now year person) found.new.items) }
+{
+    graph.known();
+    sound_graphs();
+    for (organisation, since) in graph.work(person) {
+        let (company, place) = located(graph, organisation);
+        if is_passing(since, year, place, country) {
+            found.push(((person, organisation, since), &company.name))?;
+        }
+    }
+    Ok(())
+}
+
+/// Complex read 11: where the persons at distance 1 or 2 from a person work since before `year`, at
+/// organisations that stand in a place of the name `country`; the first ten, by year, then by the person's
+/// id, then by the organisation's name from the last on. A person who isn't held gives no rows.
+/// The condition: the graph is sound.
+pub fn ic11(
+    alloc: Global,
+    graph: &Graph,
+    person: u64,
+    country: &Text,
+    year: u32,
+) -> Result<Answer, AllocError>
+    requires sound { Sound graph.now }
+    ensures { IfOk result (Ic11 graph.now person country.now year) }
+{
+    let near = within(alloc, graph, person, 2)?;
+    let mut found = Vec::new(alloc);
+    for one in near.as_slice() {
+        add_jobs(graph, one.0, country, year, &mut found)?;
+    }
+    first_jobs(alloc, graph, found)
+}

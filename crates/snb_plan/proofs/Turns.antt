@@ -1,0 +1,262 @@
+-- The instances of the queries that go with so many updates.
+use Rattle.std.proofs.Common.{◌≡◌, ℕ, zero, suc, ◌+◌, ◌-◌, ◌*◌, ◌/◌, ◌<◌, ◌≤◌, Bool, true, false, List, [], ◌∷◌, ◌++◌, length, get_or, ◌⊎◌, inl, inr, refl, sym, ap, ◌∙◌, subst, arith, length-append}
+use Rattle.std.specs.Prelude.{if◌then◌else◌, ◌==◌}
+use Rattle.std.specs.List.{AllPairs, Contains}
+use Rattle.std.specs.List.Sorted.{IsPermutation, IsSorted}
+use Rattle.std.specs.Ordering.{nat_cmp, ordering_then, is_lt}
+use Rattle.std.proofs.lemmas.Bool.{cases_Bool, cases_lt, eqb-false, eqb-true}
+use Rattle.std.proofs.lemmas.List.Elements.{Contains-append_cases, Contains-append_left, Contains-append_right}
+use Rattle.std.proofs.lemmas.List.FromFn.{get_or-map-range_with_len, length-map-range_with_len}
+use Rattle.std.proofs.lemmas.Nat.{div-add-mod', div-mul-add, le-div, mul-le}
+use Rattle.snb_plan.specs.contracts.instances.InstanceOrd.TheImpl.Laws.{total-law}
+use Rattle.snb_schema.specs.Frequencies.{FrequencyTable, frequency_at}
+use Rattle.snb_schema.specs.Queries.{IsComplex}
+use Rattle.snb_plan.specs.declared.instances.Instance.{Instance}
+use Rattle.snb_plan.specs.Plans.{AreReads, IsInstance, IsSooner, read_count, share}
+use Rattle.snb_plan.specs.Spots.{all_instances, instance_of, instances_of}
+use Rattle.snb_plan.proofs.Ordered.{Distinct, by_three, distinct_from_pairs, distinct_permutation, pairs_from_sorted, same_elements}
+use Rattle.snb_plan.proofs.Spotting.{pairs_append}
+
+-- ---- how many
+
+positive : (f : ℕ) → (f == 0) ≡ false → 0 < f
+positive f e = elim (cases_lt 0 f) [ inl lt ↦ lt | inr le ↦ absurd (eqb-false f 0 e (omega (arith, le))) ]
+
+-- a turn within the share has an update
+share_within : (c f k : ℕ) → k < share c f → (0 < f) × ((k + 1) * f ≤ c)
+share_within c f k lt = by (cases_Bool (f == 0))
+  where
+    by : ((f == 0) ≡ true) ⊎ ((f == 0) ≡ false) → (0 < f) × ((k + 1) * f ≤ c)
+    by (inl none) = absurd (let e : share c f ≡ 0 = (λ i. if none i then 0 else c / f) in omega (arith, e, lt))
+    by (inr some) =
+        let e : share c f ≡ c / f = (λ i. if some i then 0 else c / f) in
+        let le : (k + 1) * f ≤ (c / f) * f = mul-le (k + 1) f (c / f) f (omega (arith, e, lt)) (omega arith) in
+        (positive f some, omega (arith, le, div-add-mod' c f))
+
+-- and a turn that has one is within the share
+share_from : (c f t : ℕ) → 0 < f → t * f ≤ c → t ≤ share c f
+share_from c f t pos le = by (cases_Bool (f == 0))
+  where
+    by : ((f == 0) ≡ true) ⊎ ((f == 0) ≡ false) → t ≤ share c f
+    by (inl none) = absurd (let e = eqb-true f 0 none in omega (arith, e, pos))
+    by (inr some) = (let e : share c f ≡ c / f = (λ i. if some i then 0 else c / f) in let q = le-div t c f pos le in omega (arith, e, q))
+
+-- turns that go with one update are one
+same_turn : (t u f : ℕ) → 0 < f → t * f ≡ u * f → t ≡ u
+same_turn t u f pos e = sym (div-mul-add t f 0 pos) ∙ ap (λ (n : ℕ). (n + 0) / f) e ∙ div-mul-add u f 0 pos
+
+-- ---- the instances of a query
+
+in_part : (fr : FrequencyTable) (c q : ℕ) (i : Instance) → Contains (instances_of fr c q) i
+    → (k : ℕ) × (k < share c (frequency_at fr q)) × (i ≡ instance_of (frequency_at fr q) q k)
+in_part fr c q i at =
+    let lt : at.0 < share c (frequency_at fr q) =
+    (let l = at.1 in omega (arith, l, length-map-range_with_len (instance_of (frequency_at fr q) q) 0 (share c (frequency_at fr q)))) in
+    (at.0, lt, sym at.2 ∙ get_or-map-range_with_len (instance_of (frequency_at fr q) q) 0 (share c (frequency_at fr q)) at.0 at.0 i lt (omega arith))
+
+from_part : (fr : FrequencyTable) (c q k : ℕ) → k < share c (frequency_at fr q) → Contains (instances_of fr c q) (instance_of (frequency_at fr q) q k)
+from_part fr c q k lt = (
+  k,
+  omega (arith, lt, length-map-range_with_len (instance_of (frequency_at fr q) q) 0 (share c (frequency_at fr q))),
+  get_or-map-range_with_len (instance_of (frequency_at fr q) q) 0 (share c (frequency_at fr q)) k k (instance_of (frequency_at fr q) q k) lt (omega arith),
+)
+
+part_good : (fr : FrequencyTable) (c q : ℕ) (i : Instance) → Contains (instances_of fr c q) i → IsInstance fr c i
+part_good fr c q i at =
+    let k = in_part fr c q i at in
+    let w = share_within c (frequency_at fr q) k.0 k.1 in
+    subst (λ (x : Instance). IsInstance fr c x) (sym k.2) (record { frequent = w.0; turns = omega arith; at = refl; within = w.1 })
+
+part_of : (fr : FrequencyTable) (c : ℕ) (i : Instance) → IsInstance fr c i → Contains (instances_of fr c i.query) i
+part_of fr c i is =
+    let f : ℕ = frequency_at fr i.query in
+    let turns = is.turns in
+    let k : (i.turn - 1) + 1 ≡ i.turn = omega (arith, turns) in
+    let le : i.turn * frequency_at fr i.query ≤ c = subst (λ (n : ℕ). n ≤ c) is.at is.within in
+    let many = share_from c (frequency_at fr i.query) i.turn is.frequent le in
+    let same : instance_of (frequency_at fr i.query) i.query (i.turn - 1) ≡ i =
+    λ j. record { at = (ap (λ (n : ℕ). n * frequency_at fr i.query) k ∙ sym is.at) j; query = i.query; turn = k j } in
+    subst (Contains (instances_of fr c i.query)) same (from_part fr c i.query (i.turn - 1) (omega (arith, many, turns)))
+
+-- ---- all queries
+
+pick : (b1 b2 b7 b8 b9 b11 b13 : Bool) (x1 x2 x7 x8 x9 x11 x13 : ℕ)
+    → 0 < (if b1 then x1 else if b2 then x2 else if b7 then x7 else if b8 then x8 else if b9 then x9 else if b11 then x11 else if b13 then x13 else 0)
+    → (b1 ≡ true) ⊎ (b2 ≡ true) ⊎ (b7 ≡ true) ⊎ (b8 ≡ true) ⊎ (b9 ≡ true) ⊎ (b11 ≡ true) ⊎ (b13 ≡ true)
+pick true b2 b7 b8 b9 b11 b13 x1 x2 x7 x8 x9 x11 x13 lt = inl refl
+pick false true b7 b8 b9 b11 b13 x1 x2 x7 x8 x9 x11 x13 lt = inr (inl refl)
+pick false false true b8 b9 b11 b13 x1 x2 x7 x8 x9 x11 x13 lt = inr (inr (inl refl))
+pick false false false true b9 b11 b13 x1 x2 x7 x8 x9 x11 x13 lt = inr (inr (inr (inl refl)))
+pick false false false false true b11 b13 x1 x2 x7 x8 x9 x11 x13 lt = inr (inr (inr (inr (inl refl))))
+pick false false false false false true b13 x1 x2 x7 x8 x9 x11 x13 lt = inr (inr (inr (inr (inr (inl refl)))))
+pick false false false false false false true x1 x2 x7 x8 x9 x11 x13 lt = inr (inr (inr (inr (inr (inr refl)))))
+pick false false false false false false false x1 x2 x7 x8 x9 x11 x13 lt = absurd (omega (arith, lt))
+
+-- a query with a frequency is one of the seven
+pub frequent_complex : (fr : FrequencyTable) (q : ℕ) → 0 < frequency_at fr q → IsComplex q
+frequent_complex fr q lt =
+    elim (pick (q == 1) (q == 2) (q == 7) (q == 8) (q == 9) (q == 11) (q == 13) fr.one fr.two fr.seven fr.eight fr.nine fr.eleven fr.thirteen lt) [
+      | inl e ↦ inl (eqb-true q 1 e)
+      | inr r ↦ elim r [
+        | inl e ↦ inr (inl (eqb-true q 2 e))
+        | inr r ↦ elim r [
+          | inl e ↦ inr (inr (inl (eqb-true q 7 e)))
+          | inr r ↦ elim r [
+            | inl e ↦ inr (inr (inr (inl (eqb-true q 8 e))))
+            | inr r ↦ elim r [
+              | inl e ↦ inr (inr (inr (inr (inl (eqb-true q 9 e)))))
+              | inr r ↦ elim r [
+                | inl e ↦ inr (inr (inr (inr (inr (inl (eqb-true q 11 e))))))
+                | inr e ↦ inr (inr (inr (inr (inr (inr (eqb-true q 13 e))))))
+              ]
+            ]
+          ]
+        ]
+      ]
+    ]
+
+-- by query, then by turn
+IsLater : Instance → Instance → Type 0
+IsLater a b = (a.query < b.query) ⊎ ((a.query ≡ b.query) × (a.turn < b.turn))
+
+not_later : (a : Instance) → IsLater a a → ⊥
+unfolding IsLater
+not_later a (inl lt) = omega (arith, lt)
+not_later a (inr (same, lt)) = omega (arith, lt)
+
+-- the instances of some queries, of which none is above this one
+record Parts (fr : FrequencyTable) (c : ℕ) (xs : List Instance) (most : ℕ) : Type 0 where
+  pub pairs : AllPairs IsLater xs
+  pub below : (i : Instance) → Contains xs i → i.query ≤ most
+  pub good : (i : Instance) → Contains xs i → IsInstance fr c i
+
+part_query : (fr : FrequencyTable) (c q : ℕ) (i : Instance) → Contains (instances_of fr c q) i → i.query ≡ q
+part_query fr c q i at = ap (λ (x : Instance). x.query) (in_part fr c q i at).2
+
+part_pairs : (fr : FrequencyTable) (c q : ℕ) → AllPairs IsLater (instances_of fr c q)
+unfolding IsLater
+part_pairs fr c q i j d below lt =
+    let size = length-map-range_with_len (instance_of (frequency_at fr q) q) 0 (share c (frequency_at fr q)) in
+    let a = get_or-map-range_with_len (instance_of (frequency_at fr q) q) 0 (share c (frequency_at fr q)) i i d (omega (arith, size, below, lt)) (omega arith) in
+    let b = get_or-map-range_with_len (instance_of (frequency_at fr q) q) 0 (share c (frequency_at fr q)) j j d (omega (arith, size, lt)) (omega arith) in
+    let ta = ap (λ (x : Instance). x.turn) a in
+    let tb = ap (λ (x : Instance). x.turn) b in
+    inr (ap (λ (x : Instance). x.query) a ∙ sym (ap (λ (x : Instance). x.query) b), omega (arith, ta, tb, below))
+
+first_part : (fr : FrequencyTable) (c q : ℕ) → Parts fr c (instances_of fr c q) q
+first_part fr c q = record { pairs = part_pairs fr c q; below = λ i at. (let e = part_query fr c q i at in omega (arith, e)); good = part_good fr c q }
+
+more_parts : (fr : FrequencyTable) (c : ℕ) (xs : List Instance) (most q : ℕ) → most < q → Parts fr c xs most → Parts fr c (xs ++ instances_of fr c q) q
+unfolding IsLater
+more_parts fr c xs most q above p = record {
+  pairs = pairs_append IsLater xs (instances_of fr c q) p.pairs (part_pairs fr c q)
+      (λ x y one other. let low = p.below x one in let e = part_query fr c q y other in inl (omega (arith, low, e, above)));
+  below = λ i at. elim (Contains-append_cases xs (instances_of fr c q) i at) [
+    | inl one ↦ let low = p.below i one in omega (arith, low, above)
+    | inr other ↦ let e = part_query fr c q i other in omega (arith, e)
+  ];
+  good = λ i at. elim (Contains-append_cases xs (instances_of fr c q) i at) [ inl one ↦ p.good i one | inr other ↦ part_good fr c q i other ];
+}
+
+all_parts : (fr : FrequencyTable) (c : ℕ) → Parts fr c (all_instances fr c) 13
+all_parts fr c =
+    more_parts fr c _ 11 13 (omega arith) (more_parts fr c _ 9 11 (omega arith) (more_parts fr c _ 8 9 (omega arith)
+    (more_parts fr c _ 7 8 (omega arith) (more_parts fr c _ 2 7 (omega arith) (more_parts fr c _ 1 2 (omega arith) (first_part fr c 1))))))
+
+all_of : (fr : FrequencyTable) (c : ℕ) (i : Instance) → IsInstance fr c i → Contains (all_instances fr c) i
+all_of fr c i is = by (frequent_complex fr i.query is.frequent)
+  where
+    here : (q : ℕ) → i.query ≡ q → Contains (instances_of fr c q) i
+    here q e = subst (λ (n : ℕ). Contains (instances_of fr c n) i) e (part_of fr c i is)
+
+    at13 : Contains (instances_of fr c 1 ++ instances_of fr c 2 ++ instances_of fr c 7 ++ instances_of fr c 8 ++ instances_of fr c 9 ++ instances_of fr c 11) i → Contains (all_instances fr c) i
+    at13 at = Contains-append_left (instances_of fr c 1 ++ instances_of fr c 2 ++ instances_of fr c 7 ++ instances_of fr c 8 ++ instances_of fr c 9 ++ instances_of fr c 11) (instances_of fr c 13) i at
+
+    at11 : Contains (instances_of fr c 1 ++ instances_of fr c 2 ++ instances_of fr c 7 ++ instances_of fr c 8 ++ instances_of fr c 9) i → Contains (all_instances fr c) i
+    at11 at = at13 (Contains-append_left (instances_of fr c 1 ++ instances_of fr c 2 ++ instances_of fr c 7 ++ instances_of fr c 8 ++ instances_of fr c 9) (instances_of fr c 11) i at)
+
+    at9 : Contains (instances_of fr c 1 ++ instances_of fr c 2 ++ instances_of fr c 7 ++ instances_of fr c 8) i → Contains (all_instances fr c) i
+    at9 at = at11 (Contains-append_left (instances_of fr c 1 ++ instances_of fr c 2 ++ instances_of fr c 7 ++ instances_of fr c 8) (instances_of fr c 9) i at)
+
+    at8 : Contains (instances_of fr c 1 ++ instances_of fr c 2 ++ instances_of fr c 7) i → Contains (all_instances fr c) i
+    at8 at = at9 (Contains-append_left (instances_of fr c 1 ++ instances_of fr c 2 ++ instances_of fr c 7) (instances_of fr c 8) i at)
+
+    at7 : Contains (instances_of fr c 1 ++ instances_of fr c 2) i → Contains (all_instances fr c) i
+    at7 at = at8 (Contains-append_left (instances_of fr c 1 ++ instances_of fr c 2) (instances_of fr c 7) i at)
+
+    by : IsComplex i.query → Contains (all_instances fr c) i
+    by (inl e) = at7 (Contains-append_left (instances_of fr c 1) (instances_of fr c 2) i (here 1 e))
+    by (inr (inl e)) = at7 (Contains-append_right (instances_of fr c 1) (instances_of fr c 2) i (here 2 e))
+    by (inr (inr (inl e))) = at8 (Contains-append_right (instances_of fr c 1 ++ instances_of fr c 2) (instances_of fr c 7) i (here 7 e))
+    by (inr (inr (inr (inl e)))) = at9 (Contains-append_right (instances_of fr c 1 ++ instances_of fr c 2 ++ instances_of fr c 7) (instances_of fr c 8) i (here 8 e))
+    by (inr (inr (inr (inr (inl e))))) =
+        at11 (Contains-append_right (instances_of fr c 1 ++ instances_of fr c 2 ++ instances_of fr c 7 ++ instances_of fr c 8) (instances_of fr c 9) i (here 9 e))
+    by (inr (inr (inr (inr (inr (inl e)))))) =
+        at13 (Contains-append_right (instances_of fr c 1 ++ instances_of fr c 2 ++ instances_of fr c 7 ++ instances_of fr c 8 ++ instances_of fr c 9) (instances_of fr c 11) i (here 11 e))
+    by (inr (inr (inr (inr (inr (inr e)))))) =
+        Contains-append_right (instances_of fr c 1 ++ instances_of fr c 2 ++ instances_of fr c 7 ++ instances_of fr c 8 ++ instances_of fr c 9 ++ instances_of fr c 11) (instances_of fr c 13) i (here 13 e)
+
+-- ---- in order
+
+IsSoonerOf : FrequencyTable → ℕ → Instance → Instance → Type 0
+IsSoonerOf fr c a b = IsInstance fr c a → IsInstance fr c b → IsSooner a b
+
+apart : (fr : FrequencyTable) (c : ℕ) (a b : Instance) → is_lt (ordering_then (nat_cmp b.at a.at) (ordering_then (nat_cmp b.query a.query) (nat_cmp b.turn a.turn))) ≡ false
+    → (a ≡ b → ⊥) → IsSoonerOf fr c a b
+unfolding IsSoonerOf
+apart fr c a b not_less differ one other = by (by_three a.at a.query a.turn b.at b.query b.turn not_less)
+  where
+    by : (a.at < b.at) ⊎ ((a.at ≡ b.at) × ((a.query < b.query) ⊎ ((a.query ≡ b.query) × (a.turn ≤ b.turn)))) → IsSooner a b
+    by (inl lt) = inl lt
+    by (inr (at, inl lt)) = inr (at, lt)
+    by (inr (at, inr (query, le))) =
+        let f : frequency_at fr a.query ≡ frequency_at fr b.query = ap (frequency_at fr) query in
+        let product : a.turn * frequency_at fr a.query ≡ b.turn * frequency_at fr a.query = sym one.at ∙ at ∙ other.at ∙ ap (λ (n : ℕ). b.turn * n) (sym f) in
+        let turn : a.turn ≡ b.turn = same_turn a.turn b.turn (frequency_at fr a.query) one.frequent product in
+        absurd (differ (λ i. record { at = at i; query = query i; turn = turn i }))
+
+-- the instances that are sorted are the reads
+pub reads_sorted : (fr : FrequencyTable) (c : ℕ) (xs ys : List Instance) → xs ≡ all_instances fr c → IsPermutation xs ys
+    → IsSorted (λ a b. ordering_then (nat_cmp a.at b.at) (ordering_then (nat_cmp a.query b.query) (nat_cmp a.turn b.turn))) ys → AreReads fr c ys
+unfolding IsSoonerOf IsLater
+reads_sorted fr c xs ys are moved sorted = record {
+  ordered = λ i j d below lt. pairs i j d below lt (good i d (omega (arith, below, lt))) (good j d lt);
+  those = λ i. let same = same_elements xs ys moved i in (
+    λ at. (all_parts fr c).good i (subst (λ (zs : List Instance). Contains zs i) are (same.0 at)),
+    λ is. same.1 (subst (λ (zs : List Instance). Contains zs i) (sym are) (all_of fr c i is)),
+  );
+}
+  where
+    distinct : Distinct xs
+    distinct = subst Distinct (sym are) (distinct_from_pairs IsLater not_later (all_instances fr c) (all_parts fr c).pairs)
+
+    pairs : AllPairs (IsSoonerOf fr c) ys
+    pairs = pairs_from_sorted (λ a b. ordering_then (nat_cmp a.at b.at) (ordering_then (nat_cmp a.query b.query) (nat_cmp a.turn b.turn))) (IsSoonerOf fr c) total-law (apart fr c) ys sorted
+        (distinct_permutation xs ys moved distinct)
+
+    at_itself : {X : Type 0} (zs : List X) (k : ℕ) (d : X) → k < length zs → get_or zs k (get_or zs k d) ≡ get_or zs k d
+    at_itself [] k d lt = absurd (omega (arith, lt))
+    at_itself (z ∷ zs) zero d lt = refl
+    at_itself (z ∷ zs) (suc k) d lt = at_itself zs k d (omega (arith, lt))
+
+    good : (k : ℕ) (d : Instance) → k < length ys → IsInstance fr c (get_or ys k d)
+    good k d lt = (all_parts fr c).good (get_or ys k d)
+        (subst (λ (zs : List Instance). Contains zs (get_or ys k d)) are ((same_elements xs ys moved (get_or ys k d)).0 (k, lt, at_itself ys k d lt)))
+
+-- there are as many as all shares together
+pub instances_counted : (fr : FrequencyTable) (c : ℕ) → length (all_instances fr c) ≡ read_count fr c
+instances_counted fr c =
+    let n : (q : ℕ) → length (instances_of fr c q) ≡ share c (frequency_at fr q) = λ q. length-map-range_with_len (instance_of (frequency_at fr q) q) 0 (share c (frequency_at fr q)) in
+    let p2 : List Instance = instances_of fr c 1 ++ instances_of fr c 2 in
+    let p7 : List Instance = instances_of fr c 1 ++ instances_of fr c 2 ++ instances_of fr c 7 in
+    let p8 : List Instance = instances_of fr c 1 ++ instances_of fr c 2 ++ instances_of fr c 7 ++ instances_of fr c 8 in
+    let p9 : List Instance = instances_of fr c 1 ++ instances_of fr c 2 ++ instances_of fr c 7 ++ instances_of fr c 8 ++ instances_of fr c 9 in
+    let p11 : List Instance = instances_of fr c 1 ++ instances_of fr c 2 ++ instances_of fr c 7 ++ instances_of fr c 8 ++ instances_of fr c 9 ++ instances_of fr c 11 in
+    let a2 = length-append (instances_of fr c 1) (instances_of fr c 2) in
+    let a7 = length-append p2 (instances_of fr c 7) in
+    let a8 = length-append p7 (instances_of fr c 8) in
+    let a9 = length-append p8 (instances_of fr c 9) in
+    let a11 = length-append p9 (instances_of fr c 11) in
+    let a13 = length-append p11 (instances_of fr c 13) in
+    let n1 = n 1 in let n2 = n 2 in let n7 = n 7 in let n8 = n 8 in let n9 = n 9 in let n11 = n 11 in let n13 = n 13 in
+    omega (arith, a2, a7, a8, a9, a11, a13, n1, n2, n7, n8, n9, n11, n13)

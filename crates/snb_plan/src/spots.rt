@@ -1,0 +1,153 @@
+//! Where the operations of a plan stand: their t, lanes and places.
+
+ghost use Rattle.std.specs.Prelude.{◌≡◌, ◌+◌, ◌<◌, ◌≤◌, ◌++◌, ◌∷◌, [], length, All, IfOk, OnOk};
+ghost use Rattle.snb_schema.specs.declared.limits.TheConstants.{MAX_READS, MAX_ROWS};
+ghost use Rattle.snb_schema.specs.Schedule.{max_lanes};
+ghost use Rattle.snb_plan.specs.Plans.{file_of, kinds_of, lane_of, numbered_lanes, read_lane, update_count, AreReads};
+ghost use Rattle.snb_plan.specs.Spots.{all_spots, lane_spots, read_spots, AreAllSpots, AreUpdateSpots};
+
+use crate::instances::Instance;
+use snb_schema::file::{FileId, FileKind};
+use snb_schema::lanes::Lanes;
+use snb_schema::op::Line;
+use snb_schema::step::LaneKind;
+use std::alloc::{AllocError, Global};
+
+/// Where an operation stands.
+#[derive(Clone, Copy, PartialEq, Eq, PartialOrd, Ord)]
+pub struct Spot {
+    pub t: u64,
+    pub lane: u32,
+    pub place: u32,
+}
+
+/// The lines of the lane of this number: the forum lanes are numbered after those of persons.
+pub fn lane_of(lanes: &Lanes, lane: u32) -> &[Line]
+    requires { lane < length (numbered_lanes lanes.now) }
+    ensures { result.now ≡ lane_of lanes.now lane }
+{
+    let persons = lanes.persons();
+    if lane < persons {
+        lanes.person(lane)
+    } else {
+        lanes.forum(lane - persons)
+    }
+}
+
+/// The stream that the lane is read from.
+pub fn file_of(lanes: &Lanes, lane: u32) -> FileId
+    ensures { result ≡ file_of lanes.now lane }
+{
+    let persons = lanes.persons();
+    if lane < persons {
+        FileId {
+            kind: FileKind::PersonStream,
+            part: lane,
+        }
+    } else {
+        FileId {
+            kind: FileKind::ForumStream,
+            part: lane - persons,
+        }
+    }
+}
+
+/// The number of the lane of the reads, which is the number of the other lanes.
+pub fn read_lane(lanes: &Lanes) -> u32
+    ensures value { result ≡ read_lane lanes.now }
+    ensures few { result ≤ 128 }
+{
+    lanes.persons() + lanes.forums()
+}
+
+/// The kind of each lane.
+pub fn kinds_of(alloc: Global, lanes: &Lanes) -> Result<Vec<LaneKind>, AllocError>
+    ensures kinds { IfOk result (λ kinds. kinds.items ≡ kinds_of lanes.now) }
+    ensures few { IfOk result (λ kinds. length kinds.items ≤ max_lanes) }
+{
+    let mut kinds = Vec::new(alloc);
+    for _ in 0..lanes.persons() {
+        kinds.push(LaneKind::Person)?;
+    }
+    for _ in 0..lanes.forums() {
+        kinds.push(LaneKind::Forum)?;
+    }
+    kinds.push(LaneKind::Query)?;
+    Ok(kinds)
+}
+
+// Appends the spots of the lines of a lane.
+fn push_lane(spots: &mut Vec<Spot>, lane: u32, lines: &[Line]) -> Result<(), AllocError>
+    requires { length lines.now ≤ MAX_ROWS }
+    ensures { OnOk result (spots.new.items ≡ spots.old.items ++ lane_spots lane 0 lines.now) }
+{
+    for place in 0..lines.len() {
+        let line = &lines[place];
+        spots.push(Spot {
+            t: line.t,
+            lane,
+            place: place as u32,
+        })?;
+    }
+    Ok(())
+}
+
+// The spots of all lines, lane by lane.
+fn all_spots(alloc: Global, lanes: &Lanes) -> Result<Vec<Spot>, AllocError>
+    requires { update_count lanes.now ≤ MAX_ROWS }
+    ensures { IfOk result (λ spots. spots.items ≡ all_spots 0 (numbered_lanes lanes.now)) }
+{
+    let mut spots = Vec::new(alloc);
+    for lane in 0..read_lane(lanes) {
+        push_lane(&mut spots, lane, lane_of(lanes, lane))?;
+    }
+    Ok(spots)
+}
+
+/// The spots of all lines, in merged order.
+pub fn update_spots(alloc: Global, lanes: &Lanes) -> Result<Vec<Spot>, AllocError>
+    requires { update_count lanes.now ≤ MAX_ROWS }
+    ensures updates { IfOk result (λ spots. AreUpdateSpots lanes.now spots.items) }
+    ensures counted { IfOk result (λ spots. length spots.items ≡ update_count lanes.now) }
+{
+    let mut spots = all_spots(alloc, lanes)?;
+    spots.sort()?;
+    Ok(spots)
+}
+
+// Appends the spots of the reads to those of the updates, which they go with.
+fn push_reads(spots: &mut Vec<Spot>, lane: u32, reads: &[Instance]) -> Result<(), AllocError>
+    requires reads { All (λ i. (1 ≤ i.at) × (i.at ≤ length spots.old.items)) reads.now }
+    requires few { length reads.now ≤ MAX_READS }
+    ensures { OnOk result (spots.new.items ≡ spots.old.items ++ read_spots spots.old.items lane 0 reads.now) }
+{
+    for place in 0..reads.len() {
+        let instance = reads[place];
+        let with = spots[instance.at as usize - 1];
+        spots.push(Spot {
+            t: with.t,
+            lane,
+            place: place as u32,
+        })?;
+    }
+    Ok(())
+}
+
+/// The spots of all operations, in the order of their numbers: those of these updates and reads.
+pub fn operation_spots(
+    alloc: Global,
+    lanes: &Lanes,
+    updates: &[Spot],
+    reads: &[Instance],
+) -> Result<Vec<Spot>, AllocError>
+    requires updates { AreUpdateSpots lanes.now updates.now }
+    requires reads { All (λ i. (1 ≤ i.at) × (i.at ≤ length updates.now)) reads.now }
+    requires few { length reads.now ≤ MAX_READS }
+    ensures spots { IfOk result (λ spots. AreAllSpots lanes.now updates.now reads.now spots.items) }
+    ensures counted { IfOk result (λ spots. length spots.items ≡ length updates.now + length reads.now) }
+{
+    let mut spots = Vec::from_slice(alloc, updates)?;
+    push_reads(&mut spots, read_lane(lanes), reads)?;
+    spots.sort()?;
+    Ok(spots)
+}

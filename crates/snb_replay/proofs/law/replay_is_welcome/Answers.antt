@@ -1,0 +1,9 @@
+use Rattle.snb_replay.proofs.Final.{complete_is_final}
+use Rattle.snb_replay.proofs.Welcome.{welcome_in_turn}
+use Rattle.snb_replay.proofs.law.replay_is_welcome.Goals as goal
+
+pub returns-clause-welcome : goal.returns-clause-welcome
+returns-clause-welcome c = welcome_in_turn c.prefix_is_legal.ensures
+
+pub returns-clause-last : goal.returns-clause-last
+returns-clause-last c = complete_is_final c.once_each.ensures

@@ -1,0 +1,50 @@
+-- What a graph is after a history of a plan: the inserts that are finished, in the order of their Finish events.
+use Rattle.std.specs.Prelude.{ℕ, List, Option, Some, None, filter_map, slice_get}
+use Rattle.std.specs.List.{flat_map}
+use Rattle.snb_schema.specs.declared.event.Event.{Event}
+use Rattle.snb_schema.specs.declared.event.Event.TheVariants.{Start, Finish, Halt}
+use Rattle.snb_schema.specs.declared.op.Op.{Op}
+use Rattle.snb_schema.specs.declared.row.Row.{Row}
+use Rattle.snb_schema.specs.Inserts.{rows_of}
+use Rattle.snb_tables.specs.Graphs.{HasGained}
+use Rattle.snb_plan.specs.Plans.{Ask, Insert, Operation, Plan, Work}
+
+-- what the operation of a number inserts, if it is an update
+abbrev pub insert_in : Option Operation → Option Op
+insert_in None = None
+insert_in (Some o) = insert_of o.work
+  where
+    insert_of : Work → Option Op
+    insert_of (Insert line) = Some line.op
+    insert_of (Ask query) = None
+
+abbrev pub insert_at : Plan → ℕ → Option Op
+insert_at plan k = insert_in (slice_get plan.operations k)
+
+-- the insert that an event finishes, if it finishes one
+abbrev pub finished_insert : Plan → Event → Option Op
+finished_insert plan (Start op worker at) = None
+finished_insert plan (Finish op worker at front) = insert_at plan op
+finished_insert plan (Halt worker) = None
+
+-- the inserts that a history has finished, in the order of their Finish events, and their rows
+abbrev pub inserts_in : Plan → List Event → List Op
+inserts_in plan h = filter_map (finished_insert plan) h
+
+abbrev pub rows_in : Plan → List Event → List Row
+rows_in plan h = flat_map rows_of (inserts_in plan h)
+
+-- the inserts of a plan, in the order of their operations, and their rows
+abbrev pub all_inserts : Plan → List Op
+all_inserts plan = filter_map (λ (o : Operation). insert_in (Some o)) plan.operations
+
+abbrev pub all_rows : Plan → List Row
+all_rows plan = flat_map rows_of (all_inserts plan)
+
+-- the graph has the rows of the base, and those of each insert that is finished
+abbrev pub IsAfter : List Row → Plan → List Event → List Row → Type 0
+IsAfter base plan h graph = HasGained base (rows_in plan h) graph
+
+-- the graph has the rows of the base, and those of each insert of the plan
+abbrev pub IsFinal : List Row → Plan → List Row → Type 0
+IsFinal base plan graph = HasGained base (all_rows plan) graph

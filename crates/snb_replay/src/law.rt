@@ -1,0 +1,16 @@
+//! Laws of replay. The function only cites laws of histories; its contract is the law.
+
+ghost use Rattle.snb_replay.specs.Laws.{CompleteIsFinal, WelcomeInTurn};
+
+use snb_schema::law::{once_each, prefix_is_legal};
+
+/// In a legal history of a plan that is closed over a sound graph, each insert finds all that it refers to
+/// in the graph of the dataset with the inserts that have finished before it, and its keys are new there
+/// (`welcome`). After a complete one the graph has the rows of each insert, whatever the history (`last`).
+pub fn replay_is_welcome()
+    ensures welcome { WelcomeInTurn }
+    ensures last { CompleteIsFinal }
+{
+    once_each();
+    prefix_is_legal();
+}

@@ -1,0 +1,4 @@
+//! What a graph is after a history of a plan.
+#![tactic(auto)]
+
+pub mod law;

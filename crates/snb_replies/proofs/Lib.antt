@@ -1,0 +1,9 @@
+pub mod ColumnFacts
+pub mod OneAnswers
+pub mod OneNamed
+pub mod OneNear
+pub mod OneReply
+pub mod OneSent
+pub mod OneShort
+pub mod OneThings
+pub mod Ties

@@ -1,0 +1,26 @@
+-- The tail of a reply.
+use Rattle.std.specs.Prelude.{◌≡◌, ℕ, List, [], ◌++◌, Option, Some, None}
+use Rattle.std.specs.List.{AllZip}
+use Rattle.snb_schema.specs.declared.query.Query.{Query}
+use Rattle.snb_schema.specs.declared.row.Row.{Row}
+use Rattle.snb_reads.specs.declared.cell.Cell.{Cell}
+use Rattle.snb_reads.specs.Replies.{IsAnswer, message_reads, person_reads}
+use Rattle.snb_replies.specs.declared.tail.Tail.{Tail}
+
+-- the short reads of a tail: those of its person, and those of its message
+abbrev pub of_person : Option ℕ → List Query
+of_person None = []
+of_person (Some person) = person_reads person
+
+abbrev pub of_message : Option ℕ → List Query
+of_message None = []
+of_message (Some message) = message_reads message
+
+abbrev pub queries_of : Tail → List Query
+queries_of tail = of_person tail.person ++ of_message tail.message
+
+-- the answers to these queries were added to a reply
+pub record HasAnswered (g : List Row) (asked : List Query) (old new : List (List (List Cell))) : Type 0 where
+  pub more : List (List (List Cell))
+  pub added : new ≡ old ++ more
+  pub answers : AllZip (IsAnswer g) asked more

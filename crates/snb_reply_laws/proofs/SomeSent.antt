@@ -1,0 +1,93 @@
+-- The complex reads of messages and likes have an answer: IC2, IC7, IC8 and, with those near, IC9.
+use Rattle.std.proofs.Common.{◌≡◌, ◌==◌, ℕ, Bool, true, false, cond, List, [], ◌∷◌, ◌++◌, Option, Some, None, refl, ap, ◌∙◌, subst, filter, inl, inr, map, nat_le, not, arith}
+use Rattle.std.proofs.lemmas.Bool.{eqb-true}
+use Rattle.std.proofs.lemmas.List.Elements.{Contains-append_cases}
+use Rattle.std.specs.List.{Contains, flat_map, list_any}
+use Rattle.snb_schema.specs.declared.row.Row.{Row}
+use Rattle.snb_schema.specs.declared.row.Row.TheVariants as row
+use Rattle.snb_schema.specs.declared.table.Table.{Table}
+use Rattle.snb_schema.specs.declared.table.Table.TheVariants as table
+use Rattle.snb_schema.specs.RowLines.{table_of}
+use Rattle.snb_soundness.specs.SoundLaws.{MessagesAreOfOneKind, MessagesHaveOneAuthor}
+use Rattle.snb_tables.specs.Graphs.{IsGraph, rows}
+use Rattle.snb_tables.specs.Messages.{HasMessage}
+use Rattle.snb_tables.specs.Soundness.{Sound}
+use Rattle.snb_order.specs.Laws.{SomeFirst}
+use Rattle.snb_reads.proofs.Laws.{in_rows}
+use Rattle.snb_reads.proofs.Lists.{chosen_from, in_filter}
+use Rattle.snb_reads.specs.declared.cell.Cell.{Cell}
+use Rattle.snb_reads.specs.declared.like.Like.{Like}
+use Rattle.snb_reads.specs.Around.{friends, liker_in, likes, messages, replies}
+use Rattle.snb_reads.specs.ComplexReads.{Ic2, Ic7, Ic8, IsAnswered, IsLiked, IsSent, beats, best_likes, latest, liked, messages_of}
+use Rattle.snb_reads.specs.Distance.{IsPerson}
+use Rattle.snb_reads.specs.Order.{Answers, Falling, First, Rising}
+use Rattle.snb_reply_laws.proofs.Lookups.{any, comment_at, message_at, person_at}
+use Rattle.snb_reply_laws.proofs.SomeAnswers.{in_flat, in_map, some_answers}
+use Rattle.snb_reply_laws.proofs.SomeShort.{friend_held, reply_held, sent_held, some_author}
+
+-- the row of a like
+liker_row : (m : ℕ) (r : Row) (y : ℕ × ℕ) → liker_in m r ≡ Some y → r ≡ row.Dated (table_of r) y.0 m y.1
+liker_row m (row.Dated t from to date) y e = by (to == m) refl e
+  where
+    by : (b : Bool) → (to == m) ≡ b → ◌≡◌ {A = Option (ℕ × ℕ)} (cond b (Some (from, date)) None) (Some y) → row.Dated t from to date ≡ row.Dated t y.0 m y.1
+    by true is h =
+        let same : ◌≡◌ {A = ℕ × ℕ} (from, date) y = cc in
+        λ i. row.Dated t ((same i).0) (eqb-true to m is i) ((same i).1)
+    by false is h = absurd cc
+liker_row m r y e = absurd cc
+
+module _ (g : List Row) (graph : IsGraph g) (sound : Sound g) where
+  liker_there : (t : Table) (m : ℕ) (y : ℕ × ℕ) (r : Row) → Contains (rows g t) r → liker_in m r ≡ Some y → Contains g (row.Dated t y.0 m y.1)
+  liker_there t m y r c e =
+      let (held, of) = (in_rows g t r).0 c in
+      subst (Contains g) (liker_row m r y e ∙ ap (λ u. row.Dated u y.0 m y.1) of) held
+
+  -- who likes a message is held
+  liker_held : (m : ℕ) (l : ℕ × ℕ) → Contains (likes g m) l → IsPerson g l.0
+  liker_held m l c =
+      let (r, there, gives) = chosen_from (liker_in m) (rows g table.PersonLikesPost ++ rows g table.PersonLikesComment) l c in
+      elim (Contains-append_cases (rows g table.PersonLikesPost) (rows g table.PersonLikesComment) r there) [
+        | inl a ↦ sound.held (row.Dated table.PersonLikesPost l.0 m l.1) (liker_there table.PersonLikesPost m l r a gives) 0 any (omega arith)
+        | inr a ↦ sound.held (row.Dated table.PersonLikesComment l.0 m l.1) (liker_there table.PersonLikesComment m l r a gives) 0 any (omega arith)
+      ]
+
+  like_held : (person : ℕ) (l : Like) → Contains (liked g person) l → IsPerson g l.person × HasMessage g l.message
+  like_held person l c =
+      let (m, there, d) = in_flat (λ (m : ℕ × ℕ). map {A = ℕ × ℕ} {B = Like} (λ l. record { person = l.0; date = l.1; message = m.0; sent = m.1 }) (likes g m.0)) (messages g person) l c in
+      let (k, held, is) = in_map {X = ℕ × ℕ} {Y = Like} (λ l. record { person = l.0; date = l.1; message = m.0; sent = m.1 }) (likes g m.0) l d in
+      subst (λ (z : Like). IsPerson g z.person × HasMessage g z.message) is (liker_held m.0 k held, sent_held g graph sound person m there)
+
+  -- the messages of persons who are held
+  sender_held : (passes : ℕ → Bool) (ps : List (ℕ × ℕ)) (s : ℕ × ℕ × ℕ) → ((p : ℕ × ℕ) → Contains ps p → IsPerson g p.0) → Contains (messages_of g passes ps) s → IsPerson g s.0 × HasMessage g s.1
+  sender_held passes ps s all c =
+      let (p, there, d) = in_flat (λ (p : ℕ × ℕ). map {A = ℕ × ℕ} {B = ℕ × ℕ × ℕ} (λ m. (p.0, m.0, m.1)) (filter (λ (m : ℕ × ℕ). passes m.1) (messages g p.0))) ps s c in
+      let (m, kept, is) = in_map {X = ℕ × ℕ} {Y = ℕ × ℕ × ℕ} (λ m. (p.0, m.0, m.1)) (filter (λ (m : ℕ × ℕ). passes m.1) (messages g p.0)) s d in
+      subst (λ (z : ℕ × ℕ × ℕ). IsPerson g z.0 × HasMessage g z.1) is
+      (all p there, sent_held g graph sound p.0 m ((in_filter (λ (m : ℕ × ℕ). passes m.1) (messages g p.0) m).0 kept).0)
+
+  module _ (some : SomeFirst (List Cell)) where
+    pub some_latest : (passes : ℕ → Bool) (ps : List (ℕ × ℕ)) → ((p : ℕ × ℕ) → Contains ps p → IsPerson g p.0)
+        → (answer : List (List Cell)) × Answers (messages_of g passes ps) (IsSent g) latest (First 20) answer
+    some_latest passes ps all = some_answers some (messages_of g passes ps) (IsSent g) latest (First 20) (λ s c.
+        (let (who, held) = sender_held passes ps s all c in
+        let (p, is, named) = person_at g graph s.0 who in
+        let (m, sent) = message_at g graph s.1 held in
+        (_, record { person = p; held = is; message = m; sent = sent; is = refl })))
+
+    pub some_ic2 : (person max_date : ℕ) → (answer : List (List Cell)) × Ic2 g person max_date answer
+    some_ic2 person max_date = some_latest (λ date. nat_le date max_date) (friends g person) (friend_held g graph sound person)
+
+    pub some_ic7 : (person : ℕ) → (answer : List (List Cell)) × Ic7 g person answer
+    some_ic7 person = some_answers some (best_likes g person) (IsLiked g person) (Falling 4 ∷ Rising 1 ∷ []) (First 20) (λ l c.
+        (let (who, held) = like_held person l ((in_filter (λ (z : Like). not (list_any (λ w. beats w z) (liked g person))) (liked g person) l).0 c).0 in
+        let (p, is, named) = person_at g graph l.person who in
+        let (m, sent) = message_at g graph l.message held in
+        (_, record { person = p; held = is; message = m; sent = sent; is = refl })))
+
+    pub some_ic8 : MessagesAreOfOneKind → MessagesHaveOneAuthor → (person : ℕ) → (answer : List (List Cell)) × Ic8 g person answer
+    some_ic8 one author person = some_answers some (flat_map (λ (m : ℕ × ℕ). replies g m.0) (messages g person)) (IsAnswered g) (Falling 4 ∷ Rising 5 ∷ []) (First 20) (λ c d.
+        (let (m, there, e) = in_flat (λ (m : ℕ × ℕ). replies g m.0) (messages g person) c d in
+        let (held, parent) = reply_held g graph sound m.0 c e in
+        let (comment, is) = comment_at g graph c.0 held in
+        let (p, wrote) = some_author g graph sound one author c.0 (inr held) in
+        (_, record { author = p; wrote = wrote; comment = comment; held = is; is = refl })))

@@ -1,0 +1,4 @@
+pub mod Laws
+pub mod LookupLemmas
+pub mod RootLemmas
+pub mod RowLemmas

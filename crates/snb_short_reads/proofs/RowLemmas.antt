@@ -1,0 +1,112 @@
+-- The rows of the short reads, side by side with what they show.
+use Rattle.std.proofs.Common.{◌≡◌, ℕ, List, [], ◌∷◌, refl, sym, ap, ◌∙◌, inl, inr}
+use Rattle.std.proofs.lemmas.Cmp.{back_total, nat_cmp_total, on_total, then_total}
+use Rattle.std.proofs.lemmas.List.Elements.{All-weaker}
+use Rattle.std.proofs.lemmas.List.Sorted.{IsPermutation-refl}
+use Rattle.std.specs.Cmp.{IsTotalOrder}
+use Rattle.std.specs.List.{All, AllZip}
+use Rattle.std.specs.List.Sorted.{IsPermutation}
+use Rattle.std.specs.Ordering.{flip_args, is_lt, nat_cmp, on, then_cmp}
+use Rattle.std.specs.declared.cmp.Ordering.{Ordering}
+use Rattle.snb_schema.specs.declared.row.Row.{Row}
+use Rattle.snb_soundness.specs.SoundLaws.{MessagesAreOfOneKind, MessagesHaveOneAuthor, MessagesHaveOneRoot, NumbersFit}
+use Rattle.snb_tables.specs.Graphs.{IsGraph}
+use Rattle.snb_tables.specs.Messages.{HasMessage}
+use Rattle.snb_tables.specs.Soundness.{Sound}
+use Rattle.snb_order.proofs.Laws.{answers_from, answers_mapped, answers_whole, chosen, then_assoc, three_columns, two_columns, zip_with}
+use Rattle.snb_reads.proofs.Laws.{person_named}
+use Rattle.snb_reads.specs.declared.cell.Cell.{Cell}
+use Rattle.snb_reads.specs.Around.{Message, authors, friends, messages, replies, with_id}
+use Rattle.snb_reads.specs.Order.{Falling, First, FirstOf, Rising, Whole, by}
+use Rattle.snb_reads.specs.ShortReads.{Is2, Is3, Is7, IsFriend, IsRecent, IsReplyTo}
+use Rattle.snb_short_reads.proofs.LookupLemmas.{comment_at, found_comment, found_person, found_post, person_at, post_at, written}
+use Rattle.snb_short_reads.specs.Found.{AreReplies, IsMessageFound, IsReplyFound, without_author}
+
+-- ---- orders of keys
+
+-- dates falling, ids falling
+abbrev pub latest_first : ℕ × ℕ → ℕ × ℕ → Ordering
+latest_first = then_cmp (flip_args (on (λ (p : ℕ × ℕ). p.1) nat_cmp)) (flip_args (on (λ (p : ℕ × ℕ). p.0) nat_cmp))
+
+pub latest_total : IsTotalOrder latest_first
+latest_total = then_total (back_total (on_total (λ (p : ℕ × ℕ). p.1) nat_cmp_total)) (back_total (on_total (λ (p : ℕ × ℕ). p.0) nat_cmp_total))
+
+-- dates falling, ids rising
+abbrev pub friends_first : ℕ × ℕ → ℕ × ℕ → Ordering
+friends_first = then_cmp (flip_args (on (λ (p : ℕ × ℕ). p.1) nat_cmp)) (on (λ (p : ℕ × ℕ). p.0) nat_cmp)
+
+pub friends_total : IsTotalOrder friends_first
+friends_total = then_total (back_total (on_total (λ (p : ℕ × ℕ). p.1) nat_cmp_total)) (on_total (λ (p : ℕ × ℕ). p.0) nat_cmp_total)
+
+-- dates falling, authors rising, ids rising, of (id, date, author)
+abbrev pub replies_first : ℕ × ℕ × ℕ → ℕ × ℕ × ℕ → Ordering
+replies_first = then_cmp (then_cmp (flip_args (on (λ (p : ℕ × ℕ × ℕ). p.1) nat_cmp)) (on (λ (p : ℕ × ℕ × ℕ). p.2) nat_cmp)) (on (λ (p : ℕ × ℕ × ℕ). p.0) nat_cmp)
+
+pub replies_total : IsTotalOrder replies_first
+replies_total =
+    then_total (then_total (back_total (on_total (λ (p : ℕ × ℕ × ℕ). p.1) nat_cmp_total)) (on_total (λ (p : ℕ × ℕ × ℕ). p.2) nat_cmp_total)) (on_total (λ (p : ℕ × ℕ × ℕ). p.0) nat_cmp_total)
+
+same_only : {X : Type 0} (xs : List X) (x y : X) → xs ≡ x ∷ [] → xs ≡ y ∷ [] → x ≡ y
+same_only xs x y e f = let k : x ∷ [] ≡ y ∷ [] = sym e ∙ f in cc
+
+module _ (g : List Row) where
+  -- ---- IS2
+
+  recent_agree : (x y : ℕ × ℕ) (a b : List Cell) → IsRecent g x a → IsRecent g y b → is_lt (by (Falling 3 ∷ Falling 1 ∷ []) a b) ≡ is_lt (latest_first x y)
+  recent_agree x y a b r s = rw (r.is, s.is) (ap is_lt (two_columns y.1 x.1 y.0 x.0))
+
+  -- what a message shows
+  pub shows : IsGraph g → NumbersFit → (m : ℕ) → HasMessage g m → (x : Message) × (with_id g m ≡ x ∷ [])
+  shows graph fit m (inl h) = (let (q, c, id) = post_at g graph m h in (_, (found_post g graph fit m q (id, c)).only))
+  shows graph fit m (inr h) = (let (q, c, id) = comment_at g graph m h in (_, (found_comment g graph fit m q (id, c)).only))
+
+  -- each message has a row
+  recent_any : IsGraph g → Sound g → NumbersFit → MessagesAreOfOneKind → MessagesHaveOneAuthor → MessagesHaveOneRoot → (m : ℕ × ℕ) → IsMessageFound g m → (a : List Cell) × IsRecent g m a
+  recent_any graph sound fit one author root m found =
+      let (x, held) = shows graph fit m.0 found.held in
+      let r = root g graph sound m.0 found.held in
+      let a = author g graph sound r.post (inl r.held) in
+      let w = written g graph one sound.held r.post a.author a.wrote in
+      let (p, c, id) = person_at g graph a.author a.held in
+      (_, record { message = x; held = held; root = r.post; from = r.root; author = p; wrote = record { id = a.author; created = w.only; held = (found_person g graph fit a.author p (id, c)).only }; is = refl })
+
+  -- the rows of the latest messages are the answer
+  pub is2_answers : IsGraph g → Sound g → NumbersFit → MessagesAreOfOneKind → MessagesHaveOneAuthor → MessagesHaveOneRoot → (p : ℕ) (walk found first : List (ℕ × ℕ)) (answer : List (List Cell))
+      → IsPermutation (messages g p) walk → found ≡ walk → All (IsMessageFound g) (messages g p) → FirstOf latest_first (First 10) found first → AllZip (IsRecent g) first answer → Is2 g p answer
+  is2_answers graph sound fit one author root p walk found first answer moves same all taken z =
+      answers_from (IsRecent g) latest_first (Falling 3 ∷ Falling 1 ∷ []) recent_agree (First 10) (messages g p) found first answer (rw same moves) taken
+      (All-weaker (IsMessageFound g) (λ m. (a : List Cell) × IsRecent g m a) (recent_any graph sound fit one author root) (messages g p) all) z
+
+  -- ---- IS3
+
+  friend_agree : (x y : ℕ × ℕ) (a b : List Cell) → IsFriend g x a → IsFriend g y b → is_lt (by (Falling 4 ∷ Rising 1 ∷ []) a b) ≡ is_lt (friends_first x y)
+  friend_agree x y a b r s = rw (r.is, s.is) (ap is_lt (two_columns y.1 x.1 x.0 y.0))
+
+  pub is3_answers : (p : ℕ) (walk found first : List (ℕ × ℕ)) (answer : List (List Cell)) → IsPermutation (friends g p) walk → found ≡ walk → FirstOf friends_first Whole found first
+      → AllZip (IsFriend g) first answer → Is3 g p answer
+  is3_answers p walk found first answer moves same taken z =
+      answers_whole (IsFriend g) friends_first (Falling 4 ∷ Rising 1 ∷ []) friend_agree (friends g p) found first answer (rw same moves) taken z
+
+  -- ---- IS7
+
+  module _ (m : ℕ) where
+    abbrev Shown : ℕ × ℕ × ℕ → List Cell → Type 0
+    Shown z a = IsReplyTo g m (without_author z) a × IsReplyFound g m z
+
+    author_is : (z : ℕ × ℕ × ℕ) (a : List Cell) (s : Shown z a) → s.0.author.id ≡ z.2
+    author_is z a (r, f) = person_named g r.wrote.id r.author r.wrote.held ∙ same_only (authors g z.0) r.wrote.id z.2 r.wrote.created f.made
+
+    reply_agree : (x y : ℕ × ℕ × ℕ) (a b : List Cell) → Shown x a → Shown y b → is_lt (by (Falling 3 ∷ Rising 4 ∷ Rising 1 ∷ []) a b) ≡ is_lt (replies_first x y)
+    reply_agree x y a b r s =
+        let first = author_is x a r in
+        let second = author_is y b s in
+        let cells = three_columns y.1 x.1 r.0.author.id s.0.author.id x.0 y.0 in
+        rw (r.0.is, s.0.is) (ap is_lt (cells ∙ rw (first, second) (then_assoc (nat_cmp y.1 x.1) (nat_cmp x.2 y.2) (nat_cmp x.0 y.0))))
+
+    -- the rows of the replies in order are the answer
+    pub is7_answers : (found first : List (ℕ × ℕ × ℕ)) (answer : List (List Cell)) → AreReplies g m found → FirstOf replies_first Whole found first
+        → AllZip (λ z a. IsReplyTo g m (without_author z) a) first answer → Is7 g m answer
+    is7_answers found first answer are taken z =
+        answers_mapped without_author Shown (IsReplyTo g m) (λ z a s. s.0) (replies g m) found (Falling 3 ∷ Rising 4 ∷ Rising 1 ∷ []) Whole answer are.same
+        (answers_whole Shown replies_first (Falling 3 ∷ Rising 4 ∷ Rising 1 ∷ []) reply_agree found found first answer (IsPermutation-refl found) taken
+        (zip_with (λ z a. IsReplyTo g m (without_author z) a) (IsReplyFound g m) first answer (chosen (IsReplyFound g m) replies_first Whole found first are.each taken) z))

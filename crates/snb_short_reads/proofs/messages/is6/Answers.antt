@@ -1,0 +1,10 @@
+use Rattle.std.proofs.Common.{[]}
+use Rattle.std.proofs.lemmas.Result.{IfOk-weaker}
+use Rattle.snb_order.proofs.Laws.{one_row}
+use Rattle.snb_reads.specs.Around.{with_id}
+use Rattle.snb_reads.specs.ShortReads.{IsForum}
+use Rattle.snb_short_reads.proofs.messages.is6.Goals as goal
+
+pub returns : goal.returns
+returns c =
+    IfOk-weaker c.only.result _ _ (λ a is. rw is (one_row (with_id c.args.graph.now c.args.message) (λ m. IsForum c.args.graph.now m.id) [] _ _ c.in-Some.ensures.only c.in_ok-forum_row.ensures)) c.only.ensures

@@ -1,0 +1,24 @@
+use Rattle.std.proofs.Common.{refl, sym, subst}
+use Rattle.std.proofs.lemmas.List.Elements.{All-nil}
+use Rattle.snb_graph.specs.Walks.{AreRepliesOf}
+use Rattle.snb_short_reads.proofs.Laws.{all_found, next_found, next_held}
+use Rattle.snb_short_reads.specs.Found.{IsReplyFound}
+use Rattle.snb_short_reads.proofs.messages.replies.Goals as goal
+
+pub loop-id-init : goal.loop-id-init
+loop-id-init c = rw c.new-found.ensures.items (record { same = refl; each = All-nil (IsReplyFound c.args.graph.now c.args.message) })
+
+pub author_id-requires-clause-held : goal.author_id-requires-clause-held
+author_id-requires-clause-held c =
+    next_held c.args.graph.now c.args.message _ _ c.next.new.self _ (subst (AreRepliesOf c.args.graph.now c.args.message) (sym c.into_iter-id-iterator.ensures.into_iter_gives) c.replies-id-items.ensures)
+    c.loop-id.invariant c.in-Some.id c.in-Some.date c.in-Some.ensures.steps
+
+pub loop-id-preserved : goal.loop-id-preserved
+loop-id-preserved c =
+    next_found c.args.graph.now c.args.message _ _ c.next.new.self _ (subst (AreRepliesOf c.args.graph.now c.args.message) (sym c.into_iter-id-iterator.ensures.into_iter_gives) c.replies-id-items.ensures)
+    c.loop-id.invariant c.known.ensures c.sound_graphs.ensures.numbers c.requires.sound.held c.in-Some.id c.in-Some.date c.author_id.result _ c.in-Some.ensures.steps c.author_id.ensures.only c.in_ok-push.ensures.items
+
+pub returns : goal.returns
+returns c =
+    all_found c.args.graph.now c.args.message _ _ c.next.new.self _ (subst (AreRepliesOf c.args.graph.now c.args.message) (sym c.into_iter-id-iterator.ensures.into_iter_gives) c.replies-id-items.ensures)
+    c.loop-id.invariant c.known.ensures c.in-None.ensures.steps.0

@@ -1,0 +1,5 @@
+use Rattle.snb_short_reads.proofs.Laws.{IsFinding}
+use Rattle.snb_short_reads.proofs.messages.replies.Given as goal
+
+abbrev pub invariant-loop-id : goal.invariant-loop-id
+invariant-loop-id l = IsFinding l.graph l.message l.initial.id-iterator l.id-iterator l.found.items

@@ -1,0 +1,7 @@
+//! The short reads of LDBC's Social Network Benchmark, Interactive workload v1.
+#![tactic(auto)]
+
+pub mod lookups;
+pub mod messages;
+pub mod persons;
+mod roots;

@@ -1,0 +1,156 @@
+//! The short reads of a person.
+
+ghost use Rattle.std.specs.Prelude.{◌≡◌, ◌∷◌, [], IfOk, Contains};
+ghost use Rattle.std.specs.List.{All, AllZip};
+ghost use Rattle.snb_schema.specs.declared.row.Row.TheVariants as row;
+ghost use Rattle.snb_reads.specs.ShortReads.{Is1, Is2, Is3, IsFriend, IsProfile, IsRecent};
+ghost use Rattle.snb_short_reads.specs.Found.{IsFriendFound, IsMessageFound};
+ghost use Rattle.snb_tables.specs.Soundness.{Sound};
+
+use crate::lookups::{author_id, city, collected, known, shown, words};
+use crate::roots::root;
+use snb_graph::graph::Graph;
+use snb_order::first::{first_of, in_order};
+use snb_reads::answer::Answer;
+use snb_reads::answer_row::AnswerRow;
+use snb_reads::cell::Cell;
+use snb_schema::person::Person;
+use snb_soundness::law::sound_graphs;
+use std::alloc::{AllocError, Global};
+
+// The answer of one row.
+pub(crate) fn only(alloc: Global, row: AnswerRow) -> Result<Answer, AllocError>
+    ensures { IfOk result (λ answer. answer ≡ row ∷ []) }
+{
+    let mut answer = Answer::new(alloc);
+    answer.push(row)?;
+    Ok(answer)
+}
+
+// The row of a person.
+fn profile(alloc: Global, graph: &Graph, person: &Person) -> Result<AnswerRow, AllocError>
+    requires sound { Sound graph.now }
+    requires held { Contains graph.now (row.Person person.now) }
+    ensures { IfOk result (IsProfile graph.now person.now) }
+{
+    graph.known();
+    sound_graphs();
+    let cells = vec![in alloc;
+        words(&person.first_name)?,
+        words(&person.last_name)?,
+        Cell::number(person.birthday),
+        words(&person.location_ip)?,
+        words(&person.browser_used)?,
+        Cell::number(city(graph, person.id)),
+        words(&person.gender)?,
+        Cell::number(person.creation_date),
+    ]?;
+    Ok(AnswerRow::from_vec(alloc, cells))
+}
+
+/// Short read 1: the person. One who isn't held gives no rows.
+/// The condition: the graph is sound.
+pub fn is1(alloc: Global, graph: &Graph, person: u64) -> Result<Answer, AllocError>
+    requires sound { Sound graph.now }
+    ensures { IfOk result (Is1 graph.now person) }
+{
+    graph.known();
+    let Some(found) = graph.person(person) else {
+        return Ok(Answer::new(alloc));
+    };
+    only(alloc, profile(alloc, graph, found)?)
+}
+
+// The row of a message.
+fn recent(alloc: Global, graph: &Graph, message: (u64, u64)) -> Result<AnswerRow, AllocError>
+    requires sound { Sound graph.now }
+    requires found { IsMessageFound graph.now message }
+    ensures { IfOk result (IsRecent graph.now message) }
+{
+    graph.known();
+    sound_graphs();
+    let Some((_, content)) = shown(graph, message.0) else {
+        unreachable!()
+    };
+    let post = root(graph, message.0);
+    let author = known(graph, author_id(graph, post));
+    let cells = vec![in alloc;
+        Cell::number(message.0),
+        words(content)?,
+        Cell::number(message.1),
+        Cell::number(post),
+        Cell::number(author.id),
+        words(&author.first_name)?,
+        words(&author.last_name)?,
+    ]?;
+    Ok(AnswerRow::from_vec(alloc, cells))
+}
+
+// The rows of messages.
+fn recents(alloc: Global, graph: &Graph, messages: &[(u64, u64)]) -> Result<Answer, AllocError>
+    requires sound { Sound graph.now }
+    requires found { All (IsMessageFound graph.now) messages.now }
+    ensures { IfOk result (AllZip (IsRecent graph.now) messages.now) }
+{
+    let mut answer = Answer::new(alloc);
+    for message in messages {
+        answer.push(recent(alloc, graph, *message)?)?;
+    }
+    Ok(answer)
+}
+
+/// Short read 2: the ten latest messages of a person, each with the post at its root and that post's
+/// author; of messages of one date the one of the greater id first. A person who isn't held gives no
+/// rows.
+/// The condition: the graph is sound.
+pub fn is2(alloc: Global, graph: &Graph, person: u64) -> Result<Answer, AllocError>
+    requires sound { Sound graph.now }
+    ensures { IfOk result (Is2 graph.now person) }
+{
+    graph.known();
+    sound_graphs();
+    let found = collected(alloc, graph.messages(person))?;
+    let latest = first_of(found, 10, |a, b| b.1.cmp(&a.1).then(b.0.cmp(&a.0)));
+    recents(alloc, graph, &latest)
+}
+
+// The row of a friend.
+fn friend_row(alloc: Global, graph: &Graph, friend: (u64, u64)) -> Result<AnswerRow, AllocError>
+    requires { IsFriendFound graph.now friend }
+    ensures { IfOk result (IsFriend graph.now friend) }
+{
+    let person = known(graph, friend.0);
+    let cells = vec![in alloc;
+        Cell::number(friend.0),
+        words(&person.first_name)?,
+        words(&person.last_name)?,
+        Cell::number(friend.1),
+    ]?;
+    Ok(AnswerRow::from_vec(alloc, cells))
+}
+
+// The rows of friends.
+fn friend_rows(alloc: Global, graph: &Graph, friends: &[(u64, u64)]) -> Result<Answer, AllocError>
+    requires { All (IsFriendFound graph.now) friends.now }
+    ensures { IfOk result (AllZip (IsFriend graph.now) friends.now) }
+{
+    let mut answer = Answer::new(alloc);
+    for friend in friends {
+        answer.push(friend_row(alloc, graph, *friend)?)?;
+    }
+    Ok(answer)
+}
+
+/// Short read 3: the friends of a person, from the latest friendship on; of friendships of one date the
+/// friend of the lower id first. A person who isn't held gives no rows.
+/// The condition: the graph is sound.
+pub fn is3(alloc: Global, graph: &Graph, person: u64) -> Result<Answer, AllocError>
+    requires sound { Sound graph.now }
+    ensures { IfOk result (Is3 graph.now person) }
+{
+    graph.known();
+    sound_graphs();
+    let found = collected(alloc, graph.friends(person))?;
+    let ordered = in_order(found, |a, b| b.1.cmp(&a.1).then(a.0.cmp(&b.0)));
+    friend_rows(alloc, graph, &ordered)
+}

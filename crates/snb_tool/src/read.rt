@@ -1,0 +1,83 @@
+//! The command `read`.
+
+ghost use Rattle.std.specs.Prelude.{◌≡◌, ◌≤◌, IfOk, None};
+ghost use Rattle.snb_base.specs.Shelf.{Rose};
+ghost use Rattle.snb_input.specs.Loading.{OnReadFault};
+ghost use Rattle.snb_tables.specs.Soundness.{Sound};
+ghost use Rattle.snb_tool.specs.Commands.{Read, asked};
+ghost use Rattle.snb_tool.specs.Endings.{Ends, IsReplyAnswer, IsReplyLine};
+ghost use Rattle.snb_tool.specs.Outcome.{IsCommandAnswer};
+
+use crate::request::{Request, query_of};
+use crate::show::{refuse, show_as};
+use snb_base::outbox::Outbox;
+use snb_base::shelf::Shelf;
+use snb_graph::graph::Graph;
+use snb_input::load::{Load, Used};
+use snb_loader::dataset::load_dataset;
+use snb_replies::reply::answer;
+use snb_schema::query::Query;
+use snb_validation::reply::reply_text;
+use std::alloc::{AllocError, Global};
+
+// The line of the reply to a read.
+fn reply_line(alloc: Global, graph: &Graph, query: &Query) -> Result<Vec<u8>, AllocError>
+    requires sound { Sound graph.now }
+    ensures { IfOk result (λ line. IsReplyLine graph.now query.now line.items) }
+{
+    let reply = answer(alloc, graph, query)?;
+    let mut line = Vec::new(alloc);
+    reply_text(&reply, &mut line)?;
+    line.push(b'\n')?;
+    Ok(line)
+}
+
+// Reads the tables of a folder, and gives the line of the reply to a read on them.
+fn read_line<S: Shelf>(
+    alloc: Global,
+    shelf: &mut S,
+    folder: &str,
+    query: &Query,
+) -> Result<Vec<u8>, Load>
+    ensures answer { IsReplyAnswer (S.contents shelf.old) folder.now query.now result }
+    ensures fault { OnReadFault result (Rose (S.faults shelf.old) (S.faults shelf.new)) }
+    ensures later { S.faults shelf.old ≤ S.faults shelf.new }
+    ensures same { S.contents shelf.new ≡ S.contents shelf.old }
+{
+    let mut used = Used { bytes: 0, rows: 0 };
+    let graph = match load_dataset(alloc, shelf, folder, &mut used) {
+        Ok(graph) => graph,
+        Err(load) => return Err(load),
+    };
+    match reply_line(alloc, &graph, query) {
+        Ok(line) => Ok(line),
+        Err(_) => Err(Load::Memory),
+    }
+}
+
+/// Reads the tables of a folder, shows the reply to a read on them, and gives the status; or shows what is
+/// wrong with them first.
+pub fn read<S: Shelf, O: Outbox>(
+    alloc: Global,
+    shelf: &mut S,
+    folder: &str,
+    request: Request,
+    out: &mut O,
+) -> u8
+    ensures ends { Ends (IsCommandAnswer (Read folder.now (asked request.entry)) (S.contents shelf.old) None) (Rose (S.faults shelf.old) (S.faults shelf.new))
+        (Rose (O.faults out.old) (O.faults out.new)) (O.ready out.old) (O.written out.old) (O.written out.new) result }
+    ensures reads_later { S.faults shelf.old ≤ S.faults shelf.new }
+    ensures writes_later { O.faults out.old ≤ O.faults out.new }
+    ensures same { S.contents shelf.new ≡ S.contents shelf.old }
+{
+    let query = match query_of(alloc, request) {
+        Ok(query) => query,
+        Err(_) => return 6,
+    };
+    match read_line(alloc, shelf, folder, &query) {
+        Ok(line) => show_as(out, &line, 0),
+        Err(Load::Refused { refusal }) => refuse(alloc, refusal, out),
+        Err(Load::ReadFault) => 4,
+        Err(Load::Memory) => 6,
+    }
+}

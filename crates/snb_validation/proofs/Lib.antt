@@ -1,0 +1,2 @@
+mod ReplyFacts
+mod TextFacts

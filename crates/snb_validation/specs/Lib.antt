@@ -1,0 +1,2 @@
+pub mod ReplyData
+pub mod Laws

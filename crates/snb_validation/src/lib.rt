@@ -1,0 +1,5 @@
+//! Replies as JSON.
+#![tactic(auto)]
+
+pub mod law;
+pub mod reply;
