@@ -133,7 +133,7 @@ rows_moved plan h same =
     (moved (rows_at plan.operations) (numbers h) (from 0 (length plan.operations)) same))
 
 pub complete_is_final : OnceEach → CompleteIsFinal
-complete_is_final once base plan workers h graph r legal complete after =
+complete_is_final once base plan workers h graph legal complete after =
     let size : length (schedule_of plan).steps ≡ length plan.operations = length-map plan.operations (λ (o : Operation). o.step) in
     let each : (k : ℕ) → times k (numbers h) ≡ times k (from 0 (length plan.operations)) =
     λ k. each_once once (schedule_of plan) workers h legal complete k ∙ ap (λ (n : ℕ). times k (from 0 n)) size in

@@ -108,7 +108,7 @@ module _ {base : List Row} {plan : Plan} {g : List Event} {graph : List Row} (r 
   )
 
 pub welcome_in_turn : PrefixIsLegal → WelcomeInTurn
-welcome_in_turn prefix base plan workers g e op graph r legal finishes_it after of_tables = by_event e legal finishes_it
+welcome_in_turn prefix base plan workers g e op graph r legal finishes_it after = by_event e legal finishes_it
   where
     by_event : (x : Event) → IsLegal (schedule_of plan) workers (g ++ x ∷ []) → finished_insert plan x ≡ Some op → IsWelcome graph op
     by_event (Start k worker at) l q = absurd cc

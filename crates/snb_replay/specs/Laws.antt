@@ -8,14 +8,13 @@ use Rattle.snb_schema.specs.LineLanes.{LineLanes}
 use Rattle.snb_schema.specs.QueryLists.{QueryLists}
 use Rattle.snb_schema.specs.Rules.{IsComplete, IsLegal}
 use Rattle.snb_schema.specs.StreamLines.{AreOfStreams}
-use Rattle.snb_tables.specs.Graphs.{HoldsKey, IsGraph}
-use Rattle.snb_tables.specs.Soundness.{Sound}
+use Rattle.snb_tables.specs.Graphs.{HoldsKey}
 use Rattle.snb_plan.specs.Closed.{IsClosed}
 use Rattle.snb_plan.specs.Plans.{IsPlan, Plan, schedule_of, updates_in}
 use Rattle.snb_inserts.specs.Applying.{IsWelcome}
 use Rattle.snb_replay.specs.Replay.{IsAfter, IsFinal, finished_insert}
 
--- the plan is one of lanes of streams, and its updates are closed over the sound graph
+-- the plan is one of lanes of streams, and its updates are closed over the base
 pub record IsReplayed (base : List Row) (plan : Plan) : Type 0 where
   pub lanes : LineLanes
   pub lists : QueryLists
@@ -23,18 +22,16 @@ pub record IsReplayed (base : List Row) (plan : Plan) : Type 0 where
   pub ratio : ℕ
   pub is_plan : IsPlan lanes lists frequencies ratio plan
   pub streams : AreOfStreams lanes
-  pub graph : IsGraph base
-  pub sound : Sound base
   pub closed : IsClosed (HoldsKey base) (updates_in plan)
 
 -- in a legal history of such a plan, each insert finds all that it refers to, and its keys are new, after what has finished before it
 abbrev pub WelcomeInTurn : Type 0
 WelcomeInTurn =
     (base : List Row) (plan : Plan) (workers : ℕ) (g : List Event) (e : Event) (op : Op) (graph : List Row) → IsReplayed base plan
-    → IsLegal (schedule_of plan) workers (g ++ e ∷ []) → finished_insert plan e ≡ Some op → IsAfter base plan g graph → IsGraph graph → IsWelcome graph op
+    → IsLegal (schedule_of plan) workers (g ++ e ∷ []) → finished_insert plan e ≡ Some op → IsAfter base plan g graph → IsWelcome graph op
 
 -- after a legal, complete history the graph is that of all inserts
 abbrev pub CompleteIsFinal : Type 0
 CompleteIsFinal =
-    (base : List Row) (plan : Plan) (workers : ℕ) (h : List Event) (graph : List Row) → IsReplayed base plan → IsLegal (schedule_of plan) workers h
+    (base : List Row) (plan : Plan) (workers : ℕ) (h : List Event) (graph : List Row) → IsLegal (schedule_of plan) workers h
     → IsComplete (schedule_of plan) h → IsAfter base plan h graph → IsFinal base plan graph

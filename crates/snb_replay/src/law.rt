@@ -4,8 +4,8 @@ ghost use Rattle.snb_replay.specs.Laws.{CompleteIsFinal, WelcomeInTurn};
 
 use snb_schema::law::{once_each, prefix_is_legal};
 
-/// In a legal history of a plan that is closed over a sound graph, each insert finds all that it refers to
-/// in the graph of the dataset with the inserts that have finished before it, and its keys are new there
+/// In a legal history of a plan whose updates are closed over a base, each insert finds all that it refers to
+/// in the graph that has the base and the inserts that have finished before it, and its keys are new there
 /// (`welcome`). After a complete one the graph has the rows of each insert, whatever the history (`last`).
 pub fn replay_is_welcome()
     ensures welcome { WelcomeInTurn }
