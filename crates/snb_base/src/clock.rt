@@ -4,14 +4,14 @@ ghost use Rattle.std.specs.Prelude.{◌≡◌, ℕ, IfSome, Option, Some};
 
 use std::sync::Wait;
 
-/// A clock whose unit is a millisecond since it was made.
+/// A clock whose unit is a millisecond, counted from a start of its own.
 ///
 /// Its meaning is a fixed moment, where it tells one; nothing else is claimed of its answers.
 pub trait Clock {
     /// The moment of each answer, where it is fixed and told.
     ghost fixed: { Self → Option ℕ };
 
-    /// The moment, in milliseconds since the clock was made.
+    /// The moment, in milliseconds since the clock's start.
     fn now(&self) -> u64
         ensures { IfSome (fixed self.now) (λ moment. result ≡ moment) };
 

@@ -433,9 +433,13 @@ fn may_be_shared<T: Sync>(_value: &T) -> bool {
 fn counts_milliseconds(rt: HostRuntime) -> Result<(), Fail> {
     let start = Instant::now(&rt)?;
     let clock = HostClock::new(rt);
+    let idle = HostClock::new(rt);
     assert!(rt; may_be_shared(&clock));
     clock.rest(&rt, 2000);
     let now = clock.now();
+    // It counts from the moment at which it is first asked, not from that at which it was made.
+    let first = idle.now();
+    assert!(rt; first < 2000, "{first}");
     let passed = start.elapsed(&rt)?.as_millis();
     assert!(rt;
         now >= 2000 && u128::from(now) <= passed,

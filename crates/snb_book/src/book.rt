@@ -294,6 +294,14 @@ impl Book {
         &self.events
     }
 
+    /// What has happened, without the book. Takes no memory.
+    pub fn into_events(self) -> Vec<Event>
+        ensures { result.items ≡ self.history }
+    {
+        let Book { events, .. } = self;
+        events
+    }
+
     /// Whether every operation is finished and nobody has halted.
     pub fn is_complete(&self) -> bool
         ensures { IsTrue result ↔ IsComplete self.now.schedule self.now.history }

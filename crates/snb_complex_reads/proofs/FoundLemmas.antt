@@ -9,8 +9,7 @@ use Rattle.snb_soundness.specs.SoundLaws.{NumbersFit}
 use Rattle.snb_reads.proofs.Laws.{friend_there, sent_there}
 use Rattle.snb_reads.specs.Around.{friends, messages}
 use Rattle.snb_reads.specs.Distance.{IsPerson, IsWithin, Walk}
-use Rattle.snb_short_reads.proofs.Laws.{friend_found, message_found}
-use Rattle.snb_short_reads.proofs.LookupLemmas.{found_person, person_at}
+use Rattle.snb_short_reads.proofs.Laws.{found_person, friend_found, message_found, person_at}
 use Rattle.snb_short_reads.specs.Found.{IsMessageFound}
 use Rattle.snb_short_reads.specs.Lookups.{IsCellNumber}
 

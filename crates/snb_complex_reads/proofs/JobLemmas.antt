@@ -24,7 +24,7 @@ use Rattle.snb_reads.specs.Cells.{cell_cmp, number}
 use Rattle.snb_reads.specs.Around.{ends, organisations, places, work}
 use Rattle.snb_reads.specs.ComplexReads.{IsAt, IsJob, is_in}
 use Rattle.snb_reads.specs.Order.{Answers, Falling, First, FirstOf, Rising, by}
-use Rattle.snb_short_reads.proofs.LookupLemmas.{found_person, person_at}
+use Rattle.snb_short_reads.proofs.Laws.{found_person, person_at}
 use Rattle.snb_complex_reads.proofs.Columns.{any_one, number_cmp, one_only, then_end, words_cmp}
 use Rattle.snb_complex_reads.proofs.Moves.{joined_push}
 use Rattle.snb_complex_reads.specs.Jobs.{AreJobs, IsJobFound, Job, job_of, jobs_by}

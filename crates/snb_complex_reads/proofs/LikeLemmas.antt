@@ -20,16 +20,14 @@ use Rattle.snb_soundness.specs.SoundLaws.{MessagesAreOfOneKind, NumbersFit}
 use Rattle.snb_tables.specs.Graphs.{IsGraph, rows}
 use Rattle.snb_tables.specs.Soundness.{Held}
 use Rattle.snb_order.proofs.Laws.{answers_from, two_columns}
-use Rattle.snb_reads.proofs.Laws.{in_rows, rows_apart, walk_moved}
-use Rattle.snb_reads.proofs.Lists.{IsApart, apart_append, apart_chosen, chosen_from, in_chosen}
+use Rattle.snb_reads.proofs.Laws.{IsApart, apart_append, apart_chosen, chosen_from, in_chosen, in_rows, rows_apart, walk_moved}
 use Rattle.snb_reads.specs.declared.cell.Cell.{Cell}
 use Rattle.snb_reads.specs.declared.like.Like.{Like}
 use Rattle.snb_reads.specs.Around.{liker_in, likes, messages}
 use Rattle.snb_reads.specs.ComplexReads.{IsLiked, beats, best_likes, liked}
 use Rattle.snb_reads.specs.Distance.{IsPerson}
 use Rattle.snb_reads.specs.Order.{Answers, Falling, First, FirstOf, Rising, by}
-use Rattle.snb_short_reads.proofs.LookupLemmas.{any, found_person, person_at}
-use Rattle.snb_short_reads.proofs.RowLemmas.{shows}
+use Rattle.snb_short_reads.proofs.Laws.{any, found_person, person_at, shows}
 use Rattle.snb_short_reads.specs.Found.{IsMessageFound}
 use Rattle.snb_short_reads.specs.Lookups.{IsCellNumber}
 use Rattle.snb_complex_reads.proofs.FoundLemmas.{messages_found, person_fits}

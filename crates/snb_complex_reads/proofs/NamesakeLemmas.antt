@@ -30,8 +30,8 @@ use Rattle.snb_reads.specs.Around.{ends, persons, study, words, work}
 use Rattle.snb_reads.specs.ComplexReads.{AreStays, IsNamesake, IsStay, Stay, is_named, stay_cmp}
 use Rattle.snb_reads.specs.Distance.{IsPerson, IsWithin}
 use Rattle.snb_reads.specs.Order.{Answers, First, FirstOf, Rising, Whole, by}
-use Rattle.snb_short_reads.proofs.LookupLemmas.{any, edge_key_held}
-use Rattle.snb_short_reads.proofs.LookupLemmas as lookups
+use Rattle.snb_short_reads.proofs.Laws.{any, edge_key_held}
+use Rattle.snb_short_reads.proofs.Laws as lookups
 use Rattle.snb_complex_reads.proofs.Columns.{any_one, number_cmp, one_only, then_end, words_cmp}
 use Rattle.snb_complex_reads.proofs.FoundLemmas.{walk_held}
 use Rattle.snb_complex_reads.proofs.Moves.{filter_push}

@@ -21,7 +21,7 @@ use Rattle.snb_reads.specs.declared.cell.Cell.{Cell}
 use Rattle.snb_reads.specs.Around.{comment_shown, comments, replies}
 use Rattle.snb_reads.specs.ComplexReads.{IsAnswered}
 use Rattle.snb_reads.specs.Order.{Answers, Falling, First, FirstOf, Rising, by}
-use Rattle.snb_short_reads.proofs.LookupLemmas.{comment_at, found_person, person_at, written}
+use Rattle.snb_short_reads.proofs.Laws.{comment_at, found_person, person_at, written}
 use Rattle.snb_short_reads.specs.Lookups.{IsCellNumber}
 use Rattle.snb_complex_reads.proofs.Moves.{All-flat_map}
 use Rattle.snb_complex_reads.specs.Found.{IsCommentFound}

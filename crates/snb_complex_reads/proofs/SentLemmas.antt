@@ -16,8 +16,7 @@ use Rattle.snb_reads.specs.Around.{messages}
 use Rattle.snb_reads.specs.ComplexReads.{IsSent, latest, messages_of}
 use Rattle.snb_reads.specs.Distance.{IsPerson}
 use Rattle.snb_reads.specs.Order.{Answers, First, FirstOf, by}
-use Rattle.snb_short_reads.proofs.LookupLemmas.{found_person, person_at}
-use Rattle.snb_short_reads.proofs.RowLemmas.{shows}
+use Rattle.snb_short_reads.proofs.Laws.{found_person, person_at, shows}
 use Rattle.snb_short_reads.specs.Found.{IsMessageFound}
 use Rattle.snb_complex_reads.proofs.FoundLemmas.{messages_found, person_fits}
 use Rattle.snb_complex_reads.proofs.Moves.{All-flat_map}

@@ -22,11 +22,10 @@ use Rattle.snb_graph.specs.Walks.{stays_of, year_of}
 use Rattle.snb_soundness.specs.SoundLaws.{RequiredEdgesAreThere}
 use Rattle.snb_tables.specs.Graphs.{HasKey, IsGraph, rows}
 use Rattle.snb_tables.specs.Soundness.{Held, Sound}
-use Rattle.snb_reads.proofs.Laws.{end_only, in_rows, one_chosen, rows_apart}
-use Rattle.snb_reads.proofs.Lists.{chosen_from}
+use Rattle.snb_reads.proofs.Laws.{chosen_from, end_only, in_rows, one_chosen, rows_apart}
 use Rattle.snb_reads.specs.Around.{ends, organisation_in, organisations, place_in, places, stay_in, study, word_in, words, work}
 use Rattle.snb_reads.specs.ComplexReads.{IsAt}
-use Rattle.snb_short_reads.proofs.LookupLemmas.{any, edge_key_held}
+use Rattle.snb_short_reads.proofs.Laws.{any, edge_key_held}
 use Rattle.snb_complex_reads.specs.Found.{IsStayFound}
 
 -- a test before what is chosen

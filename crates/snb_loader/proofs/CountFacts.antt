@@ -1,6 +1,7 @@
 -- Each line of the streams is a data line.
 use Rattle.std.proofs.Common.{◌≡◌, ◌+◌, ℕ, false, List, [], ◌∷◌, length, refl, sym, ap, subst, arith}
 use Rattle.std.proofs.lemmas.List.{length-append}
+use Rattle.std.specs.List.{flat_map}
 use Rattle.snb_schema.specs.declared.file.FileId.{FileId}
 use Rattle.snb_schema.specs.declared.op.Line.{Line}
 use Rattle.snb_schema.specs.Lines.{filled, lines}
@@ -10,8 +11,12 @@ use Rattle.snb_input.specs.declared.walk.Walk.{Walk}
 use Rattle.snb_input.specs.Places.{FilesSay, Says, Source}
 use Rattle.snb_input.specs.Stages.{Walked, before}
 use Rattle.snb_input.specs.Walk.{Before, Held, Look, after_walk, stage_looks}
-use Rattle.snb_loader.specs.Lanes.{IsHeard, StreamLines, concat, stream_grammar}
+use Rattle.snb_loader.specs.Lanes.{IsHeard, StreamLines, stream_grammar}
 use Rattle.snb_loader.proofs.PastFacts.{data_count, stage_read}
+
+-- lists of lines, one after the other
+abbrev pub concat : List (List Line) → List Line
+concat lists = flat_map (λ lines. lines) lists
 
 -- a file says a line for each of its lines that has a byte
 says_count : (file : FileId) (n : ℕ) (ls : List (List ℕ)) (xs : List Line) → Says stream_grammar file n false ls xs → length xs ≡ length (filled ls)

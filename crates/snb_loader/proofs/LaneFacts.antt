@@ -1,10 +1,13 @@
 -- The two stages of the streams are read of one folder, and they give its lanes.
 use Rattle.std.proofs.Common.{◌≡◌, ◌≤◌, ◌+◌, ℕ, List, [], ◌∷◌, Option, Ok, Err, length, All, sym, ap, subst, rules, arith}
-use Rattle.std.proofs.lemmas.List.{length-append}
+use Rattle.std.proofs.lemmas.List.Concat.{length-flat_map}
+use Rattle.std.proofs.lemmas.List.Sums.{sum_by-append}
+use Rattle.std.specs.List.{sum_by}
 use Rattle.snb_base.specs.Shelf.{Files}
 use Rattle.snb_schema.specs.declared.limits.TheConstants.{MAX_LANES}
 use Rattle.snb_schema.specs.declared.refusal.Refusal.{Refusal}
-use Rattle.snb_schema.specs.LineLanes.{LineLanes}
+use Rattle.snb_schema.specs.declared.op.Line.{Line}
+use Rattle.snb_schema.specs.LineLanes.{LineLanes, update_count}
 use Rattle.snb_schema.specs.StreamLines.{AreInserts, AreOfStreams}
 use Rattle.snb_schema.specs.UpdateLines.{forum_inserts, person_inserts}
 use Rattle.snb_streams.specs.Updates.{allowed_in}
@@ -20,8 +23,8 @@ use Rattle.snb_input.specs.Stages.{IsStage, Walked, before}
 use Rattle.snb_input.specs.Walk.{Before, Held, IsHeldTold, Look, after_walk, stage_checks, stage_looks, walk_checks}
 use Rattle.snb_input.proofs.Laws.{first_anyway, first_later, none_append}
 use Rattle.snb_loader.specs.declared.order.TheConstants.{FORUM_STREAMS, PERSON_STREAMS}
-use Rattle.snb_loader.specs.Lanes.{AreTaken, IsHeard, IsLanesAnswer, StreamLines, after_persons, concat, lines_of, next_stage, stream_grammar}
-use Rattle.snb_loader.proofs.CountFacts.{said_by, walk_count}
+use Rattle.snb_loader.specs.Lanes.{AreTaken, IsHeard, IsLanesAnswer, StreamLines, after_persons, next_stage, stream_grammar}
+use Rattle.snb_loader.proofs.CountFacts.{concat, said_by, walk_count}
 use Rattle.snb_loader.proofs.OrderFacts.{files_inserts, of_streams}
 use Rattle.snb_loader.proofs.PastFacts.{says_length, stage_read}
 
@@ -33,7 +36,7 @@ forums_from : AreFrom 34 FORUM_STREAMS
 forums_from = search rules
 
 -- a stage of one series has at most as many lanes as there may be files
-pub few_of : (s : Series) (used : Used) (held : Held) (w : Walk StreamLines) → Walked stream_grammar IsHeard (before used) (stage_looks held (s ∷ [])) w → length w.taker.done ≤ s.most
+few_of : (s : Series) (used : Used) (held : Held) (w : Walk StreamLines) → Walked stream_grammar IsHeard (before used) (stage_looks held (s ∷ [])) w → length w.taker.done ≤ s.most
 few_of s used held w k =
     let grown = stage_read stream_grammar held s (before used) in
     let same = says_length stream_grammar (after_walk stream_grammar (before used) (stage_looks held (s ∷ []))).past w.taker.done (said_by (before used) (stage_looks held (s ∷ [])) w k) in
@@ -50,10 +53,17 @@ pub forums_few : (contents : Option Files) (folder : List ℕ) (used : Used) (w 
 forums_few contents folder used w (held, told, k) = few_of _ used held w k
 
 -- the lines of a stage of one series are inserts of its kind
-pub inserts_of_series : (s : Series) (used : Used) (held : Held) (w : Walk StreamLines) → Walked stream_grammar IsHeard (before used) (stage_looks held (s ∷ [])) w → All (λ lines. AreInserts (allowed_in s.kind) lines) w.taker.done
+inserts_of_series : (s : Series) (used : Used) (held : Held) (w : Walk StreamLines) → Walked stream_grammar IsHeard (before used) (stage_looks held (s ∷ [])) w → All (λ lines. AreInserts (allowed_in s.kind) lines) w.taker.done
 inserts_of_series s used held w k =
     let grown = stage_read stream_grammar held s (before used) in
     files_inserts s.kind grown.more w.taker.done grown.kinds (subst (λ (ss : List Source). FilesSay stream_grammar ss w.taker.done) grown.past (said_by (before used) (stage_looks held (s ∷ [])) w k))
+
+abbrev line_count : List Line → ℕ
+line_count lines = length lines
+
+-- the lines of lanes, one after the other, are those that each has
+concat_count : (lanes : List (List Line)) → length (concat lanes) ≡ sum_by line_count lanes
+concat_count lanes = length-flat_map (λ (lines : List Line). lines) lanes
 
 module _ (first last : Walk StreamLines) (lanes : LineLanes) (are : lanes ≡ record { persons = first.taker.done; forums = last.taker.done }) where
   module _ (contents later : Option Files) (folder : List ℕ) (old : Used) (persons : IsStage stream_grammar IsHeard contents folder PERSON_STREAMS (before old) (Ok first)) (forums : IsStage stream_grammar IsHeard later folder FORUM_STREAMS (before first.used) (Ok last)) where
@@ -65,13 +75,15 @@ module _ (first last : Walk StreamLines) (lanes : LineLanes) (are : lanes ≡ re
     }
 
     -- each of their lines is counted
-    pub lanes_counted : last.used.rows ≡ old.rows + length (lines_of lanes)
+    pub lanes_counted : last.used.rows ≡ old.rows + update_count lanes
     lanes_counted =
         let one = walk_count _ old persons.0 first persons.2 in
         let other = walk_count _ first.used forums.0 last forums.2 in
-        let both = length-append (concat first.taker.done) (concat last.taker.done) in
-        let same = ap (λ (ls : LineLanes). length (lines_of ls)) are in
-        omega (arith, one, other, both, same)
+        let persons = concat_count first.taker.done in
+        let forums = concat_count last.taker.done in
+        let both = sum_by-append line_count first.taker.done last.taker.done in
+        let same = ap update_count are in
+        omega (arith, one, other, persons, forums, both, same)
 
 -- the person streams are refused
 pub persons_err : (contents : Option Files) (folder : List ℕ) (old new : Used) (load : Load) → IsStage {P = StreamLines} stream_grammar IsHeard contents folder PERSON_STREAMS (before old) (Err load) → IsLanesAnswer contents folder old new (Err load)

@@ -15,13 +15,12 @@ use Rattle.snb_input.specs.Places.{FileSays, Source}
 use Rattle.snb_input.specs.Walk.{Before, Held, stage_checks}
 use Rattle.snb_tables.specs.Laws.{GraphsAreTheirRows}
 use Rattle.snb_tables.specs.Soundness.{Need, missing}
-use Rattle.snb_loader.specs.declared.order.TheConstants.{FIRST_STREAM, FORUM_STREAMS, PERSON_STREAMS, TABLES}
+use Rattle.snb_loader.specs.declared.order.TheConstants.{FORUM_STREAMS, PERSON_STREAMS, TABLES}
 use Rattle.snb_loader.specs.Dataset.{IsRefusedGraph, IsUnsound, after_tables}
 use Rattle.snb_loader.specs.Dataset.IsRefusedGraph.{lacks, cycle}
-use Rattle.snb_loader.specs.Lanes.{after_lanes, after_persons, concat, next_stage, stream_grammar}
-use Rattle.snb_loader.specs.Laws.{DatasetIsOne, DatasetRefusesOnce, LanesAreOne, LanesRefuseOnce, ParamsAreOne, ParamsRefuseOnce, RefuseOnce, StreamIsOne, StreamRefusesOnce}
+use Rattle.snb_loader.specs.Lanes.{after_lanes, after_persons, next_stage, stream_grammar}
+use Rattle.snb_loader.specs.Laws.{DatasetIsOne, DatasetRefusesOnce, LanesAreOne, LanesRefuseOnce, ParamsAreOne, ParamsRefuseOnce, RefuseOnce}
 use Rattle.snb_loader.specs.Params.{IsListSaid, params_grammar, params_stage}
-use Rattle.snb_loader.specs.Streams.{after_stream}
 use Rattle.snb_loader.specs.Tables.{IsHeard, table_grammar}
 use Rattle.snb_loader.proofs.Laws.{once_append, once_single}
 
@@ -68,9 +67,6 @@ module _ (one : OneSaying table_grammar) (apart : GraphsAreTheirRows) where
   dataset_one at held g h a b = same_graph a.rows b.rows g h (one (after_tables at held).past a.rows b.rows a.said b.said) a.heard b.heard
 
 module _ (one : OneSaying stream_grammar) where
-  pub stream_one : StreamIsOne
-  stream_one at held xs ys a b = a.lines_are ∙ ap concat (one (after_stream at held).past a.lists b.lists a.said b.said) ∙ sym b.lines_are
-
   pub lanes_one : LanesAreOne
   lanes_one at held a b p q =
       let persons = one (after_persons at held).past a.persons b.persons p.persons q.persons in
@@ -78,9 +74,6 @@ module _ (one : OneSaying stream_grammar) where
       λ i. record { persons = persons i; forums = forums i }
 
 module _ (refusal : OneRefusal stream_grammar) (or_not : RefusedOrNot stream_grammar) where
-  pub stream_once : StreamRefusesOnce
-  stream_once at held = stage_once stream_grammar refusal or_not at held FIRST_STREAM
-
   pub lanes_once : LanesRefuseOnce
   lanes_once at held =
       once_append (stage_checks stream_grammar at held PERSON_STREAMS) (stage_checks stream_grammar (next_stage (after_persons at held)) held FORUM_STREAMS)

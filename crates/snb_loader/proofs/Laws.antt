@@ -1,7 +1,6 @@
 -- What other crates may cite of this one: facts about checks one after the other, and about what is read of one folder.
 use Rattle.std.proofs.Common.{◌≡◌, ◌≤◌, ◌∙◌, ◌⊎◌, ℕ, List, [], ◌∷◌, ◌++◌, Option, None, map, sym, ap, subst, inl, inr, arith, rules}
 use Rattle.snb_base.specs.Shelf.{Files}
-use Rattle.snb_schema.specs.declared.op.Line.{Line}
 use Rattle.snb_schema.specs.declared.refusal.Refusal.{Refusal}
 use Rattle.snb_schema.specs.declared.row.Row.{Row}
 use Rattle.snb_schema.specs.Frequencies.{FrequencyTable}
@@ -13,12 +12,11 @@ use Rattle.snb_input.specs.FirstOf.{FirstOf, NoneOf}
 use Rattle.snb_input.specs.Laws.{AreBelow, AreFrom, Joined}
 use Rattle.snb_input.specs.Places.{FilesSay}
 use Rattle.snb_input.specs.Walk.{Before, Held, Look, after_walk, looks_from, series_looks, stage_looks, walk_checks}
-use Rattle.snb_loader.specs.declared.order.TheConstants.{FIRST_STREAM, FORUM_STREAMS, PERSON_STREAMS, TABLES}
+use Rattle.snb_loader.specs.declared.order.TheConstants.{FORUM_STREAMS, PERSON_STREAMS, TABLES}
 use Rattle.snb_loader.specs.Dataset.{IsDataset, IsUnsound, after_tables, dataset_checks}
 use Rattle.snb_loader.specs.Lanes.{AreLanes, after_lanes, after_persons, lane_checks, next_stage, stream_grammar}
 use Rattle.snb_loader.specs.Laws.{RefuseOnce}
 use Rattle.snb_loader.specs.Params.{AreParams, after_params, asked, params_checks, params_grammar, params_series, params_stage}
-use Rattle.snb_loader.specs.Streams.{IsStream, after_stream, stream_checks}
 use Rattle.snb_loader.specs.Tables.{table_grammar}
 
 -- ---- checks, and then more checks
@@ -78,12 +76,6 @@ pub record SameDataset (a b : Held) : Type 1 where
   pub after : (at : Before) → after_tables at a ≡ after_tables at b
   pub is : (at : Before) (g : List Row) → IsDataset at a g → IsDataset at b g
 
--- the same of the first person stream
-pub record SameStream (a b : Held) : Type 1 where
-  pub checks : (at : Before) → stream_checks at a ≡ stream_checks at b
-  pub after : (at : Before) → after_stream at a ≡ after_stream at b
-  pub is : (at : Before) (lines : List Line) → IsStream at a lines → IsStream at b lines
-
 -- the same of the streams
 pub record SameLanes (a b : Held) : Type 1 where
   pub checks : (at : Before) → lane_checks at a ≡ lane_checks at b
@@ -114,21 +106,6 @@ same_dataset a b e = record {
 
     after : (at : Before) → after_tables at a ≡ after_tables at b
     after at = ap (λ (ls : List Look). after_walk table_grammar at ls) e
-
-same_stream : (a b : Held) → stage_looks a FIRST_STREAM ≡ stage_looks b FIRST_STREAM → SameStream a b
-same_stream a b e = record {
-  checks = λ at i. walk_checks stream_grammar at (e i);
-  after = λ at. after at;
-  is = λ at lines s. record {
-    clean = subst (λ (ls : List Look). NoneOf (walk_checks stream_grammar at ls)) e s.clean;
-    lists = s.lists;
-    said = subst (λ (z : Before). FilesSay stream_grammar z.past s.lists) (after at) s.said;
-    lines_are = s.lines_are;
-  };
-}
-  where
-    after : (at : Before) → after_stream at a ≡ after_stream at b
-    after at = ap (λ (ls : List Look). after_walk stream_grammar at ls) e
 
 same_lanes : (a b : Held) → stage_looks a PERSON_STREAMS ≡ stage_looks b PERSON_STREAMS → stage_looks a FORUM_STREAMS ≡ stage_looks b FORUM_STREAMS → SameLanes a b
 same_lanes a b e f = record {
@@ -186,16 +163,10 @@ module _ (contents : Option Files) (folder : List ℕ) (first second held : Held
   pub dataset_below : 33 ≤ n → SameDataset first held
   dataset_below le = same_dataset first held (sym (join.below TABLES (below_more 33 n TABLES le tables_below)))
 
-  pub stream_below : 34 ≤ n → SameStream first held
-  stream_below le = same_stream first held (sym (join.below FIRST_STREAM (omega (arith, le), tt)))
-
   pub lanes_below : 35 ≤ n → SameLanes first held
   lanes_below le = same_lanes first held (sym (join.below PERSON_STREAMS (omega (arith, le), tt))) (sym (join.below FORUM_STREAMS (omega (arith, le), tt)))
 
   -- those from it on are those of the second
-  pub stream_from : n ≤ 33 → SameStream second held
-  stream_from le = same_stream second held (sym (join.from FIRST_STREAM (le, tt)))
-
   pub lanes_from : n ≤ 33 → SameLanes second held
   lanes_from le = same_lanes second held (sym (join.from PERSON_STREAMS (le, tt))) (sym (join.from FORUM_STREAMS (omega (arith, le), tt)))
 

@@ -1,6 +1,5 @@
 mod CountFacts
 mod DatasetFacts
-mod FirstStreamFacts
 mod GrammarFacts
 mod HeardFacts
 mod LackingFacts

@@ -14,7 +14,7 @@ use Rattle.snb_schema.specs.StreamLines.{AreInserts, AreOfStream, IsOfLine, Neve
 use Rattle.snb_schema.specs.UpdateLines.{kind_of}
 use Rattle.snb_streams.specs.Updates.{allowed_in}
 use Rattle.snb_input.specs.Places.{FilesSay, Says, Source}
-use Rattle.snb_loader.specs.Lanes.{AreTaken, concat, stream_grammar}
+use Rattle.snb_loader.specs.Lanes.{AreTaken, stream_grammar}
 use Rattle.snb_loader.proofs.PastFacts.{AreOfKind}
 
 -- in a list of no lines t never falls
@@ -93,17 +93,3 @@ of_streams kinds (xs ∷ xss) taken are =
       rises = one.rises;
     })
     (of_streams kinds xss (All-tail AreTaken xs xss taken) (All-tail (λ ys. AreInserts kinds ys) xs xss are))
-
--- the lines of some streams one after the other
-pub concat_inserts : (kinds : List OpKind) (xss : List (List Line)) → All (λ xs. AreInserts kinds xs) xss → AreInserts kinds (concat xss)
-concat_inserts kinds [] are = All-nil (λ (x : Line). Contains kinds (kind_of x.op))
-concat_inserts kinds (xs ∷ xss) are =
-    All-append (λ (x : Line). Contains kinds (kind_of x.op)) xs (concat xss)
-    (All-head (λ ys. AreInserts kinds ys) xs xss are)
-    (concat_inserts kinds xss (All-tail (λ ys. AreInserts kinds ys) xs xss are))
-
--- one stream at most, as one list
-pub concat_taken : (xss : List (List Line)) → length xss ≤ 1 → All AreTaken xss → AreTaken (concat xss)
-concat_taken [] few taken = none_taken
-concat_taken (xs ∷ []) few taken = subst AreTaken (sym (append-nil xs)) (All-head AreTaken xs [] taken)
-concat_taken (xs ∷ ys ∷ xss) few taken = absurd (omega (arith, few))

@@ -9,7 +9,7 @@ use Rattle.snb_schema.specs.Frequencies.{FrequencyTable, frequency_at}
 use Rattle.snb_schema.specs.Lines.{lines}
 use Rattle.snb_schema.specs.ParameterLines.{SpellsQuery}
 use Rattle.snb_schema.specs.Queries.{IsComplex, number_of_query}
-use Rattle.snb_schema.specs.QueryLists.{AreOf, QueryLists, list_of}
+use Rattle.snb_schema.specs.QueryLists.{AreOf, HaveParameters, QueryLists, list_of}
 use Rattle.snb_streams.specs.Laws.{NoBadQuery, OneBadQuery, OneQuery}
 use Rattle.snb_streams.specs.Parameters.{params_file}
 use Rattle.snb_input.specs.declared.load.Used.{Used}
@@ -22,7 +22,7 @@ use Rattle.snb_input.specs.Stages.{IsStage, before}
 use Rattle.snb_input.specs.Walk.{Before, Held, Look, after_walk, looks_from, series_looks, stage_looks, walk_checks, with_file}
 use Rattle.snb_input.specs.Walk.Role.{Needed}
 use Rattle.snb_loader.specs.declared.params.TheConstants.{COMPLEX_QUERIES}
-use Rattle.snb_loader.specs.Params.{AreFull, AreOfEach, HasHeard, IsBadParams, IsListSaid, IsParamsAnswer, ParamLines, asked, params_grammar, params_series, params_stage, query_in}
+use Rattle.snb_loader.specs.Params.{AreOfEach, HasHeard, IsBadParams, IsListSaid, IsParamsAnswer, ParamLines, asked, params_grammar, params_series, params_stage, query_in}
 use Rattle.snb_loader.proofs.ParamListFacts.{Each, each_passing}
 
 bad_one : OneBadQuery → (q : ℕ) (fs : List (List ℕ)) (a b : ℕ) → IsBadParams q fs a → IsBadParams q fs b → a ≡ b
@@ -135,7 +135,7 @@ module _ (contents : Option Files) (folder : List ℕ) (table : FrequencyTable) 
     each = said_each answer.0 (list_of lists) (asked table) files.0 files.2 (subst (λ (xss : List (List Query)). FilesSay params_grammar files.0 xss) (sym are) said)
 
     -- each query with a frequency has a parameter
-    pub params_full : AreFull table lists
+    pub params_full : HaveParameters lists table
     params_full q l = (of_asked (λ x. IsListSaid answer.0 x (list_of lists x) × (0 < length (list_of lists x))) table each q l).1
 
     pub params_ok : ((q : ℕ) → frequency_at table q ≡ 0 → list_of lists q ≡ []) → IsParamsAnswer contents folder table old w.used (Ok lists)

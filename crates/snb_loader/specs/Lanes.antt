@@ -1,5 +1,5 @@
 -- What the update streams of a folder are refused for, and the lanes that they are.
-use Rattle.std.specs.Prelude.{◌≡◌, ℕ, ◌-◌, ◌<◌, false, List, [], ◌++◌, length, slice_index_or, flat_map, All, Option, None, Result, Ok, Err}
+use Rattle.std.specs.Prelude.{◌≡◌, ℕ, ◌-◌, ◌<◌, false, List, [], ◌++◌, length, slice_index_or, All, Option, None, Result, Ok, Err}
 use Rattle.snb_base.specs.Shelf.{Files}
 use Rattle.snb_schema.specs.declared.file.FileId.{FileId}
 use Rattle.snb_schema.specs.declared.file.FileKind.{FileKind}
@@ -59,14 +59,6 @@ pub record StreamLines : Type 0 where
 
 abbrev pub IsHeard : StreamLines → List (List Line) → List Line → Type 0
 IsHeard s done mine = (s.done ≡ done) × (s.mine ≡ mine)
-
--- lists of lines, one after the other
-abbrev pub concat : List (List Line) → List Line
-concat lists = flat_map (λ lines. lines) lists
-
--- all lines of the lanes: those of the lanes of persons, then those of the forum lanes
-abbrev pub lines_of : LineLanes → List Line
-lines_of lanes = concat lanes.persons ++ concat lanes.forums
 
 -- what was read after the person streams, where the forum streams begin; and after these
 abbrev pub after_persons : Before → Held → Before

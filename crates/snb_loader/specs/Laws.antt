@@ -1,6 +1,5 @@
 -- Laws of what a folder is refused for, and of what is read of it.
 use Rattle.std.specs.Prelude.{◌≡◌, List}
-use Rattle.snb_schema.specs.declared.op.Line.{Line}
 use Rattle.snb_schema.specs.declared.refusal.Refusal.{Refusal}
 use Rattle.snb_schema.specs.declared.row.Row.{Row}
 use Rattle.snb_schema.specs.Frequencies.{FrequencyTable}
@@ -11,7 +10,6 @@ use Rattle.snb_input.specs.Walk.{Before, Held}
 use Rattle.snb_loader.specs.Dataset.{IsDataset, dataset_checks}
 use Rattle.snb_loader.specs.Lanes.{AreLanes, lane_checks}
 use Rattle.snb_loader.specs.Params.{AreParams, params_checks}
-use Rattle.snb_loader.specs.Streams.{IsStream, stream_checks}
 
 -- these checks give one refusal at most, and none where nothing is wrong
 pub record RefuseOnce (checks : List {1} (Refusal → Type 0)) : Type 0 where
@@ -25,14 +23,6 @@ DatasetRefusesOnce = (at : Before) (held : Held) → RefuseOnce (dataset_checks 
 -- and has one graph at most
 abbrev pub DatasetIsOne : Type 0
 DatasetIsOne = (at : Before) (held : Held) (g h : List Row) → IsDataset at held g → IsDataset at held h → g ≡ h
-
--- the first person stream is refused in one way at most, or not
-abbrev pub StreamRefusesOnce : Type 0
-StreamRefusesOnce = (at : Before) (held : Held) → RefuseOnce (stream_checks at held)
-
--- and has one list of lines at most
-abbrev pub StreamIsOne : Type 0
-StreamIsOne = (at : Before) (held : Held) (xs ys : List Line) → IsStream at held xs → IsStream at held ys → xs ≡ ys
 
 -- the streams are refused in one way at most, or not
 abbrev pub LanesRefuseOnce : Type 0

@@ -2,5 +2,4 @@ pub mod Dataset
 pub mod Lanes
 pub mod Laws
 pub mod Params
-pub mod Streams
 pub mod Tables

@@ -100,10 +100,6 @@ pub record AreParams (at : Before) (held : Held) (table : FrequencyTable) (lists
   -- any other is empty
   pub others : (query : ℕ) → frequency_at table query ≡ 0 → list_of lists query ≡ []
 
--- each query with a frequency has a parameter
-abbrev pub AreFull : FrequencyTable → QueryLists → Type 0
-AreFull table lists = (query : ℕ) → 0 < frequency_at table query → 0 < length (list_of lists query)
-
 -- what the loading of the parameter files answers: there are files in the folder, which are those that the shelf tells where it tells
 -- any, of which nothing is wrong and these are the lists of parameters, or which are refused so
 abbrev pub IsParamsAnswer : Option Files → List ℕ → FrequencyTable → Used → Used → Result QueryLists Load → Type 0

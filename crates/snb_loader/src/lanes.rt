@@ -3,9 +3,10 @@
 ghost use Rattle.std.specs.Prelude.{◌≡◌, ◌≤◌, ◌+◌, All, IfOk, OnErr, OnOk, length};
 ghost use Rattle.snb_base.specs.Shelf.{Rose};
 ghost use Rattle.snb_schema.specs.declared.limits.TheConstants.{MAX_BYTES, MAX_LANES, MAX_ROWS};
+ghost use Rattle.snb_schema.specs.LineLanes.{update_count};
 ghost use Rattle.snb_schema.specs.StreamLines.{AreOfStreams};
 ghost use Rattle.snb_input.specs.Loading.{OnReadFault};
-ghost use Rattle.snb_loader.specs.Lanes.{AreTaken, IsLanesAnswer, lines_of};
+ghost use Rattle.snb_loader.specs.Lanes.{AreTaken, IsLanesAnswer};
 
 use crate::order::{FORUM_STREAMS, PERSON_STREAMS};
 use crate::streams::{StreamTaker, load_stage};
@@ -59,7 +60,7 @@ pub fn load_lanes<S: Shelf>(
     requires rows { used.old.rows ≤ MAX_ROWS }
     ensures answer { IsLanesAnswer (S.contents shelf.old) folder.now used.old used.new result }
     ensures streams { IfOk result AreOfStreams }
-    ensures counted { IfOk result (λ lanes. used.new.rows ≡ used.old.rows + length (lines_of lanes)) }
+    ensures counted { IfOk result (λ lanes. used.new.rows ≡ used.old.rows + update_count lanes) }
     ensures within { OnOk result ((used.new.bytes ≤ MAX_BYTES) × (used.new.rows ≤ MAX_ROWS)) }
     ensures err { OnErr result (used.new ≡ used.old) }
     ensures fault { OnReadFault result (Rose (S.faults shelf.old) (S.faults shelf.new)) }

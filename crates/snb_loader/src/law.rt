@@ -1,6 +1,6 @@
 //! Laws of what a folder is refused for and of what is read of it, over every folder.
 
-ghost use Rattle.snb_loader.specs.Laws.{DatasetIsOne, DatasetRefusesOnce, LanesAreOne, LanesRefuseOnce, ParamsAreOne, ParamsRefuseOnce, StreamIsOne, StreamRefusesOnce};
+ghost use Rattle.snb_loader.specs.Laws.{DatasetIsOne, DatasetRefusesOnce, LanesAreOne, LanesRefuseOnce, ParamsAreOne, ParamsRefuseOnce};
 
 use crate::params::{ParamTaker, params_are_lawful};
 use crate::streams::{StreamTaker, streams_are_lawful};
@@ -18,17 +18,6 @@ pub fn one_dataset()
     one_refusal::<TableGraph>();
     one_saying::<TableGraph>();
     graphs_are_their_rows();
-}
-
-/// Something is wrong with the first person stream of a folder in one first way, or nothing is, and it
-/// has one list of lines.
-pub fn one_stream()
-    ensures one { StreamIsOne }
-    ensures refusal { StreamRefusesOnce }
-{
-    streams_are_lawful();
-    one_refusal::<StreamTaker>();
-    one_saying::<StreamTaker>();
 }
 
 /// Something is wrong with the update streams of a folder in one first way, or nothing is, and they

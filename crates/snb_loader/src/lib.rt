@@ -12,6 +12,5 @@ pub mod order;
 #[cfg(test)]
 mod param_tests;
 pub mod params;
-pub mod stream;
 mod streams;
 pub mod tables;

@@ -285,11 +285,3 @@ pub const FORUM_STREAMS: [Series; 1] = [Series {
     most: MAX_LANES,
     what: Some(Counted::Lanes),
 }];
-
-/// The first person stream, which may be absent.
-pub const FIRST_STREAM: [Series; 1] = [Series {
-    kind: FileKind::PersonStream,
-    needed: false,
-    most: 1,
-    what: None,
-}];

@@ -5,11 +5,11 @@ ghost use Rattle.snb_base.specs.Shelf.{Rose};
 ghost use Rattle.snb_schema.specs.declared.limits.TheConstants.{MAX_BYTES, MAX_ROWS};
 ghost use Rattle.snb_schema.specs.Frequencies.{frequency_at};
 ghost use Rattle.snb_schema.specs.Queries.{IsComplex};
-ghost use Rattle.snb_schema.specs.QueryLists.{AreOf, list_of};
+ghost use Rattle.snb_schema.specs.QueryLists.{AreOf, HaveParameters, list_of};
 ghost use Rattle.snb_input.specs.Grammar.{Lawful};
 ghost use Rattle.snb_input.specs.Loading.{OnReadFault};
 ghost use Rattle.snb_input.specs.Stages.{AreRising, IsStage, IsWalkWithin, before};
-ghost use Rattle.snb_loader.specs.Params.{AreFull, AreOfEach, HasHeard, IsParamsAnswer, asked, params_grammar, params_stage, query_in as query_within};
+ghost use Rattle.snb_loader.specs.Params.{AreOfEach, HasHeard, IsParamsAnswer, asked, params_grammar, params_stage, query_in as query_within};
 
 use csv::ByteRecord;
 use snb_base::shelf::Shelf;
@@ -213,7 +213,7 @@ pub fn load_params<S: Shelf>(
     requires bytes { used.old.bytes ≤ MAX_BYTES }
     requires rows { used.old.rows ≤ MAX_ROWS }
     ensures answer { IsParamsAnswer (S.contents shelf.old) folder.now frequencies.now used.old used.new result }
-    ensures full { IfOk result (AreFull frequencies.now) }
+    ensures full { IfOk result (λ lists. HaveParameters lists frequencies.now) }
     ensures within { OnOk result ((used.new.bytes ≤ MAX_BYTES) × (used.new.rows ≤ MAX_ROWS)) }
     ensures err { OnErr result (used.new ≡ used.old) }
     ensures fault { OnReadFault result (Rose (S.faults shelf.old) (S.faults shelf.new)) }

@@ -6,7 +6,6 @@ pub mod Meeting
 pub mod OnePlan
 pub mod OneRefusal
 pub mod Ordered
-pub mod PlanLemmas
 pub mod Planned
 pub mod Slots
 pub mod Spotting

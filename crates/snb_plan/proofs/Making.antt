@@ -12,12 +12,12 @@ use Rattle.snb_schema.specs.declared.op.Line.{Line}
 use Rattle.snb_schema.specs.declared.query.Query.TheVariants.{Is1}
 use Rattle.snb_schema.specs.Frequencies.{FrequencyTable}
 use Rattle.snb_schema.specs.LineLanes.{LineLanes}
-use Rattle.snb_schema.specs.QueryLists.{QueryLists, list_of}
+use Rattle.snb_schema.specs.QueryLists.{HaveParameters, QueryLists, list_of}
 use Rattle.snb_schema.specs.Schedule.{Schedule, ComesBefore, no_step}
 use Rattle.snb_schema.specs.StreamLines.{AreOfStreams}
 use Rattle.snb_plan.specs.declared.instances.Instance.{Instance}
 use Rattle.snb_plan.specs.declared.spots.Spot.{Spot}
-use Rattle.snb_plan.specs.Plans.{AreInOrder, AreReads, AreUpdates, HaveParameters, IsEarlier, IsInstance, IsLineOf, IsPlan, IsRead, IsUpdate, Operation, Placed, first_t, lane_of, read_lane, read_operation, update_operation}
+use Rattle.snb_plan.specs.Plans.{AreInOrder, AreReads, AreUpdates, IsEarlier, IsInstance, IsLineOf, IsPlan, IsRead, IsUpdate, Operation, Placed, first_t, lane_of, read_lane, read_operation, update_operation}
 use Rattle.snb_plan.specs.Spots.{AreKept, AreUpdateSpots, IsKept, IsReadSpot, IsScheduled, IsSpotBefore, IsUpdateSpot, instance_at, line_at, no_instance, no_line, no_spot, operation_of, query_at, read_step, spot_step, spot_t, update_step}
 use Rattle.snb_plan.proofs.Assembly.{AreSpotsOf, reads_within}
 use Rattle.snb_plan.proofs.Planned.{at_line, at_read, step_is, steps_before}

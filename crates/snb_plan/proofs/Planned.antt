@@ -24,8 +24,7 @@ use Rattle.snb_plan.specs.declared.spots.Spot.{Spot}
 use Rattle.snb_plan.specs.Plans.{AreReads, kinds_of, read_lane}
 use Rattle.snb_plan.specs.Spots.{AreAllSpots, AreUpdateSpots, IsReadSpot, IsSpotBefore, IsThere, IsUpdateSpot, line_at, no_line, no_spot, read_step, spot_step, spot_t, update_step}
 use Rattle.snb_plan.proofs.Assembly.{AreSpotsOf, all_timed, lane_lines, place_counted, spot_rises}
-use Rattle.snb_plan.proofs.PlanLemmas.{apart}
-use Rattle.snb_plan.proofs.Streams.{line_times}
+use Rattle.snb_plan.proofs.Streams.{apart, line_times}
 
 -- ---- the step at a spot
 

@@ -1,7 +1,8 @@
 -- A plan as its lanes, lists, reads and schedule show it.
-use Rattle.std.proofs.Common.{◌≡◌, ℕ, ◌<◌, ◌≤◌, ◌%◌, ◌-◌, Bool, true, false, List, [], ◌∷◌, length, map, get_or, Option, Some, None, inl, inr, refl, sym, ap, ◌∙◌, subst, arith, mod-lt}
+use Rattle.std.proofs.Common.{◌≡◌, ℕ, suc, ◌+◌, ◌<◌, ◌≤◌, ◌%◌, ◌-◌, Bool, true, false, cond, List, [], ◌∷◌, length, map, count_by, get_or, Option, Some, None, inl, inr, refl, sym, ap, ◌∙◌, subst, arith, mod-lt}
 use Rattle.std.specs.Prelude.{filter_map, slice_get, option_map, if◌then◌else◌}
-use Rattle.std.specs.List.{cons_option}
+use Rattle.std.specs.List.{cons_option, filter}
+use Rattle.std.proofs.lemmas.List.Sums.{length-filter}
 use Rattle.std.proofs.lemmas.List.{get_or_default, length-map}
 use Rattle.std.proofs.lemmas.Option.{slice_get-get_or, slice_get-map}
 use Rattle.snb_schema.specs.declared.op.Line.{Line}
@@ -15,7 +16,7 @@ use Rattle.snb_schema.specs.Schedule.{Schedule, ComesBefore, IsPlanned, no_step}
 use Rattle.snb_plan.specs.declared.instances.Instance.{Instance}
 use Rattle.snb_plan.specs.declared.plan.Source.{Source}
 use Rattle.snb_plan.specs.Closed.{Update}
-use Rattle.snb_plan.specs.Plans.{Ask, Insert, IsSource, Operation, Plan, file_of, lane_of, schedule_of, update_from, updates_in}
+use Rattle.snb_plan.specs.Plans.{Ask, Insert, IsSource, Operation, Plan, file_of, lane_of, queries_in, query_from, schedule_of, update_from, updates_in}
 use Rattle.snb_plan.specs.Spots.{AreKept, AreLines, IsKept, StepsRise, instance_at, line_at, no_instance, no_line, operation_of, query_at, update_at, updates_at}
 
 -- the steps of the operations are the steps
@@ -171,3 +172,44 @@ read_task lanes lists reads schedule plan now k d is same lt read kept one list 
       operation_here lanes lists reads schedule plan k d is lt,
       asks lanes lists reads (get_or schedule.steps k d) here ∙ ap Ask (ap (query_at lists) (sym instance) ∙ sym asked),
     )
+
+-- ---- how many there are
+
+asks_query : (lanes : LineLanes) (lists : QueryLists) (reads : List Instance) (s : Step) (b : Bool)
+    → query_from (if b then Ask (query_at lists (instance_at reads s.place)) else Insert (line_at lanes s.lane s.place)) ≡ (if b then Some (query_at lists (instance_at reads s.place)) else None)
+asks_query lanes lists reads s true = refl
+asks_query lanes lists reads s false = refl
+
+-- what one step adds to a list, where it is a read's, and where it isn't
+one_more : {X : Type 0} (x : X) (s : Step) (b : Bool) (xs : List X) (ss : List Step) → length xs ≡ length ss
+    → length (cons_option (if b then Some x else None) xs) ≡ length (cond b (s ∷ ss) ss)
+one_more x s true xs ss e = ap suc e
+one_more x s false xs ss e = e
+
+other_more : {X : Type 0} (x : X) (s : Step) (b : Bool) (xs : List X) (ss : List Step) (n : ℕ) → length xs + length ss ≡ n
+    → length (cons_option (if b then None else Some x) xs) + length (cond b (s ∷ ss) ss) ≡ suc n
+other_more x s true xs ss n e = omega (arith, e)
+other_more x s false xs ss n e = omega (arith, e)
+
+queries_filtered : (lanes : LineLanes) (lists : QueryLists) (reads : List Instance) (steps : List Step)
+    → length (filter_map (λ (o : Operation). query_from o.work) (map (operation_of lanes lists reads) steps)) ≡ length (filter (λ (s : Step). s.query) steps)
+queries_filtered lanes lists reads [] = refl
+queries_filtered lanes lists reads (s ∷ steps) =
+    let rest = filter_map (λ (o : Operation). query_from o.work) (map (operation_of lanes lists reads) steps) in
+    ap (λ (o : Option Query). length (cons_option o rest)) (asks_query lanes lists reads s s.query)
+    ∙ one_more (query_at lists (instance_at reads s.place)) s s.query rest (filter (λ (t : Step). t.query) steps) (queries_filtered lanes lists reads steps)
+
+updates_filtered : (lanes : LineLanes) (steps : List Step) → length (updates_at lanes steps) + length (filter (λ (s : Step). s.query) steps) ≡ length steps
+updates_filtered lanes [] = refl
+updates_filtered lanes (s ∷ steps) =
+    other_more (record { lane = s.lane; file = file_of lanes s.lane; line = line_at lanes s.lane s.place }) s s.query (updates_at lanes steps) (filter (λ (t : Step). t.query) steps) (length steps)
+    (updates_filtered lanes steps)
+
+-- the queries of what is seen are as many as the steps of reads
+pub queries_counted : (lanes : LineLanes) (lists : QueryLists) (reads : List Instance) (steps : List Step)
+    → length (filter_map (λ (o : Operation). query_from o.work) (map (operation_of lanes lists reads) steps)) ≡ count_by (λ (s : Step). s.query) steps
+queries_counted lanes lists reads steps = queries_filtered lanes lists reads steps ∙ length-filter (λ (s : Step). s.query) steps
+
+-- the other steps are those of updates
+pub updates_counted : (lanes : LineLanes) (steps : List Step) → length (updates_at lanes steps) + count_by (λ (s : Step). s.query) steps ≡ length steps
+updates_counted lanes steps = (let all = updates_filtered lanes steps in let reads = length-filter (λ (s : Step). s.query) steps in omega (arith, all, reads))

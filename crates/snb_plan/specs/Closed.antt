@@ -1,5 +1,5 @@
 -- Which updates a run may be given: each has a new key, and each finds the nodes that it refers to in time.
-use Rattle.std.specs.Prelude.{◌≡◌, ℕ, ◌<◌, ◌≤◌, ◌⊎◌, Bool, true, false, List, ◌∷◌, ◌++◌, Contains, All, Option, Some, None, map}
+use Rattle.std.specs.Prelude.{◌≡◌, ℕ, ◌<◌, ◌≤◌, ◌⊎◌, Bool, true, false, List, ◌∷◌, ◌++◌, Contains, All, Option, Some, None}
 use Rattle.snb_schema.specs.declared.file.FileId.{FileId}
 use Rattle.snb_schema.specs.declared.key.Key.{Key}
 use Rattle.snb_schema.specs.declared.key.Key.TheVariants.{Node}
@@ -20,10 +20,6 @@ pub record Update : Type 0 where
   pub lane : ℕ
   pub file : FileId
   pub line : Line
-
--- the lines of one file as the updates of one lane
-abbrev pub updates_of : ℕ → FileId → List Line → List Update
-updates_of lane file lines = map (λ line. record { lane = lane; file = file; line = line }) lines
 
 -- the node that an insert adds, if it adds one
 abbrev pub added_node : Op → Option Missing

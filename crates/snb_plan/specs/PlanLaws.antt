@@ -1,21 +1,12 @@
 -- Laws of plans and of closed updates.
-use Rattle.std.specs.Prelude.{◌≡◌, ℕ, ◌≤◌, List, length}
+use Rattle.std.specs.Prelude.{◌≡◌, ℕ, List}
 use Rattle.snb_schema.specs.declared.key.Key.{Key}
-use Rattle.snb_schema.specs.declared.limits.TheConstants.{MAX_ROWS}
-use Rattle.snb_schema.specs.declared.op.Line.{Line}
 use Rattle.snb_schema.specs.declared.refusal.Refusal.{Refusal}
 use Rattle.snb_schema.specs.Frequencies.{FrequencyTable}
 use Rattle.snb_schema.specs.LineLanes.{LineLanes}
 use Rattle.snb_schema.specs.QueryLists.{QueryLists}
-use Rattle.snb_schema.specs.StreamLines.{AreOfStream}
-use Rattle.snb_schema.specs.UpdateLines.{person_inserts}
 use Rattle.snb_plan.specs.Closed.{Update, IsClosed, IsFirstWrong}
-use Rattle.snb_plan.specs.Plan.{ArePlanned}
 use Rattle.snb_plan.specs.Plans.{IsPlan, Plan}
-
--- the lines of a stream of persons can be planned, where they aren't too many
-abbrev pub StreamsArePlanned : Type 0
-StreamsArePlanned = (lines : List Line) → AreOfStream person_inserts lines → length lines ≤ MAX_ROWS → ArePlanned lines
 
 -- by the keys of a dataset, updates are refused in one way at most, and aren't closed where they are
 abbrev pub ClosedIsOne : (Key → Type 0) → Type 0

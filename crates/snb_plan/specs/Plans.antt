@@ -14,6 +14,7 @@ use Rattle.snb_schema.specs.Frequencies.{FrequencyTable, frequency_at}
 use Rattle.snb_schema.specs.LineLanes.{LineLanes}
 use Rattle.snb_schema.specs.QueryLists.{QueryLists, list_of}
 use Rattle.snb_schema.specs.Schedule.{Schedule, ComesBefore}
+use Rattle.snb_schema.specs.StreamLines.{AreOfStreams}
 use Rattle.snb_plan.specs.declared.instances.Instance.{Instance}
 use Rattle.snb_plan.specs.declared.plan.PlanFault.{PlanFault}
 use Rattle.snb_plan.specs.declared.plan.PlanFault.TheVariants.{Refused, Memory}
@@ -50,10 +51,6 @@ file_of lanes lane =
     if nat_lt lane (length lanes.persons)
     then record { kind = files.PersonStream; part = lane }
     else record { kind = files.ForumStream; part = lane - length lanes.persons }
-
--- how many updates there are
-abbrev pub update_count : LineLanes → ℕ
-update_count lanes = sum_by (λ (lines : List Line). length lines) (numbered_lanes lanes)
 
 -- ---- updates
 
@@ -101,10 +98,6 @@ share count frequency = if frequency == 0 then 0 else count / frequency
 
 abbrev pub read_count : FrequencyTable → ℕ → ℕ
 read_count frequencies count = sum_by (λ q. share count (frequency_at frequencies q)) (1 ∷ 2 ∷ 7 ∷ 8 ∷ 9 ∷ 11 ∷ 13 ∷ [])
-
--- each query with a frequency has a parameter
-abbrev pub HaveParameters : QueryLists → FrequencyTable → Type 0
-HaveParameters lists frequencies = (q : ℕ) → 0 < frequency_at frequencies q → 0 < length (list_of lists q)
 
 -- the parameters are taken in turn, and from the start again when they are used up
 abbrev pub IsAsked : QueryLists → Instance → Query → Type 0
@@ -207,6 +200,23 @@ update_from step work source = None
 
 abbrev pub updates_in : Plan → List Update
 updates_in plan = filter_map (λ (o : Operation). update_from o.step o.work o.source) plan.operations
+
+-- the query that an operation asks, if it is a read, and those of a plan in the order of their numbers
+abbrev pub query_from : Work → Option Query
+query_from (Insert line) = None
+query_from (Ask query) = Some query
+
+abbrev pub queries_in : Plan → List Query
+queries_in plan = filter_map (λ (o : Operation). query_from o.work) plan.operations
+
+-- the plan is one of lanes of streams
+pub record IsOfStreams (plan : Plan) : Type 0 where
+  pub lanes : LineLanes
+  pub lists : QueryLists
+  pub frequencies : FrequencyTable
+  pub ratio : ℕ
+  pub is_plan : IsPlan lanes lists frequencies ratio plan
+  pub streams : AreOfStreams lanes
 
 -- a task does what the operation of this number does
 abbrev pub work_of : Task → Work

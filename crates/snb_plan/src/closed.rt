@@ -3,8 +3,7 @@
 ghost use Rattle.std.specs.Prelude.{◌≡◌, ◌↔◌, IsTrue, MatchOption, IfOk, OnOk, All};
 ghost use Rattle.snb_schema.specs.Awaiting.{is_awaited};
 ghost use Rattle.snb_schema.specs.Faults.{OnBad};
-ghost use Rattle.snb_schema.specs.StreamLines.{NeverFalls};
-ghost use Rattle.snb_plan.specs.Closed.{is_in_lane, updates_of, IsClosed, IsFirstUnmet, IsFirstWrong, IsLate, IsWrongBy};
+ghost use Rattle.snb_plan.specs.Closed.{is_in_lane, IsFirstUnmet, IsLate, IsWrongBy};
 ghost use Rattle.snb_plan.specs.Added.{update_of, HasAdded, IsFine, IsKeyTaken, IsMetAt, IsMetBy, IsTakenBy, MeetsBy};
 
 use crate::added::{Added, Mark};
@@ -167,28 +166,5 @@ pub fn check_update<H: Held>(
         return Err(Fault::Bad { refusal });
     }
     added.add(lane, line)?;
-    Ok(())
-}
-
-/// Refuses the first insert of a stream that waits and whose t_d isn't below its t, that takes a key
-/// which is held or is taken by an insert before it, or that refers to a node which is neither held
-/// nor added in time: a person by an insert whose t is at most this t_d, a forum or a message by an
-/// insert before it.
-///
-/// `file` is the stream, and `held` tells the keys of the dataset. The inserts are in order of t.
-pub fn check_closed<H: Held>(
-    alloc: Global,
-    held: &H,
-    file: FileId,
-    inserts: &[Line],
-) -> Result<(), Fault>
-    requires rises { NeverFalls inserts.now }
-    ensures ok { OnOk result (IsClosed (H.holds held.now) (updates_of 0 file inserts.now)) }
-    ensures bad { OnBad result (IsFirstWrong (H.holds held.now) (updates_of 0 file inserts.now)) }
-{
-    let mut added = Added::new(alloc);
-    for line in inserts {
-        check_update(alloc, held, &mut added, 0, file, line)?;
-    }
     Ok(())
 }

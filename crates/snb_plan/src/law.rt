@@ -1,13 +1,8 @@
 //! Laws of plans and of closed updates.
 
-ghost use Rattle.snb_plan.specs.PlanLaws.{ClosedIsOne, PlanIsOne, StreamsArePlanned};
+ghost use Rattle.snb_plan.specs.PlanLaws.{ClosedIsOne, PlanIsOne};
 
 use snb_schema::key::Held;
-
-/// The lines of a stream of persons can be planned, where they are at most `MAX_ROWS`.
-pub fn streams_are_planned()
-    ensures { StreamsArePlanned }
-{}
 
 /// Updates are refused in one way at most, whatever keys the dataset has, and aren't closed where they
 /// are.

@@ -2,11 +2,9 @@
 #![tactic(auto)]
 
 mod added;
-pub mod closed;
+mod closed;
 mod instances;
 pub mod law;
 pub mod plan;
 mod references;
 mod spots;
-#[cfg(test)]
-mod tests;

@@ -1,16 +1,17 @@
 //! Plans: what is done in a run, in order.
 
-ghost use Rattle.std.specs.Prelude.{◌≡◌, ◌<◌, ◌≤◌, All, IfOk, OnOk, length, map};
+ghost use Rattle.std.specs.Prelude.{◌≡◌, ◌<◌, ◌≤◌, All, IfOk, OnOk, count_by, length, map};
 ghost use Rattle.snb_schema.specs.declared.limits.TheConstants.{MAX_AT, MAX_READS, MAX_ROWS, MAX_TIME};
 ghost use Rattle.snb_plan.specs.declared.plan.PlanFault.TheVariants.{Memory};
 ghost use Rattle.snb_schema.specs.declared.refusal.Counted.TheVariants.{Reads};
 ghost use Rattle.snb_schema.specs.declared.refusal.Refusal.TheVariants.{TooMany};
 ghost use Rattle.snb_schema.specs.Awaiting.{adds_awaited, waits};
 ghost use Rattle.snb_schema.specs.Faults.{OnBad};
+ghost use Rattle.snb_schema.specs.LineLanes.{update_count};
+ghost use Rattle.snb_schema.specs.QueryLists.{HaveParameters};
 ghost use Rattle.snb_schema.specs.StreamLines.{AreOfStreams};
 ghost use Rattle.snb_plan.specs.Closed.{IsClosed, IsFirstWrong};
-ghost use Rattle.snb_plan.specs.Plan.{first_t, insert_step, insert_steps, plan_of, AreTimed};
-ghost use Rattle.snb_plan.specs.Plans.{kinds_of, read_count, schedule_of, update_count, updates_in, HaveParameters, IsPlan, IsSource, IsTask, OnRefused};
+ghost use Rattle.snb_plan.specs.Plans.{kinds_of, queries_in, read_count, schedule_of, updates_in, IsOfStreams, IsPlan, IsSource, IsTask, OnRefused};
 ghost use Rattle.snb_plan.specs.Spots.{read_step, spot_step, spot_t, update_step, updates_at, AreLines, IsScheduled, IsThere, StepsRise};
 
 use crate::added::Added;
@@ -33,13 +34,6 @@ use snb_schema::step::{LaneKind, Step};
 use std::alloc::{AllocError, AllocFailed, Global};
 use std::marker::Model;
 
-// The t of the first insert, or 0 where there is none.
-fn t_of_first(inserts: &[Line]) -> u64
-    ensures { result ≡ first_t inserts.now }
-{
-    if inserts.is_empty() { 0 } else { inserts[0].t }
-}
-
 /// Whether the insert is a dependency: it adds a node that dependents may wait for, by the dependency
 /// rule of Erling et al., SIGMOD 2015.
 pub fn adds_awaited(op: &Op) -> bool
@@ -59,48 +53,6 @@ pub fn waits(op: &Op) -> bool
         Op::AddPerson { .. } => false,
         _ => true,
     }
-}
-
-// The step of an insert, which is due as long after the run's start as its t is after `first`.
-fn insert_step(first: u64, place: u32, line: &Line) -> Step
-    requires { first ≤ line.now.t }
-    ensures { result ≡ insert_step first place line.now }
-{
-    Step {
-        lane: 0,
-        place,
-        t: line.t,
-        t_d: line.t_d,
-        due: line.t - first,
-        dependency: adds_awaited(&line.op),
-        dependent: waits(&line.op),
-        query: false,
-    }
-}
-
-// The steps of the inserts, all in one lane: each is due as long after the run's start as its t is
-// after that of the first.
-fn steps_of(alloc: Global, first: u64, inserts: &[Line]) -> Result<Vec<Step>, AllocError>
-    requires planned { AreTimed inserts.now }
-    requires first { first ≡ first_t inserts.now }
-    ensures { IfOk result (λ steps. steps.items ≡ insert_steps first 0 inserts.now) }
-{
-    let mut steps = Vec::with_capacity(alloc, inserts.len())?;
-    for place in 0..inserts.len() {
-        let line = &inserts[place];
-        steps.push(insert_step(first, place as u32, line))?;
-    }
-    Ok(steps)
-}
-
-/// The schedule of the inserts of a stream, which are in order of t, `MAX_ROWS` at most, with no
-/// moment above `MAX_TIME`.
-pub fn make_schedule(alloc: Global, inserts: &[Line]) -> Result<Schedule, AllocError>
-    requires { AreTimed inserts.now }
-    ensures { IfOk result (λ schedule. schedule ≡ plan_of inserts.now) }
-{
-    let steps = steps_of(alloc, t_of_first(inserts), inserts)?;
-    Schedule::make(alloc, &[LaneKind::Person], steps)
 }
 
 /// Why there is no plan, or why it isn't closed.
@@ -258,6 +210,19 @@ fn schedule_of(
     Ok((reads, schedule))
 }
 
+// How many of the steps are those of reads.
+fn read_steps(steps: &[Step]) -> u64
+    ensures { result ≡ count_by (λ step. step.query) steps.now }
+{
+    let mut reads: u64 = 0;
+    for step in steps {
+        if step.query {
+            reads += 1;
+        }
+    }
+    reads
+}
+
 /// The plan of update streams and parameters.
 ///
 /// A contract sees the kinds of its lanes and its operations in the order of their numbers, each with
@@ -272,14 +237,15 @@ pub struct Plan {
 
 impl Model for Plan {
     ghost use Rattle.std.specs.Prelude.{map};
-    ghost use Rattle.snb_plan.specs.Plans.{Plan as AnyPlan};
+    ghost use Rattle.snb_plan.specs.Plans.{Plan as AnyPlan, IsOfStreams};
     ghost use Rattle.snb_plan.specs.Spots.{operation_of, AreKept};
 
     ghost Value = { AnyPlan };
 
     ghost view = { λ p. record { kinds = p.schedule.kinds; operations = map (operation_of p.lanes p.lists p.reads.items) p.schedule.steps } };
 
-    ghost invariant = { λ p. AreKept p.lanes p.lists p.reads.items p.schedule.steps };
+    ghost invariant = { λ p. AreKept p.lanes p.lists p.reads.items p.schedule.steps
+        × IsOfStreams (record { kinds = p.schedule.kinds; operations = map (operation_of p.lanes p.lists p.reads.items) p.schedule.steps }) };
 }
 
 impl Plan {
@@ -310,6 +276,28 @@ impl Plan {
             reads,
             schedule,
         })
+    }
+
+    /// The plan is one of lanes of streams.
+    pub fn known(&self)
+        ensures { IsOfStreams self.now }
+    {
+        let _ = &self.lanes;
+    }
+
+    /// How many updates it has.
+    pub fn updates(&self) -> u64
+        ensures { result ≡ length (updates_in self.now) }
+    {
+        let steps = self.schedule.steps();
+        steps.len() as u64 - read_steps(steps)
+    }
+
+    /// How many reads it has.
+    pub fn reads(&self) -> u64
+        ensures { result ≡ length (queries_in self.now) }
+    {
+        read_steps(self.schedule.steps())
     }
 
     /// What the scheduler sees of it. Takes no memory.

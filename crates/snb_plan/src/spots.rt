@@ -2,8 +2,9 @@
 
 ghost use Rattle.std.specs.Prelude.{◌≡◌, ◌+◌, ◌<◌, ◌≤◌, ◌++◌, ◌∷◌, [], length, All, IfOk, OnOk};
 ghost use Rattle.snb_schema.specs.declared.limits.TheConstants.{MAX_READS, MAX_ROWS};
+ghost use Rattle.snb_schema.specs.LineLanes.{update_count};
 ghost use Rattle.snb_schema.specs.Schedule.{max_lanes};
-ghost use Rattle.snb_plan.specs.Plans.{file_of, kinds_of, lane_of, numbered_lanes, read_lane, update_count, AreReads};
+ghost use Rattle.snb_plan.specs.Plans.{file_of, kinds_of, lane_of, numbered_lanes, read_lane, AreReads};
 ghost use Rattle.snb_plan.specs.Spots.{all_spots, lane_spots, read_spots, AreAllSpots, AreUpdateSpots};
 
 use crate::instances::Instance;

@@ -1,9 +1,10 @@
 //! The plan of a folder.
 
 ghost use Rattle.std.specs.Prelude.{◌≤◌};
-ghost use Rattle.snb_schema.specs.StreamLines.{AreOfStreams};
 ghost use Rattle.snb_schema.specs.declared.limits.TheConstants.{MAX_BYTES, MAX_ROWS};
-ghost use Rattle.snb_plan.specs.Plans.{HaveParameters, update_count};
+ghost use Rattle.snb_schema.specs.LineLanes.{update_count};
+ghost use Rattle.snb_schema.specs.QueryLists.{HaveParameters};
+ghost use Rattle.snb_schema.specs.StreamLines.{AreOfStreams};
 
 use crate::files::FOLDER;
 use snb_base::memory_shelf::MemoryShelf;

@@ -6,3 +6,4 @@ pub mod Single
 pub mod Finishes
 pub mod Welcome
 pub mod Final
+pub mod Agreement

@@ -63,8 +63,8 @@ module _ {base : List Row} {plan : Plan} {g : List Event} {graph : List Row} (r 
   there node c (inl held) = after_base base plan g graph (node_key node.kind node.id) after held
   there node c (inr (inl (awaited, (v, one, adds, in_time)))) =
       let j = at_some plan v one in
-      let first = step_at r.is_plan j.0 v j.1 in
-      let own = step_at r.is_plan k u at in
+      let first = step_at r.of_streams.is_plan j.0 v j.1 in
+      let own = step_at r.of_streams.is_plan k u at in
       let t = first.t in
       let t_d = own.t_d in
       there_by j.0 v node j.1
@@ -72,17 +72,17 @@ module _ {base : List Row} {plan : Plan} {g : List Event} {graph : List Row} (r 
       adds
   there node c (inr (inr (in_lane, (v, one, lane, adds)))) =
       let j = at_before plan k v one in
-      let first = step_at r.is_plan j.0 v j.2 in
-      let own = step_at r.is_plan k u at in
+      let first = step_at r.of_streams.is_plan j.0 v j.2 in
+      let own = step_at r.of_streams.is_plan k u at in
       let forum : IsInForum (schedule_of plan) k =
-      ap (λ (kinds : List LaneKind). slice_get kinds (step_of (schedule_of plan) k).lane) r.is_plan.lane_kinds
-      ∙ (ap (slice_get (kinds_of r.lanes)) (own.lane ∙ sym lane) ∙ in_forum_lane r.lanes v.lane first.place v.line node r.streams first.in_lanes first.line adds in_lane) in
+      ap (λ (kinds : List LaneKind). slice_get kinds (step_of (schedule_of plan) k).lane) r.of_streams.is_plan.lane_kinds
+      ∙ (ap (slice_get (kinds_of r.of_streams.lanes)) (own.lane ∙ sym lane) ∙ in_forum_lane r.of_streams.lanes v.lane first.place v.line node r.of_streams.streams first.in_lanes first.line adds in_lane) in
       there_by j.0 v node j.2 (now.turn forum j.0 j.1 (first.lane ∙ (lane ∙ sym own.lane))) adds
 
   -- a key that it takes is held by no other insert that is finished
   apart : (key : Key) → Contains (keys_of u.line.op) key → IsAdded plan g (named_key key) → ⊥
   apart key c added =
-      let found = update_at r.is_plan added.number added.op added.at in
+      let found = update_at r.of_streams.is_plan added.number added.op added.at in
       let v : Update = found.0 in
       let other : IsUpdateAt plan added.number v = found.1 in
       let takes : Contains (keys_of v.line.op) key = subst (λ (o : Op). Contains (keys_of o) key) (sym found.2) (names_own added.op key added.held) in
@@ -114,7 +114,7 @@ welcome_in_turn prefix base plan workers g e op graph r legal finishes_it after 
     by_event (Start k worker at) l q = absurd cc
     by_event (Finish k worker at front) l q =
         let fits : Fits (schedule_of plan) workers g (Finish k worker at front) = l.fits g (Finish k worker at front) [] refl in
-        let found = update_at r.is_plan k op q in
+        let found = update_at r.of_streams.is_plan k op q in
         subst (IsWelcome graph) found.2
         (welcome_here r after found.1 (is_open (schedule_of plan) workers g k worker (prefix (schedule_of plan) workers g (Finish k worker at front ∷ []) l) (fits.obeys V7)))
     by_event (Halt worker) l q = absurd cc

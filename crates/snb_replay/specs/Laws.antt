@@ -3,25 +3,16 @@ use Rattle.std.specs.Prelude.{◌≡◌, ℕ, List, [], ◌∷◌, ◌++◌, Som
 use Rattle.snb_schema.specs.declared.event.Event.{Event}
 use Rattle.snb_schema.specs.declared.op.Op.{Op}
 use Rattle.snb_schema.specs.declared.row.Row.{Row}
-use Rattle.snb_schema.specs.Frequencies.{FrequencyTable}
-use Rattle.snb_schema.specs.LineLanes.{LineLanes}
-use Rattle.snb_schema.specs.QueryLists.{QueryLists}
 use Rattle.snb_schema.specs.Rules.{IsComplete, IsLegal}
-use Rattle.snb_schema.specs.StreamLines.{AreOfStreams}
 use Rattle.snb_tables.specs.Graphs.{HoldsKey}
 use Rattle.snb_plan.specs.Closed.{IsClosed}
-use Rattle.snb_plan.specs.Plans.{IsPlan, Plan, schedule_of, updates_in}
+use Rattle.snb_plan.specs.Plans.{IsOfStreams, Plan, schedule_of, updates_in}
 use Rattle.snb_inserts.specs.Applying.{IsWelcome}
 use Rattle.snb_replay.specs.Replay.{IsAfter, IsFinal, finished_insert}
 
 -- the plan is one of lanes of streams, and its updates are closed over the base
 pub record IsReplayed (base : List Row) (plan : Plan) : Type 0 where
-  pub lanes : LineLanes
-  pub lists : QueryLists
-  pub frequencies : FrequencyTable
-  pub ratio : ℕ
-  pub is_plan : IsPlan lanes lists frequencies ratio plan
-  pub streams : AreOfStreams lanes
+  pub of_streams : IsOfStreams plan
   pub closed : IsClosed (HoldsKey base) (updates_in plan)
 
 -- in a legal history of such a plan, each insert finds all that it refers to, and its keys are new, after what has finished before it
@@ -35,3 +26,10 @@ abbrev pub CompleteIsFinal : Type 0
 CompleteIsFinal =
     (base : List Row) (plan : Plan) (workers : ℕ) (h : List Event) (graph : List Row) → IsLegal (schedule_of plan) workers h
     → IsComplete (schedule_of plan) h → IsAfter base plan h graph → IsFinal base plan graph
+
+-- two legal, complete histories of one plan, of whatever workers, leave one graph
+abbrev pub HistoriesAgree : Type 0
+HistoriesAgree =
+    (base : List Row) (plan : Plan) (workers others : ℕ) (h k : List Event) (graph other : List Row) → IsLegal (schedule_of plan) workers h
+    → IsComplete (schedule_of plan) h → IsAfter base plan h graph → IsLegal (schedule_of plan) others k → IsComplete (schedule_of plan) k
+    → IsAfter base plan k other → graph ≡ other

@@ -1,16 +1,20 @@
 //! Laws of replay. The function only cites laws of histories; its contract is the law.
 
-ghost use Rattle.snb_replay.specs.Laws.{CompleteIsFinal, WelcomeInTurn};
+ghost use Rattle.snb_replay.specs.Laws.{CompleteIsFinal, HistoriesAgree, WelcomeInTurn};
 
 use snb_schema::law::{once_each, prefix_is_legal};
+use snb_tables::law::graphs_are_their_rows;
 
 /// In a legal history of a plan whose updates are closed over a base, each insert finds all that it refers to
 /// in the graph that has the base and the inserts that have finished before it, and its keys are new there
-/// (`welcome`). After a complete one the graph has the rows of each insert, whatever the history (`last`).
+/// (`welcome`). After a complete one the graph has the rows of each insert, whatever the history (`last`);
+/// so two complete ones leave one graph (`one`).
 pub fn replay_is_welcome()
     ensures welcome { WelcomeInTurn }
     ensures last { CompleteIsFinal }
+    ensures one { HistoriesAgree }
 {
     once_each();
     prefix_is_legal();
+    graphs_are_their_rows();
 }

@@ -2,7 +2,8 @@
 use Rattle.std.proofs.Common.{◌≡◌, ◌∙◌, ◌↔◌, ℕ, suc, ◌<◌, ℤ, pos, List, [], ◌∷◌, ap, arith, inl, inr, refl, subst, sym}
 use Rattle.std.specs.List.{AllPairs, Contains}
 use Rattle.snb_schema.specs.declared.row.Row.{Row}
-use Rattle.snb_reads.proofs.Lists.{contains_cases, contains_here, contains_none, contains_there}
+use Rattle.snb_base.proofs.Laws.{contains_cases, contains_here, contains_there}
+use Rattle.snb_reads.proofs.Laws.{contains_none}
 use Rattle.snb_reads.specs.Distance.{IsDistance, IsLength, IsWithin}
 
 -- pairs by rising id

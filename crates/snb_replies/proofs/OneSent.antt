@@ -8,7 +8,8 @@ use Rattle.snb_tables.specs.Graphs.{IsGraph}
 use Rattle.snb_tables.specs.Soundness.{Sound}
 use Rattle.snb_soundness.specs.SoundLaws.{MessagesHaveOneAuthor}
 use Rattle.snb_order.specs.Laws.{OneFirst}
-use Rattle.snb_reads.proofs.Lists.{any_from, contains_cases, contains_here, contains_none, contains_there, in_filter}
+use Rattle.snb_base.proofs.Laws.{contains_cases, contains_here, contains_there}
+use Rattle.snb_reads.proofs.Laws.{any_from, contains_none, in_filter}
 use Rattle.snb_reads.specs.declared.cell.Cell.{Cell}
 use Rattle.snb_reads.specs.declared.cell.Cell.TheVariants as cell
 use Rattle.snb_reads.specs.declared.like.Like.{Like}

@@ -15,8 +15,8 @@ use Rattle.snb_tables.specs.Graphs.{IsGraph, rows}
 use Rattle.snb_tables.specs.Messages.{HasMessage, IsRoot, Wrote}
 use Rattle.snb_tables.specs.Soundness.{Sound}
 use Rattle.snb_soundness.specs.SoundLaws.{MessagesHaveOneAuthor, MessagesHaveOneRoot, RepliesAreHeld}
-use Rattle.snb_reads.proofs.Laws.{comment_only, in_rows, person_only, post_only, sent_there}
-use Rattle.snb_reads.proofs.Lists.{chosen_from, contains_cases, contains_none}
+use Rattle.snb_reads.proofs.Laws.{chosen_from, comment_only, contains_none, in_rows, person_only, post_only, sent_there}
+use Rattle.snb_base.proofs.Laws.{contains_cases}
 use Rattle.snb_reads.specs.Around.{Message, authors, comment_shown, message_in, messages, person_in, persons, post_shown, with_id}
 use Rattle.snb_reads.specs.ShortReads.{IsAuthor}
 use Rattle.snb_replies.proofs.OneAnswers.{same_only}

@@ -13,8 +13,7 @@ use Rattle.snb_tables.specs.Graphs.{IsGraph, rows}
 use Rattle.snb_tables.specs.Messages.{HasMessage}
 use Rattle.snb_tables.specs.Soundness.{Sound}
 use Rattle.snb_order.specs.Laws.{SomeFirst}
-use Rattle.snb_reads.proofs.Laws.{in_rows}
-use Rattle.snb_reads.proofs.Lists.{chosen_from, in_filter}
+use Rattle.snb_reads.proofs.Laws.{chosen_from, in_filter, in_rows}
 use Rattle.snb_reads.specs.declared.cell.Cell.{Cell}
 use Rattle.snb_reads.specs.declared.like.Like.{Like}
 use Rattle.snb_reads.specs.Around.{friends, liker_in, likes, messages, replies}

@@ -1,7 +1,8 @@
 -- The parameters of the complex queries, a list for each.
-use Rattle.std.specs.Prelude.{◌≡◌, ℕ, ◌==◌, List, [], if◌then◌else◌}
+use Rattle.std.specs.Prelude.{◌≡◌, ℕ, ◌<◌, ◌==◌, List, [], if◌then◌else◌, length}
 use Rattle.std.specs.List.{All}
 use Rattle.snb_schema.specs.declared.query.Query.{Query}
+use Rattle.snb_schema.specs.Frequencies.{FrequencyTable, frequency_at}
 use Rattle.snb_schema.specs.Queries.{number_of_query}
 
 -- the list of each of the seven queries
@@ -24,6 +25,10 @@ list_of lists q =
     if q == 9 then lists.nine else
     if q == 11 then lists.eleven else
     if q == 13 then lists.thirteen else []
+
+-- each query with a frequency has a parameter
+abbrev pub HaveParameters : QueryLists → FrequencyTable → Type 0
+HaveParameters lists frequencies = (q : ℕ) → 0 < frequency_at frequencies q → 0 < length (list_of lists q)
 
 -- these are all queries of that number
 abbrev pub AreOf : ℕ → List Query → Type 0

@@ -1,4 +1,3 @@
 pub mod Laws
-pub mod LookupLemmas
 pub mod RootLemmas
 pub mod RowLemmas

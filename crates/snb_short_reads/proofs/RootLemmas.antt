@@ -13,7 +13,7 @@ use Rattle.snb_tables.specs.Graphs.{HasKey, IsGraph}
 use Rattle.snb_tables.specs.Messages.{IsRoot}
 use Rattle.snb_tables.specs.Soundness.{EndsAfter, Held, Sound}
 use Rattle.snb_soundness.specs.SoundLaws.{NumbersFit, RootsAreOfParents}
-use Rattle.snb_short_reads.proofs.LookupLemmas.{any}
+use Rattle.snb_short_reads.proofs.Laws.{any}
 use Rattle.snb_short_reads.specs.Lookups.{IsCellNumber, IsOnlyRoot}
 
 -- the second id of a link

@@ -19,7 +19,7 @@ use Rattle.snb_reads.specs.declared.cell.Cell.{Cell}
 use Rattle.snb_reads.specs.Around.{Message, authors, friends, messages, replies, with_id}
 use Rattle.snb_reads.specs.Order.{Falling, First, FirstOf, Rising, Whole, by}
 use Rattle.snb_reads.specs.ShortReads.{Is2, Is3, Is7, IsFriend, IsRecent, IsReplyTo}
-use Rattle.snb_short_reads.proofs.LookupLemmas.{comment_at, found_comment, found_person, found_post, person_at, post_at, written}
+use Rattle.snb_short_reads.proofs.Laws.{comment_at, found_comment, found_person, found_post, person_at, post_at, shows, written}
 use Rattle.snb_short_reads.specs.Found.{AreReplies, IsMessageFound, IsReplyFound, without_author}
 
 -- ---- orders of keys
@@ -55,15 +55,10 @@ module _ (g : List Row) where
   recent_agree : (x y : ℕ × ℕ) (a b : List Cell) → IsRecent g x a → IsRecent g y b → is_lt (by (Falling 3 ∷ Falling 1 ∷ []) a b) ≡ is_lt (latest_first x y)
   recent_agree x y a b r s = rw (r.is, s.is) (ap is_lt (two_columns y.1 x.1 y.0 x.0))
 
-  -- what a message shows
-  pub shows : IsGraph g → NumbersFit → (m : ℕ) → HasMessage g m → (x : Message) × (with_id g m ≡ x ∷ [])
-  shows graph fit m (inl h) = (let (q, c, id) = post_at g graph m h in (_, (found_post g graph fit m q (id, c)).only))
-  shows graph fit m (inr h) = (let (q, c, id) = comment_at g graph m h in (_, (found_comment g graph fit m q (id, c)).only))
-
   -- each message has a row
   recent_any : IsGraph g → Sound g → NumbersFit → MessagesAreOfOneKind → MessagesHaveOneAuthor → MessagesHaveOneRoot → (m : ℕ × ℕ) → IsMessageFound g m → (a : List Cell) × IsRecent g m a
   recent_any graph sound fit one author root m found =
-      let (x, held) = shows graph fit m.0 found.held in
+      let (x, held) = shows g graph fit m.0 found.held in
       let r = root g graph sound m.0 found.held in
       let a = author g graph sound r.post (inl r.held) in
       let w = written g graph one sound.held r.post a.author a.wrote in

@@ -6,11 +6,17 @@ ghost use Rattle.snb_texts.specs.Counts.{check_text};
 
 use std::alloc::{AllocError, Global};
 
-/// The lines that count the rows of a dataset and the updates of its streams.
-pub fn check_lines(alloc: Global, rows: u64, updates: u64) -> Result<Vec<u8>, AllocError>
-    ensures { IfOk result (λ text. text.items ≡ check_text rows updates) }
+/// The lines that count the rows of a dataset and the updates and reads of a plan, and say that it is
+/// closed.
+pub fn check_lines(
+    alloc: Global,
+    rows: u64,
+    updates: u64,
+    reads: u64,
+) -> Result<Vec<u8>, AllocError>
+    ensures { IfOk result (λ text. text.items ≡ check_text rows updates reads) }
 {
-    let text = format!(in alloc; "rows {rows}\nupdates {updates}\n")?;
+    let text = format!(in alloc; "rows {rows}\nupdates {updates}\nreads {reads}\nclosed\n")?;
     Ok(text.into_bytes())
 }
 

@@ -1,58 +1,116 @@
 -- Facts on what a folder is refused for, and on what is read of it.
-use Rattle.std.proofs.Common.{◌≡◌, ℕ, List, [], ◌∷◌, ◌++◌, length, Option, Ok, Err, Vec, inl, inr, sym, subst, ap, ◌∙◌, arith}
+use Rattle.std.proofs.Common.{◌≡◌, ℕ, ◌<◌, ◌≤◌, List, [], ◌∷◌, ◌++◌, Option, Result, Ok, Err, Vec, inl, inr, sym, subst, ap, ◌∙◌, arith}
 use Rattle.std.specs.declared.alloc.Global.{Global}
+use Rattle.std.specs.Result.{IfOk}
 use Rattle.snb_base.specs.Shelf.{Files}
 use Rattle.snb_input.specs.declared.load.Load.{Load}
 use Rattle.snb_input.specs.declared.load.Load.TheVariants.{Refused, ReadFault, Memory}
 use Rattle.snb_input.specs.declared.load.Used.{Used}
-use Rattle.snb_input.specs.FirstOf.{FirstOf, NoneOf}
+use Rattle.snb_input.specs.FirstOf.{FirstOf}
 use Rattle.snb_input.specs.Laws.{StagesJoin}
+use Rattle.snb_input.specs.Loading.{OnReadFault}
 use Rattle.snb_input.specs.Stages.{before}
 use Rattle.snb_input.specs.Walk.{Before, Held, IsHeldTold}
 use Rattle.snb_input.proofs.Laws.{first_anyway, first_later, none_append}
 use Rattle.snb_loader.specs.Dataset.{IsDataset, IsDatasetAnswer, after_tables, dataset_checks}
-use Rattle.snb_loader.specs.Lanes.{AreLanes, IsLanesAnswer, lane_checks, lines_of, next_stage}
-use Rattle.snb_loader.specs.Laws.{DatasetIsOne, DatasetRefusesOnce, LanesRefuseOnce, RefuseOnce, StreamIsOne, StreamRefusesOnce}
-use Rattle.snb_loader.specs.Streams.{IsStream, IsStreamAnswer, stream_checks}
-use Rattle.snb_loader.proofs.Laws.{SameLanes, SameStream, dataset_below, lanes_from, once_append, once_single, stream_from}
-use Rattle.snb_plan.specs.Closed.{IsClosed, IsFirstWrong, updates_of}
+use Rattle.snb_loader.specs.Lanes.{AreLanes, IsLanesAnswer, after_lanes, lane_checks, next_stage}
+use Rattle.snb_loader.specs.Laws.{DatasetIsOne, DatasetRefusesOnce, LanesAreOne, LanesRefuseOnce, ParamsAreOne, ParamsRefuseOnce, RefuseOnce}
+use Rattle.snb_loader.specs.Params.{AreParams, IsParamsAnswer, params_checks}
+use Rattle.snb_loader.proofs.Laws.{SameLanes, SameParams, dataset_below, lanes_below, lanes_from, once_append, once_single, params_from}
+use Rattle.snb_plan.specs.Closed.{IsClosed, IsFirstWrong}
+use Rattle.snb_plan.specs.PlanLaws.{PlanIsOne}
+use Rattle.snb_plan.specs.Plans.{IsPlan, Plan, read_count, updates_in}
 use Rattle.snb_plan.proofs.Laws.{closed_is_one}
-use Rattle.snb_schema.specs.declared.op.Line.{Line}
+use Rattle.snb_schema.specs.declared.limits.TheConstants.{MAX_READS}
 use Rattle.snb_schema.specs.declared.query.Query.{Query}
+use Rattle.snb_schema.specs.declared.refusal.Counted.TheVariants.{Reads}
 use Rattle.snb_schema.specs.declared.refusal.Refusal.{Refusal}
+use Rattle.snb_schema.specs.declared.refusal.Refusal.TheVariants.{TooMany}
 use Rattle.snb_schema.specs.declared.row.Row.{Row}
-use Rattle.snb_schema.specs.LineLanes.{LineLanes}
+use Rattle.snb_schema.specs.Frequencies.{FrequencyTable}
+use Rattle.snb_schema.specs.LineLanes.{LineLanes, update_count}
+use Rattle.snb_schema.specs.QueryLists.{QueryLists}
 use Rattle.snb_tables.specs.Graphs.{HoldsKey}
+use Rattle.snb_tables.specs.Soundness.{Sound}
 use Rattle.snb_tool.specs.Commands.{Command, Check, Run, Read}
-use Rattle.snb_tool.specs.declared.check.Counts.{Counts}
-use Rattle.snb_tool.specs.declared.run.Input.{Input}
-use Rattle.snb_tool.specs.Endings.{IsCountsAnswer, IsInputAnswer, IsReplyAnswer, IsReplyLine}
-use Rattle.snb_tool.specs.Inputs.{IsNotClosed, after_dataset, at_first, check_checks, checks_of, person_stream, run_checks}
+use Rattle.snb_tool.specs.declared.input.Input.{Input}
+use Rattle.snb_tool.specs.Endings.{IsInputAnswer, IsMade, IsMadeAnswer, IsOpen, IsReplyAnswer, IsReplyLine}
+use Rattle.snb_tool.specs.Inputs.{ArePlanned, AreTooMany, IsNotClosed, after_dataset, after_streams, at_first, checks_of, plan_checks}
 
--- inserts that aren't closed are refused in one way
-not_closed_once : DatasetIsOne → StreamIsOne → (held : Held) (r q : Refusal) → IsNotClosed held r → IsNotClosed held q → r ≡ q
-not_closed_once d s held r q a b =
-    sym
-    ((closed_is_one (HoldsKey a.graph) (updates_of 0 person_stream a.inserts) r a.wrong).0 q
-    (subst (λ (xs : List Line). IsFirstWrong (HoldsKey a.graph) (updates_of 0 person_stream xs) q) (s (after_dataset held) held b.inserts a.inserts b.stream a.stream)
-    (subst (λ (g : List Row). IsFirstWrong (HoldsKey g) (updates_of 0 person_stream b.inserts) q) (d at_first held b.graph a.graph b.dataset a.dataset) b.wrong)))
+-- what is read of the files of one folder is one thing
+pub record AreOne : Type 0 where
+  pub dataset : DatasetIsOne
+  pub lanes : LanesAreOne
+  pub params : ParamsAreOne
+  pub plan : PlanIsOne
 
--- and closed ones aren't
-closed_not : DatasetIsOne → StreamIsOne → (held : Held) (graph : List Row) (inserts : List Line) → IsDataset at_first held graph → IsStream (after_dataset held) held inserts
-    → IsClosed (HoldsKey graph) (updates_of 0 person_stream inserts) → (r : Refusal) → ¬ IsNotClosed held r
-closed_not d s held graph inserts tables stream closed r a =
-    (closed_is_one (HoldsKey graph) (updates_of 0 person_stream inserts) r
-    (subst (λ (xs : List Line). IsFirstWrong (HoldsKey graph) (updates_of 0 person_stream xs) r) (s (after_dataset held) held a.inserts inserts a.stream stream)
-    (subst (λ (g : List Row). IsFirstWrong (HoldsKey g) (updates_of 0 person_stream a.inserts) r) (d at_first held a.graph graph a.dataset tables) a.wrong))).1
-    closed
+-- and each stage is refused in one way at most
+pub record RefuseEachOnce : Type 0 where
+  pub dataset : DatasetRefusesOnce
+  pub lanes : LanesRefuseOnce
+  pub params : ParamsRefuseOnce
+
+-- the checks that come after the files
+abbrev last_checks : ℕ → FrequencyTable → Held → List {1} (Refusal → Type 0)
+last_checks ratio table held = AreTooMany held table ∷ IsNotClosed held ratio table ∷ []
+
+-- the checks from the parameter files on, and from the streams on
+abbrev param_tail : ℕ → FrequencyTable → Held → List {1} (Refusal → Type 0)
+param_tail ratio table held = params_checks (after_streams held) held table ++ last_checks ratio table held
+
+abbrev lane_tail : ℕ → FrequencyTable → Held → List {1} (Refusal → Type 0)
+lane_tail ratio table held = lane_checks (after_dataset held) held ++ param_tail ratio table held
+
+module _ (one : AreOne) (ratio : ℕ) (table : FrequencyTable) (held : Held) where
+  -- files have one plan at most
+  planned_one : (p q : Plan) → ArePlanned held ratio table p → ArePlanned held ratio table q → p ≡ q
+  planned_one p q a b =
+      let lanes : b.lanes ≡ a.lanes = one.lanes (after_dataset held) held b.lanes a.lanes b.streams a.streams in
+      let lists : b.lists ≡ a.lists = one.params (after_streams held) held table b.lists a.lists b.params a.params in
+      one.plan a.lanes a.lists table ratio p q a.is_plan
+      (subst (λ (xs : QueryLists). IsPlan a.lanes xs table ratio q) lists (subst (λ (ls : LineLanes). IsPlan ls b.lists table ratio q) lanes b.is_plan))
+
+  -- too many reads are refused in one way
+  too_many_once : (r q : Refusal) → AreTooMany held table r → AreTooMany held table q → r ≡ q
+  too_many_once r q a b = a.refused ∙ sym b.refused
+
+  -- and where there aren't too many, they aren't
+  too_many_not : (lanes : LineLanes) → AreLanes (after_dataset held) held lanes → read_count table (update_count lanes) ≤ MAX_READS → (r : Refusal) → ¬ AreTooMany held table r
+  too_many_not lanes streams few r a =
+      let many : MAX_READS < read_count table (update_count lanes) =
+      subst (λ (ls : LineLanes). MAX_READS < read_count table (update_count ls)) (one.lanes (after_dataset held) held a.lanes lanes a.streams streams) a.many in
+      omega (arith, many, few)
+
+  -- what isn't closed, of this dataset and this plan
+  wrong_of : (graph : List Row) (plan : Plan) (r : Refusal) → IsDataset at_first held graph → ArePlanned held ratio table plan → IsNotClosed held ratio table r
+      → IsFirstWrong (HoldsKey graph) (updates_in plan) r
+  wrong_of graph plan r dataset planned a =
+      subst (λ (g : List Row). IsFirstWrong (HoldsKey g) (updates_in plan) r) (one.dataset at_first held a.graph graph a.dataset dataset)
+      (subst (λ (p : Plan). IsFirstWrong (HoldsKey a.graph) (updates_in p) r) (planned_one a.plan plan a.planned planned) a.wrong)
+
+  -- updates that aren't closed are refused in one way
+  not_closed_once : (r q : Refusal) → IsNotClosed held ratio table r → IsNotClosed held ratio table q → r ≡ q
+  not_closed_once r q a b =
+      sym ((closed_is_one (HoldsKey a.graph) (updates_in a.plan) r a.wrong).0 q (wrong_of a.graph a.plan q a.dataset a.planned b))
+
+  -- and closed ones aren't
+  closed_not : (graph : List Row) (plan : Plan) → IsDataset at_first held graph → ArePlanned held ratio table plan → IsClosed (HoldsKey graph) (updates_in plan)
+      → (r : Refusal) → ¬ IsNotClosed held ratio table r
+  closed_not graph plan dataset planned closed r a = (closed_is_one (HoldsKey graph) (updates_in plan) r (wrong_of graph plan r dataset planned a)).1 closed
+
+  -- the files of a plan are refused in one way at most
+  plan_once : RefuseEachOnce → RefuseOnce (plan_checks ratio table held)
+  plan_once each =
+      once_append (dataset_checks at_first held) (lane_tail ratio table held) (each.dataset at_first held)
+      (once_append (lane_checks (after_dataset held) held) (param_tail ratio table held) (each.lanes (after_dataset held) held)
+      (once_append (params_checks (after_streams held) held table) (last_checks ratio table held) (each.params (after_streams held) held table)
+      (once_append (AreTooMany held table ∷ []) (IsNotClosed held ratio table ∷ []) (once_single (AreTooMany held table) too_many_once) (once_single (IsNotClosed held ratio table) not_closed_once))))
 
 -- the checks of a command give one refusal at most
-pub once : DatasetRefusesOnce → LanesRefuseOnce → StreamRefusesOnce → DatasetIsOne → StreamIsOne → (command : Command) (held : Held) → RefuseOnce (checks_of command held)
-once tables lanes stream d s (Read folder query) held = tables at_first held
-once tables lanes stream d s (Check folder) held = once_append (dataset_checks at_first held) (lane_checks (after_dataset held) held) (tables at_first held) (lanes (after_dataset held) held)
-once tables lanes stream d s (Run folder) held =
-    once_append (dataset_checks at_first held) (stream_checks (after_dataset held) held ++ IsNotClosed held ∷ []) (tables at_first held)
-    (once_append (stream_checks (after_dataset held) held) (IsNotClosed held ∷ []) (stream (after_dataset held) held) (once_single (IsNotClosed held) (not_closed_once d s held)))
+pub once : AreOne → RefuseEachOnce → (command : Command) (held : Held) → RefuseOnce (checks_of command held)
+once one each (Read folder query) held = each.dataset at_first held
+once one each (Check folder table) held = plan_once one 1000000 table held each
+once one each (Run folder workers ratio table) held = plan_once one ratio table held each
 
 -- ---- what was read of one folder
 
@@ -64,6 +122,14 @@ nothing_used = record { bytes = 0; rows = 0 }
 start_is : (used : Used) (held : Held) → used.bytes ≡ (after_tables at_first held).bytes → used.rows ≡ (after_tables at_first held).rows → before used ≡ after_dataset held
 start_is used held b r i = record { bytes = b i; rows = r i; past = [] }
 
+-- and the parameter files where the streams end
+next_is : (used later : Used) (held : Held) → later.bytes ≡ (after_lanes (before used) held).bytes → later.rows ≡ (after_lanes (before used) held).rows → before later ≡ next_stage (after_lanes (before used) held)
+next_is used later held b r i = record { bytes = b i; rows = r i; past = [] }
+
+-- checks that are the same refuse alike
+first_by : (cs ds : List {1} (Refusal → Type 0)) (r : Refusal) → cs ≡ ds → FirstOf cs r → FirstOf ds r
+first_by cs ds r e h = subst (λ (xs : List {1} (Refusal → Type 0)). FirstOf xs r) e h
+
 module _ (stages : StagesJoin) (contents : Option Files) (folder : List ℕ) where
   -- a dataset and something that was read after it are of one folder
   record Both (used : Used) (graph : List Row) (second : Held) : Type 1 where
@@ -71,7 +137,6 @@ module _ (stages : StagesJoin) (contents : Option Files) (folder : List ℕ) whe
     pub told : IsHeldTold contents folder held
     pub dataset : IsDataset at_first held graph
     pub start : before used ≡ after_dataset held
-    pub stream : SameStream second held
     pub lanes : SameLanes second held
 
   both : (used : Used) (graph : List Row) (second : Held) → IsDatasetAnswer contents folder nothing_used used (Ok graph) → IsHeldTold contents folder second → Both used graph second
@@ -83,99 +148,176 @@ module _ (stages : StagesJoin) (contents : Option Files) (folder : List ℕ) whe
         told = j.1.told;
         dataset = same.is at_first graph d.2;
         start = start_is used d.0 d.3 d.4 ∙ ap next_stage (same.after at_first);
-        stream = stream_from contents folder d.0 second j.0 33 j.1 (omega arith);
         lanes = lanes_from contents folder d.0 second j.0 33 j.1 (omega arith);
       }
 
-  -- ---- of `check`
+  -- a dataset and streams are of one folder
+  record ReadTwo (used : Used) (graph : List Row) (lanes : LineLanes) : Type 0 where
+    pub held : Held
+    pub told : IsHeldTold contents folder held
+    pub dataset : IsDataset at_first held graph
+    pub streams : AreLanes (after_dataset held) held lanes
+    pub start : before used ≡ after_streams held
 
-  pub count_no_dataset : (used : Used) (load : Load) → IsDatasetAnswer contents folder nothing_used used (Err load) → IsCountsAnswer contents folder (Err load)
-  count_no_dataset used (Refused r) h = (h.0, h.1, first_anyway (dataset_checks at_first h.0) (lane_checks (after_dataset h.0) h.0) r h.2)
-  count_no_dataset used ReadFault h = tt
-  count_no_dataset used Memory h = tt
-
-  pub count_no_lanes : (used later : Used) (graph : List Row) (load : Load) → IsDatasetAnswer contents folder nothing_used used (Ok graph) → IsLanesAnswer contents folder used later (Err load)
-      → IsCountsAnswer contents folder (Err load)
-  count_no_lanes used later graph (Refused r) d h =
-      let b = both used graph h.0 d h.1 in (
-        b.held,
-        b.told,
-        first_later (dataset_checks at_first b.held) (lane_checks (after_dataset b.held) b.held) r b.dataset.clean
-            (subst (λ (cs : List {1} (Refusal → Type 0)). FirstOf cs r) (b.lanes.checks (before used) ∙ (λ i. lane_checks (b.start i) b.held)) h.2),
-      )
-  count_no_lanes used later graph ReadFault d h = tt
-  count_no_lanes used later graph Memory d h = tt
-
-  pub counted : (used later : Used) (graph : List Row) (lanes : LineLanes) (counts : Counts) → IsDatasetAnswer contents folder nothing_used used (Ok graph)
-      → IsLanesAnswer contents folder used later (Ok lanes) → counts.rows ≡ length graph → counts.updates ≡ length (lines_of lanes) → IsCountsAnswer contents folder (Ok counts)
-  counted used later graph lanes counts d h rows updates =
+  read_two : (used later : Used) (graph : List Row) (lanes : LineLanes) → IsDatasetAnswer contents folder nothing_used used (Ok graph) → IsLanesAnswer contents folder used later (Ok lanes)
+      → ReadTwo later graph lanes
+  read_two used later graph lanes d h =
       let b = both used graph h.0 d h.1 in
-      let streams : AreLanes (after_dataset b.held) b.held lanes = subst (λ (at : Before). AreLanes at b.held lanes) b.start (b.lanes.are (before used) lanes h.2) in (
-        b.held,
-        b.told,
+      record {
+        held = b.held;
+        told = b.told;
+        dataset = b.dataset;
+        streams = subst (λ (at : Before). AreLanes at b.held lanes) b.start (b.lanes.are (before used) lanes h.2);
+        start = next_is used later h.0 h.3 h.4 ∙ ap next_stage (b.lanes.after (before used)) ∙ (λ i. next_stage (after_lanes (b.start i) b.held));
+      }
+
+  -- and something that was read after them
+  record ReadThree (used : Used) (graph : List Row) (lanes : LineLanes) (table : FrequencyTable) (third : Held) : Type 1 where
+    pub held : Held
+    pub told : IsHeldTold contents folder held
+    pub dataset : IsDataset at_first held graph
+    pub streams : AreLanes (after_dataset held) held lanes
+    pub start : before used ≡ after_streams held
+    pub params : SameParams table third held
+
+  read_three : (used : Used) (graph : List Row) (lanes : LineLanes) (table : FrequencyTable) (third : Held) → ReadTwo used graph lanes → IsHeldTold contents folder third
+      → ReadThree used graph lanes table third
+  read_three used graph lanes table third two told =
+      let j = stages contents folder two.held third 35 two.told told in
+      let same = dataset_below contents folder two.held third j.0 35 j.1 (omega arith) in
+      let alike = lanes_below contents folder two.held third j.0 35 j.1 (omega arith) in
+      let dataset : after_dataset two.held ≡ after_dataset j.0 = ap next_stage (same.after at_first) in
+      record {
+        held = j.0;
+        told = j.1.told;
+        dataset = same.is at_first graph two.dataset;
+        streams = subst (λ (at : Before). AreLanes at j.0 lanes) dataset (alike.are (after_dataset two.held) lanes two.streams);
+        start = two.start ∙ ap next_stage (alike.after (after_dataset two.held)) ∙ (λ i. next_stage (after_lanes (dataset i) j.0));
+        params = params_from contents folder two.held third j.0 35 j.1 table (omega arith);
+      }
+
+  module _ (ratio : ℕ) (table : FrequencyTable) where
+    pub input_no_dataset : (used : Used) (load : Load) → IsDatasetAnswer contents folder nothing_used used (Err load) → IsInputAnswer contents folder ratio table (Err load)
+    input_no_dataset used (Refused r) h = (h.0, h.1, first_anyway (dataset_checks at_first h.0) (lane_tail ratio table h.0) r h.2)
+    input_no_dataset used ReadFault h = tt
+    input_no_dataset used Memory h = tt
+
+    pub input_no_lanes : (used later : Used) (graph : List Row) (load : Load) → IsDatasetAnswer contents folder nothing_used used (Ok graph) → IsLanesAnswer contents folder used later (Err load)
+        → IsInputAnswer contents folder ratio table (Err load)
+    input_no_lanes used later graph (Refused r) d h =
+        let b = both used graph h.0 d h.1 in (
+          b.held,
+          b.told,
+          first_later (dataset_checks at_first b.held) (lane_tail ratio table b.held) r b.dataset.clean
+              (first_anyway (lane_checks (after_dataset b.held) b.held) (param_tail ratio table b.held) r
+              (first_by (lane_checks (before used) h.0) (lane_checks (after_dataset b.held) b.held) r (b.lanes.checks (before used) ∙ (λ i. lane_checks (b.start i) b.held)) h.2)),
+        )
+    input_no_lanes used later graph ReadFault d h = tt
+    input_no_lanes used later graph Memory d h = tt
+
+    pub input_no_params : (used later last : Used) (graph : List Row) (lanes : LineLanes) (load : Load) → IsDatasetAnswer contents folder nothing_used used (Ok graph)
+        → IsLanesAnswer contents folder used later (Ok lanes) → IsParamsAnswer contents folder table later last (Err load) → IsInputAnswer contents folder ratio table (Err load)
+    input_no_params used later last graph lanes (Refused r) d l h =
+        let b = read_three later graph lanes table h.0 (read_two used later graph lanes d l) h.1 in (
+          b.held,
+          b.told,
+          first_later (dataset_checks at_first b.held) (lane_tail ratio table b.held) r b.dataset.clean
+              (first_later (lane_checks (after_dataset b.held) b.held) (param_tail ratio table b.held) r b.streams.clean
+              (first_anyway (params_checks (after_streams b.held) b.held table) (last_checks ratio table b.held) r
+              (first_by (params_checks (before later) h.0 table) (params_checks (after_streams b.held) b.held table) r
+              (b.params.checks (before later) ∙ (λ i. params_checks (b.start i) b.held table)) h.2))),
+        )
+    input_no_params used later last graph lanes ReadFault d l h = tt
+    input_no_params used later last graph lanes Memory d l h = tt
+
+    -- what all three reads found, as files of one folder
+    record ReadAll (graph : List Row) (lanes : LineLanes) (lists : QueryLists) : Type 0 where
+      pub held : Held
+      pub told : IsHeldTold contents folder held
+      pub dataset : IsDataset at_first held graph
+      pub streams : AreLanes (after_dataset held) held lanes
+      pub params : AreParams (after_streams held) held table lists
+
+    read_all : (used later last : Used) (graph : List Row) (lanes : LineLanes) (lists : QueryLists) → IsDatasetAnswer contents folder nothing_used used (Ok graph)
+        → IsLanesAnswer contents folder used later (Ok lanes) → IsParamsAnswer contents folder table later last (Ok lists) → ReadAll graph lanes lists
+    read_all used later last graph lanes lists d l h =
+        let b = read_three later graph lanes table h.0 (read_two used later graph lanes d l) h.1 in
         record {
-          clean = none_append (dataset_checks at_first b.held) (lane_checks (after_dataset b.held) b.held) b.dataset.clean streams.clean;
-          graph = graph;
-          lanes = lanes;
+          held = b.held;
+          told = b.told;
           dataset = b.dataset;
-          streams = streams;
-          rows = rows;
-          updates = updates;
-        },
+          streams = b.streams;
+          params = subst (λ (at : Before). AreParams at b.held table lists) b.start (b.params.are (before later) lists h.2);
+        }
+
+    module _ (graph : List Row) (lanes : LineLanes) (lists : QueryLists) (all : ReadAll graph lanes lists) where
+      -- a refusal by the last two checks
+      refused_last : (r : Refusal) → FirstOf (last_checks ratio table all.held) r → IsInputAnswer contents folder ratio table (Err (Refused r))
+      refused_last r h = (
+        all.held,
+        all.told,
+        first_later (dataset_checks at_first all.held) (lane_tail ratio table all.held) r all.dataset.clean
+            (first_later (lane_checks (after_dataset all.held) all.held) (param_tail ratio table all.held) r all.streams.clean
+            (first_later (params_checks (after_streams all.held) all.held table) (last_checks ratio table all.held) r all.params.clean h)),
       )
 
-  -- ---- of `run`
+      planned_by : (plan : Plan) → IsPlan lanes lists table ratio plan → ArePlanned all.held ratio table plan
+      planned_by plan is = record { lanes = lanes; lists = lists; streams = all.streams; params = all.params; is_plan = is }
 
-  pub input_no_dataset : (used : Used) (load : Load) → IsDatasetAnswer contents folder nothing_used used (Err load) → IsInputAnswer contents folder (Err load)
-  input_no_dataset used (Refused r) h = (h.0, h.1, first_anyway (dataset_checks at_first h.0) (stream_checks (after_dataset h.0) h.0 ++ IsNotClosed h.0 ∷ []) r h.2)
-  input_no_dataset used ReadFault h = tt
-  input_no_dataset used Memory h = tt
+      open_last : AreOne → (r : Refusal) → IsOpen graph lanes lists table ratio r → FirstOf (last_checks ratio table all.held) r
+      open_last one r o =
+          inr (too_many_not one ratio table all.held lanes all.streams o.few, inl (record { graph = graph; plan = o.plan; dataset = all.dataset; planned = planned_by o.plan o.is_plan; wrong = o.wrong }))
 
-  pub input_no_stream : (used later : Used) (graph : List Row) (load : Load) → IsDatasetAnswer contents folder nothing_used used (Ok graph) → IsStreamAnswer contents folder used later (Err load)
-      → IsInputAnswer contents folder (Err load)
-  input_no_stream used later graph (Refused r) d h =
-      let b = both used graph h.0 d h.1 in (
-        b.held,
-        b.told,
-        first_later (dataset_checks at_first b.held) (stream_checks (after_dataset b.held) b.held ++ IsNotClosed b.held ∷ []) r b.dataset.clean
-            (first_anyway (stream_checks (after_dataset b.held) b.held) (IsNotClosed b.held ∷ []) r
-            (subst (λ (cs : List {1} (Refusal → Type 0)). FirstOf cs r) (b.stream.checks (before used) ∙ (λ i. stream_checks (b.start i) b.held)) h.2)),
-      )
-  input_no_stream used later graph ReadFault d h = tt
-  input_no_stream used later graph Memory d h = tt
+      many_last : (r : Refusal) → (r ≡ TooMany Reads) × (MAX_READS < read_count table (update_count lanes)) → FirstOf (last_checks ratio table all.held) r
+      many_last r h = inl (record { lanes = lanes; streams = all.streams; many = h.1; refused = h.0 })
 
-  -- the stream of the files that both are of
-  stream_is : (used : Used) (graph : List Row) (second : Held) (lines : List Line) (b : Both used graph second) → IsStream (before used) second lines → IsStream (after_dataset b.held) b.held lines
-  stream_is used graph second lines b s = subst (λ (at : Before). IsStream at b.held lines) b.start (b.stream.is (before used) lines s)
+      loaded_is : AreOne → (input : Input) → IsMade graph lanes lists table ratio input → IsInputAnswer contents folder ratio table (Ok input)
+      loaded_is one input made =
+          let planned = planned_by input.plan made.is_plan in (
+            all.held,
+            all.told,
+            record {
+              clean =
+                  none_append (dataset_checks at_first all.held) (lane_tail ratio table all.held) all.dataset.clean
+                  (none_append (lane_checks (after_dataset all.held) all.held) (param_tail ratio table all.held) all.streams.clean
+                  (none_append (params_checks (after_streams all.held) all.held table) (last_checks ratio table all.held) all.params.clean
+                  (too_many_not one ratio table all.held lanes all.streams made.few, (closed_not one ratio table all.held graph input.plan all.dataset planned made.closed, tt))));
+              is = record {
+                dataset = subst (λ (g : List Row). IsDataset at_first all.held g) (sym made.same) all.dataset;
+                planned = planned;
+                closed = subst (λ (g : List Row). IsClosed (HoldsKey g) (updates_in input.plan)) (sym made.same) made.closed;
+              };
+            },
+          )
 
-  pub input_not_closed : (used later : Used) (graph : List Row) (lines : Vec Line Global) (r : Refusal) → IsDatasetAnswer contents folder nothing_used used (Ok graph) → IsStreamAnswer contents folder used later (Ok lines)
-      → IsFirstWrong (HoldsKey graph) (updates_of 0 person_stream lines.items) r → IsInputAnswer contents folder (Err (Refused r))
-  input_not_closed used later graph lines r d h wrong =
-      let b = both used graph h.0 d h.1 in
-      let stream = stream_is used graph h.0 lines.items b h.2 in (
-        b.held,
-        b.told,
-        first_later (dataset_checks at_first b.held) (stream_checks (after_dataset b.held) b.held ++ IsNotClosed b.held ∷ []) r b.dataset.clean
-            (first_later (stream_checks (after_dataset b.held) b.held) (IsNotClosed b.held ∷ []) r stream.clean
-            (inl (record { graph = graph; inserts = lines.items; dataset = b.dataset; stream = stream; wrong = wrong }))),
-      )
+      made_answers : AreOne → (result : Result Input Load) → IsMadeAnswer graph lanes lists table ratio result → IsInputAnswer contents folder ratio table result
+      made_answers one (Ok input) h = loaded_is one input h
+      made_answers one (Err (Refused r)) (inl h) = refused_last r (many_last r h)
+      made_answers one (Err (Refused r)) (inr h) = refused_last r (open_last one r h)
+      made_answers one (Err ReadFault) h = absurd h
+      made_answers one (Err Memory) h = tt
 
-  pub input_loaded : DatasetIsOne → StreamIsOne → (used later : Used) (input : Input) → IsDatasetAnswer contents folder nothing_used used (Ok input.graph)
-      → IsStreamAnswer contents folder used later (Ok input.inserts) → IsClosed (HoldsKey input.graph) (updates_of 0 person_stream input.inserts.items) → IsInputAnswer contents folder (Ok input)
-  input_loaded one single used later input d h closed =
-      let b = both used input.graph h.0 d h.1 in
-      let stream = stream_is used input.graph h.0 input.inserts.items b h.2 in (
-        b.held,
-        b.told,
-        record {
-          clean = none_append (dataset_checks at_first b.held) (stream_checks (after_dataset b.held) b.held ++ IsNotClosed b.held ∷ []) b.dataset.clean
-              (none_append (stream_checks (after_dataset b.held) b.held) (IsNotClosed b.held ∷ []) stream.clean
-              (closed_not one single b.held input.graph input.inserts.items b.dataset stream closed, tt));
-          dataset = b.dataset;
-          stream = stream;
-          closed = closed;
-        },
-      )
+    pub input_made : AreOne → (used later last : Used) (graph : List Row) (lanes : LineLanes) (lists : QueryLists) (result : Result Input Load) → IsDatasetAnswer contents folder nothing_used used (Ok graph)
+        → IsLanesAnswer contents folder used later (Ok lanes) → IsParamsAnswer contents folder table later last (Ok lists) → IsMadeAnswer graph lanes lists table ratio result
+        → IsInputAnswer contents folder ratio table result
+    input_made one used later last graph lanes lists result d l h made = made_answers graph lanes lists (read_all used later last graph lanes lists d l h) one result made
+
+-- ---- of an input that was made
+
+module _ (graph : List Row) (lanes : LineLanes) (lists : QueryLists) (table : FrequencyTable) (ratio : ℕ) where
+  pub made_closed : (result : Result Input Load) → IsMadeAnswer graph lanes lists table ratio result → IfOk result (λ i. IsClosed (HoldsKey i.graph) (updates_in i.plan))
+  made_closed (Ok input) h = subst (λ (g : List Row). IsClosed (HoldsKey g) (updates_in input.plan)) (sym h.same) h.closed
+  made_closed (Err load) h = tt
+
+  pub made_sound : (result : Result Input Load) → IsMadeAnswer graph lanes lists table ratio result → Sound graph → IfOk result (λ i. Sound i.graph)
+  made_sound (Ok input) h sound = subst Sound (sym h.same) sound
+  made_sound (Err load) h sound = tt
+
+  pub made_fault : (result : Result Input Load) (F : Type 0) → IsMadeAnswer graph lanes lists table ratio result → OnReadFault result F
+  made_fault (Ok input) F h = tt
+  made_fault (Err (Refused r)) F h = tt
+  made_fault (Err ReadFault) F h = absurd h
+  made_fault (Err Memory) F h = tt
 
 -- ---- of `read`
 

@@ -1,26 +1,29 @@
 -- Facts on how a call ends.
-use Rattle.std.proofs.Common.{arith, ◌≡◌, ℕ, ◌<◌, ◌≤◌, ◌⊎◌, List, [], ◌∷◌, length, Option, Some, None, Ok, Err, Vec, refl, sym, subst, ap, ◌∙◌, inl, inr, codes}
+use Rattle.std.proofs.Common.{arith, ◌≡◌, ℕ, ◌+◌, ◌<◌, ◌≤◌, ◌⊎◌, List, [], ◌++◌, length, length-append, Option, Ok, Err, Vec, refl, sym, subst, ap, ◌∙◌, inl, inr}
 use Rattle.std.proofs.lemmas.Bool.Decides.{leb_tells}
-use Rattle.std.specs.Option.{IfSome}
+use Rattle.std.proofs.lemmas.List.Sorted.{length_permutation}
 use Rattle.std.specs.declared.alloc.Global.{Global}
 use Rattle.snb_base.specs.Outbox.{Written}
 use Rattle.snb_base.specs.Shelf.{Files}
-use Rattle.snb_input.specs.Files.{held_in}
-use Rattle.snb_input.specs.FirstOf.{FirstOf, NoneOf}
-use Rattle.snb_input.specs.Walk.{Held, IsHeldTold}
-use Rattle.snb_schema.specs.declared.file.FileId.{FileId}
 use Rattle.snb_schema.specs.declared.query.Query.{Query}
 use Rattle.snb_schema.specs.declared.refusal.Refusal.{Refusal}
-use Rattle.snb_tool.specs.Commands.{Command, Check, Run, Read, IsLineOf, IsOtherLine, folder_of}
+use Rattle.snb_tool.specs.Commands.{Check, Run, Read}
 use Rattle.snb_input.specs.declared.load.Load.TheVariants.{Refused}
 use Rattle.snb_schema.specs.ScreenTexts.{refusal_text}
-use Rattle.snb_texts.specs.Counts.{check_text}
-use Rattle.snb_tool.specs.declared.check.Counts.{Counts}
-use Rattle.snb_tool.specs.declared.run.Input.{Input}
-use Rattle.snb_tool.specs.Endings.{Ends, IsCountsAnswer, IsInputAnswer, IsReplyAnswer, IsRunOutput, Shows}
-use Rattle.snb_tool.specs.Inputs.{checks_of}
-use Rattle.snb_tool.specs.Laws.{RefusedOrNot}
-use Rattle.snb_tool.specs.Outcome.{Belongs, IsAnswer, IsCommandAnswer}
+use Rattle.snb_schema.specs.declared.row.Row.{Row}
+use Rattle.snb_schema.specs.Frequencies.{FrequencyTable}
+use Rattle.snb_schema.specs.RunTexts.{log_text}
+use Rattle.snb_schema.specs.ScreenTexts.{summary_text}
+use Rattle.snb_tables.specs.FinalText.{final_text}
+use Rattle.snb_tables.specs.Graphs.{HasGained}
+use Rattle.snb_plan.specs.Plans.{queries_in, updates_in}
+use Rattle.snb_replay.specs.Replay.{all_rows}
+use Rattle.snb_texts.specs.Answers.{answers_text}
+use Rattle.snb_workers.specs.declared.run.Outcome.{Outcome}
+use Rattle.snb_workers.specs.Runs.{HasRun}
+use Rattle.snb_tool.specs.declared.input.Input.{Input}
+use Rattle.snb_tool.specs.Endings.{AreTexts, Ends, IsInputAnswer, IsReplyAnswer, IsRunOutput, Shows}
+use Rattle.snb_tool.specs.Outcome.{IsCommandAnswer, check_of}
 use Rattle.snb_tool.specs.Output.{HasBegun, HasWritten, IsWrittenSoFar, Wrote, on_screen, size_of}
 
 -- what isn't at most so much is above it
@@ -129,35 +132,29 @@ module _ (belongs : ℕ → Written → Type 0) (read wrote : Type 0) (ready : �
 
 -- ---- the texts of a command
 
-pub check_refused : (contents : Option Files) (folder : List ℕ) (fixed : Option ℕ) (r : Refusal) → IsCountsAnswer contents folder (Err (Refused r))
-    → IsCommandAnswer (Check folder) contents fixed 3 (on_screen (refusal_text r))
-check_refused contents folder fixed r h = (h.0, h.1, inr (refl, (r, h.2, refl)))
+-- a graph that has gained rows has so many
+rows_after : (old more new : List Row) → HasGained old more new → length new ≡ length old + length more
+rows_after old more new gained = sym (length_permutation new (old ++ more) gained.rows) ∙ length-append old more
 
-pub check_done : (contents : Option Files) (folder : List ℕ) (fixed : Option ℕ) (counts : Counts) (text : List ℕ) → IsCountsAnswer contents folder (Ok counts) → text ≡ check_text counts.rows counts.updates
-    → IsCommandAnswer (Check folder) contents fixed 0 (on_screen text)
-check_done contents folder fixed counts text h e = (
-  h.0,
-  h.1,
-  inl (
-    refl,
-    h.2.clean,
-    record {
-      graph = h.2.graph;
-      lanes = h.2.lanes;
-      dataset = h.2.dataset;
-      streams = h.2.streams;
-      shown = ap on_screen (e ∙ (λ i. check_text (h.2.rows i) (h.2.updates i)));
-    },
-  ),
-)
+pub check_refused : (contents : Option Files) (folder : List ℕ) (ratio : ℕ) (table : FrequencyTable) (fixed : Option ℕ) (r : Refusal) → ratio ≡ 1000000
+    → IsInputAnswer contents folder ratio table (Err (Refused r)) → IsCommandAnswer (Check folder table) contents fixed 3 (on_screen (refusal_text r))
+check_refused contents folder ratio table fixed r one h =
+    let k : IsInputAnswer contents folder 1000000 table (Err (Refused r)) = subst (λ (n : ℕ). IsInputAnswer contents folder n table (Err (Refused r))) one h in
+    (k.0, k.1, inr (refl, (r, k.2, refl)))
 
-pub run_refused : (contents : Option Files) (folder : List ℕ) (fixed : Option ℕ) (r : Refusal) → IsInputAnswer contents folder (Err (Refused r))
-    → IsCommandAnswer (Run folder) contents fixed 3 (on_screen (refusal_text r))
-run_refused contents folder fixed r h = (h.0, h.1, inr (refl, (r, h.2, refl)))
+pub check_done : (contents : Option Files) (folder : List ℕ) (ratio : ℕ) (table : FrequencyTable) (fixed : Option ℕ) (input : Input) (text : List ℕ) → ratio ≡ 1000000
+    → IsInputAnswer contents folder ratio table (Ok input) → text ≡ check_of input.graph input.plan → IsCommandAnswer (Check folder table) contents fixed 0 (on_screen text)
+check_done contents folder ratio table fixed input text one h e =
+    let k : IsInputAnswer contents folder 1000000 table (Ok input) = subst (λ (n : ℕ). IsInputAnswer contents folder n table (Ok input)) one h in
+    (k.0, k.1, inl (refl, k.2.clean, record { graph = input.graph; plan = input.plan; input = k.2.is; shown = ap on_screen e }))
 
-pub run_done : (contents : Option Files) (folder : List ℕ) (fixed : Option ℕ) (input : Input) (texts : Written) → IsInputAnswer contents folder (Ok input) → IsRunOutput input.inserts.items fixed input.graph texts
-    → IsCommandAnswer (Run folder) contents fixed 0 texts
-run_done contents folder fixed input texts h output = (
+pub run_refused : (contents : Option Files) (folder : List ℕ) (workers ratio : ℕ) (table : FrequencyTable) (fixed : Option ℕ) (r : Refusal) → IsInputAnswer contents folder ratio table (Err (Refused r))
+    → IsCommandAnswer (Run folder workers ratio table) contents fixed 3 (on_screen (refusal_text r))
+run_refused contents folder workers ratio table fixed r h = (h.0, h.1, inr (refl, (r, h.2, refl)))
+
+pub run_done : (contents : Option Files) (folder : List ℕ) (workers ratio : ℕ) (table : FrequencyTable) (fixed : Option ℕ) (input : Input) (texts : Written) → IsInputAnswer contents folder ratio table (Ok input)
+    → IsRunOutput workers input fixed texts → IsCommandAnswer (Run folder workers ratio table) contents fixed 0 texts
+run_done contents folder workers ratio table fixed input texts h output = (
   h.0,
   h.1,
   inl (
@@ -165,17 +162,33 @@ run_done contents folder fixed input texts h output = (
     h.2.clean,
     record {
       graph = input.graph;
-      inserts = input.inserts.items;
-      dataset = h.2.dataset;
-      stream = h.2.stream;
-      closed = h.2.closed;
+      plan = input.plan;
+      input = h.2.is;
       history = output.history;
+      replies = output.replies;
       final = output.final;
       ran = output.ran;
       shown = output.shown;
     },
   ),
 )
+
+-- the texts of what a run left, where the final graph has the rows of the dataset and of each insert
+pub run_shown : (workers : ℕ) (input : Input) (fixed : Option ℕ) (o : Outcome) (texts : Written) → HasRun workers input.plan fixed input.graph o.events.items o.replies o.graph
+    → AreTexts workers input.plan o texts → IsRunOutput workers input fixed texts
+run_shown workers input fixed o texts ran shown = record {
+  history = o.events.items;
+  replies = o.replies;
+  final = o.graph;
+  ran = ran;
+  shown = shown ∙ (λ i. record {
+    screen = summary_text (length input.plan.operations) (length (updates_in input.plan)) (length (queries_in input.plan)) (rows_after input.graph (all_rows input.plan) o.graph ran.final i);
+    log = log_text workers o.events.items;
+    answers = answers_text o.replies;
+    finals = final_text o.graph;
+    cases = [];
+  });
+}
 
 pub read_refused : (contents : Option Files) (folder : List ℕ) (query : Query) (fixed : Option ℕ) (r : Refusal) → IsReplyAnswer contents folder query (Err (Refused r))
     → IsCommandAnswer (Read folder query) contents fixed 3 (on_screen (refusal_text r))
@@ -198,85 +211,3 @@ read_done contents folder query fixed line text h e = (
     },
   ),
 )
-
--- ---- words
-
--- words that are no line of any command
-pub other_line : (words : List (List ℕ)) → ((folder : List ℕ) → ¬ IsLineOf words (Check folder)) → ((folder : List ℕ) → ¬ IsLineOf words (Run folder))
-    → ((folder : List ℕ) (query : Query) → ¬ IsLineOf words (Read folder query)) → IsOtherLine words
-other_line words check run read (Check folder) line = check folder line
-other_line words check run read (Run folder) line = run folder line
-other_line words check run read (Read folder query) line = read folder query line
-
--- the files of a folder that a shelf tells
-told_files : (folder : List ℕ) (files : Files) (held : Held) → IsHeldTold (Some files) folder held → ◌≡◌ {A = Held} held (held_in folder files)
-told_files folder files held told = λ i file. told file i
-
--- words that begin alike
-first_word : {a b : List ℕ} {x y : List (List ℕ)} → ◌≡◌ {A = List (List ℕ)} (a ∷ x) (b ∷ y) → a ≡ b
-first_word e = cc
-
-second_word : {a b c d : List ℕ} {x y : List (List ℕ)} → ◌≡◌ {A = List (List ℕ)} (a ∷ b ∷ x) (c ∷ d ∷ y) → b ≡ d
-second_word e = cc
-
--- words are the line of commands that try the same of one folder
-record SameChecks (c d : Command) : Type 1 where
-  folder : folder_of c ≡ folder_of d
-  checks : (held : Held) → checks_of c held ≡ checks_of d held
-
-same_checks : (words : List (List ℕ)) (c d : Command) → IsLineOf words c → IsLineOf words d → SameChecks c d
-same_checks words (Check f) (Check g) p q = record { folder = second_word (sym p.0 ∙ q.0); checks = λ held. refl }
-same_checks words (Check f) (Run g) p q = let e = ap length (sym p.0 ∙ q.0) in absurd (omega (arith, e))
-same_checks words (Check f) (Read g r) p q = let e = ap length (first_word (sym p.0 ∙ q.2)) in absurd (omega (arith, e))
-same_checks words (Run f) (Check g) p q = let e = ap length (sym p.0 ∙ q.0) in absurd (omega (arith, e))
-same_checks words (Run f) (Run g) p q = record { folder = second_word (sym p.0 ∙ q.0); checks = λ held. refl }
-same_checks words (Run f) (Read g r) p q = let e = ap length (first_word (sym p.0 ∙ q.2)) in absurd (omega (arith, e))
-same_checks words (Read f r) (Check g) p q = let e = ap length (first_word (sym p.2 ∙ q.0)) in absurd (omega (arith, e))
-same_checks words (Read f r) (Run g) p q = let e = ap length (first_word (sym p.2 ∙ q.0)) in absurd (omega (arith, e))
-same_checks words (Read f r) (Read g s) p q = record { folder = second_word (sym p.2 ∙ q.2); checks = λ held. refl }
-
--- what a command tries of the files that a shelf tells, as another with these words tries it
-checks_told : (words : List (List ℕ)) (files : Files) (c d : Command) (held : Held) → IsLineOf words c → IsLineOf words d → IsHeldTold (Some files) (folder_of c) held
-    → checks_of d (held_in (folder_of d) files) ≡ checks_of c held
-checks_told words files c d held p q told =
-    let same = same_checks words c d p q in
-    sym (same.checks (held_in (folder_of d) files)) ∙ (λ i. checks_of c (held_in (sym same.folder i) files)) ∙ (λ i. checks_of c (sym (told_files (folder_of c) files held told) i))
-
--- ---- completeness
-
--- what a command answers where nothing is wrong with its files, and nothing failed
-complete_told : (words : List (List ℕ)) (files : Files) (fixed : Option ℕ) (read wrote : Type 0) (ready : ℕ → Type 0) (old new : Option Written) (result : ℕ)
-    → RefusedOrNot → Ends (IsAnswer words (Some files) fixed) read wrote ready old new result
-    → (command : Command) → IsLineOf words command → NoneOf (checks_of command (held_in (folder_of command) files)) → ¬ read → ¬ wrote → (result ≡ 0) ⊎ (result ≡ 6)
-complete_told words files fixed read wrote ready old new result law (inl (inl e, h)) command line clean a b = inl e
-complete_told words files fixed read wrote ready old new result law (inl (inr e, (texts, inl other, w))) command line clean a b = absurd (other.1 command line)
-complete_told words files fixed read wrote ready old new result law (inl (inr e, (texts, inr (c, l, (held, told, inl done)), w))) command line clean a b = inl done.0
-complete_told words files fixed read wrote ready old new result law (inl (inr e, (texts, inr (c, l, (held, told, inr bad)), w))) command line clean a b =
-    absurd (law c held bad.1.0 bad.1.1 (subst (λ (cs : List {1} (Refusal → Type 0)). NoneOf cs) (checks_told words files c command held l line told) clean))
-complete_told words files fixed read wrote ready old new result law (inr (inl h)) command line clean a b = absurd (a h.1)
-complete_told words files fixed read wrote ready old new result law (inr (inr (inl h))) command line clean a b = absurd (b h.1)
-complete_told words files fixed read wrote ready old new result law (inr (inr (inr h))) command line clean a b = inr h.0
-
--- and where something is
-refuses_told : (words : List (List ℕ)) (files : Files) (fixed : Option ℕ) (read wrote : Type 0) (ready : ℕ → Type 0) (old new : Option Written) (result : ℕ)
-    → RefusedOrNot → Ends (IsAnswer words (Some files) fixed) read wrote ready old new result
-    → (command : Command) → IsLineOf words command → (r : Refusal) → FirstOf (checks_of command (held_in (folder_of command) files)) r → ¬ read → ¬ wrote → (result ≡ 3) ⊎ (result ≡ 6)
-refuses_told words files fixed read wrote ready old new result law (inl (e, (texts, inl other, w))) command line r bad a b = absurd (other.1 command line)
-refuses_told words files fixed read wrote ready old new result law (inl (e, (texts, inr (c, l, (held, told, inl done)), w))) command line r bad a b =
-    absurd (law c held r (subst (λ (cs : List {1} (Refusal → Type 0)). FirstOf cs r) (checks_told words files c command held l line told) bad) done.1)
-refuses_told words files fixed read wrote ready old new result law (inl (e, (texts, inr (c, l, (held, told, inr refused)), w))) command line r bad a b = inl refused.0
-refuses_told words files fixed read wrote ready old new result law (inr (inl h)) command line r bad a b = absurd (a h.1)
-refuses_told words files fixed read wrote ready old new result law (inr (inr (inl h))) command line r bad a b = absurd (b h.1)
-refuses_told words files fixed read wrote ready old new result law (inr (inr (inr h))) command line r bad a b = inr h.0
-
-pub complete : (words : List (List ℕ)) (contents : Option Files) (fixed : Option ℕ) (read wrote : Type 0) (ready : ℕ → Type 0) (old new : Option Written) (result : ℕ)
-    → RefusedOrNot → Ends (IsAnswer words contents fixed) read wrote ready old new result
-    → IfSome contents (λ files. (command : Command) → IsLineOf words command → NoneOf (checks_of command (held_in (folder_of command) files)) → ¬ read → ¬ wrote → (result ≡ 0) ⊎ (result ≡ 6))
-complete words None fixed read wrote ready old new result law ends = tt
-complete words (Some files) fixed read wrote ready old new result law ends = complete_told words files fixed read wrote ready old new result law ends
-
-pub refuses : (words : List (List ℕ)) (contents : Option Files) (fixed : Option ℕ) (read wrote : Type 0) (ready : ℕ → Type 0) (old new : Option Written) (result : ℕ)
-    → RefusedOrNot → Ends (IsAnswer words contents fixed) read wrote ready old new result
-    → IfSome contents (λ files. (command : Command) → IsLineOf words command → (r : Refusal) → FirstOf (checks_of command (held_in (folder_of command) files)) r → ¬ read → ¬ wrote → (result ≡ 3) ⊎ (result ≡ 6))
-refuses words None fixed read wrote ready old new result law ends = tt
-refuses words (Some files) fixed read wrote ready old new result law ends = refuses_told words files fixed read wrote ready old new result law ends

@@ -1,12 +1,14 @@
 -- The commands of the program, and the words of each.
-use Rattle.std.specs.Prelude.{◌≡◌, ◌≢◌, ℕ, List, [], ◌∷◌, map, codes}
+use Rattle.std.specs.Prelude.{◌≡◌, ◌≢◌, ℕ, ◌≤◌, List, [], ◌∷◌, None, Some, map, codes}
 use Rattle.std.specs.Borrow.{Bor}
 use Rattle.snb_schema.specs.declared.column.Column.{Column}
 use Rattle.snb_schema.specs.declared.column.Value.{Value}
 use Rattle.snb_schema.specs.declared.column.Value.TheVariants.{Digits}
+use Rattle.snb_schema.specs.declared.limits.TheConstants.{MAX_WORKERS}
 use Rattle.snb_schema.specs.declared.query.Query.{Query}
 use Rattle.snb_schema.specs.declared.query.Query.TheVariants as queries
 use Rattle.snb_schema.specs.Columns.{SpellsAll}
+use Rattle.snb_schema.specs.Frequencies.{FrequencyTable}
 use Rattle.snb_schema.specs.Layouts.{id_column}
 use Rattle.snb_schema.specs.ParameterLines.{query_columns, query_values}
 use Rattle.snb_schema.specs.Queries.{number_of_query}
@@ -14,6 +16,7 @@ use Rattle.snb_tool.specs.declared.command.Command.{Command as Said}
 use Rattle.snb_tool.specs.declared.command.Command.TheVariants as said
 use Rattle.snb_tool.specs.declared.request.Request.{Request}
 use Rattle.snb_tool.specs.declared.request.Request.TheVariants as requests
+use Rattle.snb_tool.specs.Options.{Options, Say, frequencies_of, no_options, ratio_of}
 
 -- the texts of words
 abbrev pub texts_of : List (Bor (List ℕ)) → List (List ℕ)
@@ -26,14 +29,14 @@ IsPlainWord (b ∷ bs) = b ≢ 45
 
 -- what the program can be told to do with a folder
 pub data Command : Type 0 where
-  Check : (folder : List ℕ) → Command
-  Run : (folder : List ℕ) → Command
+  Check : (folder : List ℕ) (frequencies : FrequencyTable) → Command
+  Run : (folder : List ℕ) (workers ratio : ℕ) (frequencies : FrequencyTable) → Command
   Read : (folder : List ℕ) (query : Query) → Command
 
 -- the folder of a command
 abbrev pub folder_of : Command → List ℕ
-folder_of (Check folder) = folder
-folder_of (Run folder) = folder
+folder_of (Check folder frequencies) = folder
+folder_of (Run folder workers ratio frequencies) = folder
 folder_of (Read folder query) = folder
 
 -- the word that names the kind of a read
@@ -79,16 +82,32 @@ parameter_values other = query_values other
 abbrev pub IsReadOf : List ℕ → List (List ℕ) → Query → Type 0
 IsReadOf kind parameters query = (kind ≡ kind_text query) × SpellsAll (parameter_columns query) parameters (parameter_values query)
 
--- the words are the line of the command: `check DIR`, `run DIR --workers 1`, or `read DIR KIND` with the parameters of the read
+-- the line of a command with options: its name, a folder, and options that say this
+pub record IsOptionLine (words : List (List ℕ)) (name folder : List ℕ) (said : Options) : Type 0 where
+  pub options : List (List ℕ)
+  pub are : words ≡ name ∷ folder ∷ options
+  pub plain : IsPlainWord folder
+  pub say : Say no_options options said
+
+-- the words are the line of the command: `check DIR`, with frequencies or without; `run DIR` with a number of workers, and with a ratio and
+-- frequencies or without; or `read DIR KIND` with the parameters of the read
 abbrev pub IsLineOf : List (List ℕ) → Command → Type 0
-IsLineOf words (Check folder) = (words ≡ codes "check" ∷ folder ∷ []) × IsPlainWord folder
-IsLineOf words (Run folder) = (words ≡ codes "run" ∷ folder ∷ codes "--workers" ∷ codes "1" ∷ []) × IsPlainWord folder
+IsLineOf words (Check folder frequencies) =
+    (said : Options) × IsOptionLine words (codes "check") folder said × (said.workers ≡ None) × (said.ratio ≡ None) × (frequencies ≡ frequencies_of said)
+IsLineOf words (Run folder workers ratio frequencies) =
+    (said : Options) × IsOptionLine words (codes "run") folder said × (said.workers ≡ Some workers) × (ratio ≡ ratio_of said) × (frequencies ≡ frequencies_of said)
 IsLineOf words (Read folder query) =
     (kind : List ℕ) × (parameters : List (List ℕ)) × (words ≡ codes "read" ∷ folder ∷ kind ∷ parameters) × IsPlainWord folder × IsReadOf kind parameters query
 
 -- the words are no command's line
 abbrev pub IsOtherLine : List (List ℕ) → Type 0
 IsOtherLine words = (command : Command) → ¬ IsLineOf words command
+
+-- a run has from one to `MAX_WORKERS` workers
+abbrev pub IsRunnable : Command → Type 0
+IsRunnable (Check folder frequencies) = Unit {0}
+IsRunnable (Run folder workers ratio frequencies) = (1 ≤ workers) × (workers ≤ MAX_WORKERS)
+IsRunnable (Read folder query) = Unit {0}
 
 -- the query that a request asks
 abbrev pub asked : Request → Query
@@ -109,6 +128,6 @@ asked (requests.Ic13 from to) = queries.Ic13 from to
 
 -- the command that was read off the words
 abbrev pub meant : Said → Command
-meant (said.Check folder) = Check folder.now
-meant (said.Run folder) = Run folder.now
+meant (said.Check folder frequencies) = Check folder.now frequencies
+meant (said.Run folder workers ratio frequencies) = Run folder.now workers ratio frequencies
 meant (said.Read folder request) = Read folder.now (asked request)

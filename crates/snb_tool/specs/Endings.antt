@@ -1,5 +1,5 @@
 -- How the parts of a call end. Cited by contracts of private functions alone.
-use Rattle.std.specs.Prelude.{◌≡◌, ℕ, ◌⊎◌, List, [], length, Option, Result, Ok, Err, Vec}
+use Rattle.std.specs.Prelude.{◌≡◌, ℕ, ◌<◌, ◌≤◌, ◌⊎◌, List, [], length, Option, Result, Ok, Err, Vec}
 use Rattle.std.specs.declared.alloc.Global.{Global}
 use Rattle.snb_base.specs.Outbox.{Written}
 use Rattle.snb_base.specs.Shelf.{Files}
@@ -8,22 +8,33 @@ use Rattle.snb_input.specs.Walk.{Held, IsHeldTold}
 use Rattle.snb_input.specs.declared.load.Load.{Load}
 use Rattle.snb_input.specs.declared.load.Load.TheVariants.{Refused, ReadFault, Memory}
 use Rattle.snb_loader.specs.Dataset.{IsDataset, dataset_checks}
-use Rattle.snb_loader.specs.Lanes.{AreLanes, lines_of}
-use Rattle.snb_loader.specs.Streams.{IsStream}
-use Rattle.snb_plan.specs.Closed.{IsClosed, updates_of}
 use Rattle.snb_reads.specs.declared.cell.Cell.{Cell}
 use Rattle.snb_reads.specs.Replies.{IsReply}
 use Rattle.snb_schema.specs.declared.event.Event.{Event}
-use Rattle.snb_schema.specs.declared.op.Line.{Line}
+use Rattle.snb_schema.specs.declared.limits.TheConstants.{MAX_READS}
 use Rattle.snb_schema.specs.declared.query.Query.{Query}
+use Rattle.snb_schema.specs.declared.refusal.Counted.TheVariants.{Reads}
+use Rattle.snb_schema.specs.declared.refusal.Refusal.{Refusal}
+use Rattle.snb_schema.specs.declared.refusal.Refusal.TheVariants.{TooMany}
 use Rattle.snb_schema.specs.declared.row.Row.{Row}
-use Rattle.snb_schema.specs.LineLanes.{LineLanes}
+use Rattle.snb_schema.specs.Frequencies.{FrequencyTable}
+use Rattle.snb_schema.specs.LineLanes.{LineLanes, update_count}
+use Rattle.snb_schema.specs.QueryLists.{QueryLists}
+use Rattle.snb_schema.specs.RunTexts.{log_text}
+use Rattle.snb_schema.specs.ScreenTexts.{summary_text}
+use Rattle.snb_tables.specs.FinalText.{final_text}
 use Rattle.snb_tables.specs.Graphs.{HoldsKey}
+use Rattle.snb_texts.specs.Answers.{answers_text}
+use Rattle.snb_plan.specs.declared.plan.PlanFault.{PlanFault}
+use Rattle.snb_plan.specs.declared.plan.PlanFault.TheVariants as plan_faults
+use Rattle.snb_plan.specs.Closed.{IsClosed, IsFirstWrong}
+use Rattle.snb_plan.specs.Plans.{IsPlan, Plan, queries_in, read_count, updates_in}
+use Rattle.snb_workers.specs.declared.done.Answered.{Answered}
+use Rattle.snb_workers.specs.declared.run.Outcome.{Outcome as RunOutcome}
 use Rattle.snb_workers.specs.Runs.{HasRun}
-use Rattle.snb_tool.specs.declared.check.Counts.{Counts}
 use Rattle.snb_tool.specs.declared.deliver.Output.{Output}
-use Rattle.snb_tool.specs.declared.run.Input.{Input}
-use Rattle.snb_tool.specs.Inputs.{after_dataset, at_first, check_checks, person_stream, run_checks}
+use Rattle.snb_tool.specs.declared.input.Input.{Input}
+use Rattle.snb_tool.specs.Inputs.{IsInput, at_first, plan_checks}
 use Rattle.snb_tool.specs.Outcome.{reply_line, run_texts}
 use Rattle.snb_tool.specs.Output.{HasBegun, HasWritten, Wrote, on_screen}
 
@@ -42,43 +53,63 @@ Ends belongs read wrote ready old new status =
     ⊎ ((status ≡ 5) × wrote × ((s : ℕ) × HasBegun ready old new (belongs s)))
     ⊎ ((status ≡ 6) × (new ≡ old))
 
--- nothing is wrong with the tables and the streams, and these are how many rows and updates they have
-pub record IsCounted (held : Held) (counts : Counts) : Type 0 where
-  pub clean : NoneOf (check_checks held)
-  pub graph : List Row
-  pub lanes : LineLanes
-  pub dataset : IsDataset at_first held graph
-  pub streams : AreLanes (after_dataset held) held lanes
-  pub rows : counts.rows ≡ length graph
-  pub updates : counts.updates ≡ length (lines_of lanes)
+-- nothing is wrong with the files of a plan, and these are their dataset and the plan
+pub record IsLoaded (held : Held) (ratio : ℕ) (frequencies : FrequencyTable) (input : Input) : Type 0 where
+  pub clean : NoneOf (plan_checks ratio frequencies held)
+  pub is : IsInput held ratio frequencies input.graph input.plan
 
--- what the counting of a folder answers
-abbrev pub IsCountsAnswer : Option Files → List ℕ → Result Counts Load → Type 0
-IsCountsAnswer contents folder (Ok counts) = (held : Held) × IsHeldTold contents folder held × IsCounted held counts
-IsCountsAnswer contents folder (Err (Refused r)) = (held : Held) × IsHeldTold contents folder held × FirstOf (check_checks held) r
-IsCountsAnswer contents folder (Err ReadFault) = Unit {0}
-IsCountsAnswer contents folder (Err Memory) = Unit {0}
+-- how a fault of a plan stops the loading of its input
+abbrev pub load_for : PlanFault → Load
+load_for (plan_faults.Refused r) = Refused r
+load_for plan_faults.Memory = Memory
 
--- nothing is wrong with the tables and the person stream, this is their graph, and these are the inserts, which are closed over it
-pub record IsLoaded (held : Held) (graph : List Row) (inserts : List Line) : Type 0 where
-  pub clean : NoneOf (run_checks held)
-  pub dataset : IsDataset at_first held graph
-  pub stream : IsStream (after_dataset held) held inserts
-  pub closed : IsClosed (HoldsKey graph) (updates_of 0 person_stream inserts)
+-- of lanes, lists, frequencies and a ratio this is the plan, which has no more reads than there may be and is closed over the graph
+pub record IsMade (graph : List Row) (lanes : LineLanes) (lists : QueryLists) (frequencies : FrequencyTable) (ratio : ℕ) (input : Input) : Type 0 where
+  pub same : input.graph ≡ graph
+  pub is_plan : IsPlan lanes lists frequencies ratio input.plan
+  pub few : read_count frequencies (update_count lanes) ≤ MAX_READS
+  pub closed : IsClosed (HoldsKey graph) (updates_in input.plan)
 
--- what the loading of a run's input answers
-abbrev pub IsInputAnswer : Option Files → List ℕ → Result Input Load → Type 0
-IsInputAnswer contents folder (Ok input) = (held : Held) × IsHeldTold contents folder held × IsLoaded held input.graph input.inserts.items
-IsInputAnswer contents folder (Err (Refused r)) = (held : Held) × IsHeldTold contents folder held × FirstOf (run_checks held) r
-IsInputAnswer contents folder (Err ReadFault) = Unit {0}
-IsInputAnswer contents folder (Err Memory) = Unit {0}
+-- their plan isn't closed over the graph, and the first update with which something is wrong is refused so
+pub record IsOpen (graph : List Row) (lanes : LineLanes) (lists : QueryLists) (frequencies : FrequencyTable) (ratio : ℕ) (r : Refusal) : Type 0 where
+  pub plan : Plan
+  pub is_plan : IsPlan lanes lists frequencies ratio plan
+  pub few : read_count frequencies (update_count lanes) ≤ MAX_READS
+  pub wrong : IsFirstWrong (HoldsKey graph) (updates_in plan) r
 
--- the texts of a run of these inserts from this graph on
-pub record IsRunOutput (inserts : List Line) (fixed : Option ℕ) (old : List Row) (texts : Written) : Type 0 where
+-- what the making of an input of what was read answers
+abbrev pub IsMadeAnswer : List Row → LineLanes → QueryLists → FrequencyTable → ℕ → Result Input Load → Type 0
+IsMadeAnswer graph lanes lists frequencies ratio (Ok input) = IsMade graph lanes lists frequencies ratio input
+IsMadeAnswer graph lanes lists frequencies ratio (Err (Refused r)) =
+    ((r ≡ TooMany Reads) × (MAX_READS < read_count frequencies (update_count lanes))) ⊎ IsOpen graph lanes lists frequencies ratio r
+IsMadeAnswer graph lanes lists frequencies ratio (Err ReadFault) = ⊥
+IsMadeAnswer graph lanes lists frequencies ratio (Err Memory) = Unit {0}
+
+-- what the loading of a plan's input answers
+abbrev pub IsInputAnswer : Option Files → List ℕ → ℕ → FrequencyTable → Result Input Load → Type 0
+IsInputAnswer contents folder ratio frequencies (Ok input) = (held : Held) × IsHeldTold contents folder held × IsLoaded held ratio frequencies input
+IsInputAnswer contents folder ratio frequencies (Err (Refused r)) =
+    (held : Held) × IsHeldTold contents folder held × FirstOf (plan_checks ratio frequencies held) r
+IsInputAnswer contents folder ratio frequencies (Err ReadFault) = Unit {0}
+IsInputAnswer contents folder ratio frequencies (Err Memory) = Unit {0}
+
+-- the texts of what a run by so many workers leaves, where the plan has so many operations, updates and reads
+abbrev pub AreTexts : ℕ → Plan → RunOutcome → Written → Type 0
+AreTexts workers plan o texts = texts ≡ record {
+  screen = summary_text (length plan.operations) (length (updates_in plan)) (length (queries_in plan)) (length o.graph);
+  log = log_text workers o.events.items;
+  answers = answers_text o.replies;
+  finals = final_text o.graph;
+  cases = [];
+}
+
+-- the texts of a run of a plan by so many workers over a dataset
+pub record IsRunOutput (workers : ℕ) (input : Input) (fixed : Option ℕ) (texts : Written) : Type 0 where
   pub history : List Event
+  pub replies : List Answered
   pub final : List Row
-  pub ran : HasRun inserts fixed old final history
-  pub shown : texts ≡ run_texts inserts history final
+  pub ran : HasRun workers input.plan fixed input.graph history replies final
+  pub shown : texts ≡ run_texts workers input.graph input.plan history replies final
 
 -- the bytes of each channel
 abbrev pub bytes_of : Output → Written

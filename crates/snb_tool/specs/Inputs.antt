@@ -1,15 +1,19 @@
 -- What each command tries of its files, in order.
-use Rattle.std.specs.Prelude.{List, [], ◌∷◌, ◌++◌}
+use Rattle.std.specs.Prelude.{◌≡◌, ℕ, ◌<◌, List, [], ◌∷◌, ◌++◌}
 use Rattle.snb_input.specs.Walk.{Before, Held}
 use Rattle.snb_loader.specs.Dataset.{IsDataset, after_tables, dataset_checks}
-use Rattle.snb_loader.specs.Lanes.{lane_checks, next_stage}
-use Rattle.snb_loader.specs.Streams.{IsStream, stream_checks}
-use Rattle.snb_plan.specs.Closed.{IsFirstWrong, updates_of}
-use Rattle.snb_schema.specs.declared.file.FileId.{FileId}
-use Rattle.snb_schema.specs.declared.file.FileKind.TheVariants.{PersonStream}
-use Rattle.snb_schema.specs.declared.op.Line.{Line}
+use Rattle.snb_loader.specs.Lanes.{AreLanes, after_lanes, lane_checks, next_stage}
+use Rattle.snb_loader.specs.Params.{AreParams, params_checks}
+use Rattle.snb_plan.specs.Closed.{IsClosed, IsFirstWrong}
+use Rattle.snb_plan.specs.Plans.{IsPlan, Plan, read_count, updates_in}
+use Rattle.snb_schema.specs.declared.limits.TheConstants.{MAX_READS}
+use Rattle.snb_schema.specs.declared.refusal.Counted.TheVariants.{Reads}
 use Rattle.snb_schema.specs.declared.refusal.Refusal.{Refusal}
+use Rattle.snb_schema.specs.declared.refusal.Refusal.TheVariants.{TooMany}
 use Rattle.snb_schema.specs.declared.row.Row.{Row}
+use Rattle.snb_schema.specs.Frequencies.{FrequencyTable}
+use Rattle.snb_schema.specs.LineLanes.{LineLanes, update_count}
+use Rattle.snb_schema.specs.QueryLists.{QueryLists}
 use Rattle.snb_tables.specs.Graphs.{HoldsKey}
 use Rattle.snb_tool.specs.Commands.{Command, Check, Run, Read}
 
@@ -17,32 +21,53 @@ use Rattle.snb_tool.specs.Commands.{Command, Check, Run, Read}
 abbrev pub at_first : Before
 at_first = record { bytes = 0; rows = 0; past = [] }
 
--- what was read after the tables, where the streams begin
+-- what was read after the tables, where the streams begin, and after these, where the parameter files begin
 abbrev pub after_dataset : Held → Before
 after_dataset held = next_stage (after_tables at_first held)
 
--- the first person stream
-abbrev pub person_stream : FileId
-person_stream = record { kind = PersonStream; part = 0 }
+abbrev pub after_streams : Held → Before
+after_streams held = next_stage (after_lanes (after_dataset held) held)
 
--- the inserts of the person stream aren't closed over the dataset, and the first with which something is wrong is refused so
-pub record IsNotClosed (held : Held) (r : Refusal) : Type 0 where
+-- the files are the streams of these lanes and, for these frequencies, the parameter files of these lists; and this is their plan under the
+-- ratio in millionths
+pub record ArePlanned (held : Held) (ratio : ℕ) (frequencies : FrequencyTable) (plan : Plan) : Type 0 where
+  pub lanes : LineLanes
+  pub lists : QueryLists
+  pub streams : AreLanes (after_dataset held) held lanes
+  pub params : AreParams (after_streams held) held frequencies lists
+  pub is_plan : IsPlan lanes lists frequencies ratio plan
+
+-- there are more reads than there may be
+pub record AreTooMany (held : Held) (frequencies : FrequencyTable) (r : Refusal) : Type 0 where
+  pub lanes : LineLanes
+  pub streams : AreLanes (after_dataset held) held lanes
+  pub many : MAX_READS < read_count frequencies (update_count lanes)
+  pub refused : r ≡ TooMany Reads
+
+-- the updates aren't closed over the dataset, and the first with which something is wrong is refused so
+pub record IsNotClosed (held : Held) (ratio : ℕ) (frequencies : FrequencyTable) (r : Refusal) : Type 0 where
   pub graph : List Row
-  pub inserts : List Line
+  pub plan : Plan
   pub dataset : IsDataset at_first held graph
-  pub stream : IsStream (after_dataset held) held inserts
-  pub wrong : IsFirstWrong (HoldsKey graph) (updates_of 0 person_stream inserts) r
+  pub planned : ArePlanned held ratio frequencies plan
+  pub wrong : IsFirstWrong (HoldsKey graph) (updates_in plan) r
 
--- what `check` tries of the files, in order: the dataset, then the streams
-abbrev pub check_checks : Held → List {1} (Refusal → Type 0)
-check_checks held = dataset_checks at_first held ++ lane_checks (after_dataset held) held
+-- what is tried of a plan's files, in order: the dataset, the streams, the parameter files of the queries with a frequency, how many reads
+-- there are, and whether the updates are closed over the dataset
+abbrev pub plan_checks : ℕ → FrequencyTable → Held → List {1} (Refusal → Type 0)
+plan_checks ratio frequencies held =
+    dataset_checks at_first held
+    ++ (lane_checks (after_dataset held) held
+    ++ (params_checks (after_streams held) held frequencies ++ AreTooMany held frequencies ∷ IsNotClosed held ratio frequencies ∷ []))
 
--- what `run` tries of them, in order: the dataset, the person stream, and whether its inserts are closed over the dataset
-abbrev pub run_checks : Held → List {1} (Refusal → Type 0)
-run_checks held = dataset_checks at_first held ++ (stream_checks (after_dataset held) held ++ IsNotClosed held ∷ [])
-
--- what a command tries of its files, in order
+-- what a command tries of its files, in order; `check` has the ratio 1
 abbrev pub checks_of : Command → Held → List {1} (Refusal → Type 0)
-checks_of (Check folder) held = check_checks held
-checks_of (Run folder) held = run_checks held
+checks_of (Check folder frequencies) held = plan_checks 1000000 frequencies held
+checks_of (Run folder workers ratio frequencies) held = plan_checks ratio frequencies held
 checks_of (Read folder query) held = dataset_checks at_first held
+
+-- nothing is wrong with the files of a plan, and these are their dataset and the plan
+pub record IsInput (held : Held) (ratio : ℕ) (frequencies : FrequencyTable) (graph : List Row) (plan : Plan) : Type 0 where
+  pub dataset : IsDataset at_first held graph
+  pub planned : ArePlanned held ratio frequencies plan
+  pub closed : IsClosed (HoldsKey graph) (updates_in plan)

@@ -1,63 +1,70 @@
 -- What a call of the program answers and writes.
-use Rattle.std.specs.Prelude.{◌≡◌, ℕ, List, [], ◌∷◌, ◌++◌, length, Option, ◌⊎◌}
+use Rattle.std.specs.Prelude.{◌≡◌, ℕ, ◌+◌, List, [], ◌∷◌, ◌++◌, length, Option, ◌⊎◌}
 use Rattle.serde_json.specs.Written.{compact_text}
 use Rattle.snb_base.specs.Outbox.{Written}
 use Rattle.snb_base.specs.Shelf.{Files}
 use Rattle.snb_input.specs.FirstOf.{FirstOf, NoneOf}
 use Rattle.snb_input.specs.Walk.{Held, IsHeldTold}
 use Rattle.snb_loader.specs.Dataset.{IsDataset}
-use Rattle.snb_loader.specs.Lanes.{AreLanes, lines_of}
-use Rattle.snb_loader.specs.Streams.{IsStream}
-use Rattle.snb_plan.specs.Closed.{IsClosed, updates_of}
+use Rattle.snb_plan.specs.Plans.{Plan, queries_in, updates_in}
 use Rattle.snb_reads.specs.declared.cell.Cell.{Cell}
 use Rattle.snb_reads.specs.Replies.{IsReply}
+use Rattle.snb_replay.specs.Replay.{all_rows}
 use Rattle.snb_schema.specs.declared.event.Event.{Event}
-use Rattle.snb_schema.specs.declared.op.Line.{Line}
 use Rattle.snb_schema.specs.declared.query.Query.{Query}
 use Rattle.snb_schema.specs.declared.refusal.Refusal.{Refusal}
 use Rattle.snb_schema.specs.declared.row.Row.{Row}
-use Rattle.snb_schema.specs.LineLanes.{LineLanes}
-use Rattle.snb_schema.specs.RunTexts.{log_text, no_answers_text}
+use Rattle.snb_schema.specs.Frequencies.{FrequencyTable}
+use Rattle.snb_schema.specs.RunTexts.{log_text}
 use Rattle.snb_schema.specs.ScreenTexts.{refusal_text, summary_text, usage_text}
 use Rattle.snb_tables.specs.FinalText.{final_text}
-use Rattle.snb_tables.specs.Graphs.{HoldsKey}
+use Rattle.snb_texts.specs.Answers.{answers_text}
 use Rattle.snb_texts.specs.Counts.{check_text}
 use Rattle.snb_validation.specs.ReplyData.{reply_data}
+use Rattle.snb_workers.specs.declared.done.Answered.{Answered}
 use Rattle.snb_workers.specs.Runs.{HasRun}
 use Rattle.snb_tool.specs.Commands.{Command, Check, Run, Read, IsLineOf, IsOtherLine, folder_of}
-use Rattle.snb_tool.specs.Inputs.{after_dataset, at_first, checks_of, person_stream}
+use Rattle.snb_tool.specs.Inputs.{IsInput, at_first, checks_of}
 use Rattle.snb_tool.specs.Output.{on_screen}
 
--- the four texts of a run of these inserts, with this history and this final graph
-abbrev pub run_texts : List Line → List Event → List Row → Written
-run_texts inserts h g = record {
-  screen = summary_text (length inserts) (length inserts) 0 (length g);
-  log = log_text 1 h;
-  answers = no_answers_text;
-  finals = final_text g;
+-- what `check` shows of a dataset and a plan: how many rows, updates and reads there are
+abbrev pub check_of : List Row → Plan → List ℕ
+check_of base plan = check_text (length base) (length (updates_in plan)) (length (queries_in plan))
+
+-- the summary of a run of a plan over a dataset: how many operations, updates and reads there were, and how many rows the final graph has
+abbrev pub summary_of : List Row → Plan → List ℕ
+summary_of base plan =
+    summary_text (length plan.operations) (length (updates_in plan)) (length (queries_in plan)) (length base + length (all_rows plan))
+
+-- the four texts of a run of a plan over a dataset, with this history, these replies and this final graph
+abbrev pub run_texts : ℕ → List Row → Plan → List Event → List Answered → List Row → Written
+run_texts workers base plan h replies final = record {
+  screen = summary_of base plan;
+  log = log_text workers h;
+  answers = answers_text replies;
+  finals = final_text final;
   cases = [];
 }
 
--- the files are a dataset and the lanes of streams, and the text counts its rows and their updates
-pub record IsChecked (held : Held) (texts : Written) : Type 0 where
+-- nothing is wrong with the files, and the text counts the rows of their dataset, and the updates and reads of their plan
+pub record IsChecked (held : Held) (frequencies : FrequencyTable) (texts : Written) : Type 0 where
   pub graph : List Row
-  pub lanes : LineLanes
-  pub dataset : IsDataset at_first held graph
-  pub streams : AreLanes (after_dataset held) held lanes
-  pub shown : texts ≡ on_screen (check_text (length graph) (length (lines_of lanes)))
+  pub plan : Plan
+  pub input : IsInput held 1000000 frequencies graph plan
+  pub shown : texts ≡ on_screen (check_of graph plan)
 
--- the files are a dataset and a person stream whose inserts are closed over it, and the texts are those of a legal, complete history of its
--- plan for one worker and of the dataset with the rows of each insert once; where the clock tells a fixed moment, each event is of it
-pub record IsRun (held : Held) (fixed : Option ℕ) (texts : Written) : Type 0 where
+-- nothing is wrong with the files, and the texts are those of a legal, complete history of their plan for so many workers, of the replies to
+-- its reads, each on the dataset with what had finished in the read's front, and of the dataset with the rows of each insert once; where the
+-- clock tells a fixed moment, each event is of it
+pub record IsRun (held : Held) (workers ratio : ℕ) (frequencies : FrequencyTable) (fixed : Option ℕ) (texts : Written) : Type 0 where
   pub graph : List Row
-  pub inserts : List Line
-  pub dataset : IsDataset at_first held graph
-  pub stream : IsStream (after_dataset held) held inserts
-  pub closed : IsClosed (HoldsKey graph) (updates_of 0 person_stream inserts)
+  pub plan : Plan
+  pub input : IsInput held ratio frequencies graph plan
   pub history : List Event
+  pub replies : List Answered
   pub final : List Row
-  pub ran : HasRun inserts fixed graph final history
-  pub shown : texts ≡ run_texts inserts history final
+  pub ran : HasRun workers plan fixed graph history replies final
+  pub shown : texts ≡ run_texts workers graph plan history replies final
 
 -- the line of a reply: its JSON text, and a line feed
 abbrev pub reply_line : List (List (List Cell)) → List ℕ
@@ -73,8 +80,8 @@ pub record IsRead (held : Held) (query : Query) (texts : Written) : Type 0 where
 
 -- the texts of a command that is done
 abbrev pub IsDone : Command → Held → Option ℕ → Written → Type 0
-IsDone (Check folder) held fixed texts = IsChecked held texts
-IsDone (Run folder) held fixed texts = IsRun held fixed texts
+IsDone (Check folder frequencies) held fixed texts = IsChecked held frequencies texts
+IsDone (Run folder workers ratio frequencies) held fixed texts = IsRun held workers ratio frequencies fixed texts
 IsDone (Read folder query) held fixed texts = IsRead held query texts
 
 -- the texts that belong to a command's files and a status: nothing is wrong with the files and the command is done; or what is wrong with

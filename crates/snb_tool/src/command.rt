@@ -1,26 +1,41 @@
 //! The words of a command line.
 
 ghost use Rattle.std.specs.Prelude.{◌≡◌, ℕ, List, [], ◌∷◌, IsTrue, ◌↔◌, MatchOption};
-ghost use Rattle.snb_tool.specs.Commands.{Check, Run, Read, IsLineOf, IsOtherLine, IsPlainWord, IsReadOf, asked, meant, texts_of};
+ghost use Rattle.snb_tool.specs.Commands.{Check, Run, Read, IsLineOf, IsOptionLine, IsOtherLine, IsPlainWord, IsReadOf, asked, meant, texts_of};
+ghost use Rattle.snb_tool.specs.Options.{told, Options as AnyOptions};
 ghost use Rattle.snb_schema.specs.declared.query.Query.{Query as AnyQuery};
+ghost use Rattle.snb_schema.specs.Frequencies.{FrequencyTable};
 
+use crate::options::{Options, no_frequencies, options_of};
 use crate::request::Request;
 use snb_base::number::read_number;
 use snb_clock::date::read_date;
+use snb_clock::law::one_ratio;
+use snb_clock::ratio::Ratio;
+use snb_schema::frequencies::Frequencies;
+use snb_schema::law::frequencies_are_one;
 use snb_schema::limits::{MAX_ID, MAX_YEAR};
 
 /// What the words of a command line say.
 #[derive(Clone, Copy, Debug)]
 pub enum Command<'a> {
-    /// `check DIR`.
+    /// `check DIR`, with `--freq L` or without.
     Check {
         /// The folder.
         folder: &'a str,
+        /// How often each complex query is asked.
+        frequencies: Frequencies,
     },
-    /// `run DIR --workers 1`.
+    /// `run DIR --workers N`, with `--ratio R` and `--freq L` or without.
     Run {
         /// The folder.
         folder: &'a str,
+        /// How many workers there are.
+        workers: u32,
+        /// By how much the due times are stretched.
+        ratio: Ratio,
+        /// How often each complex query is asked.
+        frequencies: Frequencies,
     },
     /// `read DIR KIND`, with the parameters of the read.
     Read {
@@ -41,14 +56,15 @@ fn is_plain(word: &str) -> bool
     }
 }
 
-// The folder of the line `check DIR`, or None where the words are another line.
-fn check_folder<'a>(words: &[&'a str]) -> Option<&'a str>
-    ensures { MatchOption result ((folder : List ℕ) → ¬ IsLineOf (texts_of words.now) (Check folder)) (λ folder. IsLineOf (texts_of words.now) (Check folder.now)) }
+// The folder and the options of a line of this command, or None where the words are another line.
+fn option_line<'a>(words: &[&'a str], name: &str) -> Option<(&'a str, Options)>
+    ensures { MatchOption result ((folder : List ℕ) (said : AnyOptions) → ¬ IsOptionLine (texts_of words.now) name.now folder said)
+        (λ pair. IsOptionLine (texts_of words.now) name.now pair.0.now (told pair.1)) }
 {
     match words {
-        [command, folder] => {
-            if *command == "check" && is_plain(folder) {
-                Some(*folder)
+        [command, folder, options @ ..] => {
+            if *command == name && is_plain(folder) {
+                Some((*folder, options_of(options)?))
             } else {
                 None
             }
@@ -57,20 +73,47 @@ fn check_folder<'a>(words: &[&'a str]) -> Option<&'a str>
     }
 }
 
-// The folder of the line `run DIR --workers 1`, or None where the words are another line.
-fn run_folder<'a>(words: &[&'a str]) -> Option<&'a str>
-    ensures { MatchOption result ((folder : List ℕ) → ¬ IsLineOf (texts_of words.now) (Run folder)) (λ folder. IsLineOf (texts_of words.now) (Run folder.now)) }
+// The command of the line `check DIR` with its options, or None where the words are another line.
+fn check_command<'a>(words: &[&'a str]) -> Option<Command<'a>>
+    ensures { MatchOption result ((folder : List ℕ) (frequencies : FrequencyTable) → ¬ IsLineOf (texts_of words.now) (Check folder frequencies))
+        (λ command. IsLineOf (texts_of words.now) (meant command)) }
 {
-    match words {
-        [command, folder, option, workers] => {
-            if *command == "run" && *option == "--workers" && *workers == "1" && is_plain(folder) {
-                Some(*folder)
-            } else {
-                None
-            }
-        }
-        _ => None,
+    one_ratio();
+    frequencies_are_one();
+    let (folder, said) = match option_line(words, "check") {
+        Some(line) => line,
+        None => return None,
+    };
+    if said.workers.is_some() || said.ratio.is_some() {
+        return None;
     }
+    let frequencies = said.frequencies.unwrap_or(no_frequencies());
+    Some(Command::Check {
+        folder,
+        frequencies,
+    })
+}
+
+// The command of the line `run DIR` with its options, or None where the words are another line.
+fn run_command<'a>(words: &[&'a str]) -> Option<Command<'a>>
+    ensures { MatchOption result ((folder : List ℕ) (workers ratio : ℕ) (frequencies : FrequencyTable) → ¬ IsLineOf (texts_of words.now) (Run folder workers ratio frequencies))
+        (λ command. IsLineOf (texts_of words.now) (meant command)) }
+{
+    one_ratio();
+    frequencies_are_one();
+    let (folder, said) = match option_line(words, "run") {
+        Some(line) => line,
+        None => return None,
+    };
+    let workers = said.workers?;
+    let ratio = said.ratio.unwrap_or(Ratio::one());
+    let frequencies = said.frequencies.unwrap_or(no_frequencies());
+    Some(Command::Run {
+        folder,
+        workers,
+        ratio,
+        frequencies,
+    })
 }
 
 // The read of this kind with an id, or None where there is none.
@@ -174,11 +217,11 @@ fn read_request<'a>(words: &[&'a str]) -> Option<(&'a str, Request<'a>)>
 pub fn command_of<'a>(words: &[&'a str]) -> Option<Command<'a>>
     ensures { MatchOption result (IsOtherLine (texts_of words.now)) (λ command. IsLineOf (texts_of words.now) (meant command)) }
 {
-    if let Some(folder) = check_folder(words) {
-        return Some(Command::Check { folder });
+    if let Some(command) = check_command(words) {
+        return Some(command);
     }
-    if let Some(folder) = run_folder(words) {
-        return Some(Command::Run { folder });
+    if let Some(command) = run_command(words) {
+        return Some(command);
     }
     match read_request(words) {
         Some((folder, request)) => Some(Command::Read { folder, request }),

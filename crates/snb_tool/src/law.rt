@@ -2,7 +2,8 @@
 
 ghost use Rattle.snb_tool.specs.Laws.{RefusalIsOne, RefusedOrNot};
 
-use snb_loader::law::{one_dataset, one_lanes, one_stream};
+use snb_loader::law::{one_dataset, one_lanes, one_params};
+use snb_plan::law::plan_is_one;
 
 /// The files of a command are refused for one thing at most, and then something is wrong with them.
 pub fn refusal_is_one()
@@ -10,6 +11,7 @@ pub fn refusal_is_one()
     ensures or_not { RefusedOrNot }
 {
     one_dataset();
-    one_stream();
     one_lanes();
+    one_params();
+    plan_is_one();
 }

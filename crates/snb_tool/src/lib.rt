@@ -4,7 +4,9 @@
 mod check;
 mod command;
 mod deliver;
+mod input;
 pub mod law;
+mod options;
 mod read;
 mod request;
 mod run;

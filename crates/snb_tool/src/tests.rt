@@ -231,8 +231,8 @@ fn a_file_that_goes_away_ends_there(rt: HostRuntime) -> Result<(), Fail> {
     let status = snb(&rt, &WORDS, &mut shelf, &mut out, &clock, &OpenGate);
     assert_eq!(rt; status, 0);
     // Of each table the first piece, the read after it and the one of a second part; of the stream the
-    // first two.
-    assert_eq!(rt; shelf.reads, 101);
+    // first two; and one each of a second stream and of a forum stream.
+    assert_eq!(rt; shelf.reads, 103);
     let screen = "operations 2\nupdates 2\nreads 0\nrows 5\n";
     assert_eq!(rt; out.bytes(Channel::Screen), screen.as_bytes());
     Ok(())

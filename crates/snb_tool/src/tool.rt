@@ -5,7 +5,7 @@ ghost use Rattle.snb_base.specs.Shelf.{Rose};
 ghost use Rattle.snb_input.specs.FirstOf.{FirstOf, NoneOf};
 ghost use Rattle.snb_input.specs.Files.{held_in};
 ghost use Rattle.snb_schema.specs.declared.refusal.Refusal.{Refusal as Refused};
-ghost use Rattle.snb_tool.specs.Commands.{Command as AnyCommand, IsLineOf, IsOtherLine, folder_of, meant, texts_of};
+ghost use Rattle.snb_tool.specs.Commands.{Command as AnyCommand, IsLineOf, IsOtherLine, IsRunnable, folder_of, meant, texts_of};
 ghost use Rattle.snb_tool.specs.Endings.{Ends};
 ghost use Rattle.snb_tool.specs.Inputs.{checks_of};
 ghost use Rattle.snb_tool.specs.Outcome.{IsAnswer, IsCommandAnswer};
@@ -21,6 +21,8 @@ use snb_base::clock::Clock;
 use snb_base::gate::Gate;
 use snb_base::outbox::Outbox;
 use snb_base::shelf::Shelf;
+use snb_clock::law::one_ratio;
+use snb_schema::law::frequencies_are_one;
 use std::sync::Wait;
 
 /// What is shown for words that aren't a line of the program's.
@@ -30,22 +32,41 @@ const USAGE: &str =
 // Does what a command says, and gives the status.
 fn obey<R: AllocGlobal + Wait, S: Shelf, O: Outbox, C: Clock, G: Gate>(
     rt: &R,
-    command: Command,
+    command: &Command,
     shelf: &mut S,
     out: &mut O,
     clock: &C,
     gate: &G,
 ) -> u8
-    ensures ends { Ends (IsCommandAnswer (meant command.entry) (S.contents shelf.old) (C.fixed clock.now)) (Rose (S.faults shelf.old) (S.faults shelf.new))
+    requires { IsRunnable (meant command.now) }
+    ensures ends { Ends (IsCommandAnswer (meant command.now) (S.contents shelf.old) (C.fixed clock.now)) (Rose (S.faults shelf.old) (S.faults shelf.new))
         (Rose (O.faults out.old) (O.faults out.new)) (O.ready out.old) (O.written out.old) (O.written out.new) result }
     ensures reads_later { S.faults shelf.old ≤ S.faults shelf.new }
     ensures writes_later { O.faults out.old ≤ O.faults out.new }
     ensures same { S.contents shelf.new ≡ S.contents shelf.old }
 {
     match command {
-        Command::Check { folder } => check(rt.alloc(), shelf, folder, out),
-        Command::Run { folder } => run(rt, shelf, folder, out, clock, gate),
-        Command::Read { folder, request } => read(rt.alloc(), shelf, folder, request, out),
+        Command::Check {
+            folder,
+            frequencies,
+        } => check(rt.alloc(), shelf, folder, *frequencies, out),
+        Command::Run {
+            folder,
+            workers,
+            ratio,
+            frequencies,
+        } => run(
+            rt,
+            shelf,
+            folder,
+            *workers,
+            *ratio,
+            *frequencies,
+            out,
+            clock,
+            gate,
+        ),
+        Command::Read { folder, request } => read(rt.alloc(), shelf, folder, *request, out),
     }
 }
 
@@ -66,7 +87,7 @@ fn answer<R: AllocGlobal + Wait, S: Shelf, O: Outbox, C: Clock, G: Gate>(
     ensures same { S.contents shelf.new ≡ S.contents shelf.old }
 {
     match command_of(words) {
-        Some(command) => obey(rt, command, shelf, out, clock, gate),
+        Some(command) => obey(rt, &command, shelf, out, clock, gate),
         None => show_as(out, USAGE.as_bytes(), 2),
     }
 }
@@ -74,11 +95,15 @@ fn answer<R: AllocGlobal + Wait, S: Shelf, O: Outbox, C: Clock, G: Gate>(
 /// Does what a line of words says. The words are those after the program's name.
 ///
 /// - `check DIR` reads the 33 tables of the folder `DIR` from the shelf, then its update streams, and
-///   shows how many rows the dataset has and how many updates the streams have.
-/// - `run DIR --workers 1` reads the tables and the person stream `updateStream_0_0_person.csv`, where
-///   it is there, runs each of its inserts once, and writes the log, the answers, the final graph and
-///   the summary on their channels. The inserts must be closed over the dataset: each has a new key,
-///   and each finds the nodes that it refers to there, or among the persons added up to its t_d.
+///   the parameter files of the queries with a frequency, and shows how many rows the dataset has and how
+///   many updates and reads the plan. The updates must be closed over the dataset: each has new keys, and
+///   each finds the nodes that it refers to there, among the persons added up to its t_d, or among what
+///   the updates before it in its lane add.
+/// - `run DIR --workers N` reads the same, runs the plan of N workers, 1 to 8, and writes the log, the
+///   answers, the final graph and the summary on their channels. One worker does all so far.
+/// - Both take the option `--freq L`, where L has `q:f` for complex queries q and their frequencies f, by
+///   rising q and with commas between; without it nothing is read. `run` takes `--ratio R`, by which its
+///   due times are stretched; it is 1 without it.
 /// - `read DIR KIND P1 P2 P3` reads the tables and shows the reply to one read: its answer, and those of
 ///   the short reads that follow. KIND is `IS1` to `IS7`, `IC1`, `IC2`, `IC7`, `IC8`, `IC9`, `IC11` or
 ///   `IC13`, with as many parameters as it has: an id of a person or a message for a short read, of a
@@ -128,6 +153,8 @@ pub fn snb<R: AllocGlobal + Wait, S: Shelf, O: Outbox, C: Clock + Sync, G: Gate 
     ensures writes_later { O.faults out.old ≤ O.faults out.new }
     ensures same { S.contents shelf.new ≡ S.contents shelf.old }
 {
+    one_ratio();
+    frequencies_are_one();
     refusal_is_one();
     answer(rt, words, shelf, out, clock, gate)
 }

@@ -1,4 +1,5 @@
-pub mod Planning
-pub mod Replay
-pub mod Single
+pub mod Following
+pub mod PlanSteps
+pub mod TurnEvents
 pub mod TurnLemmas
+pub mod TurnReplies

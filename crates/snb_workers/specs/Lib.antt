@@ -1,2 +1,4 @@
+pub mod Replicas
+pub mod Replies
 pub mod Runs
 pub mod Turns

@@ -1,21 +1,17 @@
--- What a run of a plan by one worker leaves: its history, and the graph.
-use Rattle.std.specs.Prelude.{◌≡◌, ℕ, ◌≤◌, min, List, length, take, All, Option}
-use Rattle.std.specs.List.{flat_map}
+-- What a run of a plan leaves: its history, the replies to its reads, and the graph.
+use Rattle.std.specs.Prelude.{◌≡◌, ℕ, min, List, take, All, AllPairs, Contains, ◌<◌, Option, Some, slice_get}
 use Rattle.std.specs.Option.{IfSome}
 use Rattle.snb_schema.specs.declared.event.Event.{Event}
 use Rattle.snb_schema.specs.declared.event.Event.TheVariants.{Start, Finish, Halt}
 use Rattle.snb_schema.specs.declared.limits.TheConstants.{MAX_AT}
-use Rattle.snb_schema.specs.declared.op.Line.{Line}
+use Rattle.snb_schema.specs.declared.query.Query.{Query}
 use Rattle.snb_schema.specs.declared.row.Row.{Row}
-use Rattle.snb_schema.specs.Inserts.{rows_of}
 use Rattle.snb_schema.specs.Rules.{IsComplete, IsLegal}
-use Rattle.snb_plan.specs.Plan.{plan_of}
-use Rattle.snb_tables.specs.Graphs.{HasGained}
 use Rattle.snb_tables.specs.Soundness.{Sound}
-
--- the rows that the inserts add, in the order of their lines
-abbrev pub rows_of_all : List Line → List Row
-rows_of_all lines = flat_map (λ line. rows_of line.op) lines
+use Rattle.snb_plan.specs.Plans.{Ask, Operation, Plan, schedule_of}
+use Rattle.snb_reads.specs.Replies.{IsReply}
+use Rattle.snb_replay.specs.Replay.{IsAfter, IsFinal}
+use Rattle.snb_workers.specs.declared.done.Answered.{Answered}
 
 -- an event's moment, if it has one, is this
 abbrev pub IsAt : ℕ → Event → Type 0
@@ -23,18 +19,40 @@ IsAt moment (Start op worker at) = at ≡ moment
 IsAt moment (Finish op worker at front) = at ≡ moment
 IsAt moment (Halt worker) = Unit {0}
 
--- a legal, complete history of the plan for one worker, whose events are of the fixed moment where the clock tells one, and a sound
--- graph that has all rows of the inserts more
-pub record HasRun (lines : List Line) (fixed : Option ℕ) (old new : List Row) (h : List Event) : Type 0 where
-  pub legal : IsLegal (plan_of lines) 1 h
-  pub complete : IsComplete (plan_of lines) h
-  pub moments : IfSome fixed (λ moment. All (IsAt (min moment MAX_AT)) h)
-  pub final : HasGained old (rows_of_all lines) new
-  pub sound : Sound new
+-- where the clock tells a fixed moment, each event is of it, or of the greatest
+abbrev pub AreAt : Option ℕ → List Event → Type 0
+AreAt fixed h = IfSome fixed (λ moment. All (IsAt (min moment MAX_AT)) h)
 
--- a sound graph that has all rows of the first inserts more, and none of the others
-pub record HasStopped (lines : List Line) (old new : List Row) : Type 0 where
-  pub count : ℕ
-  pub within : count ≤ length lines
-  pub gained : HasGained old (rows_of_all (take count lines)) new
-  pub sound : Sound new
+-- the operation of this number asks the query
+abbrev pub Asks : Plan → ℕ → Query → Type 0
+Asks plan op query = (o : Operation) × (slice_get plan.operations op ≡ Some o) × (o.work ≡ Ask query)
+
+-- a read has finished in the history with this front, and the reply is that to its query on the graph of the base and of what had
+-- finished in that front
+pub record IsAnswered (base : List Row) (plan : Plan) (h : List Event) (a : Answered) : Type 0 where
+  pub worker : ℕ
+  pub at : ℕ
+  pub finished : Contains h (Finish a.op worker at a.front)
+  pub query : Query
+  pub asks : Asks plan a.op query
+  pub graph : List Row
+  pub after : IsAfter base plan (take a.front h) graph
+  pub replies : IsReply graph query a.reply
+
+-- these are the replies to the reads that have finished in the history, one for each, by rising operation
+pub record AreReplies (base : List Row) (plan : Plan) (h : List Event) (replies : List Answered) : Type 0 where
+  pub rise : AllPairs (λ one other. one.op < other.op) replies
+  pub each : All (IsAnswered base plan h) replies
+  pub all :
+      (op worker at front : ℕ) (query : Query) → Contains h (Finish op worker at front) → Asks plan op query →
+      (a : Answered) × Contains replies a × (a.op ≡ op)
+
+-- a legal, complete history of the plan for so many workers, whose events are of the fixed moment where the clock tells one; the replies to
+-- its reads; and a sound graph that has the rows of the base and of each insert
+pub record HasRun (workers : ℕ) (plan : Plan) (fixed : Option ℕ) (base : List Row) (h : List Event) (replies : List Answered) (graph : List Row) : Type 0 where
+  pub legal : IsLegal (schedule_of plan) workers h
+  pub complete : IsComplete (schedule_of plan) h
+  pub moments : AreAt fixed h
+  pub answered : AreReplies base plan h replies
+  pub final : IsFinal base plan graph
+  pub sound : Sound graph

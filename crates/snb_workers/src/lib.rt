@@ -1,5 +1,7 @@
-//! The run of a plan: workers claim its inserts from the book, add their rows to the graph, and finish
-//! them.
+//! Replicas of the graph, and runs of a plan: workers claim its operations from the book, do them and
+//! finish them.
 #![tactic(auto)]
 
+pub mod done;
+pub mod replica;
 pub mod run;

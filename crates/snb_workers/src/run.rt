@@ -1,33 +1,38 @@
 //! The run of a plan by one worker.
 
-ghost use Rattle.std.specs.Prelude.{◌≡◌, ◌≤◌, List, length, IfOk, OnOk, OnErr};
-ghost use Rattle.snb_schema.specs.declared.file.FileId.{FileId};
-ghost use Rattle.snb_schema.specs.declared.limits.TheConstants.{MAX_ROWS};
+ghost use Rattle.std.specs.Prelude.{◌≢◌, ℕ, ◌<◌, ◌≤◌, All, AllPairs, List, IfOk, OnOk};
 ghost use Rattle.snb_schema.specs.declared.row.Row.{Row};
-ghost use Rattle.snb_schema.specs.Inserts.{rows_of};
-ghost use Rattle.snb_schema.specs.Schedule.{IsTimely};
-ghost use Rattle.snb_schema.specs.StreamLines.{AreOfStream};
-ghost use Rattle.snb_schema.specs.UpdateLines.{person_inserts};
-ghost use Rattle.snb_tables.specs.Graphs.{HasGained, HoldsKey};
+ghost use Rattle.snb_schema.specs.Rules.{MayAct};
+ghost use Rattle.snb_schema.specs.Schedule.{IsOperation};
+ghost use Rattle.snb_tables.specs.Graphs.{HoldsKey};
 ghost use Rattle.snb_tables.specs.Soundness.{Sound};
-ghost use Rattle.snb_plan.specs.Closed.{IsClosed, updates_of};
-ghost use Rattle.snb_plan.specs.Plan.{plan_of};
-ghost use Rattle.snb_inserts.specs.Applying.{HasLine, IsWelcome};
-ghost use Rattle.snb_workers.specs.Runs.{HasRun, HasStopped};
-ghost use Rattle.snb_workers.specs.Turns.{HasDone, TurnsTo};
+ghost use Rattle.snb_book.specs.Kept.{IsInHand};
+ghost use Rattle.snb_plan.specs.Closed.{IsClosed};
+ghost use Rattle.snb_plan.specs.Plans.{schedule_of, updates_in};
+ghost use Rattle.snb_workers.specs.Replicas.{StandsFor};
+ghost use Rattle.snb_workers.specs.Runs.{HasRun};
+ghost use Rattle.snb_workers.specs.Turns.{HasStarted, IsBehind, IsServed, IsUnderWay, TurnsTo};
 
+use crate::done::{Answered, Done};
+use crate::replica::Replica;
 use snb_base::clock::Clock;
 use snb_base::gate::{Gate, Phase};
 use snb_book::book::Book;
-use snb_book::claim::Claim;
+use snb_book::claim::{Claim, Ticket};
 use snb_graph::graph::Graph;
-use snb_inserts::applied::Applied;
-use snb_inserts::apply::apply;
-use snb_plan::law::streams_are_planned;
-use snb_plan::plan::make_schedule;
-use snb_schema::op::{Line, Op};
+use snb_plan::plan::{Plan, Task};
+use snb_replay::law::replay_is_welcome;
+use snb_schema::event::Event;
 use std::alloc::{AllocError, Global};
 use std::sync::Wait;
+
+/// What a run leaves: its events, the replies to its reads, and its final graph.
+#[derive(Drop)]
+pub struct Outcome {
+    pub events: Vec<Event>,
+    pub replies: Done,
+    pub graph: Graph,
+}
 
 // Whether there may be more to do.
 #[derive(Clone, Copy)]
@@ -36,40 +41,83 @@ enum Turn {
     Over,
 }
 
-// Adds the rows of an insert that finds all that it refers to and whose keys are new.
-fn add_rows(alloc: Global, graph: &mut Graph, op: &Op) -> Result<(), AllocError>
-    requires line { HasLine op.now }
-    requires sound { Sound graph.old }
-    requires welcome { IsWelcome graph.old op.now }
-    ensures gained { OnOk result (HasGained graph.old (rows_of op.now) graph.new) }
-    ensures sound { OnOk result (Sound graph.new) }
-    ensures err { OnErr result (graph.new ≡ graph.old) }
+// The replica takes what has happened in the book since.
+fn catch_up(
+    alloc: Global,
+    plan: &Plan,
+    book: &Book,
+    replica: &mut Replica,
+) -> Result<(), AllocError>
+    requires behind { (base : List Row) × IsBehind plan.now book.now.history replica.old base }
+    ensures { OnOk result ((base : List Row) → IsBehind plan.now book.now.history replica.old base → StandsFor base plan.now book.now.history replica.new) }
 {
-    match apply(alloc, graph, op) {
-        Ok(()) => Ok(()),
-        Err(Applied::Memory) => Err(AllocError),
-        // All that the insert refers to is held, and none of the keys that it takes is.
-        Err(Applied::Missing { .. }) => unreachable!(),
-        Err(Applied::Duplicate) => unreachable!(),
-    }
+    let front = replica.front() as usize;
+    replica.advance(alloc, plan, &book.events()[front..])
 }
 
-// Claims an operation, adds its rows to the graph and finishes it; or rests until one is due.
+// Answers the operation from the replica, if it is a read, and keeps its reply. Gives the front of its
+// Finish.
+fn serve(
+    alloc: Global,
+    plan: &Plan,
+    replica: &Replica,
+    replies: &mut Done,
+    op: u32,
+) -> Result<u32, AllocError>
+    requires there { IsOperation (schedule_of plan.now) op }
+    requires new { All (λ other. other.op ≢ op) replies.old }
+    ensures served { IfOk result (IsServed plan.now op replica.now replies.old replies.new) }
+    ensures rise { OnOk result (AllPairs (λ one other. one.op < other.op) replies.new) }
+{
+    let front = match plan.task(op) {
+        Task::Insert { .. } => 0,
+        Task::Ask { query } => {
+            let front = replica.front();
+            let reply = replica.answer(alloc, query)?;
+            replies.add(Answered { op, front, reply })?;
+            front
+        }
+    };
+    replies.known();
+    Ok(front)
+}
+
+// Does the operation of a ticket that was claimed just now, and finishes it.
+fn do_next<C: Clock>(
+    alloc: Global,
+    plan: &Plan,
+    book: &mut Book,
+    replica: &mut Replica,
+    replies: &mut Done,
+    clock: &C,
+    ticket: Ticket,
+) -> Result<(), AllocError>
+    requires held { IsInHand book.old.history ticket }
+    requires acts { MayAct book.old.workers book.old.history ticket.worker }
+    requires started { (base : List Row) × HasStarted plan.now (C.fixed clock.now) base book.old replica.old replies.old ticket }
+    ensures { OnOk result ((base : List Row) → HasStarted plan.now (C.fixed clock.now) base book.old replica.old replies.old ticket →
+        IsUnderWay plan.now (C.fixed clock.now) base book.new replica.new replies.new) }
+{
+    catch_up(alloc, plan, book, replica)?;
+    let front = serve(alloc, plan, replica, replies, ticket.op)?;
+    book.finish(ticket, clock.now(), front);
+    catch_up(alloc, plan, book, replica)
+}
+
+// Claims an operation, does it and finishes it; or rests until one is due.
 fn take_turn<R: Wait, C: Clock, G: Gate>(
     rt: &R,
     alloc: Global,
-    inserts: &[Line],
-    graph: &mut Graph,
+    plan: &Plan,
     book: &mut Book,
+    replica: &mut Replica,
+    replies: &mut Done,
     clock: &C,
     gate: &G,
 ) -> Result<Turn, AllocError>
-    requires stream { AreOfStream person_inserts inserts.now }
-    requires timely { IsTimely (plan_of inserts.now) }
-    requires under_way { (first : List Row) × HasDone inserts.now (C.fixed clock.now) first graph.old book.old }
-    ensures ok { IfOk result (λ turn. (first : List Row) → HasDone inserts.now (C.fixed clock.now) first graph.old book.old →
-        TurnsTo inserts.now (C.fixed clock.now) first graph.new book.new turn) }
-    ensures err { OnErr result (graph.new ≡ graph.old) }
+    requires under_way { (base : List Row) × IsUnderWay plan.now (C.fixed clock.now) base book.old replica.old replies.old }
+    ensures { IfOk result (λ turn. (base : List Row) → IsUnderWay plan.now (C.fixed clock.now) base book.old replica.old replies.old →
+        TurnsTo plan.now (C.fixed clock.now) base book.new replica.new replies.new turn) }
 {
     match book.claim(0, clock.now()) {
         Claim::AllStarted => Ok(Turn::Over),
@@ -79,10 +127,7 @@ fn take_turn<R: Wait, C: Clock, G: Gate>(
         }
         Claim::Go { ticket } => {
             gate.pass(rt, 0, ticket.op, Phase::Held);
-            // The insert is of a closed stream, and the inserts before it are done: it finds all that
-            // it refers to, and its keys are new.
-            add_rows(alloc, graph, &inserts[ticket.op as usize].op)?;
-            book.finish(ticket, clock.now(), 0);
+            do_next(alloc, plan, book, replica, replies, clock, ticket)?;
             gate.pass(rt, 0, ticket.op, Phase::Done);
             Ok(Turn::More)
         }
@@ -94,36 +139,49 @@ fn take_turn<R: Wait, C: Clock, G: Gate>(
     }
 }
 
-/// Runs the plan of the inserts of a person stream on this thread: each insert is claimed, all of its
-/// rows go into the graph, and it is finished. After an `Err` the graph has the rows of some of the
-/// first inserts more, and is sound too.
-/// The conditions: `stream`, the inserts are those of a person stream; `few`, they are `MAX_ROWS` at
-/// most; `closed`, each of them has new keys over the graph, and finds what it refers to in time;
-/// `sound`, the graph is sound.
+/// Runs the plan on this thread, by one worker: each operation is claimed, done and finished. An insert is
+/// in the graph from its Finish on. A read is answered from the graph of all that has finished.
+///
+/// The conditions: `sound`, the base is sound; `closed`, the plan is closed over it. The history is one of
+/// one worker, and so of any number of them.
 pub fn run_alone<R: Wait, C: Clock, G: Gate>(
     rt: &R,
     alloc: Global,
-    inserts: &[Line],
-    graph: &mut Graph,
+    plan: &Plan,
+    base: &Graph,
     clock: &C,
     gate: &G,
-) -> Result<Book, AllocError>
-    requires stream { AreOfStream person_inserts inserts.now }
-    requires few { length inserts.now ≤ MAX_ROWS }
-    requires closed { (file : FileId) × IsClosed (HoldsKey graph.old) (updates_of 0 file inserts.now) }
-    requires sound { Sound graph.old }
-    ensures ran { IfOk result (λ book. HasRun inserts.now (C.fixed clock.now) graph.old graph.new book.history) }
-    ensures kept { IfOk result (λ book. (book.schedule ≡ plan_of inserts.now) × (book.workers ≡ 1)) }
-    ensures stopped { OnErr result (HasStopped inserts.now graph.old graph.new) }
+) -> Result<Outcome, AllocError>
+    requires sound { Sound base.now }
+    requires closed { IsClosed (HoldsKey base.now) (updates_in plan.now) }
+    ensures ran { IfOk result (λ o. (workers : ℕ) → 1 ≤ workers →
+        HasRun workers plan.now (C.fixed clock.now) base.now o.events.items o.replies o.graph) }
 {
-    graph.known();
-    streams_are_planned();
-    let schedule = make_schedule(alloc, inserts)?;
-    let mut book = Book::make(alloc, &schedule, 1)?;
+    plan.known();
+    base.known();
+    replay_is_welcome();
+    let mut replica = Replica::new(base)?;
+    let mut replies = Done::new(alloc);
+    let mut book = Book::make(alloc, plan.schedule(), 1)?;
     for _ in rt.forever() {
-        match take_turn(rt, alloc, inserts, graph, &mut book, clock, gate)? {
+        match take_turn(
+            rt,
+            alloc,
+            plan,
+            &mut book,
+            &mut replica,
+            &mut replies,
+            clock,
+            gate,
+        )? {
             Turn::More => {}
-            Turn::Over => return Ok(book),
+            Turn::Over => {
+                return Ok(Outcome {
+                    events: book.into_events(),
+                    replies,
+                    graph: replica.into_graph(),
+                });
+            }
         }
     }
     unreachable!()

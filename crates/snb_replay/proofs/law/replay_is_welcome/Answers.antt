@@ -1,3 +1,4 @@
+use Rattle.snb_replay.proofs.Agreement.{histories_agree}
 use Rattle.snb_replay.proofs.Final.{complete_is_final}
 use Rattle.snb_replay.proofs.Welcome.{welcome_in_turn}
 use Rattle.snb_replay.proofs.law.replay_is_welcome.Goals as goal
@@ -7,3 +8,6 @@ returns-clause-welcome c = welcome_in_turn c.prefix_is_legal.ensures
 
 pub returns-clause-last : goal.returns-clause-last
 returns-clause-last c = complete_is_final c.once_each.ensures
+
+pub returns-clause-one : goal.returns-clause-one
+returns-clause-one c = histories_agree c.graphs_are_their_rows.ensures (complete_is_final c.once_each.ensures)

@@ -1,7 +1,7 @@
 use Rattle.std.proofs.Common.{refl, inl, inr}
 use Rattle.snb_schema.specs.declared.row.Row.TheVariants as row
 use Rattle.snb_schema.specs.declared.table.Table.TheVariants as table
-use Rattle.snb_short_reads.proofs.LookupLemmas.{comment_written, post_written}
+use Rattle.snb_short_reads.proofs.Laws.{comment_written, post_written}
 use Rattle.snb_short_reads.proofs.lookups.author_id.Goals as goal
 
 pub returns-in-Some : goal.returns-in-Some

@@ -1,4 +1,4 @@
-use Rattle.snb_short_reads.proofs.LookupLemmas.{found_forum}
+use Rattle.snb_short_reads.proofs.Laws.{found_forum}
 use Rattle.snb_short_reads.proofs.lookups.forum.Goals as goal
 
 pub returns : goal.returns

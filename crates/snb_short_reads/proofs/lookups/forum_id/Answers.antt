@@ -1,6 +1,6 @@
 use Rattle.std.proofs.Common.{refl, arith}
 use Rattle.snb_schema.specs.declared.table.Table.TheVariants as table
-use Rattle.snb_short_reads.proofs.LookupLemmas.{container_table, edge_key_held, found_container}
+use Rattle.snb_short_reads.proofs.Laws.{container_table, edge_key_held, found_container}
 use Rattle.snb_short_reads.proofs.lookups.forum_id.Goals as goal
 
 pub unreachable-requires : goal.unreachable-requires

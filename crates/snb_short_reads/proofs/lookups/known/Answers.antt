@@ -1,4 +1,4 @@
-use Rattle.snb_short_reads.proofs.LookupLemmas.{found_person}
+use Rattle.snb_short_reads.proofs.Laws.{found_person}
 use Rattle.snb_short_reads.proofs.lookups.known.Goals as goal
 
 pub returns : goal.returns

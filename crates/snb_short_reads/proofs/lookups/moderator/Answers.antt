@@ -1,6 +1,6 @@
 use Rattle.std.proofs.Common.{refl, arith}
 use Rattle.snb_schema.specs.declared.table.Table.TheVariants as table
-use Rattle.snb_short_reads.proofs.LookupLemmas.{edge_key_held, found_moderator, moderators}
+use Rattle.snb_short_reads.proofs.Laws.{edge_key_held, found_moderator, moderators}
 use Rattle.snb_short_reads.proofs.lookups.moderator.Goals as goal
 
 pub unreachable-requires : goal.unreachable-requires

@@ -1,4 +1,4 @@
-use Rattle.std.proofs.Common.{refl, [], ◌∷◌, ◌∙◌, ap, codes, List, ℕ}
+use Rattle.std.proofs.Common.{refl, []}
 use Rattle.snb_tool.proofs.FieldLemmas.{read_words}
 use Rattle.snb_tool.proofs.command.read_request.Goals as goal
 

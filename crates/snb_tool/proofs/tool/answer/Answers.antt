@@ -2,8 +2,12 @@ use Rattle.std.proofs.Common.{inl, inr, refl, ap}
 use Rattle.snb_tool.specs.Commands.{meant, texts_of}
 use Rattle.snb_tool.specs.Outcome.{IsAnswer, IsCommandAnswer}
 use Rattle.snb_tool.specs.Output.{on_screen}
+use Rattle.snb_tool.proofs.OptionLemmas.{runnable}
 use Rattle.snb_tool.proofs.OutcomeLemmas.{ends_weaker, shows_ends}
 use Rattle.snb_tool.proofs.tool.answer.Goals as goal
+
+pub obey-requires : goal.obey-requires
+obey-requires g c = runnable (texts_of c.args.words.now) (meant c.in-Some.command) c.in-Some.ensures
 
 pub returns-in-Some-clause-ends : goal.returns-in-Some-clause-ends
 returns-in-Some-clause-ends g c =

@@ -1,6 +1,6 @@
--- The first inserts are done, and nothing else has happened.
-use Rattle.snb_workers.specs.Turns.{HasDone}
+-- The run is under way.
+use Rattle.snb_workers.specs.Turns.{IsUnderWay}
 use Rattle.snb_workers.proofs.run.run_alone.Given as goal
 
 abbrev pub invariant-loop : goal.invariant-loop
-invariant-loop g l = HasDone l.inserts (g.C.Clock.fixed l.clock) l.fn.graph l.graph l.book
+invariant-loop g l = IsUnderWay l.plan (g.C.Clock.fixed l.clock) l.base l.book l.replica l.replies

@@ -1,0 +1,119 @@
+//! The dataset of a folder, and the plan of its streams and parameter files.
+
+ghost use Rattle.std.specs.Prelude.{◌≡◌, ◌≤◌, IfOk};
+ghost use Rattle.snb_base.specs.Shelf.{Rose};
+ghost use Rattle.snb_input.specs.Loading.{OnReadFault};
+ghost use Rattle.snb_plan.specs.Closed.{IsClosed, IsFirstWrong};
+ghost use Rattle.snb_plan.specs.Plans.{OnRefused, updates_in};
+ghost use Rattle.snb_schema.specs.declared.limits.TheConstants.{MAX_ROWS};
+ghost use Rattle.snb_schema.specs.LineLanes.{update_count};
+ghost use Rattle.snb_schema.specs.QueryLists.{HaveParameters};
+ghost use Rattle.snb_schema.specs.StreamLines.{AreOfStreams};
+ghost use Rattle.snb_tables.specs.Graphs.{HoldsKey};
+ghost use Rattle.snb_tables.specs.Soundness.{Sound};
+ghost use Rattle.snb_tool.specs.Endings.{IsInputAnswer, IsMadeAnswer, load_for};
+
+use snb_base::shelf::Shelf;
+use snb_clock::ratio::Ratio;
+use snb_graph::graph::Graph;
+use snb_input::law::stages_join;
+use snb_input::load::{Load, Used};
+use snb_loader::dataset::load_dataset;
+use snb_loader::lanes::load_lanes;
+use snb_loader::law::{one_dataset, one_lanes, one_params};
+use snb_loader::params::load_params;
+use snb_plan::law::plan_is_one;
+use snb_plan::plan::{Plan, PlanFault};
+use snb_schema::frequencies::Frequencies;
+use snb_schema::lanes::Lanes;
+use snb_schema::lists::Lists;
+use std::alloc::Global;
+
+/// A dataset, and a plan that is closed over it.
+#[derive(Drop)]
+pub struct Input {
+    pub graph: Graph,
+    pub plan: Plan,
+}
+
+// A fault of a plan as one of an input.
+fn load_of(fault: PlanFault) -> Load
+    ensures { result ≡ load_for fault }
+{
+    match fault {
+        PlanFault::Refused { refusal } => Load::Refused { refusal },
+        PlanFault::Memory => Load::Memory,
+    }
+}
+
+// The plan, with the dataset, over which it must be closed.
+fn closed_over(alloc: Global, graph: Graph, plan: Plan) -> Result<Input, PlanFault>
+    ensures ok { IfOk result (λ i. (i.graph ≡ graph) × (i.plan ≡ plan) × IsClosed (HoldsKey graph) (updates_in plan)) }
+    ensures refused { OnRefused result (IsFirstWrong (HoldsKey graph) (updates_in plan)) }
+{
+    match plan.closed(alloc, &graph) {
+        Ok(()) => Ok(Input { graph, plan }),
+        Err(fault) => Err(fault),
+    }
+}
+
+// Makes the plan of what was read of a folder, which must be closed over the dataset.
+fn input_of(
+    alloc: Global,
+    graph: Graph,
+    lanes: Lanes,
+    lists: Lists,
+    frequencies: Frequencies,
+    ratio: Ratio,
+) -> Result<Input, Load>
+    requires few { update_count lanes ≤ MAX_ROWS }
+    requires streams { AreOfStreams lanes }
+    requires parameters { HaveParameters lists frequencies }
+    ensures { IsMadeAnswer graph lanes lists frequencies ratio result }
+{
+    let plan = match Plan::make(alloc, lanes, lists, frequencies, ratio) {
+        Ok(plan) => plan,
+        Err(fault) => return Err(load_of(fault)),
+    };
+    match closed_over(alloc, graph, plan) {
+        Ok(input) => Ok(input),
+        Err(fault) => Err(load_of(fault)),
+    }
+}
+
+/// Reads the tables of a folder, its streams, and the parameter files of the queries with a frequency, and
+/// makes the plan of them under the ratio, which must be closed over the dataset.
+pub fn load_input<S: Shelf>(
+    alloc: Global,
+    shelf: &mut S,
+    folder: &str,
+    ratio: Ratio,
+    frequencies: Frequencies,
+) -> Result<Input, Load>
+    ensures answer { IsInputAnswer (S.contents shelf.old) folder.now ratio frequencies result }
+    ensures closed { IfOk result (λ i. IsClosed (HoldsKey i.graph) (updates_in i.plan)) }
+    ensures sound { IfOk result (λ i. Sound i.graph) }
+    ensures fault { OnReadFault result (Rose (S.faults shelf.old) (S.faults shelf.new)) }
+    ensures later { S.faults shelf.old ≤ S.faults shelf.new }
+    ensures same { S.contents shelf.new ≡ S.contents shelf.old }
+{
+    stages_join();
+    one_dataset();
+    one_lanes();
+    one_params();
+    plan_is_one();
+    let mut used = Used { bytes: 0, rows: 0 };
+    let graph = match load_dataset(alloc, shelf, folder, &mut used) {
+        Ok(graph) => graph,
+        Err(load) => return Err(load),
+    };
+    let lanes = match load_lanes(alloc, shelf, folder, &mut used) {
+        Ok(lanes) => lanes,
+        Err(load) => return Err(load),
+    };
+    let lists = match load_params(alloc, shelf, folder, &frequencies, &mut used) {
+        Ok(lists) => lists,
+        Err(load) => return Err(load),
+    };
+    input_of(alloc, graph, lanes, lists, frequencies, ratio)
+}

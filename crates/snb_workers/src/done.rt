@@ -1,0 +1,95 @@
+//! The replies to the reads of a run.
+
+ghost use Rattle.std.specs.Prelude.{◌≡◌, ◌≢◌, ℕ, ◌<◌, ◌≤◌, [], All, AllPairs, OnOk, OnErr, length, slice_index_or};
+ghost use Rattle.snb_workers.specs.declared.done.Answered.{Answered as AnyAnswered};
+ghost use Rattle.snb_workers.specs.Replies.{HasAdded};
+
+use snb_reads::reply::Reply;
+use std::alloc::{AllocError, Global};
+use std::marker::Model;
+
+/// What a read was replied: the number of its operation, how many events of the history the replica had
+/// taken that it was answered from, and the reply.
+pub struct Answered {
+    pub op: u32,
+    pub front: u32,
+    pub reply: Reply,
+}
+
+// Written out, so that letting one go is one call wherever it happens.
+impl Drop for Answered {
+    fn drop(self) {
+        let Answered {
+            op: _,
+            front: _,
+            reply: _,
+        } = self;
+    }
+}
+
+/// The replies to the reads of a run. A contract sees them by rising operation.
+#[derive(Drop)]
+pub struct Done {
+    items: Vec<Answered>,
+}
+
+impl Model for Done {
+    ghost use Rattle.std.specs.Prelude.{◌<◌, AllPairs, List};
+    ghost use Rattle.snb_workers.specs.declared.done.Answered.{Answered as AnyAnswered};
+
+    ghost Value = { List AnyAnswered };
+
+    ghost view = { λ v. v.items.items };
+
+    ghost invariant = { λ v. AllPairs (λ one other. one.op < other.op) v.items.items };
+}
+
+impl Done {
+    /// No replies. Takes no memory.
+    pub fn new(alloc: Global) -> Done
+        ensures { result ≡ [] }
+    {
+        Done {
+            items: Vec::new(alloc),
+        }
+    }
+
+    /// They are by rising operation.
+    pub fn known(&self)
+        ensures { AllPairs (λ one other. one.op < other.op) self.now }
+    {
+        let _ = &self.items;
+    }
+
+    /// The replies, by rising operation.
+    pub fn as_slice(&self) -> &[Answered]
+        ensures { result.now ≡ self.now }
+    {
+        &self.items
+    }
+
+    // How many of the replies are to operations of no greater number.
+    fn place_of(&self, op: u32) -> usize
+        ensures within { result ≤ length self.now }
+        ensures before { (k : ℕ) (d : AnyAnswered) → k < result → (slice_index_or self.now k d).op ≤ op }
+        ensures after { (k : ℕ) (d : AnyAnswered) → result ≤ k → k < length self.now → op < (slice_index_or self.now k d).op }
+    {
+        let mut place = self.items.len();
+        while place > 0 && self.items[place - 1].op > op {
+            place -= 1;
+        }
+        place
+    }
+
+    /// Adds a reply in its place, to an operation that has none yet (`new`). Want of memory leaves all as it
+    /// was.
+    pub fn add(&mut self, one: Answered) -> Result<(), AllocError>
+        requires new { All (λ other. other.op ≢ one.op) self.old }
+        ensures ok { OnOk result (HasAdded one self.old self.new) }
+        ensures err { OnErr result (self.new ≡ self.old) }
+    {
+        let place = self.place_of(one.op);
+        self.items.insert(place, one)?;
+        Ok(())
+    }
+}

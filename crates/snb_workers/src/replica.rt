@@ -1,0 +1,164 @@
+//! Replicas of the graph.
+
+ghost use Rattle.std.specs.Prelude.{◌≡◌, ℕ, ◌<◌, ◌∷◌, [], List, length, IfOk, MatchOption, None, OnOk, OnErr, Some};
+ghost use Rattle.snb_schema.specs.declared.event.Event.{Event as AnyEvent};
+ghost use Rattle.snb_schema.specs.declared.row.Row.{Row};
+ghost use Rattle.snb_schema.specs.Inserts.{rows_of};
+ghost use Rattle.snb_tables.specs.Graphs.{HasGained, IsGraph};
+ghost use Rattle.snb_tables.specs.Soundness.{Sound};
+ghost use Rattle.snb_inserts.specs.Applying.{HasLine, IsWelcome};
+ghost use Rattle.snb_plan.specs.Plans.{IsOfStreams};
+ghost use Rattle.snb_reads.specs.Replies.{IsReply};
+ghost use Rattle.snb_replay.specs.Replay.{finished_insert};
+ghost use Rattle.snb_workers.specs.Replicas.{HasTaken, HasTakenSome, IfFinish, MayTake};
+
+use snb_graph::graph::Graph;
+use snb_inserts::applied::Applied;
+use snb_inserts::apply::apply;
+use snb_plan::plan::{Plan, Task};
+use snb_reads::reply::Reply;
+use snb_replay::law::replay_is_welcome;
+use snb_replies::reply::answer;
+use snb_schema::event::Event;
+use snb_schema::law::{legal_is_short, prefix_is_legal};
+use snb_schema::op::{Line, Op};
+use snb_schema::query::Query;
+use std::alloc::{AllocError, Global};
+use std::marker::Model;
+
+/// A graph that follows the history of a run, from the dataset on: each insert's rows are in it from the
+/// insert's Finish on. A contract sees its graph, which is sound, and how many events it has taken.
+#[derive(Drop)]
+pub struct Replica {
+    graph: Graph,
+    front: u32,
+}
+
+impl Model for Replica {
+    ghost use Rattle.snb_tables.specs.Soundness.{Sound};
+    ghost use Rattle.snb_workers.specs.Replicas.{Taken};
+
+    ghost Value = { Taken };
+
+    ghost view = { λ r. record { graph = r.graph; front = r.front } };
+
+    ghost invariant = { λ r. Sound r.graph };
+}
+
+// The insert that an event finishes, if it finishes one. The operation of a Finish is in the plan.
+fn finished_line<'a>(plan: &'a Plan, event: &Event) -> Option<&'a Line>
+    requires streams { IsOfStreams plan.now }
+    requires there { IfFinish event.now (λ op. op < length plan.now.operations) }
+    ensures { MatchOption result (finished_insert plan.now event.now ≡ None) (λ line. (finished_insert plan.now event.now ≡ Some line.now.op) × HasLine line.now.op) }
+{
+    match *event {
+        Event::Finish { op, .. } => match plan.task(op) {
+            Task::Insert { line } => Some(line),
+            Task::Ask { .. } => None,
+        },
+        _ => None,
+    }
+}
+
+// Adds the rows of an insert that finds all that it refers to and whose keys are new.
+fn add_rows(alloc: Global, graph: &mut Graph, op: &Op) -> Result<(), AllocError>
+    requires line { HasLine op.now }
+    requires sound { Sound graph.old }
+    requires welcome { IsWelcome graph.old op.now }
+    ensures gained { OnOk result (HasGained graph.old (rows_of op.now) graph.new) }
+    ensures sound { OnOk result (Sound graph.new) }
+    ensures err { OnErr result (graph.new ≡ graph.old) }
+{
+    match apply(alloc, graph, op) {
+        Ok(()) => Ok(()),
+        Err(Applied::Memory) => Err(AllocError),
+        // All that the insert refers to is held, and none of the keys that it takes is.
+        Err(Applied::Missing { .. }) => unreachable!(),
+        Err(Applied::Duplicate) => unreachable!(),
+    }
+}
+
+impl Replica {
+    /// A replica of the base, which is sound (`sound`), before the first event.
+    pub fn new(base: &Graph) -> Result<Replica, AllocError>
+        requires sound { Sound base.now }
+        ensures { IfOk result (λ r. r ≡ record { graph = base.now; front = 0 }) }
+    {
+        Ok(Replica {
+            graph: base.try_copy()?,
+            front: 0,
+        })
+    }
+
+    /// How many events it has taken. Takes no memory.
+    pub fn front(&self) -> u32
+        ensures { result ≡ self.now.front }
+    {
+        self.front
+    }
+
+    /// Its graph, which is sound. Takes no memory.
+    pub fn graph(&self) -> &Graph
+        ensures value { result.now ≡ self.now.graph }
+        ensures sound { Sound result.now }
+    {
+        &self.graph
+    }
+
+    /// Its graph, which is sound. Takes no memory.
+    pub fn into_graph(self) -> Graph
+        ensures value { result ≡ self.graph }
+        ensures sound { Sound result }
+    {
+        let Replica { graph, front: _ } = self;
+        graph
+    }
+
+    // Takes one event.
+    fn take(&mut self, alloc: Global, plan: &Plan, event: &Event) -> Result<(), AllocError>
+        requires streams { IsOfStreams plan.now }
+        requires may { (base : List Row) × (g : List AnyEvent) × MayTake plan.now (event.now ∷ []) self.old base g }
+        ensures ok { OnOk result (HasTaken plan.now (event.now ∷ []) self.old self.new) }
+        ensures err { OnErr result (self.new ≡ self.old) }
+    {
+        replay_is_welcome();
+        legal_is_short();
+        plan.schedule().steps();
+        if let Some(line) = finished_line(plan, event) {
+            add_rows(alloc, &mut self.graph, &line.op)?;
+        }
+        self.front += 1;
+        Ok(())
+    }
+
+    /// Takes more events of a history of the plan: the rows of each insert that finishes go into the
+    /// graph.
+    ///
+    /// The condition: the replica stands for some history of the plan over some base over which the plan
+    /// is closed, and with these events it is legal. For each such base and history it then stands for the
+    /// history with these events, and after an error with some of the first of them.
+    pub fn advance(
+        &mut self,
+        alloc: Global,
+        plan: &Plan,
+        events: &[Event],
+    ) -> Result<(), AllocError>
+        requires may { (base : List Row) × (g : List AnyEvent) × MayTake plan.now events.now self.old base g }
+        ensures ok { OnOk result (HasTaken plan.now events.now self.old self.new) }
+        ensures err { OnErr result (HasTakenSome plan.now events.now self.old self.new) }
+    {
+        plan.known();
+        prefix_is_legal();
+        for event in events {
+            self.take(alloc, plan, event)?;
+        }
+        Ok(())
+    }
+
+    /// The reply to a query on its graph.
+    pub fn answer(&self, alloc: Global, query: &Query) -> Result<Reply, AllocError>
+        ensures { IfOk result (IsReply self.now.graph query.now) }
+    {
+        answer(alloc, &self.graph, query)
+    }
+}
