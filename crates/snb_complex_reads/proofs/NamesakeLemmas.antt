@@ -53,9 +53,9 @@ stay_total = then_total (on_total (λ (s : Stay). s.0) nat_list_cmp_total) (then
 
 -- ---- the persons near
 
-pub near_is : (g : List Row) (start : ℕ) (near : List (ℕ × ℕ)) → IsWithin g start 3 near → All (IsNearFound g) near
-near_is g start near is = All-weaker (Contains near) (IsNearFound g) (λ n c. (let far = (is.exact n.0 n.1).0 c in let low = far.2 in
-    record { held = walk_held g start n.0 n.1 far.0.walk; fits = omega (arith, low) })) near (All-contains_itself near)
+pub near_is : (g : List Row) (start steps : ℕ) → steps ≤ 3 → (near : List (ℕ × ℕ)) → IsWithin g start steps near → All (IsNearFound g) near
+near_is g start steps few near is = All-weaker (Contains near) (IsNearFound g) (λ n c. (let far = (is.exact n.0 n.1).0 c in let low = far.2 in
+    record { held = walk_held g start n.0 n.1 far.0.walk; fits = omega (arith, low, few) })) near (All-contains_itself near)
 
 pub named_is : (g : List Row) (name : List ℕ) (n : ℕ × ℕ) (p : Person) → persons g n.0 ≡ p ∷ [] → is_named g name n ≡ bytes_eq p.first_name name
 named_is g name n p only = any_one (λ (p : Person). bytes_eq p.first_name name) (persons g n.0) p only

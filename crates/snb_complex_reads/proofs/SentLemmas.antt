@@ -36,11 +36,11 @@ module _ (g : List Row) (graph : IsGraph g) (fit : NumbersFit) where
       All-map (IsSentFound g) (λ m. (p.0, m.0, m.1)) (filter (λ m. passes m.1) (messages g p.0)) (All-filter (λ m. passes m.1) (λ (m : ℕ × ℕ). IsSentFound g (p.0, m.0, m.1)) (messages g p.0)
       (All-weaker (IsMessageFound g) (λ (m : ℕ × ℕ). IsSentFound g (p.0, m.0, m.1)) (λ m found. record { person = person; fits = person_fits g graph fit p.0 person; message = found }) (messages g p.0) (messages_found g graph fit p.0)))))
 
-  sent_agree : (x y : ℕ × ℕ × ℕ) (a b : List Cell) → IsSent g x a → IsSent g y b → is_lt (by latest a b) ≡ is_lt (sent_first x y)
+  pub sent_agree : (x y : ℕ × ℕ × ℕ) (a b : List Cell) → IsSent g x a → IsSent g y b → is_lt (by latest a b) ≡ is_lt (sent_first x y)
   sent_agree x y a b r s = rw (r.is, s.is) (ap is_lt (two_columns y.2 x.2 x.1 y.1))
 
   -- each message has a row
-  sent_any : (s : ℕ × ℕ × ℕ) → IsSentFound g s → (a : List Cell) × IsSent g s a
+  pub sent_any : (s : ℕ × ℕ × ℕ) → IsSentFound g s → (a : List Cell) × IsSent g s a
   sent_any s f =
       let (p, c, named) = person_at g graph s.0 f.person in
       let (m, is) = shows g graph fit s.1 f.message.held in

@@ -1,5 +1,5 @@
 -- What walks have found. Cited by contracts of private functions alone.
-use Rattle.std.specs.Prelude.{◌≡◌, ℕ, ◌<◌, ◌^◌, Bool, List, ◌++◌, filter, map}
+use Rattle.std.specs.Prelude.{◌≡◌, ◌⊎◌, ℕ, ◌<◌, ◌≤◌, ◌^◌, nat_le, Bool, List, ◌++◌, length, filter, map}
 use Rattle.std.specs.List.Sorted.{IsPermutation}
 use Rattle.std.specs.Ordering.{flip_args, nat_cmp, on, then_cmp}
 use Rattle.std.specs.declared.cmp.Ordering.{Ordering}
@@ -55,3 +55,9 @@ module _ (g : List Row) where
   pub record IsStayFound (s : ℕ × ℕ) : Type 0 where
     pub held : HasKey g (node_key kinds.Organisation s.0)
     pub fits : s.1 < 2 ^ 32
+
+-- of messages, as (person, message, date), those from a date on, where these are so many or the date is 0
+pub record AreLater (most : ℕ) (found kept : List (ℕ × ℕ × ℕ)) : Type 0 where
+  pub floor : ℕ
+  pub is : kept ≡ filter (λ s. nat_le floor s.2) found
+  pub enough : (most ≤ length kept) ⊎ (floor ≡ 0)

@@ -1,9 +1,13 @@
 -- Persons near another who are found. Cited by contracts of private functions alone.
-use Rattle.std.specs.Prelude.{◌≡◌, ℕ, List, map}
-use Rattle.std.specs.List.{All}
+use Rattle.std.specs.Prelude.{◌≡◌, ℕ, List, [], ◌∷◌, map}
+use Rattle.std.specs.List.{All, filter}
 use Rattle.snb_schema.specs.declared.person.Person.{Person}
 use Rattle.snb_schema.specs.declared.row.Row.{Row}
-use Rattle.snb_reads.specs.Distance.{IsPerson}
+use Rattle.snb_reads.specs.declared.cell.Cell.{Cell}
+use Rattle.snb_reads.specs.declared.cell.Cell.TheVariants as cell
+use Rattle.snb_reads.specs.Cells.{number}
+use Rattle.snb_reads.specs.ComplexReads.{is_named}
+use Rattle.snb_reads.specs.Distance.{IsPerson, IsWithin}
 use Rattle.snb_short_reads.specs.Lookups.{IsCellNumber, IsOnlyPerson}
 use denote.Ref.{Bor}
 
@@ -13,6 +17,12 @@ Namesake = Bor Person × ℕ
 
 abbrev pub namesake_of : Namesake → ℕ × ℕ
 namesake_of k = (k.0.now.id, k.1)
+
+-- the first eight columns of the row of a person at a distance
+abbrev pub profile_of : Person → ℕ → List Cell
+profile_of p distance =
+    number p.id ∷ cell.Words p.last_name ∷ number distance ∷ number p.birthday ∷ number p.creation_date
+    ∷ cell.Words p.gender ∷ cell.Words p.browser_used ∷ cell.Words p.location_ip ∷ []
 
 module _ (g : List Row) where
   -- a person who is held, and a distance
@@ -30,3 +40,9 @@ module _ (g : List Row) where
   pub record AreNamesakes (all : List (ℕ × ℕ)) (found : List Namesake) : Type 0 where
     pub same : map namesake_of found ≡ all
     pub each : All IsNamesakeFound found
+
+  -- these are those of a first name at distance 1 to `steps`
+  pub record AreNamesakesWithin (person steps : ℕ) (name : List ℕ) (found : List Namesake) : Type 0 where
+    pub near : List (ℕ × ℕ)
+    pub within : IsWithin g person steps near
+    pub are : AreNamesakes (filter (is_named g name) near) found

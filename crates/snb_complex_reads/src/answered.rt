@@ -28,15 +28,14 @@ fn reply_row(alloc: Global, graph: &Graph, reply: (u64, u64)) -> Result<AnswerRo
         unreachable!()
     };
     let author = known(graph, author_id(graph, reply.0));
-    let cells = vec![in alloc;
-        Cell::number(author.id),
-        words(&author.first_name)?,
-        words(&author.last_name)?,
-        Cell::number(reply.1),
-        Cell::number(reply.0),
-        words(&comment.content)?,
-    ]?;
-    Ok(AnswerRow::from_vec(alloc, cells))
+    let mut row = AnswerRow::new(alloc);
+    row.push(Cell::number(author.id))?;
+    row.push(words(&author.first_name)?)?;
+    row.push(words(&author.last_name)?)?;
+    row.push(Cell::number(reply.1))?;
+    row.push(Cell::number(reply.0))?;
+    row.push(words(&comment.content)?)?;
+    Ok(row)
 }
 
 // The rows of replies.

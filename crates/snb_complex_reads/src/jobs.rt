@@ -31,14 +31,13 @@ fn job_row(
     ensures { IfOk result (IsJob graph.now (job_of job.now)) }
 {
     let person = known(graph, job.0.0);
-    let cells = vec![in alloc;
-        Cell::number(job.0.0),
-        words(&person.first_name)?,
-        words(&person.last_name)?,
-        words(job.1)?,
-        Cell::number(job.0.2),
-    ]?;
-    Ok(AnswerRow::from_vec(alloc, cells))
+    let mut row = AnswerRow::new(alloc);
+    row.push(Cell::number(job.0.0))?;
+    row.push(words(&person.first_name)?)?;
+    row.push(words(&person.last_name)?)?;
+    row.push(words(job.1)?)?;
+    row.push(Cell::number(job.0.2))?;
+    Ok(row)
 }
 
 // The rows of work rows.
@@ -97,6 +96,10 @@ fn add_jobs<'a>(
     graph.known();
     sound_graphs();
     for (organisation, since) in graph.work(person) {
+        // The year is at hand, and the place takes three lookups.
+        if u64::from(year) <= since {
+            continue;
+        }
         let (company, place) = located(graph, organisation);
         if is_passing(since, year, place, country) {
             found.push(((person, organisation, since), &company.name))?;

@@ -41,19 +41,18 @@ fn like_row(alloc: Global, graph: &Graph, start: u64, like: &Like) -> Result<Ans
     };
     let person = known(graph, like.person);
     let is_new = !are_friends(graph, start, like.person);
-    let cells = vec![in alloc;
-        Cell::number(like.person),
-        words(&person.first_name)?,
-        words(&person.last_name)?,
-        Cell::number(like.date),
-        Cell::number(like.message),
-        words(content)?,
-        Cell::Number {
-            value: latency(like.date, like.sent),
-        },
-        Cell::Flag { value: is_new },
-    ]?;
-    Ok(AnswerRow::from_vec(alloc, cells))
+    let mut row = AnswerRow::new(alloc);
+    row.push(Cell::number(like.person))?;
+    row.push(words(&person.first_name)?)?;
+    row.push(words(&person.last_name)?)?;
+    row.push(Cell::number(like.date))?;
+    row.push(Cell::number(like.message))?;
+    row.push(words(content)?)?;
+    row.push(Cell::Number {
+        value: latency(like.date, like.sent),
+    })?;
+    row.push(Cell::Flag { value: is_new })?;
+    Ok(row)
 }
 
 // The rows of likes of messages of the start person.

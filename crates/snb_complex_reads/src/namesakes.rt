@@ -1,11 +1,11 @@
 //! The complex read of the persons of a first name around one.
 
-ghost use Rattle.std.specs.Prelude.{◌∷◌, [], IfOk, filter, map};
+ghost use Rattle.std.specs.Prelude.{◌≡◌, ◌≤◌, ◌∷◌, [], IfOk, filter, map};
 ghost use Rattle.std.specs.Cmp.Lexicographic.{slice_cmp};
 ghost use Rattle.std.specs.List.{All, AllZip};
 ghost use Rattle.std.specs.Ordering.{nat_cmp};
 ghost use Rattle.snb_complex_reads.specs.Found.{IsStayFound};
-ghost use Rattle.snb_complex_reads.specs.Namesakes.{AreNamesakes, IsNamesakeFound, IsNearFound, namesake_of};
+ghost use Rattle.snb_complex_reads.specs.Namesakes.{AreNamesakes, AreNamesakesWithin, IsNamesakeFound, IsNearFound, namesake_of, profile_of};
 ghost use Rattle.snb_reads.specs.ComplexReads.{AreStays, Ic1, IsNamesake, IsStay, is_named};
 ghost use Rattle.snb_reads.specs.Order.{Answers, First, FirstOf, Rising, Whole};
 ghost use Rattle.snb_tables.specs.Soundness.{Sound};
@@ -71,6 +71,27 @@ fn stays(alloc: Global, graph: &Graph, found: Links<'_>) -> Result<Stays, AllocE
     Ok(Stays::from_vec(alloc, ordered))
 }
 
+// The first eight columns of the row of a person at a distance.
+fn profile(alloc: Global, graph: &Graph, one: &(&Person, u64)) -> Result<AnswerRow, AllocError>
+    requires sound { Sound graph.now }
+    requires found { IsNamesakeFound graph.now one.now }
+    ensures { IfOk result (λ row. row ≡ profile_of one.now.0.now one.now.1) }
+{
+    graph.known();
+    sound_graphs();
+    let person = one.0;
+    let mut row = AnswerRow::new(alloc);
+    row.push(Cell::number(person.id))?;
+    row.push(words(&person.last_name)?)?;
+    row.push(Cell::number(one.1))?;
+    row.push(Cell::number(person.birthday))?;
+    row.push(Cell::number(person.creation_date))?;
+    row.push(words(&person.gender)?)?;
+    row.push(words(&person.browser_used)?)?;
+    row.push(words(&person.location_ip)?)?;
+    Ok(row)
+}
+
 // The row of a person at a distance.
 fn namesake_row(alloc: Global, graph: &Graph, one: &(&Person, u64)) -> Result<AnswerRow, AllocError>
     requires sound { Sound graph.now }
@@ -81,31 +102,22 @@ fn namesake_row(alloc: Global, graph: &Graph, one: &(&Person, u64)) -> Result<An
     sound_graphs();
     let person = one.0;
     let home = place(graph, city(graph, person.id));
+    let mut row = profile(alloc, graph, one)?;
     let emails = sorted(
         alloc,
         graph.words(Table::PersonEmailEmailAddress, person.id),
     )?;
+    row.push(Cell::List { texts: emails })?;
     let languages = sorted(alloc, graph.words(Table::PersonSpeaksLanguage, person.id))?;
+    row.push(Cell::List { texts: languages })?;
+    row.push(words(&home.name)?)?;
     let universities = stays(alloc, graph, graph.study(person.id))?;
+    row.push(Cell::Stays {
+        stays: universities,
+    })?;
     let companies = stays(alloc, graph, graph.work(person.id))?;
-    let cells = vec![in alloc;
-        Cell::number(person.id),
-        words(&person.last_name)?,
-        Cell::number(one.1),
-        Cell::number(person.birthday),
-        Cell::number(person.creation_date),
-        words(&person.gender)?,
-        words(&person.browser_used)?,
-        words(&person.location_ip)?,
-        Cell::List { texts: emails },
-        Cell::List { texts: languages },
-        words(&home.name)?,
-        Cell::Stays {
-            stays: universities,
-        },
-        Cell::Stays { stays: companies },
-    ]?;
-    Ok(AnswerRow::from_vec(alloc, cells))
+    row.push(Cell::Stays { stays: companies })?;
+    Ok(row)
 }
 
 // The rows of persons at distances.
@@ -167,6 +179,22 @@ fn named<'a>(
     Ok(found)
 }
 
+// Those of a first name at distance 1 to `steps` from a person.
+fn namesakes<'a>(
+    alloc: Global,
+    graph: &'a Graph,
+    person: u64,
+    first_name: &Text,
+    steps: u32,
+) -> Result<Vec<(&'a Person, u64)>, AllocError>
+    requires sound { Sound graph.now }
+    requires few { steps ≤ 3 }
+    ensures { IfOk result (λ found. AreNamesakesWithin graph.now person steps first_name.now found.items) }
+{
+    let near = within(alloc, graph, person, steps)?;
+    named(alloc, graph, first_name, near.as_slice())
+}
+
 /// Complex read 1: the persons of a first name at distance 1 to 3 from a person, each with the distance, the
 /// profile, emails, languages, city, studies and work; the first twenty, by distance, then by last name, then
 /// by id. A person who isn't held gives no rows.
@@ -180,7 +208,17 @@ pub fn ic1(
     requires sound { Sound graph.now }
     ensures { IfOk result (Ic1 graph.now person first_name.now) }
 {
-    let near = within(alloc, graph, person, 3)?;
-    let found = named(alloc, graph, first_name, near.as_slice())?;
+    graph.known();
+    sound_graphs();
+    first_is_some::<Text>();
+    first_is_some::<(Text, u32, Text)>();
+    first_is_some::<AnswerRow>();
+    // Nearer persons come first: where those within two steps are enough, nobody further is looked at.
+    let found = namesakes(alloc, graph, person, first_name, 2)?;
+    let enough = 20;
+    if enough <= found.len() {
+        return first_namesakes(alloc, graph, found);
+    }
+    let found = namesakes(alloc, graph, person, first_name, 3)?;
     first_namesakes(alloc, graph, found)
 }

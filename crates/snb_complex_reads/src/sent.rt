@@ -1,14 +1,15 @@
 //! Complex reads of the latest messages of persons around one.
 
-ghost use Rattle.std.specs.Prelude.{IfOk, OnOk, nat_le, nat_lt};
-ghost use Rattle.std.specs.List.{All, AllZip};
-ghost use Rattle.snb_complex_reads.specs.Found.{HasAppended, IsSentFound, sent_by};
+ghost use Rattle.std.specs.Prelude.{◌≡◌, ◌⊎◌, ◌<◌, ◌≤◌, IfOk, OnOk, length, map, nat_le, nat_lt};
+ghost use Rattle.std.specs.List.{All, AllZip, filter};
+ghost use Rattle.snb_complex_reads.specs.Found.{AreLater, HasAppended, IsSentFound, sent_by};
 ghost use Rattle.snb_reads.specs.ComplexReads.{Ic2, Ic9, IsSent, latest};
 ghost use Rattle.snb_reads.specs.Order.{Answers, First};
 ghost use Rattle.snb_tables.specs.Soundness.{Sound};
 
 use snb_graph::graph::Graph;
 use snb_order::first::first_of;
+use snb_order::law::first_is_some;
 use snb_reach::reach::within;
 use snb_reads::answer::Answer;
 use snb_reads::answer_row::AnswerRow;
@@ -28,15 +29,14 @@ fn sent_row(alloc: Global, graph: &Graph, sent: (u64, u64, u64)) -> Result<Answe
         unreachable!()
     };
     let person = known(graph, sent.0);
-    let cells = vec![in alloc;
-        Cell::number(sent.0),
-        words(&person.first_name)?,
-        words(&person.last_name)?,
-        Cell::number(sent.1),
-        words(content)?,
-        Cell::number(sent.2),
-    ]?;
-    Ok(AnswerRow::from_vec(alloc, cells))
+    let mut row = AnswerRow::new(alloc);
+    row.push(Cell::number(sent.0))?;
+    row.push(words(&person.first_name)?)?;
+    row.push(words(&person.last_name)?)?;
+    row.push(Cell::number(sent.1))?;
+    row.push(words(content)?)?;
+    row.push(Cell::number(sent.2))?;
+    Ok(row)
 }
 
 // The rows of messages.
@@ -55,6 +55,42 @@ fn sent_rows(
     Ok(answer)
 }
 
+// The dates of messages.
+fn dates_of(alloc: Global, found: &[(u64, u64, u64)]) -> Result<Vec<u64>, AllocError>
+    ensures { IfOk result (λ dates. dates.items ≡ map (λ s. s.2) found.now) }
+{
+    found.iter().map(|sent| sent.2).collect(alloc)
+}
+
+// A date that at least `most` of the messages have or pass, where there are so many, and 0 where there are fewer.
+fn floor(alloc: Global, found: &[(u64, u64, u64)], most: usize) -> Result<u64, AllocError>
+    requires { 0 < most }
+    ensures { IfOk result (λ date. (most ≤ length (filter (λ s. nat_le date s.2) found.now)) ⊎ (date ≡ 0)) }
+{
+    let mut dates = dates_of(alloc, found)?;
+    if dates.len() < most {
+        return Ok(0);
+    }
+    let place = dates.len() - most;
+    let (_, date, _) = dates.select_nth_unstable(place);
+    Ok(*date)
+}
+
+// Those of the messages that can be among the latest `most`.
+fn later_ones(
+    alloc: Global,
+    found: Vec<(u64, u64, u64)>,
+    most: usize,
+) -> Result<Vec<(u64, u64, u64)>, AllocError>
+    requires { 0 < most }
+    ensures { IfOk result (λ kept. AreLater most found.items kept.items) }
+{
+    let date = floor(alloc, &found, most)?;
+    let mut kept = found;
+    kept.retain(|sent| date <= sent.2);
+    Ok(kept)
+}
+
 // The rows of the latest twenty of the messages that were found.
 fn latest_sent(
     alloc: Global,
@@ -66,7 +102,9 @@ fn latest_sent(
 {
     graph.known();
     sound_graphs();
-    let first = first_of(found, 20, |a, b| b.2.cmp(&a.2).then(a.1.cmp(&b.1)));
+    first_is_some::<AnswerRow>();
+    let kept = later_ones(alloc, found, 20)?;
+    let first = first_of(kept, 20, |a, b| b.2.cmp(&a.2).then(a.1.cmp(&b.1)));
     sent_rows(alloc, graph, &first)
 }
 

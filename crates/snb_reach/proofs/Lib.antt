@@ -1,1 +1,5 @@
-pub mod LevelLemmas
+pub mod Laws
+mod LevelLemmas
+mod LookLemmas
+mod SideLemmas
+mod WalkLemmas

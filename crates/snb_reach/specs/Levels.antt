@@ -23,7 +23,7 @@ module _ (g : List Row) (start : ℕ) where
 abbrev pub HasMet : ℕ → ℕ → (ℕ → Option ℕ) → List ℕ → (ℕ → Option ℕ) → List ℕ → Type 0
 HasMet person level met next met' next' =
     (IsSome (met person) × ((q : ℕ) → met' q ≡ met q) × (next' ≡ next))
-    ⊎ ((met person ≡ None) × ((q : ℕ) → met' q ≡ (if q == person then Some level else met q)) × (next' ≡ next ++ person ∷ []))
+    ⊎ ((met person ≡ None) × ((q : ℕ) → met' q ≡ (if person == q then Some level else met q)) × (next' ≡ next ++ person ∷ []))
 
 -- whoever was met stays so
 abbrev pub StaysMet : (ℕ → Option ℕ) → (ℕ → Option ℕ) → Type 0

@@ -1,9 +1,8 @@
 //! A search by levels: the persons at distance 0, then those at 1, and so on.
 
-ghost use Rattle.std.specs.Prelude.{◌≡◌, ◌+◌, ◌<◌, ◌-◌, ℕ, IsSome, OnOk, IfOk, length, nat_lt, true, vec_len};
+ghost use Rattle.std.specs.Prelude.{◌≡◌, ◌<◌, ◌-◌, ℕ, IsSome, OnOk, IfOk, nat_eq, nat_lt, true};
+ghost use Rattle.std.specs.HashMap.{IsUnique, get};
 ghost use Rattle.std.specs.List.{filter};
-ghost use Rattle.std.specs.BTreeMap.{get, btree_map_len, IsOrdered};
-ghost use Rattle.std.specs.Ordering.{nat_cmp};
 ghost use Rattle.snb_reads.specs.Around.{is_friend};
 ghost use Rattle.snb_reads.specs.Distance.{IsDistance};
 ghost use Rattle.snb_reach.specs.Levels.{HasMet, IsGrowing, IsGrown, StaysMet};
@@ -12,17 +11,16 @@ ghost use Rattle.snb_tables.specs.Soundness.{Sound};
 use crate::near::Near;
 use snb_graph::graph::Graph;
 use std::alloc::{AllocError, Global};
-use std::collections::BTreeMap;
+use std::collections::HashMap;
 
 // Meets a person at the level, unless it was met before.
 fn meet(
     person: u64,
     level: u64,
-    met: &mut BTreeMap<u64, u64>,
+    met: &mut HashMap<u64, u64>,
     next: &mut Vec<u64>,
 ) -> Result<(), AllocError>
-    ensures met { OnOk result (HasMet person level (get nat_cmp met.old) next.old.items (get nat_cmp met.new) next.new.items) }
-    ensures len { OnOk result (btree_map_len met.new + length next.old.items ≡ btree_map_len met.old + length next.new.items) }
+    ensures { OnOk result (HasMet person level (get nat_eq met.old) next.old.items (get nat_eq met.new) next.new.items) }
 {
     if met.contains_key(&person) {
         return Ok(());
@@ -38,17 +36,16 @@ fn meet_friends(
     start: u64,
     person: u64,
     level: u64,
-    met: &mut BTreeMap<u64, u64>,
+    met: &mut HashMap<u64, u64>,
     next: &mut Vec<u64>,
 ) -> Result<(), AllocError>
     requires sound { Sound graph.now }
     requires above { 0 < level }
     requires reached { IsDistance graph.now start person (level - 1) }
-    requires growing { IsGrowing graph.now start level (get nat_cmp met.old) next.old.items }
-    ensures growing { OnOk result (IsGrowing graph.now start level (get nat_cmp met.new) next.new.items) }
-    ensures stays { OnOk result (StaysMet (get nat_cmp met.old) (get nat_cmp met.new)) }
-    ensures friends { OnOk result ((q : ℕ) → is_friend graph.now person q ≡ true → IsSome (get nat_cmp met.new q)) }
-    ensures len { OnOk result (btree_map_len met.new + length next.old.items ≡ btree_map_len met.old + length next.new.items) }
+    requires growing { IsGrowing graph.now start level (get nat_eq met.old) next.old.items }
+    ensures growing { OnOk result (IsGrowing graph.now start level (get nat_eq met.new) next.new.items) }
+    ensures stays { OnOk result (StaysMet (get nat_eq met.old) (get nat_eq met.new)) }
+    ensures friends { OnOk result ((q : ℕ) → is_friend graph.now person q ≡ true → IsSome (get nat_eq met.new q)) }
 {
     for (friend, _) in graph.friends(person) {
         meet(friend, level, met, next)?;
@@ -64,13 +61,12 @@ pub(crate) fn grow(
     start: u64,
     level: u64,
     last: &[u64],
-    met: &mut BTreeMap<u64, u64>,
+    met: &mut HashMap<u64, u64>,
 ) -> Result<Vec<u64>, AllocError>
     requires sound { Sound graph.now }
     requires above { 0 < level }
-    requires grown { IsGrown graph.now start (level - 1) (get nat_cmp met.old) last.now }
-    ensures grown { IfOk result (λ next. IsGrown graph.now start level (get nat_cmp met.new) next.items) }
-    ensures len { IfOk result (λ next. btree_map_len met.new ≡ btree_map_len met.old + vec_len next) }
+    requires grown { IsGrown graph.now start (level - 1) (get nat_eq met.old) last.now }
+    ensures { IfOk result (λ next. IsGrown graph.now start level (get nat_eq met.new) next.items) }
 {
     let mut next = Vec::new(alloc);
     for person in last {
@@ -79,10 +75,10 @@ pub(crate) fn grow(
     Ok(next)
 }
 
-/// Those met that aren't the start, by rising id.
-pub(crate) fn others(alloc: Global, met: &BTreeMap<u64, u64>) -> Result<Near, AllocError>
+/// Those met that aren't the start, in any order.
+pub(crate) fn others(alloc: Global, met: &HashMap<u64, u64>) -> Result<Near, AllocError>
     ensures items { IfOk result (λ near. near ≡ filter (λ e. nat_lt 0 e.1) met.now.entries) }
-    ensures ordered { IsOrdered nat_cmp met.now }
+    ensures unique { IsUnique nat_eq met.now }
 {
     let mut near = Near::new(alloc);
     for (person, distance) in met {

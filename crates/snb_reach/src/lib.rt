@@ -4,3 +4,4 @@
 mod levels;
 pub mod near;
 pub mod reach;
+mod sides;

@@ -1,6 +1,7 @@
 //! Persons with their distances.
 
 ghost use Rattle.std.specs.Prelude.{◌≡◌, ◌∷◌, ◌++◌, [], IfOk, OnOk, OnErr};
+ghost use Rattle.std.specs.List.Sorted.{IsNonDecreasingBy, IsPermutation};
 
 use std::alloc::{AllocError, Global};
 use std::marker::Model;
@@ -49,6 +50,14 @@ impl Near {
     {
         self.items.push(one)?;
         Ok(())
+    }
+
+    /// Puts the persons in an order in which their ids don't fall. Takes no memory.
+    pub fn sort(&mut self)
+        ensures permutation { IsPermutation self.old self.new }
+        ensures rises { IsNonDecreasingBy (λ one. one.0) self.new }
+    {
+        self.items.sort_unstable_by_key(|one| one.0);
     }
 
     /// An equal list.

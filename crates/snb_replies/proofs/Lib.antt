@@ -1,7 +1,7 @@
 pub mod ColumnFacts
 pub mod OneAnswers
 pub mod OneNamed
-pub mod OneNear
+pub mod OneLength
 pub mod OneReply
 pub mod OneSent
 pub mod OneShort

@@ -10,7 +10,7 @@ use Rattle.snb_reads.specs.Cells.{column, number}
 use Rattle.snb_reads.specs.ComplexReads.{AreStays, Ic1, Ic11, IsJob, IsNamesake, IsStay, Stay, is_named, jobs, stay_cmp}
 use Rattle.snb_reads.specs.Order.{Answers, Falling, First, FirstOf, Rising, Whole}
 use Rattle.snb_replies.proofs.OneAnswers.{one_answers, one_stays, one_texts, same_only, same_zip}
-use Rattle.snb_replies.proofs.OneNear.{one_within}
+use Rattle.snb_reach.proofs.Laws.{one_within}
 use Rattle.snb_replies.proofs.Ties.{falling_words, rising, three_ties}
 
 module _ (g : List Row) where

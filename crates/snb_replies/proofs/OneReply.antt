@@ -10,7 +10,7 @@ use Rattle.snb_reads.specs.ComplexReads.{Stay}
 use Rattle.snb_reads.specs.Replies.{IsAnswer, tail_reads}
 use Rattle.snb_replies.proofs.OneAnswers.{same_zip}
 use Rattle.snb_replies.proofs.OneNamed.{one_ic1, one_ic11}
-use Rattle.snb_replies.proofs.OneNear.{one_length}
+use Rattle.snb_replies.proofs.OneLength.{one_length}
 use Rattle.snb_replies.proofs.OneSent.{one_ic2, one_ic7, one_ic8, one_ic9}
 use Rattle.snb_replies.proofs.OneShort.{one_is1, one_is2, one_is3, one_is4, one_is5, one_is6, one_is7}
 use Rattle.snb_replies.specs.Laws.{OneAnswer, OneReply}

@@ -18,7 +18,7 @@ use Rattle.snb_reads.specs.Cells.{column, number}
 use Rattle.snb_reads.specs.ComplexReads.{Ic2, Ic7, Ic8, Ic9, IsAnswered, IsLiked, IsSent, beats, best_likes, latest, liked, messages_of, minutes}
 use Rattle.snb_reads.specs.Order.{Answers, Falling, First, Rising}
 use Rattle.snb_replies.proofs.OneAnswers.{one_answers, same_only}
-use Rattle.snb_replies.proofs.OneNear.{one_within}
+use Rattle.snb_reach.proofs.Laws.{one_within}
 use Rattle.snb_replies.proofs.OneThings.{one_author, one_sender, sent_date}
 use Rattle.snb_replies.proofs.Ties.{falling, rising, two_ties}
 

@@ -1,5 +1,5 @@
 -- What stands in each column of a read's rows.
-use Rattle.std.specs.Prelude.{ℤ, pos, negsuc, List, [], ◌∷◌, ⊤}
+use Rattle.std.specs.Prelude.{pos, negsuc, List, [], ◌∷◌, ⊤}
 use Rattle.std.specs.List.{All, AllZip}
 use Rattle.snb_schema.specs.declared.query.Query.{Query}
 use Rattle.snb_schema.specs.declared.query.Query.TheVariants as queries

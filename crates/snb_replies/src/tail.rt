@@ -12,7 +12,7 @@ use snb_reads::cell::Cell;
 use snb_schema::query::Query;
 
 /// Whom and which message the short reads ask about that follow an answer.
-#[derive(Clone, Copy, Debug, PartialEq, Eq)]
+#[derive(Clone, Copy)]
 pub struct Tail {
     /// The person of IS1, IS2 and IS3, where they follow.
     pub person: Option<u64>,

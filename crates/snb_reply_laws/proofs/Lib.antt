@@ -1,3 +1,4 @@
+pub mod Laws
 pub mod Lookups
 pub mod Near
 pub mod SomeAnswers

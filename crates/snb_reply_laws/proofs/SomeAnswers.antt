@@ -37,7 +37,7 @@ way_total : (w : Way) → IsTotalOrder (way_cmp w)
 way_total (Rising n) = on_total (column n) cell_total
 way_total (Falling n) = back_total (on_total (column n) cell_total)
 
-by_total : (order : List Way) → IsTotalOrder (by order)
+pub by_total : (order : List Way) → IsTotalOrder (by order)
 by_total [] = record { antisymm = λ x y. refl; trans = λ x y z e f. cc; congr = λ x y z e. refl }
 by_total (w ∷ ws) = then_total (way_total w) (by_total ws)
 

@@ -83,7 +83,7 @@ module _ (g : List Row) (graph : IsGraph g) (sound : Sound g) where
         let (place, there) = place_at g graph city (sound.held (row.Link table.PersonIsLocatedInPlace p city) link 1 any (omega arith)) in
         (city, place, city_only g graph sound p city link, there)
 
-    some_namesake : SomeFirst (List ℕ) → SomeFirst Stay → (n : ℕ × ℕ) → IsPerson g n.0 → (row : List Cell) × IsNamesake g n row
+    pub some_namesake : SomeFirst (List ℕ) → SomeFirst Stay → (n : ℕ × ℕ) → IsPerson g n.0 → (row : List Cell) × IsNamesake g n row
     some_namesake texts some n h =
         let (p, is, named) = person_at g graph n.0 h in
         let (city, place, home, there) = some_home n.0 h in

@@ -1,5 +1,5 @@
 -- The rows of the short reads, side by side with what they show.
-use Rattle.std.proofs.Common.{◌≡◌, ℕ, List, [], ◌∷◌, refl, sym, ap, ◌∙◌, inl, inr}
+use Rattle.std.proofs.Common.{◌≡◌, ℕ, List, [], ◌∷◌, refl, sym, ap, ◌∙◌, inl}
 use Rattle.std.proofs.lemmas.Cmp.{back_total, nat_cmp_total, on_total, then_total}
 use Rattle.std.proofs.lemmas.List.Elements.{All-weaker}
 use Rattle.std.proofs.lemmas.List.Sorted.{IsPermutation-refl}
@@ -11,15 +11,14 @@ use Rattle.std.specs.declared.cmp.Ordering.{Ordering}
 use Rattle.snb_schema.specs.declared.row.Row.{Row}
 use Rattle.snb_soundness.specs.SoundLaws.{MessagesAreOfOneKind, MessagesHaveOneAuthor, MessagesHaveOneRoot, NumbersFit}
 use Rattle.snb_tables.specs.Graphs.{IsGraph}
-use Rattle.snb_tables.specs.Messages.{HasMessage}
 use Rattle.snb_tables.specs.Soundness.{Sound}
 use Rattle.snb_order.proofs.Laws.{answers_from, answers_mapped, answers_whole, chosen, then_assoc, three_columns, two_columns, zip_with}
 use Rattle.snb_reads.proofs.Laws.{person_named}
 use Rattle.snb_reads.specs.declared.cell.Cell.{Cell}
-use Rattle.snb_reads.specs.Around.{Message, authors, friends, messages, replies, with_id}
+use Rattle.snb_reads.specs.Around.{authors, friends, messages, replies}
 use Rattle.snb_reads.specs.Order.{Falling, First, FirstOf, Rising, Whole, by}
 use Rattle.snb_reads.specs.ShortReads.{Is2, Is3, Is7, IsFriend, IsRecent, IsReplyTo}
-use Rattle.snb_short_reads.proofs.Laws.{comment_at, found_comment, found_person, found_post, person_at, post_at, shows, written}
+use Rattle.snb_short_reads.proofs.Laws.{found_person, person_at, shows, written}
 use Rattle.snb_short_reads.specs.Found.{AreReplies, IsMessageFound, IsReplyFound, without_author}
 
 -- ---- orders of keys

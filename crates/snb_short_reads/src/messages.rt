@@ -66,14 +66,13 @@ fn forum_row(alloc: Global, graph: &Graph, message: u64) -> Result<AnswerRow, Al
 {
     let forum = forum(graph, root(graph, message));
     let person = known(graph, moderator(graph, forum.id));
-    let cells = vec![in alloc;
-        Cell::number(forum.id),
-        words(&forum.title)?,
-        Cell::number(person.id),
-        words(&person.first_name)?,
-        words(&person.last_name)?,
-    ]?;
-    Ok(AnswerRow::from_vec(alloc, cells))
+    let mut row = AnswerRow::new(alloc);
+    row.push(Cell::number(forum.id))?;
+    row.push(words(&forum.title)?)?;
+    row.push(Cell::number(person.id))?;
+    row.push(words(&person.first_name)?)?;
+    row.push(words(&person.last_name)?)?;
+    Ok(row)
 }
 
 /// Short read 6: the forum of the post at a message's root, with its moderator. A message that isn't
@@ -120,16 +119,15 @@ fn reply_row(
     };
     let author = known(graph, author_id(graph, reply.0));
     let value = are_friends(graph, author_id(graph, message), author.id);
-    let cells = vec![in alloc;
-        Cell::number(reply.0),
-        words(&comment.content)?,
-        Cell::number(reply.1),
-        Cell::number(author.id),
-        words(&author.first_name)?,
-        words(&author.last_name)?,
-        Cell::Flag { value },
-    ]?;
-    Ok(AnswerRow::from_vec(alloc, cells))
+    let mut row = AnswerRow::new(alloc);
+    row.push(Cell::number(reply.0))?;
+    row.push(words(&comment.content)?)?;
+    row.push(Cell::number(reply.1))?;
+    row.push(Cell::number(author.id))?;
+    row.push(words(&author.first_name)?)?;
+    row.push(words(&author.last_name)?)?;
+    row.push(Cell::Flag { value })?;
+    Ok(row)
 }
 
 // The rows of replies to a message.

@@ -35,17 +35,16 @@ fn profile(alloc: Global, graph: &Graph, person: &Person) -> Result<AnswerRow, A
 {
     graph.known();
     sound_graphs();
-    let cells = vec![in alloc;
-        words(&person.first_name)?,
-        words(&person.last_name)?,
-        Cell::number(person.birthday),
-        words(&person.location_ip)?,
-        words(&person.browser_used)?,
-        Cell::number(city(graph, person.id)),
-        words(&person.gender)?,
-        Cell::number(person.creation_date),
-    ]?;
-    Ok(AnswerRow::from_vec(alloc, cells))
+    let mut row = AnswerRow::new(alloc);
+    row.push(words(&person.first_name)?)?;
+    row.push(words(&person.last_name)?)?;
+    row.push(Cell::number(person.birthday))?;
+    row.push(words(&person.location_ip)?)?;
+    row.push(words(&person.browser_used)?)?;
+    row.push(Cell::number(city(graph, person.id)))?;
+    row.push(words(&person.gender)?)?;
+    row.push(Cell::number(person.creation_date))?;
+    Ok(row)
 }
 
 /// Short read 1: the person. One who isn't held gives no rows.
@@ -74,16 +73,15 @@ fn recent(alloc: Global, graph: &Graph, message: (u64, u64)) -> Result<AnswerRow
     };
     let post = root(graph, message.0);
     let author = known(graph, author_id(graph, post));
-    let cells = vec![in alloc;
-        Cell::number(message.0),
-        words(content)?,
-        Cell::number(message.1),
-        Cell::number(post),
-        Cell::number(author.id),
-        words(&author.first_name)?,
-        words(&author.last_name)?,
-    ]?;
-    Ok(AnswerRow::from_vec(alloc, cells))
+    let mut row = AnswerRow::new(alloc);
+    row.push(Cell::number(message.0))?;
+    row.push(words(content)?)?;
+    row.push(Cell::number(message.1))?;
+    row.push(Cell::number(post))?;
+    row.push(Cell::number(author.id))?;
+    row.push(words(&author.first_name)?)?;
+    row.push(words(&author.last_name)?)?;
+    Ok(row)
 }
 
 // The rows of messages.
@@ -120,13 +118,12 @@ fn friend_row(alloc: Global, graph: &Graph, friend: (u64, u64)) -> Result<Answer
     ensures { IfOk result (IsFriend graph.now friend) }
 {
     let person = known(graph, friend.0);
-    let cells = vec![in alloc;
-        Cell::number(friend.0),
-        words(&person.first_name)?,
-        words(&person.last_name)?,
-        Cell::number(friend.1),
-    ]?;
-    Ok(AnswerRow::from_vec(alloc, cells))
+    let mut row = AnswerRow::new(alloc);
+    row.push(Cell::number(friend.0))?;
+    row.push(words(&person.first_name)?)?;
+    row.push(words(&person.last_name)?)?;
+    row.push(Cell::number(friend.1))?;
+    Ok(row)
 }
 
 // The rows of friends.

@@ -1,4 +1,5 @@
-use Rattle.std.proofs.Common.{◌≡◌, ◌&&◌, nat_lt, true, false, refl, sym, subst, ◌∙◌, ap, arith}
+use Rattle.std.proofs.Common.{◌≡◌, ◌≤◌, ◌&&◌, nat_lt, true, false, refl, sym, subst, ◌∙◌, ap, arith}
+use Rattle.std.proofs.lemmas.Bool.{le-ltb}
 use Rattle.std.proofs.lemmas.List.Elements.{All-head, All-tail}
 use Rattle.std.specs.List.{All}
 use Rattle.snb_reads.specs.Around.{work}
@@ -21,6 +22,17 @@ loop-organisation-init c =
 pub located-requires-clause-held : goal.located-requires-clause-held
 located-requires-clause-held c =
     (All-head (IsStayFound c.args.graph.now) (c.in-Some.organisation, c.in-Some.since) c.next.new.self (subst (All (IsStayFound c.args.graph.now)) c.in-Some.ensures.steps c.loop-organisation.invariant.left)).held
+
+pub loop-organisation-preserved-then-from-since : goal.loop-organisation-preserved-then-from-since
+loop-organisation-preserved-then-from-since c =
+    let g = c.args.graph.now in
+    let late : c.args.year ≤ c.in-Some.since = omega (arith, c.if-from-since.true, c.from.ensures) in
+    let test : (nat_lt c.in-Some.since c.args.year && is_in g c.args.country.now c.in-Some.organisation) ≡ false =
+    ap (λ b. b && is_in g c.args.country.now c.in-Some.organisation) (le-ltb c.in-Some.since c.args.year late) in
+    record {
+      left = All-tail (IsStayFound g) (c.in-Some.organisation, c.in-Some.since) c.next.new.self (subst (All (IsStayFound g)) c.in-Some.ensures.steps c.loop-organisation.invariant.left);
+      adding = λ all are. job_over g c.args.country.now c.args.year c.args.person _ _ c.next.new.self (c.in-Some.organisation, c.in-Some.since) _ c.in-Some.ensures.steps test (c.loop-organisation.invariant.adding all are);
+    }
 
 pub loop-organisation-preserved : goal.loop-organisation-preserved
 loop-organisation-preserved c =

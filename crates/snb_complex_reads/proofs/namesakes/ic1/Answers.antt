@@ -1,24 +1,30 @@
-use Rattle.std.proofs.Common.{◌∷◌, [], subst, ap, ◌∙◌}
-use Rattle.std.proofs.lemmas.List.Elements.{All-same}
+use Rattle.std.proofs.Common.{◌≡◌, ◌≤◌, ◌∷◌, [], length, vec_len, arith, rules, subst}
+use Rattle.std.proofs.lemmas.List.{length-map}
 use Rattle.std.proofs.lemmas.Result.{IfOk-weaker}
-use Rattle.std.specs.List.{filter}
-use Rattle.snb_reads.specs.ComplexReads.{IsNamesake, is_named}
+use Rattle.snb_reads.specs.ComplexReads.{IsNamesake}
 use Rattle.snb_reads.specs.Order.{Answers, First, Rising}
-use Rattle.snb_complex_reads.proofs.NamesakeLemmas.{near_is}
-use Rattle.snb_complex_reads.specs.Namesakes.{IsNearFound}
+use Rattle.snb_complex_reads.proofs.NearFirst.{near_first}
+use Rattle.snb_complex_reads.specs.Namesakes.{namesake_of}
 use Rattle.snb_complex_reads.proofs.namesakes.ic1.Goals as goal
 
-pub named-requires : goal.named-requires
-named-requires c = All-same (IsNearFound c.args.graph.now) _ c.in_ok-near.near c.as_slice.ensures (near_is c.args.graph.now c.args.person c.in_ok-near.near c.in_ok-near.ensures)
-
-pub first_namesakes-requires-clause-found : goal.first_namesakes-requires-clause-found
-first_namesakes-requires-clause-found c = c.in_ok-found.ensures.each
+pub returns-then-enough-len : goal.returns-then-enough-len
+returns-then-enough-len c =
+    let g = c.args.graph.now in
+    let found = c.in_ok-found.found in
+    let are = c.in_ok-found.ensures in
+    let same : vec_len found ≡ length found.items = search rules in
+    let long = length-map found.items namesake_of in
+    IfOk-weaker c.first_namesakes.result _ _ (λ a is.
+    near_first g c.known.ensures c.requires.sound c.sound_graphs.ensures.required c.first_is_some.ensures c.first_is_some-2.ensures c.first_is_some-3.ensures c.args.person c.args.first_name.now are.near a are.within
+    (subst (λ l. 20 ≤ length l) are.are.same (omega (arith, c.if-enough-len.true, c.len.ensures, same, long)))
+    (subst (λ l. Answers l (IsNamesake g) (Rising 3 ∷ Rising 2 ∷ Rising 1 ∷ []) (First 20) a) are.are.same is)) c.first_namesakes.ensures
 
 pub returns : goal.returns
 returns c =
     let g = c.args.graph.now in
-    IfOk-weaker c.first_namesakes.result _ _ (λ a is. record {
-      near = c.in_ok-near.near;
-      within = c.in_ok-near.ensures;
-      answers = subst (λ l. Answers l (IsNamesake g) (Rising 3 ∷ Rising 2 ∷ Rising 1 ∷ []) (First 20) a) (c.in_ok-found.ensures.same ∙ ap (filter (is_named g c.args.first_name.now)) c.as_slice.ensures) is;
-    }) c.first_namesakes.ensures
+    let are = c.in_ok-found-2.ensures in
+    IfOk-weaker c.first_namesakes-2.result _ _ (λ a is. record {
+      near = are.near;
+      within = are.within;
+      answers = subst (λ l. Answers l (IsNamesake g) (Rising 3 ∷ Rising 2 ∷ Rising 1 ∷ []) (First 20) a) are.are.same is;
+    }) c.first_namesakes-2.ensures

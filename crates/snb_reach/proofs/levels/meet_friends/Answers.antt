@@ -1,9 +1,9 @@
-use Rattle.std.proofs.Common.{◌≡◌, suc, ◌-◌, arith, refl, sym, subst}
-use Rattle.std.specs.BTreeMap.{get}
-use Rattle.std.specs.Ordering.{nat_cmp}
+use Rattle.std.proofs.Common.{◌≡◌, suc, ◌-◌, IsSome, arith, nat_eq, sym, subst}
+use Rattle.std.specs.HashMap.{get}
 use Rattle.snb_graph.specs.Walks.{AreFriendsOf}
 use Rattle.snb_shelf.proofs.Laws.{contains_here}
-use Rattle.snb_reach.proofs.LevelLemmas.{all_looked, growing_met, looked, looks, met_stays}
+use Rattle.snb_reach.proofs.LevelLemmas.{growing_met, met_stays}
+use Rattle.snb_reach.proofs.LookLemmas.{all_looked, looked, looks}
 use Rattle.snb_reach.proofs.levels.meet_friends.Goals as goal
 
 pub loop-friend-init : goal.loop-friend-init
@@ -12,7 +12,6 @@ loop-friend-init c = record {
   stays = λ q h. h;
   looking = looks c.args.graph.now c.args.person _ _ c.requires.sound.held
       (subst (AreFriendsOf c.args.graph.now c.args.person) (sym c.into_iter-friend-iterator.ensures.into_iter_gives) c.friends-friend-items.ensures);
-  len = omega arith;
 }
 
 pub loop-friend-preserved : goal.loop-friend-preserved
@@ -20,13 +19,12 @@ loop-friend-preserved c =
     let g = c.args.graph.now in
     let up : c.args.level ≡ suc (c.args.level - 1) = omega (arith, c.requires.above) in
     let (knows, known) = c.loop-friend.invariant.looking.friends c.in-Some.friend c.in-Some.field-0-1 (rw c.in-Some.ensures.steps (contains_here (c.in-Some.friend, c.in-Some.field-0-1) c.next.new.self)) in
-    let (stays, here) = met_stays g c.args.start _ c.args.level _ _ _ _ c.in_ok-meet.ensures.met in
+    let (stays, here) = met_stays g c.args.start _ c.args.level _ _ _ _ c.in_ok-meet.ensures in
     record {
-      growing = growing_met g c.args.start c.args.level _ _ c.loop-friend.invariant.growing c.args.person _ (c.args.level - 1) _ _ up c.requires.reached knows known c.in_ok-meet.ensures.met;
+      growing = growing_met g c.args.start c.args.level _ _ c.loop-friend.invariant.growing c.args.person _ (c.args.level - 1) _ _ up c.requires.reached knows known c.in_ok-meet.ensures;
       stays = λ q h. stays q (c.loop-friend.invariant.stays q h);
-      looking = looked g c.args.person _ _ _ _ _ _ c.in-Some.ensures.steps stays here c.loop-friend.invariant.looking;
-      len = omega (arith, c.in_ok-meet.ensures.len, c.loop-friend.invariant.len);
+      looking = looked g c.args.person _ _ _ _ (λ q. IsSome (get nat_eq c.loop-friend.met q)) (λ q. IsSome (get nat_eq c.meet.new.met q)) c.in-Some.ensures.steps stays here c.loop-friend.invariant.looking;
     }
 
 pub returns-clause-friends : goal.returns-clause-friends
-returns-clause-friends c = all_looked c.args.graph.now c.args.person c.loop-friend.friend-iterator (get nat_cmp c.loop-friend.met) c.in-None.ensures.steps.0 c.loop-friend.invariant.looking
+returns-clause-friends c = all_looked c.args.graph.now c.args.person c.loop-friend.friend-iterator (λ q. IsSome (get nat_eq c.loop-friend.met q)) c.in-None.ensures.steps.0 c.loop-friend.invariant.looking

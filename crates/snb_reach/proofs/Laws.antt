@@ -1,10 +1,10 @@
--- There is one list of the persons within a distance, and one length of a shortest walk.
-use Rattle.std.proofs.Common.{◌≡◌, ◌∙◌, ◌↔◌, ℕ, suc, ◌<◌, ℤ, pos, List, [], ◌∷◌, ap, arith, inl, inr, refl, subst, sym}
+-- What other crates may cite of this one: there is one list of the persons within a distance.
+use Rattle.std.proofs.Common.{◌≡◌, ◌∙◌, ◌↔◌, ℕ, suc, ◌<◌, List, [], ◌∷◌, ap, arith, inl, inr, refl, subst, sym}
 use Rattle.std.specs.List.{AllPairs, Contains}
 use Rattle.snb_schema.specs.declared.row.Row.{Row}
-use Rattle.snb_base.proofs.Laws.{contains_cases, contains_here, contains_there}
+use Rattle.snb_shelf.proofs.Laws.{contains_cases, contains_here, contains_there}
 use Rattle.snb_reads.proofs.Laws.{contains_none}
-use Rattle.snb_reads.specs.Distance.{IsDistance, IsLength, IsWithin}
+use Rattle.snb_reads.specs.Distance.{IsWithin}
 
 -- pairs by rising id
 abbrev Rises : List (ℕ × ℕ) → Type 0
@@ -48,15 +48,3 @@ same_rising (x ∷ xs) (y ∷ ys) r s same =
 pub one_within : (g : List Row) (start steps : ℕ) (near other : List (ℕ × ℕ)) → IsWithin g start steps near → IsWithin g start steps other → near ≡ other
 one_within g start steps near other f h =
     same_rising near other f.rises h.rises (λ z. (λ c. (h.exact z.0 z.1).1 ((f.exact z.0 z.1).0 c), λ c. (f.exact z.0 z.1).1 ((h.exact z.0 z.1).0 c)))
-
-one_distance : (g : List Row) (a b n m : ℕ) → IsDistance g a b n → IsDistance g a b m → n ≡ m
-one_distance g a b n m f h =
-    let low = f.least m h.walk in
-    let high = h.least n f.walk in
-    omega (arith, low, high)
-
-pub one_length : (g : List Row) (a b : ℕ) (y z : ℤ) → IsLength g a b y → IsLength g a b z → y ≡ z
-one_length g a b y z (inl (n, f, is)) (inl (m, h, also)) = is ∙ ap pos (one_distance g a b n m f h) ∙ sym also
-one_length g a b y z (inl (n, f, is)) (inr (none, also)) = absurd (none n f.walk)
-one_length g a b y z (inr (none, is)) (inl (m, h, also)) = absurd (none m h.walk)
-one_length g a b y z (inr (none, is)) (inr (never, also)) = is ∙ sym also
