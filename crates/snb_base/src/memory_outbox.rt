@@ -12,10 +12,15 @@ use std::alloc::{AllocError, Global};
 use std::marker::Model;
 
 // The bytes of one channel, in memory that was taken for all its room.
-#[derive(Drop)]
 struct Sheet {
     bytes: Vec<u8>,
     room: usize,
+}
+
+impl Drop for Sheet {
+    fn drop(self) {
+        let Sheet { bytes: _, room: _ } = self;
+    }
 }
 
 impl Model for Sheet {
@@ -71,7 +76,6 @@ impl Sheet {
 ///
 /// A contract sees its bytes and rooms, its list of failing calls, and its counts of calls and of
 /// faults.
-#[derive(Drop)]
 pub struct MemoryOutbox {
     screen: Sheet,
     log: Sheet,
@@ -81,6 +85,21 @@ pub struct MemoryOutbox {
     failing: Vec<u64>,
     calls: u64,
     faults: u64,
+}
+
+impl Drop for MemoryOutbox {
+    fn drop(self) {
+        let MemoryOutbox {
+            screen: _,
+            log: _,
+            answers: _,
+            finals: _,
+            cases: _,
+            failing: _,
+            calls: _,
+            faults: _,
+        } = self;
+    }
 }
 
 impl Model for MemoryOutbox {

@@ -10,22 +10,38 @@ use std::alloc::{AllocError, Global};
 use std::marker::Model;
 
 // A file and its name.
-#[derive(Drop)]
 struct HeldFile {
     name: Vec<u8>,
     bytes: Vec<u8>,
 }
 
+impl Drop for HeldFile {
+    fn drop(self) {
+        let HeldFile { name: _, bytes: _ } = self;
+    }
+}
+
 /// A shelf in memory, which tells its contents and fails at the listed calls alone.
 ///
 /// A contract sees its files, its list of failing calls, and its counts of calls and of faults.
-#[derive(Drop)]
 pub struct MemoryShelf {
     alloc: Global,
     files: Vec<HeldFile>,
     failing: Vec<u64>,
     calls: u64,
     faults: u64,
+}
+
+impl Drop for MemoryShelf {
+    fn drop(self) {
+        let MemoryShelf {
+            alloc: _,
+            files: _,
+            failing: _,
+            calls: _,
+            faults: _,
+        } = self;
+    }
 }
 
 impl Model for MemoryShelf {

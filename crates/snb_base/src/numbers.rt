@@ -6,9 +6,14 @@ use std::alloc::{AllocError, Global};
 use std::marker::Model;
 
 /// An owned list of numbers. A contract sees the list.
-#[derive(Drop)]
 pub struct Numbers {
     items: Vec<u64>,
+}
+
+impl Drop for Numbers {
+    fn drop(self) {
+        let Numbers { items: _ } = self;
+    }
 }
 
 impl Model for Numbers {
@@ -40,7 +45,8 @@ impl Numbers {
     pub fn into_vec(self) -> Vec<u64>
         ensures { result.items ≡ self }
     {
-        self.items
+        let Numbers { items } = self;
+        items
     }
 
     /// The numbers in order.

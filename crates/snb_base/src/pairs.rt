@@ -6,9 +6,14 @@ use std::alloc::{AllocError, Global};
 use std::marker::Model;
 
 /// An owned list of pairs of an id and a year. A contract sees the list.
-#[derive(Drop)]
 pub struct Pairs {
     items: Vec<(u64, u32)>,
+}
+
+impl Drop for Pairs {
+    fn drop(self) {
+        let Pairs { items: _ } = self;
+    }
 }
 
 impl Model for Pairs {
@@ -40,7 +45,8 @@ impl Pairs {
     pub fn into_vec(self) -> Vec<(u64, u32)>
         ensures { result.items ≡ self }
     {
-        self.items
+        let Pairs { items } = self;
+        items
     }
 
     /// The pairs in order.

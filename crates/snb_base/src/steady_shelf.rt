@@ -11,9 +11,14 @@ use std::marker::Model;
 /// A shelf over the files of a [`MemoryShelf`], which no call changes and which never fails.
 ///
 /// A contract sees its files.
-#[derive(Drop)]
 pub struct SteadyShelf {
     shelf: MemoryShelf,
+}
+
+impl Drop for SteadyShelf {
+    fn drop(self) {
+        let SteadyShelf { shelf: _ } = self;
+    }
 }
 
 impl Model for SteadyShelf {

@@ -1,21 +1,13 @@
-//! Worked examples of the spelling of numbers, and one use of each public function.
+//! What reaches the real world: files, standard output and the clock of the system, and fakes of them.
+//! These are tests, as a case has no handle and no files but those in memory.
 
 use crate::clock::{Clock, FarClock};
 use crate::folder_outbox::FolderOutbox;
 use crate::folder_shelf::FolderShelf;
 use crate::gate::{Gate, OpenGate, Phase};
 use crate::host_clock::HostClock;
-use crate::memory_outbox::MemoryOutbox;
-use crate::memory_shelf::MemoryShelf;
-use crate::null_outbox::NullOutbox;
-use crate::number::{put_number, read_number};
-use crate::numbers::Numbers;
 use crate::outbox::{Channel, Outbox, Put};
-use crate::pairs::Pairs;
 use crate::shelf::{Got, Shelf};
-use crate::steady_shelf::SteadyShelf;
-use crate::text::Text;
-use crate::texts::Texts;
 use std::alloc::{AllocError, Allocator, Global};
 use std::fmt::Display;
 use std::fs::{Metadata, OpenFile, OpenOptions};
@@ -26,119 +18,6 @@ use std::rt::Files;
 use std::test::Fail;
 use std::time::Instant;
 use std::{fs, io};
-
-#[test]
-fn reads_numbers(rt: HostRuntime) {
-    for (text, most, want) in [
-        ("0", 9, Some(0)),
-        ("10", 10, Some(10)),
-        ("10", 9, None),
-        ("007", 999, None),
-        ("00", 999, None),
-        ("", 999, None),
-        ("+1", 999, None),
-        ("1 ", 999, None),
-        (
-            "9223372036854775807",
-            9_223_372_036_854_775_807,
-            Some(9_223_372_036_854_775_807),
-        ),
-        ("9223372036854775808", 9_223_372_036_854_775_807, None),
-        (
-            "9999999999999999999",
-            u64::MAX,
-            Some(9_999_999_999_999_999_999),
-        ),
-        ("10000000000000000000", u64::MAX, None),
-    ] {
-        assert_eq!(rt; read_number(text.as_bytes(), most), want, "at {text}");
-    }
-}
-
-#[test]
-fn puts_numbers(rt: HostRuntime) -> Result<(), Fail> {
-    for (number, want) in [
-        (0, "7:0"),
-        (10, "7:10"),
-        (u64::MAX, "7:18446744073709551615"),
-    ] {
-        let mut to = b"7:".to_vec(rt.alloc())?;
-        put_number(number, &mut to)?;
-        assert_eq!(rt; to.as_slice(), want.as_bytes());
-    }
-    Ok(())
-}
-
-#[test]
-fn keeps_numbers_and_pairs(rt: HostRuntime) -> Result<(), Fail> {
-    let mut numbers = Numbers::new(rt.alloc());
-    numbers.push(7)?;
-    numbers.push(u64::MAX)?;
-    let numbers = Numbers::from_vec(numbers.try_copy()?.into_vec());
-    assert_eq!(rt; numbers.as_slice(), [7, u64::MAX].as_slice());
-    let mut pairs = Pairs::new(rt.alloc());
-    pairs.push(5, 1999)?;
-    pairs.push(5, 2000)?;
-    let pairs = Pairs::from_vec(pairs.try_copy()?.into_vec());
-    assert_eq!(rt; pairs.as_slice(), [(5, 1999), (5, 2000)].as_slice());
-    Ok(())
-}
-
-#[test]
-fn keeps_texts(rt: HostRuntime) -> Result<(), Fail> {
-    let mut texts = Texts::new(rt.alloc());
-    texts.push(Text::new(rt.alloc()))?;
-    texts.push(Text::from_str(rt.alloc(), "zwölf")?.try_copy()?)?;
-    let texts = Texts::from_vec(rt.alloc(), texts.try_copy()?.into_vec());
-    assert_eq!(rt; texts.as_slice().len(), 2);
-    assert_eq!(rt; texts.as_slice()[0].as_str(), "");
-    assert_eq!(rt; texts.as_slice()[1].as_str(), "zwölf");
-    Ok(())
-}
-
-#[test]
-fn reads_from_memory(rt: HostRuntime) -> Result<(), Fail> {
-    let mut shelf = MemoryShelf::new(rt.alloc());
-    shelf.add("a", b"xyz")?;
-    shelf.fail_at(1)?;
-    let mut into = [0u8; 2];
-    for (name, at, want, bytes) in [
-        ("a", 0, Got::Took { count: 2 }, b"xy"),
-        ("a", 0, Got::Failed, b"xy"),
-        ("a", 2, Got::Took { count: 1 }, b"zy"),
-        ("a", 3, Got::Took { count: 0 }, b"zy"),
-        ("a", u64::MAX, Got::Took { count: 0 }, b"zy"),
-        ("b", 0, Got::Absent, b"zy"),
-    ] {
-        assert_eq!(rt; shelf.read(name, at, &mut into), want, "of {name} at {at}");
-        assert_eq!(rt; into.as_slice(), bytes.as_slice(), "of {name} at {at}");
-    }
-    let mut shelf = SteadyShelf::new(shelf);
-    for _ in 0..3 {
-        assert_eq!(rt; shelf.read("a", 1, &mut into), Got::Took { count: 2 });
-        assert_eq!(rt; into.as_slice(), b"yz".as_slice());
-    }
-    Ok(())
-}
-
-#[test]
-fn writes_to_memory(rt: HostRuntime) -> Result<(), Fail> {
-    for (room, want, bytes) in [
-        (0, Put::Failed, ""),
-        (1, Put::Took { count: 1 }, "x"),
-        (10, Put::Took { count: 3 }, "xyz"),
-    ] {
-        let mut out = MemoryOutbox::new(rt.alloc(), room)?;
-        out.fail_at(1)?;
-        assert_eq!(rt; out.write(Channel::Log, b"xyz"), want, "in {room}");
-        assert_eq!(rt; out.write(Channel::Log, b"xyz"), Put::Failed, "in {room}");
-        assert_eq!(rt; out.bytes(Channel::Log), bytes.as_bytes(), "in {room}");
-        assert_eq!(rt; out.bytes(Channel::Screen).len(), 0);
-        out.limit(Channel::Final, 0);
-        assert_eq!(rt; out.write(Channel::Final, b"x"), Put::Failed);
-    }
-    Ok(())
-}
 
 #[test]
 fn reads_real_files(rt: HostRuntime) -> Result<(), Fail> {
@@ -463,18 +342,11 @@ fn counts_milliseconds(rt: HostRuntime) -> Result<(), Fail> {
     Ok(())
 }
 
+// A test, as these take a handle, which no case has.
 #[test]
-fn shows_one_moment(rt: HostRuntime) {
+fn waits_for_nothing(rt: HostRuntime) {
     let far = FarClock::new(7);
     far.rest(&rt, 9);
     assert_eq!(rt; far.now(), 7);
-}
-
-#[test]
-fn does_nothing(rt: HostRuntime) {
     OpenGate.pass(&rt, 0, 0, Phase::Held);
-    assert_eq!(rt;
-        NullOutbox.write(Channel::Cases, b"xyz"),
-        Put::Took { count: 3 }
-    );
 }

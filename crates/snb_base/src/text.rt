@@ -12,10 +12,15 @@ use std::cmp::Ordering;
 use std::marker::Model;
 
 /// An owned text. A contract sees its UTF-8 bytes.
-#[derive(Drop)]
 pub struct Text {
     alloc: Global,
     text: String,
+}
+
+impl Drop for Text {
+    fn drop(self) {
+        let Text { alloc: _, text: _ } = self;
+    }
 }
 
 impl Model for Text {

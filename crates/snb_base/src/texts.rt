@@ -7,10 +7,15 @@ use std::alloc::{AllocError, Global};
 use std::marker::Model;
 
 /// An owned list of texts. A contract sees the list of their bytes.
-#[derive(Drop)]
 pub struct Texts {
     alloc: Global,
     items: Vec<Text>,
+}
+
+impl Drop for Texts {
+    fn drop(self) {
+        let Texts { alloc: _, items: _ } = self;
+    }
 }
 
 impl Model for Texts {
@@ -43,7 +48,8 @@ impl Texts {
     pub fn into_vec(self) -> Vec<Text>
         ensures { result.items ≡ self }
     {
-        self.items
+        let Texts { alloc: _, items } = self;
+        items
     }
 
     /// The texts in order.

@@ -8,5 +8,4 @@ pub mod Waiting
 pub mod OneClaim
 pub mod Telling
 pub mod Answering
-pub mod Alone
 pub mod SomeClaim

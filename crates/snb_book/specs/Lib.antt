@@ -3,4 +3,3 @@ pub mod Claims
 pub mod ClaimLaws
 pub mod Book
 pub mod Heads
-pub mod Worked

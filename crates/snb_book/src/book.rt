@@ -25,7 +25,6 @@ use std::marker::Model;
 /// What has happened in a run, and who has what in hand.
 ///
 /// It is seen as its schedule, its count of workers and its history, which is legal at all times.
-#[derive(Drop)]
 pub struct Book {
     /// The schedule, what of it is started and finished, and its completion time.
     times: Times,
@@ -39,6 +38,20 @@ pub struct Book {
     last: u64,
     /// Whether somebody has halted.
     halted: bool,
+}
+
+impl Drop for Book {
+    fn drop(self) {
+        let Book {
+            times: _,
+            workers: _,
+            events: _,
+            heads: _,
+            held: _,
+            last: _,
+            halted: _,
+        } = self;
+    }
 }
 
 impl Model for Book {
@@ -298,7 +311,15 @@ impl Book {
     pub fn into_events(self) -> Vec<Event>
         ensures { result.items ≡ self.history }
     {
-        let Book { events, .. } = self;
+        let Book {
+            times: _,
+            workers: _,
+            events,
+            heads: _,
+            held: _,
+            last: _,
+            halted: _,
+        } = self;
         events
     }
 

@@ -1,7 +1,7 @@
 //! What a claim answers.
 
 /// An operation that a worker has in hand.
-#[derive(Clone, Copy, Debug, PartialEq, Eq)]
+#[derive(Clone, Copy)]
 pub struct Ticket {
     /// The number of the operation.
     pub op: u32,
@@ -15,7 +15,7 @@ pub struct Ticket {
 ///
 /// A head is the first unstarted operation of a lane. Moments are in milliseconds since the clock
 /// of the run was made.
-#[derive(Clone, Copy, Debug, PartialEq, Eq)]
+#[derive(Clone, Copy)]
 pub enum Claim {
     /// Somebody has halted.
     Halted,

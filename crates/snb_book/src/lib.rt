@@ -4,5 +4,3 @@
 pub mod book;
 pub mod claim;
 pub mod law;
-#[cfg(test)]
-mod tests;

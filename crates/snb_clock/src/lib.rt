@@ -1,8 +1,5 @@
-//! The reading of dates, days and ratios, and when what is planned is due.
+//! The reading of dates and days.
 #![tactic(auto)]
 
 pub mod date;
 pub mod law;
-pub mod ratio;
-#[cfg(test)]
-mod tests;

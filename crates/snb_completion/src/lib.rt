@@ -2,6 +2,4 @@
 #![tactic(auto)]
 
 pub mod law;
-#[cfg(test)]
-mod tests;
 pub mod times;

@@ -13,17 +13,24 @@ use std::collections::BTreeSet;
 use std::marker::Model;
 
 /// The dependencies of a lane that are still waited for, as sets of their numbers.
-#[derive(Drop)]
 struct LaneTimes {
     unstarted: BTreeSet<u32>,
     unfinished: BTreeSet<u32>,
+}
+
+impl Drop for LaneTimes {
+    fn drop(self) {
+        let LaneTimes {
+            unstarted: _,
+            unfinished: _,
+        } = self;
+    }
 }
 
 /// What of a plan is started and finished, and its completion times.
 ///
 /// It is seen as its schedule and, for each operation, whether it is started and whether it is
 /// finished.
-#[derive(Drop)]
 pub struct Times {
     schedule: Schedule,
     started: Vec<bool>,
@@ -31,6 +38,18 @@ pub struct Times {
     /// The dependencies of the plan that aren't finished.
     unfinished: BTreeSet<u32>,
     lanes: Vec<LaneTimes>,
+}
+
+impl Drop for Times {
+    fn drop(self) {
+        let Times {
+            schedule: _,
+            started: _,
+            finished: _,
+            unfinished: _,
+            lanes: _,
+        } = self;
+    }
 }
 
 impl Model for Times {

@@ -6,6 +6,4 @@ pub mod law;
 mod make;
 pub mod read;
 pub mod rows;
-#[cfg(test)]
-mod tests;
 pub mod write;

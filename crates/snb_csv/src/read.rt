@@ -1,7 +1,6 @@
 //! The row that the fields of a line spell.
 
 ghost use Rattle.std.specs.Prelude.{◌≡◌, ◌&&◌, ℕ, List, All, IfOk, IsUtf8, if◌then◌else◌, true};
-ghost use Rattle.csv.specs.Records.{fields_of};
 ghost use Rattle.snb_schema.specs.Columns.{SpellsAll};
 ghost use Rattle.snb_schema.specs.Faults.{OnBadColumn};
 ghost use Rattle.snb_schema.specs.declared.table.Table.TheVariants as tables;
@@ -11,9 +10,9 @@ ghost use Rattle.snb_csv.specs.Make.{IsRowOf};
 ghost use Rattle.snb_fields.specs.Values.{starts_twice};
 
 use crate::make::{make_row, put_in_order};
-use csv::ByteRecord;
 use snb_fields::read::{is_wide, read_values};
 use snb_fields::values::{Values, starts_twice};
+use snb_lines::record::Record;
 use snb_schema::column::Value;
 use snb_schema::fault::LineFault;
 use snb_schema::layout::{columns_of, is_undirected};
@@ -70,10 +69,10 @@ fn row_of(alloc: Global, table: Table, mut values: Vec<Value>) -> Result<Spelled
 /// the first that isn't in its grammar. The other error is want of memory.
 ///
 /// The fields are UTF-8.
-pub fn read_row(alloc: Global, table: Table, fields: &ByteRecord) -> Result<Spelled, LineFault>
-    requires { All IsUtf8 (fields_of fields.now) }
-    ensures ok { IfOk result (λ read. SpellsRow table (fields_of fields.now) read.row read.turned) }
-    ensures bad { OnBadColumn result (IsBadColumn table (fields_of fields.now)) }
+pub fn read_row(alloc: Global, table: Table, fields: &Record) -> Result<Spelled, LineFault>
+    requires { All IsUtf8 fields.now }
+    ensures ok { IfOk result (λ read. SpellsRow table fields.now read.row read.turned) }
+    ensures bad { OnBadColumn result (IsBadColumn table fields.now) }
 {
     let columns = columns_of(table);
     if !is_wide(columns.len(), fields) {

@@ -1,11 +1,11 @@
 //! The reader of a table's file.
 
 use crate::read::read_row;
-use csv::ByteRecord;
 use snb_fields::read::is_wide;
 use snb_lines::headed::{Body, Headed};
 use snb_lines::lines::Lines;
 use snb_lines::open::Open;
+use snb_lines::record::Record;
 use snb_schema::fault::LineFault;
 use snb_schema::file::{FileId, FileKind};
 use snb_schema::layout::columns_of;
@@ -16,10 +16,15 @@ use std::marker::Model;
 
 /// What the lines of a table's file mean: of the header only the number of fields counts, and each
 /// later line is a row. The row of a friendship has the lower id first.
-#[derive(Drop)]
 pub struct TableLines {
     alloc: Global,
     table: Table,
+}
+
+impl Drop for TableLines {
+    fn drop(self) {
+        let TableLines { alloc: _, table: _ } = self;
+    }
 }
 
 impl Model for TableLines {
@@ -67,7 +72,7 @@ impl Body for TableLines {
 
     ghost bad_line = { IsBadColumn };
 
-    fn take_header(&mut self, fields: &ByteRecord) -> Result<(), LineFault> {
+    fn take_header(&mut self, fields: &Record) -> Result<(), LineFault> {
         if is_wide(columns_of(self.table).len(), fields) {
             Ok(())
         } else {
@@ -78,7 +83,7 @@ impl Body for TableLines {
     fn take_line(
         &mut self,
         number: u32,
-        fields: &ByteRecord,
+        fields: &Record,
         into: &mut Vec<Placed>,
     ) -> Result<(), LineFault> {
         let read = read_row(self.alloc, self.table, fields)?;

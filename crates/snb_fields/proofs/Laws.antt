@@ -11,7 +11,7 @@ use Rattle.snb_schema.specs.declared.column.Value.TheVariants.{Digits, SmallDigi
 use Rattle.snb_schema.specs.Columns.{Spells, SpellsAll, StopsAfter, no_id}
 use Rattle.snb_schema.specs.RowLines.{IsWide}
 use Rattle.snb_schema.specs.TableRows.{IsFieldText}
-use Rattle.csv.specs.Records.{field_at}
+use Rattle.snb_lines.specs.Records.{field_at}
 use Rattle.snb_fields.specs.Laws.{TakenAgain}
 use Rattle.snb_fields.specs.Values.{starts_twice, taken}
 use Rattle.snb_fields.proofs.CutFacts.{around_all, around_ascii}

@@ -3,7 +3,7 @@ use Rattle.std.proofs.Common.{◌≡◌, ◌∙◌, ◌<◌, ℕ, zero, suc, Lis
 use Rattle.std.proofs.lemmas.List.Elements.{All-head, All-tail}
 use Rattle.std.specs.Borrow.{Bor}
 use Rattle.std.specs.Option.{MatchOption, option_map}
-use Rattle.csv.specs.Records.{field_at}
+use Rattle.snb_lines.specs.Records.{field_at}
 use Rattle.snb_base.specs.Spellings.{Date, Day, IdList, PairList, WordList}
 use Rattle.snb_schema.specs.declared.column.Column.{Column}
 use Rattle.snb_schema.specs.declared.column.Column.TheVariants as column

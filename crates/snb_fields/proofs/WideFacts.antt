@@ -2,7 +2,7 @@
 use Rattle.std.proofs.Common.{◌≡◌, ◌∙◌, ◌+◌, ℕ, zero, suc, List, [], ◌∷◌, ◌++◌, Bool, Some, None, IsTrue, eqb, length, take, length-append, refl, sym, ap, subst, arith}
 use Rattle.std.proofs.lemmas.List.{append-nil}
 use Rattle.std.proofs.lemmas.Bool.Decides.{Decides-eqb}
-use Rattle.csv.specs.Records.{field_at}
+use Rattle.snb_lines.specs.Records.{field_at}
 use Rattle.snb_schema.specs.RowLines.{IsWide, NoneOrEmpty}
 
 -- a list without elements

@@ -5,7 +5,5 @@
 pub mod law;
 mod lists;
 pub mod read;
-#[cfg(test)]
-mod tests;
 pub mod values;
 pub mod write;

@@ -1,7 +1,6 @@
 //! Fields read by their columns.
 
 ghost use Rattle.std.specs.Prelude.{◌≡◌, ◌+◌, ◌<◌, ◌≤◌, ◌↔◌, ◌⊎◌, ℕ, [], length, take, All, IsUtf8, IsTrue, IfOk, MatchOption, OnOk};
-ghost use Rattle.csv.specs.Records.{fields_of};
 ghost use Rattle.snb_schema.specs.declared.column.Value.{Value as AnyValue};
 ghost use Rattle.snb_schema.specs.declared.column.Column.TheVariants.{OptionalId, Small, Word};
 ghost use Rattle.snb_schema.specs.declared.column.Value.TheVariants.{Digits, Ids, Pairs as PairsOf, Texts as TextsOf};
@@ -10,12 +9,12 @@ ghost use Rattle.snb_schema.specs.Faults.{OnBadColumn};
 ghost use Rattle.snb_schema.specs.RowLines.{IsWide};
 
 use crate::lists::{read_ids, read_pairs, read_texts, text_of};
-use csv::ByteRecord;
 use snb_base::number::read_number;
 use snb_base::numbers::Numbers;
 use snb_base::pairs::Pairs;
 use snb_base::texts::Texts;
 use snb_clock::date::{read_date, read_day};
+use snb_lines::record::Record;
 use snb_schema::column::{Column, Value};
 use snb_schema::fault::LineFault;
 use snb_schema::limits::MAX_ID;
@@ -25,8 +24,8 @@ use std::alloc::{AllocError, Global};
 pub const COLUMNS_END: usize = 1000;
 
 /// Whether there are so many fields, or one more that is empty.
-pub fn is_wide(count: usize, fields: &ByteRecord) -> bool
-    ensures { IsTrue result ↔ IsWide count (fields_of fields.now) }
+pub fn is_wide(count: usize, fields: &Record) -> bool
+    ensures { IsTrue result ↔ IsWide count fields.now }
 {
     let found = fields.len();
     match fields.get(count) {
@@ -143,16 +142,16 @@ fn pairs_value(read: Option<Pairs>) -> Option<Value>
 pub fn read_values(
     alloc: Global,
     columns: &[Column],
-    fields: &ByteRecord,
+    fields: &Record,
     values: &mut Vec<Value>,
 ) -> Result<(), LineFault>
-    requires texts { All IsUtf8 (fields_of fields.now) }
-    requires enough { length columns.now ≤ length (fields_of fields.now) }
+    requires texts { All IsUtf8 fields.now }
+    requires enough { length columns.now ≤ length fields.now }
     requires few { length columns.now < COLUMNS_END }
     requires fresh { values.old.items ≡ [] }
-    ensures ok { OnOk result (SpellsAll columns.now (take (length columns.now) (fields_of fields.now)) values.new.items) }
-    ensures bad { OnBadColumn result (λ column. (n : ℕ) × StopsAfter columns.now (fields_of fields.now) n × (column ≡ n + 1)
-        × SpellsAll (take n columns.now) (take n (fields_of fields.now)) values.new.items) }
+    ensures ok { OnOk result (SpellsAll columns.now (take (length columns.now) fields.now) values.new.items) }
+    ensures bad { OnBadColumn result (λ column. (n : ℕ) × StopsAfter columns.now fields.now n × (column ≡ n + 1)
+        × SpellsAll (take n columns.now) (take n fields.now) values.new.items) }
 {
     for i in 0..columns.len() {
         let column = columns[i];

@@ -13,10 +13,15 @@ use std::marker::Model;
 use std::vec::IntoIter;
 
 /// Values that are taken from the front. A contract sees those that are left.
-#[derive(Drop)]
 pub struct Values {
     alloc: Global,
     left: IntoIter<Value>,
+}
+
+impl Drop for Values {
+    fn drop(self) {
+        let Values { alloc: _, left: _ } = self;
+    }
 }
 
 impl Model for Values {

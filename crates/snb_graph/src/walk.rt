@@ -19,9 +19,14 @@ enum Left<'a> {
 
 /// What a walk has still to give: other ids, each with a date or a year, by rising id. A contract
 /// sees these pairs.
-#[derive(Drop)]
 pub struct Links<'a> {
     left: Left<'a>,
+}
+
+impl Drop for Links<'_> {
+    fn drop(self) {
+        let Links { left: _ } = self;
+    }
 }
 
 impl<'a> Model for Links<'a> {

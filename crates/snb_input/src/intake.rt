@@ -3,8 +3,8 @@
 ghost use Rattle.std.specs.Prelude.{◌≡◌};
 
 use crate::taker::Taker;
-use csv::ByteRecord;
 use snb_lines::meaning::Meaning;
+use snb_lines::record::Record;
 use snb_schema::fault::{Fault, LineFault};
 use snb_schema::file::FileId;
 use snb_schema::limits::MAX_ROWS;
@@ -84,7 +84,7 @@ impl<P: Taker> Meaning for Intake<P> {
 
     ghost ends = { ends };
 
-    fn take(&mut self, number: u32, fields: &ByteRecord, _into: &mut Vec<()>) -> Result<(), Fault> {
+    fn take(&mut self, number: u32, fields: &Record, _into: &mut Vec<()>) -> Result<(), Fault> {
         if self.due {
             if !self.taker.is_header(self.file, fields) {
                 return Err(self.bad_line(number, 0));

@@ -9,7 +9,7 @@ use snb_schema::refusal::Refusal;
 use std::alloc::{AllocError, AllocFailed};
 
 /// How much of an input was read so far, of all its files together.
-#[derive(Clone, Copy, Debug, PartialEq, Eq)]
+#[derive(Clone, Copy)]
 pub struct Used {
     /// How many bytes.
     pub bytes: u64,
@@ -18,7 +18,7 @@ pub struct Used {
 }
 
 /// Why an input isn't read.
-#[derive(Clone, Copy, Debug, PartialEq, Eq)]
+#[derive(Clone, Copy)]
 pub enum Load {
     /// Something is wrong with it; this is the first thing.
     Refused { refusal: Refusal },

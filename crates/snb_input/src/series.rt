@@ -7,7 +7,7 @@ use snb_schema::refusal::Counted;
 ///
 /// The names of parameter files, of the log and of the cases don't tell a part. Of such a kind `most` is
 /// 1 and `what` is `None`, since a look for a further part would find the same file again.
-#[derive(Clone, Copy, Debug)]
+#[derive(Clone, Copy)]
 pub struct Series {
     /// What the files hold.
     pub kind: FileKind,

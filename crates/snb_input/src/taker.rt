@@ -1,13 +1,12 @@
 //! What takes the items of the files of one stage of an input.
 
 ghost use Rattle.std.specs.Prelude.{◌≡◌, ◌++◌, ◌∷◌, ◌↔◌, [], List, All, IfOk, IsTrue, IsUtf8, OnOk, OnErr, Option};
-ghost use Rattle.csv.specs.Records.{fields_of};
 ghost use Rattle.snb_schema.specs.declared.refusal.Refusal.{Refusal as Refused};
 ghost use Rattle.snb_schema.specs.Faults.{OnBad, OnBadColumn};
 ghost use Rattle.snb_schema.specs.TableRows.{IsFieldText};
 ghost use Rattle.snb_input.specs.Grammar.{Grammar, Heard};
 
-use csv::ByteRecord;
+use snb_lines::record::Record;
 use snb_schema::fault::{Fault, LineFault};
 use snb_schema::file::FileId;
 use snb_schema::refusal::Refusal;
@@ -34,23 +33,18 @@ pub trait Taker {
         ensures { result ≡ grammar.has_header file };
 
     /// Whether these fields are the file's header.
-    fn is_header(&self, file: FileId, fields: &ByteRecord) -> bool
-        ensures { IsTrue result ↔ grammar.heads file (fields_of fields.now) };
+    fn is_header(&self, file: FileId, fields: &Record) -> bool
+        ensures { IsTrue result ↔ grammar.heads file fields.now };
 
     /// The item that the fields of a data line spell. The line has this number, counted from 1. Where
     /// they spell none, the error is their bad column; the other error is want of memory.
     ///
     /// The fields are UTF-8 (`utf8`), and have no bar and no line end (`plain`).
-    fn read_item(
-        &self,
-        file: FileId,
-        number: u32,
-        fields: &ByteRecord,
-    ) -> Result<Self::Item, LineFault>
-        requires utf8 { All IsUtf8 (fields_of fields.now) }
-        requires plain { All IsFieldText (fields_of fields.now) }
-        ensures ok { IfOk result (λ item. grammar.spells file number (fields_of fields.now) item) }
-        ensures bad { OnBadColumn result (λ column. grammar.column file (fields_of fields.now) column) };
+    fn read_item(&self, file: FileId, number: u32, fields: &Record) -> Result<Self::Item, LineFault>
+        requires utf8 { All IsUtf8 fields.now }
+        requires plain { All IsFieldText fields.now }
+        ensures ok { IfOk result (λ item. grammar.spells file number fields.now item) }
+        ensures bad { OnBadColumn result (λ column. grammar.column file fields.now column) };
 
     /// Takes the next item of the file. The error is what the file's own check refuses it for, by all
     /// that was told before, or want of memory.

@@ -3,7 +3,7 @@
 use snb_schema::refusal::Missing;
 
 /// Why an insert isn't applied.
-#[derive(Clone, Copy, Debug, PartialEq, Eq)]
+#[derive(Clone, Copy)]
 pub enum Applied {
     /// The first node that the insert refers to and that isn't held.
     Missing { missing: Missing },

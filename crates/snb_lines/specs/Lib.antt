@@ -5,5 +5,6 @@ pub mod Files
 pub mod Headed
 pub mod Laws
 pub mod Reading
+pub mod Records
 pub mod Steps
 pub mod View

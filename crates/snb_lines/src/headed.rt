@@ -1,14 +1,13 @@
 //! Files with a header.
 
 ghost use Rattle.std.specs.Prelude.{◌≡◌, ℕ, ◌++◌, List, All, IsUtf8, OnOk, OnErr, false};
-ghost use Rattle.csv.specs.Records.{fields_of};
 ghost use Rattle.snb_schema.specs.Faults.{OnBadColumn};
 ghost use Rattle.snb_schema.specs.TableRows.{IsFieldText};
 ghost use Rattle.snb_lines.specs.Headed.{unpassed};
 
 use crate::meaning::Meaning;
 use crate::open::Open;
-use csv::ByteRecord;
+use crate::record::Record;
 use snb_schema::fault::{Fault, LineFault};
 use snb_schema::file::FileId;
 use snb_schema::refusal::Refusal;
@@ -36,11 +35,11 @@ pub trait Body {
 
     /// Takes the header. Each field is UTF-8 (`utf8`), and has no bar and no line end (`plain`). After
     /// an error the state is none that a caller knows.
-    fn take_header(&mut self, fields: &ByteRecord) -> Result<(), LineFault>
-        requires utf8 { All IsUtf8 (fields_of fields.now) }
-        requires plain { All IsFieldText (fields_of fields.now) }
-        ensures ok { OnOk result (heads self.old (fields_of fields.now) self.new) }
-        ensures bad { OnBadColumn result (bad_header self.old (fields_of fields.now)) };
+    fn take_header(&mut self, fields: &Record) -> Result<(), LineFault>
+        requires utf8 { All IsUtf8 fields.now }
+        requires plain { All IsFieldText fields.now }
+        ensures ok { OnOk result (heads self.old fields.now self.new) }
+        ensures bad { OnBadColumn result (bad_header self.old fields.now) };
 
     /// Takes the line of this number, counted from 1, after the header, and appends its items. Each
     /// field is UTF-8 (`utf8`), and has no bar and no line end (`plain`). After an error the list is as
@@ -48,16 +47,16 @@ pub trait Body {
     fn take_line(
         &mut self,
         number: u32,
-        fields: &ByteRecord,
+        fields: &Record,
         into: &mut Vec<Self::Item>,
     ) -> Result<(), LineFault>
-        requires utf8 { All IsUtf8 (fields_of fields.now) }
-        requires plain { All IsFieldText (fields_of fields.now) }
+        requires utf8 { All IsUtf8 fields.now }
+        requires plain { All IsFieldText fields.now }
         ensures ok { OnOk result
             ((items : List Self.Item)
-            × gives self.old number (fields_of fields.now) items self.new
+            × gives self.old number fields.now items self.new
             × (into.new.items ≡ into.old.items ++ items)) }
-        ensures bad { OnBadColumn result (bad_line self.old (fields_of fields.now)) }
+        ensures bad { OnBadColumn result (bad_line self.old fields.now) }
         ensures same { OnErr result (into.new.items ≡ into.old.items) };
 }
 
@@ -137,12 +136,7 @@ impl<B: Body> Meaning for Headed<B> {
 
     ghost ends = { ends_without };
 
-    fn take(
-        &mut self,
-        number: u32,
-        fields: &ByteRecord,
-        into: &mut Vec<B::Item>,
-    ) -> Result<(), Fault> {
+    fn take(&mut self, number: u32, fields: &Record, into: &mut Vec<B::Item>) -> Result<(), Fault> {
         let taken = if self.headed {
             self.body.take_line(number, fields, into)
         } else {

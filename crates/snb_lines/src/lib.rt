@@ -8,6 +8,5 @@ pub mod lines;
 pub mod meaning;
 pub mod open;
 mod progress;
+pub mod record;
 pub mod split;
-#[cfg(test)]
-mod tests;

@@ -1,12 +1,11 @@
 //! What a line means to a reader of lines.
 
 ghost use Rattle.std.specs.Prelude.{◌≡◌, ℕ, ◌++◌, List, Option, All, IsUtf8, OnOk, OnErr};
-ghost use Rattle.csv.specs.Records.{fields_of};
 ghost use Rattle.snb_schema.specs.declared.refusal.Refusal.{Refusal as Refused};
 ghost use Rattle.snb_schema.specs.Faults.{OnBad};
 ghost use Rattle.snb_schema.specs.TableRows.{IsFieldText};
 
-use csv::ByteRecord;
+use crate::record::Record;
 use snb_schema::fault::Fault;
 use snb_schema::refusal::Refusal;
 
@@ -31,16 +30,16 @@ pub trait Meaning {
     fn take(
         &mut self,
         number: u32,
-        fields: &ByteRecord,
+        fields: &Record,
         into: &mut Vec<Self::Item>,
     ) -> Result<(), Fault>
-        requires utf8 { All IsUtf8 (fields_of fields.now) }
-        requires plain { All IsFieldText (fields_of fields.now) }
+        requires utf8 { All IsUtf8 fields.now }
+        requires plain { All IsFieldText fields.now }
         ensures ok { OnOk result
             ((items : List Self.Item)
-            × takes self.old number (fields_of fields.now) items self.new
+            × takes self.old number fields.now items self.new
             × (into.new.items ≡ into.old.items ++ items)) }
-        ensures bad { OnBad result (λ r. refuses self.old number (fields_of fields.now) r) }
+        ensures bad { OnBad result (λ r. refuses self.old number fields.now r) }
         ensures same { OnErr result (into.new.items ≡ into.old.items) };
 
     /// What is refused at the end of the file, if anything is.

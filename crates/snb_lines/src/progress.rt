@@ -1,7 +1,6 @@
 //! How far a reader of lines has come.
 
 ghost use Rattle.std.specs.Prelude.{◌≡◌, ◌+◌, ◌^◌, ◌≢◌, ◌<◌, ◌≤◌, ◌++◌, [], length, IsUtf8, IfErr, OnOk, OnErr, Some, None, ◌⊎◌, false};
-ghost use Rattle.csv.specs.Records.{fields_of};
 ghost use Rattle.snb_schema.specs.declared.fault.Fault.TheVariants.{Bad};
 ghost use Rattle.snb_schema.specs.declared.limits.TheConstants.{MAX_BYTES};
 ghost use Rattle.snb_schema.specs.declared.refusal.Refusal.{Refusal as Refused};
@@ -14,8 +13,8 @@ ghost use Rattle.snb_lines.specs.Steps.{FileStopped, LineRead, LineRefused, Line
 ghost use Rattle.snb_schema.specs.LineFaults.{RefusesText};
 
 use crate::meaning::Meaning;
+use crate::record::Record;
 use crate::split::{EndedLines, cut_at_end, is_marked, split_line};
-use csv::ByteRecord;
 use snb_schema::fault::Fault;
 use snb_schema::file::FileId;
 use snb_schema::refusal::Refusal;
@@ -57,15 +56,10 @@ pub struct Progress<M> {
 
 impl<M: Meaning> Progress<M> {
     // Takes the next line. Its fields are in `row`, where it has a byte.
-    fn take_line(
-        &mut self,
-        line: &[u8],
-        row: &ByteRecord,
-        into: &mut Vec<M::Item>,
-    ) -> Result<(), Fault>
+    fn take_line(&mut self, line: &[u8], row: &Record, into: &mut Vec<M::Item>) -> Result<(), Fault>
         requires room { self.old.ended + 1 < 2 ^ 32 }
         requires one_line { HasNoEnd line.now }
-        requires split { line.now ≢ [] → fields_of row.now ≡ fields line.now }
+        requires split { line.now ≢ [] → row.now ≡ fields line.now }
         ensures ok { OnOk result (LineRead M.takes line.now self.old into.old.items self.new into.new.items) }
         ensures bad { OnBad result (LineRefused M.refuses line.now self.old) }
         ensures same { OnErr result (into.new.items ≡ into.old.items) }
@@ -94,7 +88,7 @@ impl<M: Meaning> Progress<M> {
         ensures ended { OnOk result (self.new.ended ≡ self.old.ended + 1) }
         ensures begun { self.new.begun.items ≡ [] }
     {
-        let mut row = ByteRecord::new(self.alloc);
+        let mut row = Record::new(self.alloc);
         let line = mem::replace(&mut self.begun, Vec::new(self.alloc));
         split_line(self.alloc, line.as_slice(), &mut row)?;
         self.take_line(line.as_slice(), &row, into)
@@ -111,7 +105,7 @@ impl<M: Meaning> Progress<M> {
         ensures ended { OnOk result (self.new.ended ≡ self.old.ended + length (whole_lines text.entry)) }
         ensures begun { OnOk result (self.new.begun.items ≡ rest_of text.entry) }
     {
-        let mut row = ByteRecord::new(self.alloc);
+        let mut row = Record::new(self.alloc);
         while let Some(line) = text.read(&mut row)? {
             self.take_line(line, &row, into)?;
         }

@@ -10,6 +10,7 @@ ghost use Rattle.snb_lines.specs.Bars.{MayStand, Stands, bar_config};
 ghost use Rattle.snb_lines.specs.Cut.{IsCutAtEnd};
 ghost use Rattle.snb_schema.specs.Lines.{HasNoEnd};
 
+use crate::record::Record;
 use csv::{ByteRecord, ErrorKind, Reader, ReaderBuilder, Terminator};
 use std::alloc::{AllocError, Global};
 use std::io::{Chain, Read};
@@ -73,15 +74,15 @@ pub fn cut_at_end<'a>(text: &'a [u8]) -> Option<(&'a [u8], &'a [u8])>
 
 /// Splits a line, which has no `\n`, at its bars into `row`, where it has a byte. The one error is want
 /// of memory.
-pub fn split_line(alloc: Global, line: &[u8], row: &mut ByteRecord) -> Result<(), AllocError>
+pub fn split_line(alloc: Global, line: &[u8], row: &mut Record) -> Result<(), AllocError>
     requires { HasNoEnd line.now }
-    ensures { OnOk result (line.now ≢ [] → fields_of row.new ≡ fields line.now) }
+    ensures { OnOk result (line.now ≢ [] → row.new ≡ fields line.now) }
 {
     if line.is_empty() {
         return Ok(());
     }
     let mut reader = bar_reader(alloc, line, &[]);
-    take_fields(&mut reader, row)
+    take_fields(&mut reader, &mut row.row)
 }
 
 // The next line that is ended, of which the first may be apart, and what begins with its end.
@@ -100,11 +101,20 @@ fn next_line<'a>(first: &'a [u8], rest: &'a [u8]) -> Option<(&'a [u8], &'a [u8])
 
 /// Gives the lines of a text that are ended, each with its fields, over one reader of `csv`. The first
 /// of them may be apart from the others. A contract sees it as the bytes that are left.
-#[derive(Drop)]
 pub struct EndedLines<'a> {
     reader: Reader<Source<'a>>,
     first: &'a [u8],
     rest: &'a [u8],
+}
+
+impl Drop for EndedLines<'_> {
+    fn drop(self) {
+        let EndedLines {
+            reader: _,
+            first: _,
+            rest: _,
+        } = self;
+    }
 }
 
 impl<'a> Model for EndedLines<'a> {
@@ -141,18 +151,18 @@ impl<'a> EndedLines<'a> {
 
     /// The next line that is ended, which may be empty, and, where it is not, its fields in `row`.
     /// The one error is want of memory.
-    pub fn read(&mut self, row: &mut ByteRecord) -> Result<Option<&'a [u8]>, AllocError>
+    pub fn read(&mut self, row: &mut Record) -> Result<Option<&'a [u8]>, AllocError>
         ensures line { IfOk result
             (λ found. MatchOption found (HasNoEnd self.old × (self.new ≡ self.old))
             (λ line. HasNoEnd line.now × (self.old ≡ line.now ++ 10 ∷ self.new))) }
         ensures fields { IfOk result
-            (λ found. MatchOption found ⊤ (λ line. line.now ≢ [] → fields_of row.new ≡ fields line.now)) }
+            (λ found. MatchOption found ⊤ (λ line. line.now ≢ [] → row.new ≡ fields line.now)) }
     {
         let Some((line, others)) = next_line(self.first, self.rest) else {
             return Ok(None);
         };
         if !line.is_empty() {
-            take_fields(&mut self.reader, row)?;
+            take_fields(&mut self.reader, &mut row.row)?;
         }
         self.first = &[];
         self.rest = &others[1..];

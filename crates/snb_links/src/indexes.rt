@@ -11,13 +11,24 @@ use std::alloc::{AllocError, Global};
 use std::collections::btree_map::Range;
 
 /// The links of a graph.
-#[derive(Drop)]
 pub struct Indexes {
     friends: Index,
     messages: Index,
     replies: Index,
     post_likes: Index,
     comment_likes: Index,
+}
+
+impl Drop for Indexes {
+    fn drop(self) {
+        let Indexes {
+            friends: _,
+            messages: _,
+            replies: _,
+            post_likes: _,
+            comment_likes: _,
+        } = self;
+    }
 }
 
 impl Indexes {

@@ -1,7 +1,7 @@
 //! Links from one id to another, and what a row makes of them.
 
 /// What is walked along in a graph.
-#[derive(Clone, Copy, Debug, PartialEq, Eq)]
+#[derive(Clone, Copy)]
 pub enum Walk {
     /// From a person to the friends.
     Friends,
@@ -16,7 +16,7 @@ pub enum Walk {
 }
 
 /// A link from an id to another one.
-#[derive(Clone, Copy, Debug, PartialEq, Eq)]
+#[derive(Clone, Copy)]
 pub struct Link {
     pub walk: Walk,
     /// Whose link it is.
@@ -29,7 +29,7 @@ pub struct Link {
 }
 
 /// The links that a row more makes: none, one or two.
-#[derive(Clone, Copy, Debug, PartialEq, Eq)]
+#[derive(Clone, Copy)]
 pub struct News {
     pub first: Option<Link>,
     pub second: Option<Link>,

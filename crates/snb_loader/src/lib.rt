@@ -4,13 +4,9 @@
 
 pub mod dataset;
 mod lacking;
-#[cfg(test)]
-mod lane_tests;
 pub mod lanes;
 pub mod law;
 pub mod order;
-#[cfg(test)]
-mod param_tests;
 pub mod params;
 mod streams;
 pub mod tables;

@@ -11,12 +11,12 @@ ghost use Rattle.snb_input.specs.Loading.{OnReadFault};
 ghost use Rattle.snb_input.specs.Stages.{AreRising, IsStage, IsWalkWithin, before};
 ghost use Rattle.snb_loader.specs.Params.{AreOfEach, HasHeard, IsParamsAnswer, asked, params_grammar, params_stage, query_in as query_within};
 
-use csv::ByteRecord;
 use snb_base::shelf::Shelf;
 use snb_input::load::{Load, Used};
 use snb_input::series::Series;
 use snb_input::taker::Taker;
 use snb_input::walk::{Walk, walk_stage};
+use snb_lines::record::Record;
 use snb_schema::fault::{Fault, LineFault};
 use snb_schema::file::{FileId, FileKind};
 use snb_schema::frequencies::Frequencies;
@@ -89,16 +89,11 @@ impl Taker for ParamTaker {
         true
     }
 
-    fn is_header(&self, file: FileId, fields: &ByteRecord) -> bool {
+    fn is_header(&self, file: FileId, fields: &Record) -> bool {
         fields.len() == columns_of(query_in(file.kind)).len()
     }
 
-    fn read_item(
-        &self,
-        file: FileId,
-        _number: u32,
-        fields: &ByteRecord,
-    ) -> Result<Query, LineFault> {
+    fn read_item(&self, file: FileId, _number: u32, fields: &Record) -> Result<Query, LineFault> {
         let query = query_in(file.kind);
         if !is_complex(query) {
             return Err(LineFault::Bad { column: 0 });

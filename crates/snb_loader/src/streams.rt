@@ -8,13 +8,13 @@ ghost use Rattle.snb_input.specs.Loading.{OnReadFault};
 ghost use Rattle.snb_input.specs.Stages.{AreRising, IsStage, IsWalkWithin, before};
 ghost use Rattle.snb_loader.specs.Lanes.{AreTaken, InsertsOfFieldsFit, IsHeard, stream_grammar};
 
-use csv::ByteRecord;
 use snb_base::shelf::Shelf;
 use snb_fields::law::own_line;
 use snb_input::load::{Load, Used};
 use snb_input::series::Series;
 use snb_input::taker::Taker;
 use snb_input::walk::{Walk, walk_stage};
+use snb_lines::record::Record;
 use snb_schema::fault::{Fault, LineFault};
 use snb_schema::file::FileId;
 use snb_schema::op::Line;
@@ -45,11 +45,20 @@ impl Model for FileLine {
 
 /// Takes the inserts of streams, stream by stream. Some text is each line, and in a stream t never
 /// falls.
-#[derive(Drop)]
 pub(crate) struct StreamTaker {
     alloc: Global,
     done: Vec<Vec<Line>>,
     mine: Vec<Line>,
+}
+
+impl Drop for StreamTaker {
+    fn drop(self) {
+        let StreamTaker {
+            alloc: _,
+            done: _,
+            mine: _,
+        } = self;
+    }
 }
 
 impl Model for StreamTaker {
@@ -80,7 +89,12 @@ impl StreamTaker {
         ensures value { map (λ v. v.items) result.items ≡ self.done }
         ensures taken { All AreTaken self.done }
     {
-        self.done
+        let StreamTaker {
+            alloc: _,
+            done,
+            mine: _,
+        } = self;
+        done
     }
 }
 
@@ -112,16 +126,11 @@ impl Taker for StreamTaker {
         false
     }
 
-    fn is_header(&self, _file: FileId, _fields: &ByteRecord) -> bool {
+    fn is_header(&self, _file: FileId, _fields: &Record) -> bool {
         false
     }
 
-    fn read_item(
-        &self,
-        file: FileId,
-        number: u32,
-        fields: &ByteRecord,
-    ) -> Result<FileLine, LineFault> {
+    fn read_item(&self, file: FileId, number: u32, fields: &Record) -> Result<FileLine, LineFault> {
         inserts_of_fields_fit();
         match read_insert(self.alloc, inserts_of(file.kind), fields) {
             Ok(insert) => Ok(FileLine {

@@ -13,7 +13,6 @@ ghost use Rattle.snb_loader.specs.Tables.{HasTaken, IsAmissBeside, IsHeard, IsSe
 
 use crate::lacking::{first_lacking, may_repeat};
 use crate::order::TABLES;
-use csv::ByteRecord;
 use snb_base::shelf::Shelf;
 use snb_csv::law::{one_column, one_row, rows_of_fields_fit};
 use snb_csv::read::read_row;
@@ -22,6 +21,7 @@ use snb_graph::graph::Graph;
 use snb_input::load::{Load, Used};
 use snb_input::taker::Taker;
 use snb_input::walk::{Walk, walk_stage};
+use snb_lines::record::Record;
 use snb_schema::fault::{Fault, LineFault};
 use snb_schema::file::{FileId, FileKind};
 use snb_schema::layout::columns_of;
@@ -49,10 +49,15 @@ impl Model for FileRow {
 }
 
 /// The graph of the rows so far. A line that repeats an edge or a word changes nothing.
-#[derive(Drop)]
 pub struct TableGraph {
     alloc: Global,
     graph: Graph,
+}
+
+impl Drop for TableGraph {
+    fn drop(self) {
+        let TableGraph { alloc: _, graph: _ } = self;
+    }
 }
 
 impl Model for TableGraph {
@@ -79,7 +84,8 @@ impl TableGraph {
     pub fn into_graph(self) -> Graph
         ensures { result ≡ self }
     {
-        self.graph
+        let TableGraph { alloc: _, graph } = self;
+        graph
     }
 
     // Adds a row, unless it repeats an edge or a word. `Bad` says that a row has its slot, which it
@@ -131,19 +137,14 @@ impl Taker for TableGraph {
         true
     }
 
-    fn is_header(&self, file: FileId, fields: &ByteRecord) -> bool {
+    fn is_header(&self, file: FileId, fields: &Record) -> bool {
         match file.kind {
             FileKind::Table { table } => is_wide(columns_of(table).len(), fields),
             _ => false,
         }
     }
 
-    fn read_item(
-        &self,
-        file: FileId,
-        number: u32,
-        fields: &ByteRecord,
-    ) -> Result<FileRow, LineFault> {
+    fn read_item(&self, file: FileId, number: u32, fields: &Record) -> Result<FileRow, LineFault> {
         rows_of_fields_fit();
         match file.kind {
             FileKind::Table { table } => match read_row(self.alloc, table, fields) {

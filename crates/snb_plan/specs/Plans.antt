@@ -1,6 +1,6 @@
 -- The plan of update streams and parameters: what is done in a run, in order.
 use Rattle.std.specs.Prelude.{◌≡◌, ℕ, ◌-◌, ◌*◌, ◌/◌, ◌%◌, ◌<◌, ◌≤◌, ◌==◌, ◌⊎◌, ◌↔◌, if◌then◌else◌, nat_lt, true, false, Option, Some, None, List, [], ◌∷◌, ◌++◌, AllPairs, Contains, Result, Ok, Err, filter_map, length, map, slice_get, slice_index_or, sum_by}
-use Rattle.snb_clock.specs.Ratios.{due_of}
+use Rattle.snb_ratio.specs.Ratios.{due_of}
 use Rattle.snb_schema.specs.declared.file.FileId.{FileId}
 use Rattle.snb_schema.specs.declared.file.FileKind.TheVariants as files
 use Rattle.snb_schema.specs.declared.op.Line.{Line}

@@ -1,7 +1,7 @@
 -- Where operations stand, before they are put in order. Cited by contracts of private functions alone.
 use Rattle.std.specs.Prelude.{◌≡◌, ℕ, ◌+◌, ◌-◌, ◌*◌, ◌<◌, ◌≤◌, ◌⊎◌, ◌%◌, ◌++◌, ◌∷◌, ◌==◌, [], List, AllPairs, Option, Some, None, filter_map, if◌then◌else◌, length, map, slice_index_or, true, false}
 use Rattle.std.specs.List.{range_with_len}
-use Rattle.snb_clock.specs.Ratios.{due_of}
+use Rattle.snb_ratio.specs.Ratios.{due_of}
 use Rattle.snb_schema.specs.declared.op.Line.{Line}
 use Rattle.snb_schema.specs.declared.op.Op.TheVariants.{AddFriend}
 use Rattle.snb_schema.specs.declared.query.Query.{Query}

@@ -64,9 +64,14 @@ pub struct Mark {
 }
 
 /// The mark of each update so far, by the keys that it takes.
-#[derive(Drop)]
 pub struct Added {
     marks: BTreeMap<Slot, Mark>,
+}
+
+impl Drop for Added {
+    fn drop(self) {
+        let Added { marks: _ } = self;
+    }
 }
 
 impl Added {

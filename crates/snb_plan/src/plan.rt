@@ -18,7 +18,7 @@ use crate::added::Added;
 use crate::closed::check_update;
 use crate::instances::{Instance, read_count, reads_of};
 use crate::spots::{Spot, file_of, kinds_of, lane_of, operation_spots, read_lane, update_spots};
-use snb_clock::ratio::Ratio;
+use snb_ratio::ratio::Ratio;
 use snb_schema::fault::Fault;
 use snb_schema::file::FileId;
 use snb_schema::frequencies::Frequencies;
@@ -56,7 +56,7 @@ pub fn waits(op: &Op) -> bool
 }
 
 /// Why there is no plan, or why it isn't closed.
-#[derive(Clone, Copy, Debug, PartialEq, Eq)]
+#[derive(Clone, Copy)]
 pub enum PlanFault {
     /// The input is refused.
     Refused { refusal: Refusal },
@@ -94,7 +94,7 @@ pub enum Task<'a> {
 }
 
 /// The line that an update comes from, counted from 1 in its file.
-#[derive(Clone, Copy, Debug, PartialEq, Eq)]
+#[derive(Clone, Copy)]
 pub struct Source {
     pub file: FileId,
     pub line: u32,
@@ -227,12 +227,22 @@ fn read_steps(steps: &[Step]) -> u64
 ///
 /// A contract sees the kinds of its lanes and its operations in the order of their numbers, each with
 /// what the scheduler sees of it, what it does, and of an update the line that it comes from.
-#[derive(Drop)]
 pub struct Plan {
     lanes: Lanes,
     lists: Lists,
     reads: Vec<Instance>,
     schedule: Schedule,
+}
+
+impl Drop for Plan {
+    fn drop(self) {
+        let Plan {
+            lanes: _,
+            lists: _,
+            reads: _,
+            schedule: _,
+        } = self;
+    }
 }
 
 impl Model for Plan {

@@ -9,7 +9,6 @@ use snb_base::texts::Texts;
 use std::alloc::AllocError;
 
 /// One value of an answer's row.
-#[derive(Drop)]
 pub enum Cell {
     /// A number, or a moment in milliseconds since 1970-01-01 UTC.
     Number { value: i64 },
@@ -21,6 +20,18 @@ pub enum Cell {
     List { texts: Texts },
     /// Where a person studied or worked, in order.
     Stays { stays: Stays },
+}
+
+impl Drop for Cell {
+    fn drop(self) {
+        match self {
+            Cell::Number { value: _ } => {}
+            Cell::Flag { value: _ } => {}
+            Cell::Words { text: _ } => {}
+            Cell::List { texts: _ } => {}
+            Cell::Stays { stays: _ } => {}
+        }
+    }
 }
 
 impl Cell {

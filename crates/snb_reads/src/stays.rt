@@ -8,10 +8,15 @@ use std::marker::Model;
 
 /// An owned list of stays, each the name of an organisation, a year, and the name of the place where
 /// the organisation is. A contract sees the list.
-#[derive(Drop)]
 pub struct Stays {
     alloc: Global,
     items: Vec<(Text, u32, Text)>,
+}
+
+impl Drop for Stays {
+    fn drop(self) {
+        let Stays { alloc: _, items: _ } = self;
+    }
 }
 
 impl Model for Stays {

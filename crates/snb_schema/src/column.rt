@@ -6,7 +6,7 @@ use snb_base::text::Text;
 use snb_base::texts::Texts;
 
 /// What a column holds, and so how its fields are spelled.
-#[derive(Clone, Copy, Debug, PartialEq, Eq)]
+#[derive(Clone, Copy)]
 pub enum Column {
     /// A number of at most `most`.
     Number { most: u64 },

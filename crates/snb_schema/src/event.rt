@@ -4,7 +4,7 @@
 ///
 /// Operations and workers are numbered from 0. A moment `at` is in milliseconds since the clock of
 /// the run was made, and is at most `MAX_AT`.
-#[derive(Clone, Copy, Debug, PartialEq, Eq)]
+#[derive(Clone, Copy)]
 pub enum Event {
     /// The worker takes the operation in hand.
     Start {

@@ -7,7 +7,7 @@ use crate::refusal::Refusal;
 use std::alloc::{AllocError, AllocFailed};
 
 /// What a reader of lines answers where it goes no further.
-#[derive(Clone, Copy, Debug, PartialEq, Eq)]
+#[derive(Clone, Copy)]
 pub enum Fault {
     /// A line is refused.
     Bad { refusal: Refusal },
@@ -36,7 +36,7 @@ impl<T: Drop> From<AllocFailed<T>> for Fault {
 }
 
 /// Why one line isn't read.
-#[derive(Clone, Copy, Debug, PartialEq, Eq)]
+#[derive(Clone, Copy)]
 pub enum LineFault {
     /// The line isn't in its grammar, in this column first, counted from 1; column 0 stands for a
     /// wrong number of fields.

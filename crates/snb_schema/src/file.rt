@@ -7,7 +7,7 @@ use crate::table::Table;
 use std::alloc::{AllocError, Global};
 
 /// What a file holds.
-#[derive(Clone, Copy, Debug, PartialEq, Eq)]
+#[derive(Clone, Copy)]
 pub enum FileKind {
     /// A part of a table of the dataset.
     Table { table: Table },
@@ -24,7 +24,7 @@ pub enum FileKind {
 }
 
 /// A file of an input: its kind, and which of its kind it is, counted from 0.
-#[derive(Clone, Copy, Debug, PartialEq, Eq)]
+#[derive(Clone, Copy)]
 pub struct FileId {
     pub kind: FileKind,
     pub part: u32,

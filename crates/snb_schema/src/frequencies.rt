@@ -15,7 +15,7 @@ use std::marker::Model;
 /// instance of a query of frequency f is due with every f-th update.
 ///
 /// A contract sees the seven frequencies, of which 0 stands for none; none is above `MAX_FREQUENCY`.
-#[derive(Clone, Copy, Debug, PartialEq, Eq)]
+#[derive(Clone, Copy)]
 pub struct Frequencies {
     one: u32,
     two: u32,

@@ -5,7 +5,7 @@ ghost use Rattle.std.specs.Prelude.{◌↔◌, IsTrue};
 use crate::table::Kind;
 
 /// The key of a row that an insert adds: no two rows of a graph have the same.
-#[derive(Clone, Copy, Debug, PartialEq, Eq)]
+#[derive(Clone, Copy)]
 pub enum Key {
     /// A node's id among the nodes of its kind.
     Node { kind: Kind, id: u64 },

@@ -8,9 +8,14 @@ use std::alloc::{AllocError, Global};
 use std::marker::Model;
 
 // The lines of one lane. A contract sees the list.
-#[derive(Drop)]
 struct Lane {
     lines: Vec<Line>,
+}
+
+impl Drop for Lane {
+    fn drop(self) {
+        let Lane { lines: _ } = self;
+    }
 }
 
 impl Model for Lane {
@@ -35,10 +40,18 @@ impl Lane {
 /// `MAX_LANES` of each kind.
 ///
 /// A contract sees the two lists of lanes, each a list of lines.
-#[derive(Drop)]
 pub struct Lanes {
     persons: Vec<Lane>,
     forums: Vec<Lane>,
+}
+
+impl Drop for Lanes {
+    fn drop(self) {
+        let Lanes {
+            persons: _,
+            forums: _,
+        } = self;
+    }
 }
 
 impl Model for Lanes {

@@ -9,7 +9,7 @@ use crate::limits::{MAX_ID, MAX_LENGTH, MAX_YEAR};
 use crate::table::Table;
 
 /// What rows of a table are like. A shape has its own columns.
-#[derive(Clone, Copy, Debug, PartialEq, Eq)]
+#[derive(Clone, Copy)]
 pub enum Shape {
     Place,
     TagClass,
@@ -30,7 +30,7 @@ pub enum Shape {
 }
 
 /// Which columns of a table are its key: no two rows of a graph have the same.
-#[derive(Clone, Copy, Debug, PartialEq, Eq)]
+#[derive(Clone, Copy)]
 pub enum KeyColumns {
     First,
     Second,

@@ -16,15 +16,11 @@ pub mod lists;
 pub mod nodes;
 pub mod op;
 pub mod person;
-#[cfg(test)]
-mod plan_input_tests;
 pub mod query;
 pub mod refusal;
 pub mod row;
 pub mod schedule;
 pub mod step;
 pub mod table;
-#[cfg(test)]
-mod tests;
 pub mod worked;
 pub mod worked_inserts;

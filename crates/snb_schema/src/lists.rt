@@ -11,7 +11,6 @@ use std::marker::Model;
 /// A list of parameters for each of the complex queries 1, 2, 7, 8, 9, 11 and 13.
 ///
 /// A contract sees the seven lists. Each has queries of its kind alone.
-#[derive(Drop)]
 pub struct Lists {
     one: Vec<Query>,
     two: Vec<Query>,
@@ -22,6 +21,20 @@ pub struct Lists {
     thirteen: Vec<Query>,
 }
 
+impl Drop for Lists {
+    fn drop(self) {
+        let Lists {
+            one: _,
+            two: _,
+            seven: _,
+            eight: _,
+            nine: _,
+            eleven: _,
+            thirteen: _,
+        } = self;
+    }
+}
+
 impl Model for Lists {
     ghost use Rattle.snb_schema.specs.QueryLists.{QueryLists, AreSorted};
 
@@ -30,6 +43,15 @@ impl Model for Lists {
     ghost view = { λ l. record { one = l.one.items; two = l.two.items; seven = l.seven.items; eight = l.eight.items; nine = l.nine.items; eleven = l.eleven.items; thirteen = l.thirteen.items } };
 
     ghost invariant = { λ l. AreSorted (record { one = l.one.items; two = l.two.items; seven = l.seven.items; eight = l.eight.items; nine = l.nine.items; eleven = l.eleven.items; thirteen = l.thirteen.items }) };
+}
+
+// Appends a query to a list. Want of memory leaves the list as it was.
+fn append(list: &mut Vec<Query>, one: Query) -> Result<(), AllocError>
+    ensures ok { OnOk result (list.new.items ≡ list.old.items ++ one ∷ []) }
+    ensures err { OnErr result (list.new.items ≡ list.old.items) }
+{
+    list.push(one)?;
+    Ok(())
 }
 
 impl Lists {
@@ -58,15 +80,14 @@ impl Lists {
         ensures err { OnErr result (self.new ≡ self.old) }
     {
         match query {
-            1 => self.one.push(one)?,
-            2 => self.two.push(one)?,
-            7 => self.seven.push(one)?,
-            8 => self.eight.push(one)?,
-            9 => self.nine.push(one)?,
-            11 => self.eleven.push(one)?,
-            _ => self.thirteen.push(one)?,
+            1 => append(&mut self.one, one),
+            2 => append(&mut self.two, one),
+            7 => append(&mut self.seven, one),
+            8 => append(&mut self.eight, one),
+            9 => append(&mut self.nine, one),
+            11 => append(&mut self.eleven, one),
+            _ => append(&mut self.thirteen, one),
         }
-        Ok(())
     }
 
     /// The list of the query of this number, in the order in which its items were appended. The number

@@ -3,7 +3,7 @@
 use snb_base::text::Text;
 
 /// A row of the table place: a city, a country or a continent, as its kind says.
-#[derive(Clone, Drop)]
+#[derive(Clone)]
 pub struct Place {
     /// Its key.
     pub id: u64,
@@ -12,8 +12,19 @@ pub struct Place {
     pub kind: Text,
 }
 
+impl Drop for Place {
+    fn drop(self) {
+        let Place {
+            id: _,
+            name: _,
+            url: _,
+            kind: _,
+        } = self;
+    }
+}
+
 /// A row of the table tagclass or of the table tag.
-#[derive(Clone, Drop)]
+#[derive(Clone)]
 pub struct Named {
     /// Its key.
     pub id: u64,
@@ -21,8 +32,18 @@ pub struct Named {
     pub url: Text,
 }
 
+impl Drop for Named {
+    fn drop(self) {
+        let Named {
+            id: _,
+            name: _,
+            url: _,
+        } = self;
+    }
+}
+
 /// A row of the table organisation: a company or a university, as its kind says.
-#[derive(Clone, Drop)]
+#[derive(Clone)]
 pub struct Organisation {
     /// Its key.
     pub id: u64,
@@ -31,8 +52,19 @@ pub struct Organisation {
     pub url: Text,
 }
 
+impl Drop for Organisation {
+    fn drop(self) {
+        let Organisation {
+            id: _,
+            kind: _,
+            name: _,
+            url: _,
+        } = self;
+    }
+}
+
 /// A row of the table forum.
-#[derive(Clone, Drop)]
+#[derive(Clone)]
 pub struct Forum {
     /// Its key.
     pub id: u64,
@@ -41,8 +73,18 @@ pub struct Forum {
     pub creation_date: u64,
 }
 
+impl Drop for Forum {
+    fn drop(self) {
+        let Forum {
+            id: _,
+            title: _,
+            creation_date: _,
+        } = self;
+    }
+}
+
 /// A row of the table post. No comment has the same id.
-#[derive(Clone, Drop)]
+#[derive(Clone)]
 pub struct Post {
     /// Its key.
     pub id: u64,
@@ -59,8 +101,23 @@ pub struct Post {
     pub length: u32,
 }
 
+impl Drop for Post {
+    fn drop(self) {
+        let Post {
+            id: _,
+            image_file: _,
+            creation_date: _,
+            location_ip: _,
+            browser_used: _,
+            language: _,
+            content: _,
+            length: _,
+        } = self;
+    }
+}
+
 /// A row of the table comment. No post has the same id.
-#[derive(Clone, Drop)]
+#[derive(Clone)]
 pub struct Comment {
     /// Its key.
     pub id: u64,
@@ -71,4 +128,17 @@ pub struct Comment {
     pub content: Text,
     /// How long the content is, as its writer says.
     pub length: u32,
+}
+
+impl Drop for Comment {
+    fn drop(self) {
+        let Comment {
+            id: _,
+            creation_date: _,
+            location_ip: _,
+            browser_used: _,
+            content: _,
+            length: _,
+        } = self;
+    }
 }

@@ -6,7 +6,7 @@ use snb_base::text::Text;
 use snb_base::texts::Texts;
 
 /// The message that a comment replies to.
-#[derive(Clone, Copy, Debug, PartialEq, Eq)]
+#[derive(Clone, Copy)]
 pub enum Parent {
     /// A post.
     Post { id: u64 },
@@ -15,7 +15,6 @@ pub enum Parent {
 }
 
 /// An insert of the workload. Dates and days are in milliseconds since 1970-01-01 UTC.
-#[derive(Drop)]
 pub enum Op {
     /// Insert 1: a person, with the city, languages, emails, interests, studies and works.
     AddPerson {
@@ -98,8 +97,84 @@ pub enum Op {
     },
 }
 
+impl Drop for Op {
+    fn drop(self) {
+        match self {
+            Op::AddPerson {
+                person_id: _,
+                first_name: _,
+                last_name: _,
+                gender: _,
+                birthday: _,
+                creation_date: _,
+                location_ip: _,
+                browser_used: _,
+                city_id: _,
+                languages: _,
+                emails: _,
+                tag_ids: _,
+                study_at: _,
+                work_at: _,
+            } => {}
+            Op::LikePost {
+                person_id: _,
+                post_id: _,
+                date: _,
+            } => {}
+            Op::LikeComment {
+                person_id: _,
+                comment_id: _,
+                date: _,
+            } => {}
+            Op::AddForum {
+                forum_id: _,
+                title: _,
+                date: _,
+                moderator_id: _,
+                tag_ids: _,
+            } => {}
+            Op::AddMember {
+                person_id: _,
+                forum_id: _,
+                join_date: _,
+            } => {}
+            Op::AddPost {
+                post_id: _,
+                image_file: _,
+                date: _,
+                location_ip: _,
+                browser_used: _,
+                language: _,
+                content: _,
+                length: _,
+                author_id: _,
+                forum_id: _,
+                country_id: _,
+                tag_ids: _,
+            } => {}
+            Op::AddComment {
+                comment_id: _,
+                date: _,
+                location_ip: _,
+                browser_used: _,
+                content: _,
+                length: _,
+                author_id: _,
+                country_id: _,
+                parent: _,
+                tag_ids: _,
+            } => {}
+            Op::AddFriend {
+                person1_id: _,
+                person2_id: _,
+                date: _,
+            } => {}
+        }
+    }
+}
+
 /// The eight inserts, in the order of their numbers from 1 on.
-#[derive(Clone, Copy, Debug, PartialEq, Eq)]
+#[derive(Clone, Copy)]
 pub enum OpKind {
     AddPerson,
     LikePost,
@@ -112,7 +187,6 @@ pub enum OpKind {
 }
 
 /// A line of an update stream.
-#[derive(Drop)]
 pub struct Line {
     /// The moment of the insert, in milliseconds since 1970-01-01 UTC.
     pub t: u64,
@@ -122,4 +196,15 @@ pub struct Line {
     pub op: Op,
     /// The line of its file, counted from 1.
     pub number: u32,
+}
+
+impl Drop for Line {
+    fn drop(self) {
+        let Line {
+            t: _,
+            t_d: _,
+            op: _,
+            number: _,
+        } = self;
+    }
 }

@@ -3,7 +3,7 @@
 use snb_base::text::Text;
 
 /// A row of the table person.
-#[derive(Clone, Drop)]
+#[derive(Clone)]
 pub struct Person {
     /// Its key.
     pub id: u64,
@@ -16,4 +16,19 @@ pub struct Person {
     pub creation_date: u64,
     pub location_ip: Text,
     pub browser_used: Text,
+}
+
+impl Drop for Person {
+    fn drop(self) {
+        let Person {
+            id: _,
+            first_name: _,
+            last_name: _,
+            gender: _,
+            birthday: _,
+            creation_date: _,
+            location_ip: _,
+            browser_used: _,
+        } = self;
+    }
 }

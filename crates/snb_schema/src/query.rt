@@ -7,7 +7,6 @@ use snb_base::text::Text;
 
 /// A read of the Interactive workload of LDBC's Social Network Benchmark: the short reads are IS1 to
 /// IS7, and the complex ones are named IC. Dates are in milliseconds since 1970-01-01 UTC.
-#[derive(Drop)]
 pub enum Query {
     /// Short read 1: the profile of a person.
     Is1 {
@@ -71,6 +70,40 @@ pub enum Query {
         from: u64,
         to: u64,
     },
+}
+
+impl Drop for Query {
+    fn drop(self) {
+        match self {
+            Query::Is1 { person: _ } => {}
+            Query::Is2 { person: _ } => {}
+            Query::Is3 { person: _ } => {}
+            Query::Is4 { message: _ } => {}
+            Query::Is5 { message: _ } => {}
+            Query::Is6 { message: _ } => {}
+            Query::Is7 { message: _ } => {}
+            Query::Ic1 {
+                person: _,
+                first_name: _,
+            } => {}
+            Query::Ic2 {
+                person: _,
+                max_date: _,
+            } => {}
+            Query::Ic7 { person: _ } => {}
+            Query::Ic8 { person: _ } => {}
+            Query::Ic9 {
+                person: _,
+                max_date: _,
+            } => {}
+            Query::Ic11 {
+                person: _,
+                country: _,
+                year: _,
+            } => {}
+            Query::Ic13 { from: _, to: _ } => {}
+        }
+    }
 }
 
 /// Whether this is the number of one of the seven complex queries.

@@ -4,14 +4,14 @@ use crate::file::FileId;
 use crate::table::{Kind, Table};
 
 /// A node that is referred to and isn't there.
-#[derive(Clone, Copy, Debug, PartialEq, Eq)]
+#[derive(Clone, Copy, PartialEq, Eq)]
 pub struct Missing {
     pub kind: Kind,
     pub id: u64,
 }
 
 /// What there are too many of.
-#[derive(Clone, Copy, Debug, PartialEq, Eq)]
+#[derive(Clone, Copy)]
 pub enum Counted {
     Rows,
     Reads,
@@ -21,7 +21,7 @@ pub enum Counted {
 
 /// The first thing wrong with an input. Lines and columns are counted from 1; column 0 stands for a
 /// wrong number of fields.
-#[derive(Clone, Copy, Debug, PartialEq, Eq)]
+#[derive(Clone, Copy)]
 pub enum Refusal {
     /// The file isn't there.
     Absent {

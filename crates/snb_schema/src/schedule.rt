@@ -11,11 +11,20 @@ use std::marker::Model;
 /// The operations of a plan in the order of their numbers, and its lanes.
 ///
 /// It is seen as its steps and the kinds of its lanes. Every schedule is as `IsPlanned` says.
-#[derive(Drop)]
 pub struct Schedule {
     steps: Vec<Step>,
     kinds: Vec<LaneKind>,
     lanes: Vec<Vec<u32>>,
+}
+
+impl Drop for Schedule {
+    fn drop(self) {
+        let Schedule {
+            steps: _,
+            kinds: _,
+            lanes: _,
+        } = self;
+    }
 }
 
 impl Model for Schedule {

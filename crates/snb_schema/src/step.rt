@@ -1,7 +1,7 @@
 //! What a scheduler sees of a plan: its steps, and the kinds of its lanes.
 
 /// What a lane holds.
-#[derive(Clone, Copy, Debug, PartialEq, Eq)]
+#[derive(Clone, Copy)]
 pub enum LaneKind {
     /// The inserts of a person stream: persons and friendships.
     Person,
@@ -16,7 +16,7 @@ pub enum LaneKind {
 /// Dependencies and dependents are those of the dependency rule of Erling et al., "The LDBC Social
 /// Network Benchmark: Interactive Workload", SIGMOD 2015: a dependent starts only once every
 /// dependency is finished whose `t` is at most the dependent's `t_d`.
-#[derive(Clone, Copy, Debug, PartialEq, Eq)]
+#[derive(Clone, Copy)]
 pub struct Step {
     /// The number of its lane, from 0.
     pub lane: u32,

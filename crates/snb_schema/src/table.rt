@@ -1,7 +1,7 @@
 //! The names of tables and of nodes.
 
 /// The 33 tables of a dataset, in the order in which they are read, checked and written.
-#[derive(Clone, Copy, Debug, PartialEq, Eq, PartialOrd, Ord)]
+#[derive(Clone, Copy, PartialEq, Eq, PartialOrd, Ord)]
 pub enum Table {
     Place,
     TagClass,
@@ -39,7 +39,7 @@ pub enum Table {
 }
 
 /// The kinds of nodes, each with a table of its own.
-#[derive(Clone, Copy, Debug, PartialEq, Eq)]
+#[derive(Clone, Copy, PartialEq, Eq)]
 pub enum Kind {
     Place,
     TagClass,

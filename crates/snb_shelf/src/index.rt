@@ -10,9 +10,14 @@ use std::collections::btree_map::Range;
 use std::marker::Model;
 
 /// Pairs of an id and a date for each id.
-#[derive(Drop)]
 pub struct Index {
     map: BTreeMap<(u64, u64), u64>,
+}
+
+impl Drop for Index {
+    fn drop(self) {
+        let Index { map: _ } = self;
+    }
 }
 
 impl Model for Index {

@@ -22,7 +22,7 @@ impl Key for u64 {
 }
 
 /// The key of an edge: its table and the ids of its key columns, 0 where there is no second.
-#[derive(Clone, Copy, Debug, PartialEq, Eq, PartialOrd, Ord)]
+#[derive(Clone, Copy, PartialEq, Eq, PartialOrd, Ord)]
 pub struct EdgeKey {
     pub table: Table,
     pub first: u64,
@@ -34,11 +34,21 @@ impl Exact for EdgeKey {
 }
 
 /// The key of a person's email or language: its table, the person and the text.
-#[derive(PartialEq, Eq, PartialOrd, Ord, Clone, Drop)]
+#[derive(PartialEq, Eq, PartialOrd, Ord, Clone)]
 pub struct WordKey {
     pub table: Table,
     pub person: u64,
     pub text: Text,
+}
+
+impl Drop for WordKey {
+    fn drop(self) {
+        let WordKey {
+            table: _,
+            person: _,
+            text: _,
+        } = self;
+    }
 }
 
 impl Key for EdgeKey {

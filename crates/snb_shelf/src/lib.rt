@@ -8,5 +8,3 @@ pub mod nodes;
 pub mod rows;
 pub mod shelf;
 pub mod shown;
-#[cfg(test)]
-mod tests;

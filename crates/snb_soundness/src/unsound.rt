@@ -6,7 +6,7 @@ use snb_schema::table::Table;
 use std::alloc::AllocError;
 
 /// Why a graph isn't sound.
-#[derive(Clone, Copy, Debug, PartialEq, Eq)]
+#[derive(Clone, Copy)]
 pub enum Unsound {
     /// A node lacks an edge that it must have: the first by the node's table, then its id, then the
     /// edge's table.

@@ -51,9 +51,14 @@ pub(crate) enum Left<'a> {
 
 /// Copies of a table's rows, in the order of their keys, each as a `Result`. After an `Err` there
 /// are no more. A contract sees the rows that are still to come.
-#[derive(Drop)]
 pub struct TableRows<'a> {
     left: Left<'a>,
+}
+
+impl Drop for TableRows<'_> {
+    fn drop(self) {
+        let TableRows { left: _ } = self;
+    }
 }
 
 impl<'a> Model for TableRows<'a> {

@@ -44,7 +44,6 @@ use std::marker::Model;
 
 /// The rows of a graph: those of each kind of node, then the edges, then the words, each in the
 /// order of tables and keys.
-#[derive(Drop)]
 pub struct Tables {
     places: Shelf<u64, Place>,
     tag_classes: Shelf<u64, Class>,
@@ -57,6 +56,24 @@ pub struct Tables {
     edges: Shelf<EdgeKey, u64>,
     words: Shelf<WordKey, Mark>,
     alloc: Global,
+}
+
+impl Drop for Tables {
+    fn drop(self) {
+        let Tables {
+            places: _,
+            tag_classes: _,
+            tags: _,
+            organisations: _,
+            persons: _,
+            forums: _,
+            posts: _,
+            comments: _,
+            edges: _,
+            words: _,
+            alloc: _,
+        } = self;
+    }
 }
 
 impl Model for Tables {

@@ -7,10 +7,6 @@ pub mod law;
 pub mod line;
 mod make;
 pub mod params;
-#[cfg(test)]
-mod params_tests;
-#[cfg(test)]
-mod tests;
-mod text;
+pub mod text;
 pub mod updates;
 pub mod write;

@@ -2,7 +2,6 @@
 
 ghost use Rattle.std.specs.Prelude.{◌≡◌, All, Contains, IfOk, IsUtf8, MatchOption};
 ghost use Rattle.std.specs.Option.{unwrap_or};
-ghost use Rattle.csv.specs.Records.{fields_of};
 ghost use Rattle.snb_base.specs.Spellings.{Num};
 ghost use Rattle.snb_schema.specs.declared.op.OpKind.{OpKind as Kind};
 ghost use Rattle.snb_schema.specs.Faults.{OnBadColumn};
@@ -13,11 +12,11 @@ ghost use Rattle.snb_streams.specs.Spelled.{SpellsInsert};
 use crate::kinds::{TIMES, columns_of, kind_of_number};
 use crate::make::{clash_at, make_op};
 use crate::text::fields_in;
-use csv::ByteRecord;
 use snb_base::number::read_number;
 use snb_fields::law::taken_again;
 use snb_fields::read::read_values;
 use snb_fields::values::Values;
+use snb_lines::record::Record;
 use snb_schema::column::Value;
 use snb_schema::fault::LineFault;
 use snb_schema::op::{Line, Op, OpKind};
@@ -74,10 +73,10 @@ fn kind_in(kinds: &[OpKind], field: &[u8]) -> Option<OpKind>
 }
 
 // The one of these inserts that the third field names.
-fn named_kind(alloc: Global, kinds: &[OpKind], fields: &ByteRecord) -> Result<OpKind, LineFault>
-    requires { All IsUtf8 (fields_of fields.now) }
-    ensures ok { IfOk result (Names kinds.now (fields_of fields.now)) }
-    ensures bad { OnBadColumn result (IsBadInsert kinds.now (fields_of fields.now)) }
+fn named_kind(alloc: Global, kinds: &[OpKind], fields: &Record) -> Result<OpKind, LineFault>
+    requires { All IsUtf8 fields.now }
+    ensures ok { IfOk result (Names kinds.now fields.now) }
+    ensures bad { OnBadColumn result (IsBadInsert kinds.now fields.now) }
 {
     let Some(third) = fields.get(2) else {
         return Err(LineFault::Bad { column: 0 });
@@ -107,14 +106,10 @@ fn first_bad(kind: OpKind, values: &[Value], column: u32) -> u32
 /// go with one before it, as in a friendship with oneself, or in a comment with no parent or two.
 ///
 /// The fields are UTF-8. Lines are those of LDBC SNB Interactive v1's update streams.
-pub fn read_insert(
-    alloc: Global,
-    kinds: &[OpKind],
-    fields: &ByteRecord,
-) -> Result<Insert, LineFault>
-    requires { All IsUtf8 (fields_of fields.now) }
-    ensures ok { IfOk result (λ i. SpellsInsert kinds.now (fields_of fields.now) i.t i.t_d i.op) }
-    ensures bad { OnBadColumn result (IsBadInsert kinds.now (fields_of fields.now)) }
+pub fn read_insert(alloc: Global, kinds: &[OpKind], fields: &Record) -> Result<Insert, LineFault>
+    requires { All IsUtf8 fields.now }
+    ensures ok { IfOk result (λ i. SpellsInsert kinds.now fields.now i.t i.t_d i.op) }
+    ensures bad { OnBadColumn result (IsBadInsert kinds.now fields.now) }
 {
     taken_again();
     let kind = named_kind(alloc, kinds, fields)?;

@@ -1,19 +1,18 @@
 //! The reader of a parameter file.
 
 ghost use Rattle.std.specs.Prelude.{◌≡◌, All, IfOk, IsUtf8};
-ghost use Rattle.csv.specs.Records.{fields_of};
 ghost use Rattle.snb_schema.specs.Faults.{OnBadColumn};
 ghost use Rattle.snb_schema.specs.ParameterLines.{IsBadQuery, SpellsQuery, query_columns};
 ghost use Rattle.snb_schema.specs.Queries.{IsComplex};
 ghost use Rattle.snb_streams.specs.Parameters.{query_by};
 
-use csv::ByteRecord;
 use snb_fields::law::taken_again;
 use snb_fields::read::read_values;
 use snb_fields::values::Values;
 use snb_lines::headed::{Body, Headed};
 use snb_lines::lines::Lines;
 use snb_lines::open::Open;
+use snb_lines::record::Record;
 use snb_schema::column::Column;
 use snb_schema::fault::LineFault;
 use snb_schema::file::{FileId, FileKind};
@@ -92,11 +91,11 @@ fn make_query(query: u32, values: &mut Values) -> Query
 ///
 /// Where they spell none, the error is their bad column: 0 where they aren't one for each parameter,
 /// else the first that spells no value of its column, counted from 1. The other error is want of memory.
-pub fn read_query(alloc: Global, query: u32, fields: &ByteRecord) -> Result<Query, LineFault>
-    requires texts { All IsUtf8 (fields_of fields.now) }
+pub fn read_query(alloc: Global, query: u32, fields: &Record) -> Result<Query, LineFault>
+    requires texts { All IsUtf8 fields.now }
     requires complex { IsComplex query }
-    ensures ok { IfOk result (SpellsQuery query (fields_of fields.now)) }
-    ensures bad { OnBadColumn result (IsBadQuery query (fields_of fields.now)) }
+    ensures ok { IfOk result (SpellsQuery query fields.now) }
+    ensures bad { OnBadColumn result (IsBadQuery query fields.now) }
 {
     taken_again();
     let columns = columns_of(query);
@@ -112,10 +111,15 @@ pub fn read_query(alloc: Global, query: u32, fields: &ByteRecord) -> Result<Quer
 
 /// What the lines of a parameter file mean: of the header only the number of fields counts, and each
 /// later line has the parameters of one query.
-#[derive(Drop)]
 pub struct QueryLines {
     alloc: Global,
     query: u32,
+}
+
+impl Drop for QueryLines {
+    fn drop(self) {
+        let QueryLines { alloc: _, query: _ } = self;
+    }
 }
 
 impl Model for QueryLines {
@@ -170,7 +174,7 @@ impl Body for QueryLines {
 
     ghost bad_line = { IsBadQuery };
 
-    fn take_header(&mut self, fields: &ByteRecord) -> Result<(), LineFault> {
+    fn take_header(&mut self, fields: &Record) -> Result<(), LineFault> {
         if fields.len() == columns_of(self.query).len() {
             Ok(())
         } else {
@@ -181,7 +185,7 @@ impl Body for QueryLines {
     fn take_line(
         &mut self,
         _number: u32,
-        fields: &ByteRecord,
+        fields: &Record,
         into: &mut Vec<Query>,
     ) -> Result<(), LineFault> {
         let one = read_query(self.alloc, self.query, fields)?;

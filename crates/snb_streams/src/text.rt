@@ -1,14 +1,13 @@
 //! The fields of a text that is one line.
 
 ghost use Rattle.std.specs.Prelude.{◌↔◌, IfOk, IsTrue, IsUtf8};
-ghost use Rattle.csv.specs.Records.{fields_of};
 ghost use Rattle.snb_schema.specs.Faults.{OnBadColumn};
 ghost use Rattle.snb_schema.specs.Lines.{HasNoEnd};
 ghost use Rattle.snb_schema.specs.UpdateLines.{IsBadLine};
 ghost use Rattle.snb_streams.specs.Split.{IsSplit};
 
-use csv::ByteRecord;
 use snb_fields::law::plain_fields;
+use snb_lines::record::Record;
 use snb_lines::split::{cut_at_end, is_marked, split_line};
 use snb_schema::fault::LineFault;
 use std::alloc::Global;
@@ -26,8 +25,8 @@ fn is_one_line(text: &[u8]) -> bool
 
 /// Splits a text at its bars, where it is one line of UTF-8 that has a byte and doesn't begin with a
 /// byte order mark.
-pub fn fields_in(alloc: Global, text: &[u8]) -> Result<ByteRecord, LineFault>
-    ensures ok { IfOk result (λ row. IsSplit text.now (fields_of row)) }
+pub fn fields_in(alloc: Global, text: &[u8]) -> Result<Record, LineFault>
+    ensures ok { IfOk result (λ row. IsSplit text.now row) }
     ensures bad { OnBadColumn result (IsBadLine text.now) }
 {
     if is_marked(text) {
@@ -40,7 +39,7 @@ pub fn fields_in(alloc: Global, text: &[u8]) -> Result<ByteRecord, LineFault>
         return Err(LineFault::Bad { column: 0 });
     }
     plain_fields();
-    let mut fields = ByteRecord::new(alloc);
+    let mut fields = Record::new(alloc);
     split_line(alloc, text, &mut fields)?;
     Ok(fields)
 }

@@ -4,10 +4,10 @@ ghost use Rattle.std.specs.Prelude.{◌≡◌};
 ghost use Rattle.snb_streams.specs.Updates.{allowed_in};
 
 use crate::line::{FORUM_INSERTS, PERSON_INSERTS, read_insert};
-use csv::ByteRecord;
 use snb_lines::lines::Lines;
 use snb_lines::meaning::Meaning;
 use snb_lines::open::Open;
+use snb_lines::record::Record;
 use snb_schema::fault::{Fault, LineFault};
 use snb_schema::file::{FileId, FileKind};
 use snb_schema::op::{Line, OpKind};
@@ -29,11 +29,20 @@ pub fn inserts_of(kind: FileKind) -> &'static [OpKind]
 
 /// What the lines of a stream mean: each is an insert of the stream's kind, whose t is no lower than
 /// that of the line before.
-#[derive(Drop)]
 pub struct StreamLines {
     alloc: Global,
     file: FileId,
     last: u64,
+}
+
+impl Drop for StreamLines {
+    fn drop(self) {
+        let StreamLines {
+            alloc: _,
+            file: _,
+            last: _,
+        } = self;
+    }
 }
 
 impl Model for StreamLines {
@@ -88,12 +97,7 @@ impl Meaning for StreamLines {
 
     ghost ends = { never_ends };
 
-    fn take(
-        &mut self,
-        number: u32,
-        fields: &ByteRecord,
-        into: &mut Vec<Line>,
-    ) -> Result<(), Fault> {
+    fn take(&mut self, number: u32, fields: &Record, into: &mut Vec<Line>) -> Result<(), Fault> {
         let file = self.file;
         match read_insert(self.alloc, inserts_of(file.kind), fields) {
             Ok(insert) => {

@@ -3,7 +3,7 @@ use Rattle.std.proofs.Common.{arith, ◌≡◌, ℕ, ◌⊎◌, List, [], ◌∷
 use Rattle.std.specs.Option.{IfSome}
 use Rattle.snb_base.specs.Outbox.{Written}
 use Rattle.snb_base.specs.Shelf.{Files}
-use Rattle.snb_clock.specs.Ratios.{OneRatio}
+use Rattle.snb_ratio.specs.Ratios.{OneRatio}
 use Rattle.snb_input.specs.Files.{held_in}
 use Rattle.snb_input.specs.FirstOf.{FirstOf, NoneOf}
 use Rattle.snb_input.specs.Walk.{Held, IsHeldTold}

@@ -1,7 +1,7 @@
 -- Facts on the options of a command line.
 use Rattle.std.proofs.Common.{◌≡◌, ℕ, ◌≤◌, ◌⊎◌, true, List, [], ◌∷◌, length, Option, Some, None, sym, subst, ap, ◌∙◌, inl, inr, arith, codes}
 use Rattle.std.specs.Option.{IfSome, MatchOption, is_some}
-use Rattle.snb_clock.specs.Ratios.{OneRatio, SpellsRatio}
+use Rattle.snb_ratio.specs.Ratios.{OneRatio, SpellsRatio}
 use Rattle.snb_schema.specs.declared.limits.TheConstants.{MAX_WORKERS}
 use Rattle.snb_schema.specs.Frequencies.{FrequencyTable, FrequenciesAreOne, HasFrequencies, frequency_at}
 use Rattle.snb_schema.specs.declared.query.Query.{Query}

@@ -2,7 +2,7 @@
 use Rattle.std.specs.Prelude.{◌≡◌, ℕ, ◌≤◌, ◌⊎◌, List, [], ◌∷◌, Option, None, Some, codes}
 use Rattle.std.specs.Option.{unwrap_or}
 use Rattle.snb_base.specs.Spellings.{Num}
-use Rattle.snb_clock.specs.Ratios.{SpellsRatio}
+use Rattle.snb_ratio.specs.Ratios.{SpellsRatio}
 use Rattle.snb_schema.specs.declared.limits.TheConstants.{MAX_WORKERS}
 use Rattle.snb_schema.specs.Frequencies.{FrequencyTable, HasFrequencies, SpellsFrequencies}
 use Rattle.snb_tool.specs.declared.options.Options.{Options as Given}

@@ -10,14 +10,14 @@ use crate::options::{Options, no_frequencies, options_of};
 use crate::request::Request;
 use snb_base::number::read_number;
 use snb_clock::date::read_date;
-use snb_clock::law::one_ratio;
-use snb_clock::ratio::Ratio;
+use snb_ratio::law::one_ratio;
+use snb_ratio::ratio::Ratio;
 use snb_schema::frequencies::Frequencies;
 use snb_schema::law::frequencies_are_one;
 use snb_schema::limits::{MAX_ID, MAX_YEAR};
 
 /// What the words of a command line say.
-#[derive(Clone, Copy, Debug)]
+#[derive(Clone, Copy)]
 pub enum Command<'a> {
     /// `check DIR`, with `--freq L` or without.
     Check {

@@ -10,7 +10,6 @@ ghost use Rattle.snb_tool.specs.Endings.{bytes_of};
 use snb_base::outbox::{Channel, Outbox, Put};
 
 /// The texts that a call writes.
-#[derive(Drop)]
 pub struct Output {
     pub log: Vec<u8>,
     pub answers: Vec<u8>,
@@ -18,8 +17,19 @@ pub struct Output {
     pub screen: Vec<u8>,
 }
 
+impl Drop for Output {
+    fn drop(self) {
+        let Output {
+            log: _,
+            answers: _,
+            finals: _,
+            screen: _,
+        } = self;
+    }
+}
+
 /// The outbox failed.
-#[derive(Clone, Copy, Debug, PartialEq, Eq)]
+#[derive(Clone, Copy)]
 pub struct WriteFault;
 
 // Writes all of the bytes on the channel, or a prefix of them where the outbox fails.

@@ -14,7 +14,6 @@ ghost use Rattle.snb_tables.specs.Soundness.{Sound};
 ghost use Rattle.snb_tool.specs.Endings.{IsInputAnswer, IsMadeAnswer, load_for};
 
 use snb_base::shelf::Shelf;
-use snb_clock::ratio::Ratio;
 use snb_graph::graph::Graph;
 use snb_input::law::stages_join;
 use snb_input::load::{Load, Used};
@@ -24,16 +23,22 @@ use snb_loader::law::{one_dataset, one_lanes, one_params};
 use snb_loader::params::load_params;
 use snb_plan::law::plan_is_one;
 use snb_plan::plan::{Plan, PlanFault};
+use snb_ratio::ratio::Ratio;
 use snb_schema::frequencies::Frequencies;
 use snb_schema::lanes::Lanes;
 use snb_schema::lists::Lists;
 use std::alloc::Global;
 
 /// A dataset, and a plan that is closed over it.
-#[derive(Drop)]
 pub struct Input {
     pub graph: Graph,
     pub plan: Plan,
+}
+
+impl Drop for Input {
+    fn drop(self) {
+        let Input { graph: _, plan: _ } = self;
+    }
 }
 
 // A fault of a plan as one of an input.

@@ -11,6 +11,4 @@ mod read;
 mod request;
 mod run;
 mod show;
-#[cfg(test)]
-mod tests;
 pub mod tool;

@@ -2,15 +2,15 @@
 
 ghost use Rattle.std.specs.Prelude.{◌≡◌, ℕ, ◌≤◌, MatchOption};
 ghost use Rattle.snb_base.specs.Spellings.{Num};
-ghost use Rattle.snb_clock.specs.Ratios.{SpellsRatio};
+ghost use Rattle.snb_ratio.specs.Ratios.{SpellsRatio};
 ghost use Rattle.snb_schema.specs.declared.limits.TheConstants.{MAX_WORKERS};
 ghost use Rattle.snb_schema.specs.Frequencies.{FrequencyTable};
 ghost use Rattle.snb_tool.specs.Commands.{texts_of};
 ghost use Rattle.snb_tool.specs.Options.{no_frequencies, no_options, told, Adds, Options as AnyOptions, Say, SaysFrequencies};
 
 use snb_base::number::read_number;
-use snb_clock::law::one_ratio;
-use snb_clock::ratio::Ratio;
+use snb_ratio::law::one_ratio;
+use snb_ratio::ratio::Ratio;
 use snb_schema::frequencies::Frequencies;
 use snb_schema::law::frequencies_are_one;
 use snb_schema::limits::MAX_WORKERS;

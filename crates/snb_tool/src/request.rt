@@ -8,7 +8,7 @@ use snb_schema::query::Query;
 use std::alloc::{AllocError, Global};
 
 /// A read, with the texts of the words for its own.
-#[derive(Clone, Copy, Debug)]
+#[derive(Clone, Copy)]
 pub enum Request<'a> {
     Is1 {
         person: u64,

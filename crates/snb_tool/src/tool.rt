@@ -21,7 +21,7 @@ use snb_base::clock::Clock;
 use snb_base::gate::Gate;
 use snb_base::outbox::Outbox;
 use snb_base::shelf::Shelf;
-use snb_clock::law::one_ratio;
+use snb_ratio::law::one_ratio;
 use snb_schema::law::frequencies_are_one;
 use std::sync::Wait;
 

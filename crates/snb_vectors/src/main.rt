@@ -3,18 +3,12 @@
 //! `stdin` of this crate.
 #![tactic(auto)]
 
-mod case;
-mod change;
-mod escape;
-mod flaw;
-mod judge;
 mod play;
-mod reader;
 
-use case::Case;
-use judge::Verdict;
 use play::try_case;
-use reader::read_cases;
+use snb_judge::case::Case;
+use snb_judge::judge::Verdict;
+use snb_judge::reader::read_cases;
 use std::io;
 use std::process::ExitCode;
 use std::sync::Wait;
@@ -31,7 +25,7 @@ fn tell_cases<R: AllocGlobal + Print + Wait>(rt: &R, cases: &[Case]) -> io::Resu
     let mut right: usize = 0;
     for case in cases {
         let name = case.name.as_str();
-        match try_case(rt, case) {
+        match &try_case(rt, case) {
             Ok(Verdict::AsWanted) => {
                 println!(rt; "{name} ok")?;
                 right = right.saturating_add(1);

@@ -28,9 +28,14 @@ impl Drop for Answered {
 }
 
 /// The replies to the reads of a run. A contract sees them by rising operation.
-#[derive(Drop)]
 pub struct Done {
     items: Vec<Answered>,
+}
+
+impl Drop for Done {
+    fn drop(self) {
+        let Done { items: _ } = self;
+    }
 }
 
 impl Model for Done {

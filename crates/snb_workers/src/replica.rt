@@ -28,10 +28,15 @@ use std::marker::Model;
 
 /// A graph that follows the history of a run, from the dataset on: each insert's rows are in it from the
 /// insert's Finish on. A contract sees its graph, which is sound, and how many events it has taken.
-#[derive(Drop)]
 pub struct Replica {
     graph: Graph,
     front: u32,
+}
+
+impl Drop for Replica {
+    fn drop(self) {
+        let Replica { graph: _, front: _ } = self;
+    }
 }
 
 impl Model for Replica {

@@ -27,11 +27,20 @@ use std::alloc::{AllocError, Global};
 use std::sync::Wait;
 
 /// What a run leaves: its events, the replies to its reads, and its final graph.
-#[derive(Drop)]
 pub struct Outcome {
     pub events: Vec<Event>,
     pub replies: Done,
     pub graph: Graph,
+}
+
+impl Drop for Outcome {
+    fn drop(self) {
+        let Outcome {
+            events: _,
+            replies: _,
+            graph: _,
+        } = self;
+    }
 }
 
 // Whether there may be more to do.

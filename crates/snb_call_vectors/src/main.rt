@@ -1,0 +1,107 @@
+//! Reads a script of calls from standard input, makes them on values in memory, and prints for each case
+//! whether each call answered what the script wants. The form of the script stands at its head, in the
+//! file `stdin` of this crate.
+#![tactic(auto)]
+
+use snb_script::files::Files;
+use snb_script::flaw::Flaw;
+use snb_script::play::{Calls, play};
+use std::alloc::Global;
+use std::io;
+use std::process::ExitCode;
+
+// What the calls of a case are made on, for each crate of calls that keeps something.
+struct Every {
+    graph: snb_graph_calls::state::State,
+    reach: snb_reach_calls::state::State,
+    book: snb_book_calls::state::State,
+}
+
+impl Drop for Every {
+    fn drop(self) {
+        let Every {
+            graph: _,
+            reach: _,
+            book: _,
+        } = self;
+    }
+}
+
+impl Every {
+    // As a case begins.
+    fn new(alloc: Global) -> Every {
+        Every {
+            graph: snb_graph_calls::state::State::new(alloc),
+            reach: snb_reach_calls::state::State::new(alloc),
+            book: snb_book_calls::state::State::new(alloc),
+        }
+    }
+}
+
+// A further crate of calls is asked here, after the others.
+impl Calls for Every {
+    fn begin(&mut self, alloc: Global) {
+        *self = Every::new(alloc);
+    }
+
+    fn answer(
+        &mut self,
+        alloc: Global,
+        files: &Files,
+        word: &str,
+        rest: &str,
+    ) -> Result<Option<String>, Flaw> {
+        if let Some(answer) = snb_graph_calls::calls::answer(
+            alloc,
+            &mut self.graph,
+            files,
+            word,
+            rest,
+        )? {
+            return Ok(Some(answer));
+        }
+        if let Some(answer) = snb_reach_calls::calls::answer(
+            alloc,
+            &mut self.reach,
+            files,
+            word,
+            rest,
+        )? {
+            return Ok(Some(answer));
+        }
+        if let Some(answer) = snb_book_calls::answer::answer(
+            alloc,
+            &mut self.book,
+            files,
+            word,
+            rest,
+        )? {
+            return Ok(Some(answer));
+        }
+        if let Some(answer) = snb_word_calls::answer::answer(alloc, word, rest)? {
+            return Ok(Some(answer));
+        }
+        if let Some(answer) = snb_reader_calls::answer::answer(alloc, files, word, rest)? {
+            return Ok(Some(answer));
+        }
+        snb_plan_calls::calls::answer(alloc, files, word, rest)
+    }
+}
+
+// Plays the script, and prints what came of it. Tells whether each line was carried out.
+fn play_input<R: AllocGlobal + Input + Print>(rt: &R) -> io::Result<bool> {
+    let script = io::read_to_string(rt.alloc(), rt.reader())?;
+    let mut every = Every::new(rt.alloc());
+    let report = play(rt.alloc(), &mut every, script.as_str())?;
+    let text = report.text.as_str();
+    print!(rt; "{text}")?;
+    Ok(report.is_whole)
+}
+
+fn main(rt: HostRuntime) -> ExitCode {
+    match play_input(&rt) {
+        Ok(true) => ExitCode::from(0),
+        Ok(false) => ExitCode::from(1),
+        Err(_) => ExitCode::from(1),
+    }
+}

@@ -1,5 +1,0 @@
-use Rattle.snb_clock.proofs.RatioFacts.{one_value}
-use Rattle.snb_clock.proofs.law.one_ratio.Goals as goal
-
-pub returns : goal.returns
-returns c = λ x m n s t. one_value x m n s.2 t.2

@@ -1,0 +1,6 @@
+//! The calls of a script that plan a folder.
+#![tactic(auto)]
+
+pub mod calls;
+mod planned;
+mod tell;

@@ -1,0 +1,48 @@
+//! What the calls of a case are made on.
+
+use crate::dataset::Dataset;
+use crate::loaded::Loaded;
+use snb_script::flaw::Flaw;
+use std::alloc::Global;
+
+/// The dataset of a case, and its graph.
+pub struct State {
+    pub(crate) dataset: Dataset,
+    // The graph of the dataset, once it is asked for.
+    loaded: Option<Loaded>,
+}
+
+impl Drop for State {
+    fn drop(self) {
+        let State {
+            dataset: _,
+            loaded: _,
+        } = self;
+    }
+}
+
+impl State {
+    /// As a case begins: no person.
+    pub fn new(alloc: Global) -> State {
+        State {
+            dataset: Dataset::new(alloc),
+            loaded: None,
+        }
+    }
+
+    /// Forgets the graph of the dataset, since that has changed.
+    pub(crate) fn forget(&mut self) {
+        self.loaded = None;
+    }
+
+    /// The graph of the dataset, which is read where it isn't yet.
+    pub(crate) fn loaded(&mut self, alloc: Global) -> Result<&Loaded, Flaw> {
+        if self.loaded.is_none() {
+            self.loaded = Some(Loaded::of(alloc, &self.dataset)?);
+        }
+        match &self.loaded {
+            Some(loaded) => Ok(loaded),
+            None => Err(Flaw::Unsound),
+        }
+    }
+}

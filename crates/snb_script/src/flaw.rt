@@ -1,0 +1,112 @@
+//! What can be wrong with a script.
+
+use std::alloc::{AllocError, AllocFailed};
+
+/// Why a line of the script isn't carried out.
+#[derive(Clone, Copy)]
+pub enum Flaw {
+    /// The line begins with no word of a script's.
+    NoWord,
+    /// A number is wanted.
+    NoNumber,
+    /// A name is wanted.
+    NoName,
+    /// No table has this name.
+    NoTable,
+    /// The line spells no row of the table, or too long a one.
+    NoRow,
+    /// The line is no insert of an update stream.
+    NoInsert,
+    /// The text spells no ratio.
+    NoRatio,
+    /// The text spells no frequencies.
+    NoFrequencies,
+    /// The call is none for this table.
+    OtherTable,
+    /// The call is none for these values.
+    OtherValue,
+    /// Something follows what should stand alone, or stand last.
+    Surplus,
+    /// The line doesn't say what must come.
+    NothingWanted,
+    /// A line of an answer follows no call.
+    NoCall,
+    /// The line belongs to a case, and none is begun.
+    NoCase,
+    /// The script has no case.
+    NoCases,
+    /// No file of this name stands above.
+    NoFile,
+    /// A line is added where no file is begun.
+    NoPlace,
+    /// A line of many has no place for its number.
+    NoStar,
+    /// Two files have one name.
+    FileTwice,
+    /// A backslash is followed by what no escape has.
+    BadEscape,
+    /// The bytes are no UTF-8.
+    NotUtf8,
+    /// A row that is added is held already.
+    Held,
+    /// The graph isn't sound.
+    Unsound,
+    /// A file couldn't be read.
+    ReadFault,
+    /// Memory ran out.
+    Memory,
+}
+
+/// What is wrong with which line, counted from 1.
+#[derive(Clone, Copy)]
+pub struct Stop {
+    /// The line.
+    pub line: usize,
+    /// What is wrong with it.
+    pub flaw: Flaw,
+}
+
+impl Flaw {
+    /// What is printed of it.
+    pub fn text(self) -> &'static str {
+        match self {
+            Flaw::NoWord => "no word of a script begins this line",
+            Flaw::NoNumber => "a number is wanted",
+            Flaw::NoName => "a name is wanted",
+            Flaw::NoTable => "no table has this name",
+            Flaw::NoRow => "this is no row of the table",
+            Flaw::NoInsert => "this is no insert of an update stream",
+            Flaw::NoRatio => "this is no ratio",
+            Flaw::NoFrequencies => "these are no frequencies",
+            Flaw::OtherTable => "this is no call for this table",
+            Flaw::OtherValue => "this is no call for these values",
+            Flaw::Surplus => "something follows that doesn't belong here",
+            Flaw::NothingWanted => "it isn't said what must come",
+            Flaw::NoCall => "no call stands above that could answer this",
+            Flaw::NoCase => "no case is begun",
+            Flaw::NoCases => "the script has no case",
+            Flaw::NoFile => "no file of this name stands above",
+            Flaw::NoPlace => "no file is begun to which this line could belong",
+            Flaw::NoStar => "there is no place for the number",
+            Flaw::FileTwice => "a file is there twice",
+            Flaw::BadEscape => "no escape is spelled like this",
+            Flaw::NotUtf8 => "this isn't UTF-8",
+            Flaw::Held => "a row that is to be added is held already",
+            Flaw::Unsound => "the graph isn't sound",
+            Flaw::ReadFault => "a file couldn't be read",
+            Flaw::Memory => "out of memory",
+        }
+    }
+}
+
+impl From<AllocError> for Flaw {
+    fn from(_error: AllocError) -> Flaw {
+        Flaw::Memory
+    }
+}
+
+impl<T: Drop> From<AllocFailed<T>> for Flaw {
+    fn from(_error: AllocFailed<T>) -> Flaw {
+        Flaw::Memory
+    }
+}
