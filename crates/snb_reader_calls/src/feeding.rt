@@ -86,7 +86,8 @@ fn end<M: Meaning>(
     }
 }
 
-/// Feeds the pieces of a file to the reader, and ends it. A refused file is fed and ended again.
+/// Feeds the pieces of a file to the reader, which must not be ended yet, and ends it. A refused file is
+/// fed and ended again.
 pub fn feed_pieces<M: Meaning>(
     alloc: Global,
     reader: &mut Lines<M>,

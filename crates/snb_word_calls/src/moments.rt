@@ -30,7 +30,7 @@ fn ratio_of(alloc: Global, text: &str) -> Result<Option<Ratio>, Flaw> {
     Ok(Ratio::read(text.as_slice()))
 }
 
-/// `due RATIO T0 T`
+/// `due RATIO FIRST MOMENT`
 pub fn due(alloc: Global, rest: &str) -> Result<String, Flaw> {
     let (text, moments) = first_word(rest);
     let (t0, t) = two_numbers(moments)?;
