@@ -1,43 +1,46 @@
--- What the lines of a table's file mean.
-use Rattle.std.specs.Prelude.{◌≡◌, Bool, [], ◌∷◌, length}
+-- What the lines of a table's file say.
+use Rattle.std.specs.Prelude.{◌≡◌, true, None, length}
 use Rattle.snb_schema.specs.declared.file.FileId.{FileId}
+use Rattle.snb_schema.specs.declared.file.FileKind.{FileKind}
 use Rattle.snb_schema.specs.declared.file.FileKind.TheVariants as files
 use Rattle.snb_schema.specs.declared.row.Placed.{Placed}
-use Rattle.snb_schema.specs.declared.row.Row.{Row}
 use Rattle.snb_schema.specs.declared.table.Table.{Table}
 use Rattle.snb_schema.specs.Layouts.{columns}
+use Rattle.snb_schema.specs.Lines.{fields}
 use Rattle.snb_schema.specs.RowLines.{IsBadColumn, IsWide, SpellsRow}
-use Rattle.snb_lines.specs.Headed.{Heads, IsBad, Passed, RefusesHeaded, TakesHeaded}
-use Rattle.snb_lines.specs.Reading.{Refuses, Takes}
-
--- the file is a part of this table
-abbrev pub IsOfTable : FileId → Table → Type 0
-IsOfTable file t = file.kind ≡ files.Table t
+use Rattle.snb_lines.specs.Language.{Language}
 
 -- the file is a table's
 abbrev pub IsTableFile : FileId → Type 0
-IsTableFile file = (t : Table) × IsOfTable file t
+IsTableFile file = (t : Table) × (file.kind ≡ files.Table t)
 
--- the fields are a header of the table, of which only the number of fields counts
-abbrev pub HeadsRows : Heads Table
-HeadsRows t fs new = IsWide (length (columns t)) fs × (new ≡ t)
+-- of the header only the number of fields counts, and the fields of each later line spell a row
+abbrev pub row_language : Table → Language (Unit {0}) Placed
+row_language t = record {
+  begins = None;
+  splits = true;
+  heads = λ line known. IsWide (length (columns t)) (fields line);
+  bad_header = λ line column. ¬ IsWide (length (columns t)) (fields line) × (column ≡ 0);
+  spells = λ known number line p. SpellsRow t (fields line) p.row p.turned × (p.line ≡ number);
+  bad_line = λ known line column. IsBadColumn t (fields line) column;
+}
 
--- the fields are no header of the table
-abbrev pub IsBadHeader : IsBad Table
-IsBadHeader t fs column = ¬ IsWide (length (columns t)) fs × (column ≡ 0)
+-- a file that is no table's has neither a header nor a row
+abbrev pub no_rows : Language (Unit {0}) Placed
+no_rows = record {
+  begins = None;
+  splits = true;
+  heads = λ line known. ⊥;
+  bad_header = λ line column. column ≡ 0;
+  spells = λ known number line p. ⊥;
+  bad_line = λ known line column. column ≡ 0;
+}
 
--- the fields of the line of this number spell one row
-abbrev pub GivesRow : Takes Table Placed
-GivesRow t number fs items new =
-    (r : Row)
-    × (turned : Bool)
-    × SpellsRow t fs r turned
-    × (items ≡ record { line = number; row = r; turned = turned } ∷ [])
-    × (new ≡ t)
-
--- what a line of a table's file gives, and what it is refused for
-abbrev pub TakesRow : Takes (Passed Table) Placed
-TakesRow = TakesHeaded HeadsRows GivesRow
-
-abbrev pub RefusesRow : Refuses (Passed Table)
-RefusesRow = RefusesHeaded IsBadHeader IsBadColumn
+-- what the lines of a file of this kind say: those of a table's file, and none of any other
+abbrev pub table_language : FileKind → Language (Unit {0}) Placed
+table_language (files.Table t) = row_language t
+table_language files.PersonStream = no_rows
+table_language files.ForumStream = no_rows
+table_language (files.Params q) = no_rows
+table_language files.Log = no_rows
+table_language files.Cases = no_rows

@@ -1,8 +1,12 @@
 //! The reader of a table's file.
 
+ghost use Rattle.std.specs.Prelude.{◌≡◌, All, IfOk, IsUtf8};
+ghost use Rattle.snb_schema.specs.Faults.{OnBadColumn};
+ghost use Rattle.snb_schema.specs.RowLines.{IsBadColumn, SpellsRow};
+
 use crate::read::read_row;
 use snb_fields::read::is_wide;
-use snb_lines::headed::{Body, Headed};
+use snb_lines::grammar::Grammar;
 use snb_lines::lines::Lines;
 use snb_lines::open::Open;
 use snb_lines::record::Record;
@@ -14,85 +18,125 @@ use snb_schema::table::Table;
 use std::alloc::Global;
 use std::marker::Model;
 
-/// What the lines of a table's file mean: of the header only the number of fields counts, and each
-/// later line is a row. The row of a friendship has the lower id first.
-pub struct TableLines {
+// The row of the table that the fields of the line of this number spell, as `read_row` has it.
+fn read_placed(
     alloc: Global,
     table: Table,
+    number: u32,
+    fields: &Record,
+) -> Result<Placed, LineFault>
+    requires { All IsUtf8 fields.now }
+    ensures ok { IfOk result (λ p. SpellsRow table fields.now p.row p.turned × (p.line ≡ number)) }
+    ensures bad { OnBadColumn result (IsBadColumn table fields.now) }
+{
+    let read = read_row(alloc, table, fields)?;
+    Ok(Placed {
+        line: number,
+        row: read.row,
+        turned: read.turned,
+    })
+}
+
+/// What the lines of a table's file say: of the header only the number of fields counts, and each
+/// later line is a row. The row of a friendship has the lower id first. No line of a file of another
+/// kind is right.
+pub struct TableLines {
+    alloc: Global,
+    kind: FileKind,
 }
 
 impl Drop for TableLines {
     fn drop(self) {
-        let TableLines { alloc: _, table: _ } = self;
+        let TableLines { alloc: _, kind: _ } = self;
     }
 }
 
 impl Model for TableLines {
-    ghost use Rattle.snb_schema.specs.declared.table.Table.{Table};
+    ghost use Rattle.snb_schema.specs.declared.file.FileKind.{FileKind};
 
-    ghost Value = { Table };
+    ghost Value = { FileKind };
 
-    ghost view = { λ t. t.table };
+    ghost view = { λ t. t.kind };
+}
+
+impl TableLines {
+    /// Those of a file of this kind.
+    pub fn new(alloc: Global, kind: FileKind) -> TableLines
+        ensures { result ≡ kind }
+    {
+        TableLines { alloc, kind }
+    }
 }
 
 impl Open for TableLines {
     type Named = FileId;
 
-    ghost use Rattle.snb_csv.specs.Rows.{IsOfTable, IsTableFile};
+    ghost use Rattle.snb_csv.specs.Rows.{IsTableFile};
 
     ghost can_open = { IsTableFile };
 
     ghost file_of = { λ file. file };
 
-    ghost begins = { IsOfTable };
+    ghost grammar_of = { λ file. file.kind };
 
     fn file(named: FileId) -> FileId {
         named
     }
 
     fn open(alloc: Global, named: FileId) -> TableLines {
-        match named.kind {
-            FileKind::Table { table } => TableLines { alloc, table },
-            _ => unreachable!(),
-        }
+        TableLines::new(alloc, named.kind)
     }
 }
 
-impl Body for TableLines {
+impl Grammar for TableLines {
     type Item = Placed;
 
-    ghost use Rattle.snb_schema.specs.RowLines.{IsBadColumn};
-    ghost use Rattle.snb_csv.specs.Rows.{GivesRow, HeadsRows, IsBadHeader};
+    type Known = ();
 
-    ghost heads = { HeadsRows };
+    ghost use Rattle.snb_csv.specs.Rows.{table_language};
 
-    ghost bad_header = { IsBadHeader };
+    ghost language = { table_language };
 
-    ghost gives = { GivesRow };
+    fn begin(&self) -> Option<()> {
+        None
+    }
 
-    ghost bad_line = { IsBadColumn };
+    fn splits(&self) -> bool {
+        true
+    }
 
-    fn take_header(&mut self, fields: &Record) -> Result<(), LineFault> {
-        if is_wide(columns_of(self.table).len(), fields) {
-            Ok(())
-        } else {
-            Err(LineFault::Bad { column: 0 })
+    fn read_header(&self, _line: &[u8], fields: &Record) -> Result<(), LineFault> {
+        match self.kind {
+            FileKind::Table { table } => {
+                if is_wide(columns_of(table).len(), fields) {
+                    Ok(())
+                } else {
+                    Err(LineFault::Bad { column: 0 })
+                }
+            }
+            FileKind::PersonStream
+            | FileKind::ForumStream
+            | FileKind::Params { .. }
+            | FileKind::Log
+            | FileKind::Cases => Err(LineFault::Bad { column: 0 }),
         }
     }
 
-    fn take_line(
-        &mut self,
+    fn read_item(
+        &self,
+        _known: &(),
         number: u32,
+        _line: &[u8],
         fields: &Record,
-        into: &mut Vec<Placed>,
-    ) -> Result<(), LineFault> {
-        let read = read_row(self.alloc, self.table, fields)?;
-        into.push(Placed {
-            line: number,
-            row: read.row,
-            turned: read.turned,
-        })?;
-        Ok(())
+    ) -> Result<Placed, LineFault> {
+        match self.kind {
+            FileKind::Table { table } => read_placed(self.alloc, table, number, fields),
+            FileKind::PersonStream
+            | FileKind::ForumStream
+            | FileKind::Params { .. }
+            | FileKind::Log
+            | FileKind::Cases => Err(LineFault::Bad { column: 0 }),
+        }
     }
 }
 
@@ -100,4 +144,4 @@ impl Body for TableLines {
 /// is a table's. It is the reader of lines of `snb_lines`, so a line is refused for its bytes first;
 /// then the first line with a byte is refused where it hasn't a field for each column, and a later one
 /// in its first bad column. An extra field at the end of a line is passed over where it is empty.
-pub type Rows = Lines<Headed<TableLines>>;
+pub type Rows = Lines<TableLines>;

@@ -1,19 +1,19 @@
--- The rows that lines of a table are read as are rows that it can have.
-use Rattle.std.proofs.Common.{◌≡◌, ◌∙◌, ◌+◌, ℕ, Bool, true, false, List, [], ◌∷◌, ◌++◌, All, length, sym, ap, subst}
+-- The rows that lines of a table say are rows that it can have.
+use Rattle.std.proofs.Common.{◌≡◌, ◌∙◌, ◌+◌, ℕ, List, [], ◌∷◌, ◌++◌, All, Option, Some, None, length, sym, ap, subst}
 use Rattle.std.proofs.Math.Seq.{take-append_seam}
-use Rattle.std.specs.Str.{IsUtf8}
 use Rattle.std.proofs.lemmas.List.Elements.{All-append, All-cons, All-head, All-nil, All-tail, All-take}
-use Rattle.snb_schema.specs.Lines.{HasNoEnd, begins_with_mark, fields}
+use Rattle.snb_schema.specs.Lines.{HasNoEnd}
+use Rattle.snb_schema.specs.declared.file.FileKind.{FileKind}
+use Rattle.snb_schema.specs.declared.file.FileKind.TheVariants as files
 use Rattle.snb_schema.specs.declared.row.Placed.{Placed}
-use Rattle.snb_schema.specs.declared.table.Table.{Table}
-use Rattle.snb_schema.specs.RowLines.{IsRow}
 use Rattle.snb_schema.specs.TableRows.{TableRowsAreOfLines}
 use Rattle.snb_lines.specs.Cut.{last_lines, rest_of, whole_lines}
-use Rattle.snb_lines.specs.Headed.{GivesAs, Passed}
-use Rattle.snb_lines.specs.Feeding.{HasRead, new_lines}
-use Rattle.snb_lines.specs.Reading.{Reader, Reads}
+use Rattle.snb_lines.specs.Feeding.{Reader, new_lines}
+use Rattle.snb_lines.specs.Language.{IsText, Language}
+use Rattle.snb_lines.specs.Lists.{HasAppended}
+use Rattle.snb_lines.specs.Reading.{LineSays, ReadsLine, Says}
 use Rattle.snb_lines.proofs.Laws.{lines_no_end, lines_whole}
-use Rattle.snb_csv.specs.Rows.{GivesRow, HeadsRows, TakesRow}
+use Rattle.snb_csv.specs.Rows.{table_language}
 use Rattle.snb_graph_calls.specs.Placed.{IsRight}
 
 -- no line that is ended has an end in it
@@ -23,30 +23,34 @@ whole_no_end text =
     let last = last_lines (rest_of text) in
     subst (All HasNoEnd) (take-append_seam ls last) (All-take HasNoEnd (length ls) (ls ++ last) (subst (All HasNoEnd) (lines_whole text) (lines_no_end text)))
 
--- what a line gives, by whether the header is passed
-line_rows : TableRowsAreOfLines → (headed : Bool) (t : Table) (number : ℕ) (line : List ℕ) (items : List Placed) (new : Table)
-    → HasNoEnd line → begins_with_mark line ≡ false → IsUtf8 line → GivesAs HeadsRows GivesRow headed t number (fields line) items new → All IsRight items
-line_rows law false t number line items new one unmarked text g = subst (All IsRight) (sym g.1) (All-nil IsRight)
-line_rows law true t number line items new one unmarked text g =
-    let is : IsRow t line g.0 = record { text = text; unmarked = unmarked; one_line = one; turned = g.1; spelled = g.2 } in
-    subst (All IsRight) (sym g.3) (All-cons IsRight (record { line = number; row = g.0; turned = g.1 }) [] ((law t g.0).1 (line, is)).1 (All-nil IsRight))
+-- what is so of each item that a line spells is so of all items that lines say
+module _ {K T : Type 0} (g : Language K T) (P : T → Type 0) (each : (known : K) (number : ℕ) (line : List ℕ) (x : T) → HasNoEnd line → IsText line → g.spells known number line x → P x) where
+  line_all : (line : List ℕ) (known new : Option K) (number : ℕ) (items : List T) → HasNoEnd line → IsText line → LineSays g known number line items new → All P items
+  line_all line None new number items one text h = subst (All P) (sym h.2) (All-nil P)
+  line_all line (Some k) new number items one text h = subst (All P) (sym h.2) (All-cons P h.0 [] (each k number line h.0 one text h.1) (All-nil P))
 
--- so do lines
-reads_rows : TableRowsAreOfLines → (ls : List (List ℕ)) (s new : Passed Table) (n : ℕ) (items : List Placed)
-    → All HasNoEnd ls → Reads TakesRow s n ls items new → All IsRight items
-reads_rows law [] s new n items h r = subst (All IsRight) (sym r.0) (All-nil IsRight)
-reads_rows law ([] ∷ ls) s new n items h r =
-    subst (All IsRight) (sym (r.5 ∙ ap (λ (xs : List Placed). xs ++ r.1) r.3.0)) (reads_rows law ls r.2 new (n + 1) r.1 (All-tail HasNoEnd [] ls h) r.4)
-reads_rows law ((b ∷ bs) ∷ ls) s new n items h r =
-    let line : List ℕ = b ∷ bs in
-    subst (All IsRight) (sym r.5)
-    (All-append IsRight r.0 r.1
-    (line_rows law s.headed s.body (n + 1) line r.0 r.2.body (All-head HasNoEnd line ls h) r.3.0 r.3.1 r.3.2.0)
-    (reads_rows law ls r.2 new (n + 1) r.1 (All-tail HasNoEnd line ls h) r.4))
+  read_all : (line : List ℕ) (known new : Option K) (number : ℕ) (items : List T) → HasNoEnd line → ReadsLine g known number line items new → All P items
+  read_all [] known new number items one h = subst (All P) (sym h.0) (All-nil P)
+  read_all (b ∷ bs) known new number items one h = line_all (b ∷ bs) known new number items one h.0 h.1
 
--- and what a reader of lines has appended to no rows
-pub text_rows : TableRowsAreOfLines → (piece : List ℕ) (old new : Reader (Passed Table)) (had has : List Placed)
-    → had ≡ [] → HasRead TakesRow (new_lines old piece) old had new has → All IsRight has
+  says_all : (ls : List (List ℕ)) (known new : Option K) (ended : ℕ) (items : List T) → All HasNoEnd ls → Says g known ended ls items new → All P items
+  says_all [] known new ended items ends h = subst (All P) (sym h.0) (All-nil P)
+  says_all (line ∷ ls) known new ended items ends h =
+      subst (All P) (sym h.5)
+      (All-append P h.0 h.1 (read_all line known h.2 (ended + 1) h.0 (All-head HasNoEnd line ls ends) h.3) (says_all ls h.2 new (ended + 1) h.1 (All-tail HasNoEnd line ls ends) h.4))
+
+-- a line of a table's file spells a row that the table can have
+row_right : TableRowsAreOfLines → (kind : FileKind) (known : Unit {0}) (number : ℕ) (line : List ℕ) (p : Placed) → HasNoEnd line → IsText line → (table_language kind).spells known number line p → IsRight p
+row_right law (files.Table t) known number line p one text s = ((law t p.row).1 (line, record { text = text.1; unmarked = text.0; one_line = one; turned = p.turned; spelled = s.0 })).1
+row_right law files.PersonStream known number line p one text s = absurd s
+row_right law files.ForumStream known number line p one text s = absurd s
+row_right law (files.Params q) known number line p one text s = absurd s
+row_right law files.Log known number line p one text s = absurd s
+row_right law files.Cases known number line p one text s = absurd s
+
+-- and what a reader has appended to no rows are such rows
+pub text_rows : TableRowsAreOfLines → (piece : List ℕ) (old new : Reader FileKind (Unit {0})) (had has : List Placed)
+    → had ≡ [] → HasAppended (table_language old.grammar) (new_lines old piece) old had new has → All IsRight has
 text_rows law piece old new had has none r =
     subst (All IsRight) (sym (r.appended ∙ ap (λ (xs : List Placed). xs ++ r.items) none))
-    (reads_rows law (new_lines old piece) old.meaning new.meaning old.ended r.items (whole_no_end (old.begun ++ piece)) r.reads)
+    (says_all (table_language old.grammar) IsRight (row_right law old.grammar) (new_lines old piece) old.known new.known old.ended r.items (whole_no_end (old.begun ++ piece)) r.says)

@@ -6,17 +6,17 @@ use Rattle.snb_schema.specs.declared.file.FileId.{FileId}
 use Rattle.snb_schema.specs.declared.refusal.Counted.{Counted}
 use Rattle.snb_schema.specs.declared.refusal.Refusal.{Refusal}
 use Rattle.snb_schema.specs.declared.refusal.Refusal.TheVariants.{BadLine}
-use Rattle.snb_schema.specs.Lines.{fields, lines}
+use Rattle.snb_schema.specs.Lines.{filled, lines}
 use Rattle.snb_input.specs.declared.series.Series.{Series}
 use Rattle.snb_input.specs.Files.{FirstFault, held_in}
 use Rattle.snb_input.specs.FirstOf.{FirstOf, NoneOf}
-use Rattle.snb_input.specs.Grammar.{Grammar, Lawful}
+use Rattle.snb_input.specs.Format.{Format, Lawful}
 use Rattle.snb_input.specs.Laws.{AreBelow, AreFrom, OneRefusal, RefusedOrNot, StagesJoin}
-use Rattle.snb_input.specs.Places.{FailsOwn, HasBadColumn, IsBare, LineFault, Place, file_checks, line_checks, opening}
+use Rattle.snb_input.specs.Places.{FailsOwn, HasBadColumn, IsBare, IsNoHeader, LineFault, Place, file_checks, line_checks, opening}
 use Rattle.snb_input.specs.Ranks.{ordinal}
 use Rattle.snb_input.specs.Walk.{Before, Held, IsHeldTold, Look, Role, after_look, file_at, first_role, look_beyond, look_checks, looks_from, series_looks, stage_checks, stage_looks, walk_checks}
 use Rattle.snb_input.specs.Walk.Role.{Needed, Further, Beyond}
-use Rattle.snb_input.proofs.Taking.{files_one, says_one}
+use Rattle.snb_input.proofs.Taking.{files_one, knows_one, says_one}
 
 -- each check refuses in one way at most
 abbrev pub Ones : List {1} (Refusal → Type 0) → Type 0
@@ -66,17 +66,30 @@ fault_one F ls one r q a b =
       | after more p ↦ absurd (a.none_before.none b.before b.line more q p b.fault)
     ]
 
-module _ {T : Type 0} (g : Grammar T) (lawful : Lawful g) where
+module _ {K T : Type 0} (g : Format K T) (lawful : Lawful g) where
   own_one : (p : Place) (line : List ℕ) (r q : Refusal) → FailsOwn g p line r → FailsOwn g p line q → r ≡ q
   own_one p line r q a b =
-      let item : b.item ≡ a.item = lawful.one p.file (length p.before + 1) (fields line) b.item a.item b.spells a.spells in
       let old : b.done ≡ a.done = files_one g lawful p.past b.done a.done b.said a.said in
-      let mine : b.mine ≡ a.mine = says_one g lawful p.file p.before 0 (g.has_header p.file) b.mine a.mine b.says a.says in
+      let one = says_one g lawful p.file p.before b.mine a.mine (Some b.known) (Some a.known) b.says a.says in
+      let known : b.known ≡ a.known = same_known (Some b.known) b.known a.known refl one.1 in
+      let item : b.item ≡ a.item =
+      (lawful.exact p.file).one_item a.known (length p.before + 1) line b.item a.item (subst (λ (k : K). (g.language p.file).spells k (length p.before + 1) line b.item) known b.spells) a.spells in
       lawful.one_own p.file a.done a.mine a.item r q a.fails
-      (subst (λ (x : T). g.own p.file a.done a.mine x q) item (subst (λ (xs : List T). g.own p.file a.done xs b.item q) mine (subst (λ (xss : List (List T)). g.own p.file xss b.mine b.item q) old b.fails)))
+      (subst (λ (x : T). g.rules.own p.file a.done a.mine x q) item (subst (λ (xs : List T). g.rules.own p.file a.done xs b.item q) one.0 (subst (λ (xss : List (List T)). g.rules.own p.file xss b.mine b.item q) old b.fails)))
+    where
+      same_known : (o : Option K) (x y : K) → o ≡ Some x → o ≡ Some y → x ≡ y
+      same_known o x y e h = cc
+
+  header_one : (p : Place) (line : List ℕ) (r q : Refusal) → IsNoHeader g p line r → IsNoHeader g p line q → r ≡ q
+  header_one p line r q a b = a.3 ∙ ap (BadLine p.file (length p.before + 1)) (lawful.one_header_column p.file line a.1 b.1 a.2 b.2) ∙ sym b.3
 
   column_one : (p : Place) (line : List ℕ) (r q : Refusal) → HasBadColumn g p line r → HasBadColumn g p line q → r ≡ q
-  column_one p line r q a b = a.3 ∙ ap (BadLine p.file (length p.before + 1)) (lawful.one_column p.file (fields line) a.1 b.1 a.2 b.2) ∙ sym b.3
+  column_one p line r q a b =
+      let known : b.0 ≡ a.0 = same_known (Some b.0) b.0 a.0 refl (knows_one (g.language p.file) (lawful.exact p.file) (g.language p.file).begins (filled p.before) (Some b.0) (Some a.0) b.1 a.1) in
+      a.4 ∙ ap (BadLine p.file (length p.before + 1)) (lawful.one_column p.file a.0 line a.2 b.2 a.3 (subst (λ (k : K). (g.language p.file).bad_line k line b.2) known b.3)) ∙ sym b.4
+    where
+      same_known : (o : Option K) (x y : K) → o ≡ Some x → o ≡ Some y → x ≡ y
+      same_known o x y e h = cc
 
   line_ones : (p : Place) (line : List ℕ) → Ones (line_checks g p line)
   line_ones p [] = ((λ r q a b. a.1 ∙ sym b.1), tt)
@@ -84,14 +97,14 @@ module _ {T : Type 0} (g : Grammar T) (lawful : Lawful g) where
     (λ r q a b. a.1 ∙ sym b.1),
     (
       (λ r q a b. a.1 ∙ sym b.1),
-      ((λ r q a b. a.1 ∙ sym b.1), ((λ r q a b. a.2 ∙ sym b.2), (column_one p (c ∷ cs), ((λ r q a b. a.2 ∙ sym b.2), (own_one p (c ∷ cs), tt))))),
+      ((λ r q a b. a.1 ∙ sym b.1), (header_one p (c ∷ cs), (column_one p (c ∷ cs), ((λ r q a b. a.3 ∙ sym b.3), (own_one p (c ∷ cs), tt))))),
     ),
   )
 
   bare_one : (p : Place) (whole : List ℕ) (r q : Refusal) → IsBare g p whole r → IsBare g p whole q → r ≡ q
   bare_one p whole r q a b =
-      let items : a.0 ≡ b.0 = says_one g lawful p.file (lines whole) 0 (g.has_header p.file) a.0 b.0 a.1 b.1 in
-      same_some (g.bare p.file b.0) r q (subst (λ (xs : List T). g.bare p.file xs ≡ Some r) items a.2) b.2
+      let items : a.0 ≡ b.0 = (says_one g lawful p.file (lines whole) a.0 b.0 (Some a.1.0) (Some b.1.0) a.1.1 b.1.1).0 in
+      same_some (g.rules.bare p.file b.0) r q (subst (λ (xs : List T). g.rules.bare p.file xs ≡ Some r) items a.2) b.2
     where
       same_some : (o : Option Refusal) (r q : Refusal) → o ≡ Some r → o ≡ Some q → r ≡ q
       same_some o r q a b = cc

@@ -1,7 +1,11 @@
--- What other crates may cite of this one: facts about checks and then more checks.
-use Rattle.std.proofs.Common.{List, [], ◌∷◌, ◌++◌, inl, inr}
+-- What other crates may cite of this one: facts about checks and then more checks, and of data lines.
+use Rattle.std.proofs.Common.{◌≡◌, ℕ, List, [], ◌∷◌, ◌++◌, Option, length, inl, inr}
 use Rattle.snb_schema.specs.declared.refusal.Refusal.{Refusal}
+use Rattle.snb_lines.specs.Language.{Language}
+use Rattle.snb_lines.specs.Reading.{Says}
 use Rattle.snb_input.specs.FirstOf.{FirstOf, NoneOf}
+use Rattle.snb_input.specs.Places.{data_of}
+use Rattle.snb_input.proofs.Taking
 
 -- none refuses, and then none
 pub none_append : (cs ds : List {1} (Refusal → Type 0)) → NoneOf cs → NoneOf ds → NoneOf (cs ++ ds)
@@ -18,3 +22,7 @@ pub first_anyway : (cs ds : List {1} (Refusal → Type 0)) (r : Refusal) → Fir
 first_anyway [] ds r p = absurd p
 first_anyway (A ∷ cs) ds r (inl p) = inl p
 first_anyway (A ∷ cs) ds r (inr p) = inr (p.0, first_anyway cs ds r p.1)
+
+-- lines say one item for each data line
+pub says_count : {K T : Type 0} (g : Language K T) (ls : List (List ℕ)) (known new : Option K) (n : ℕ) (items : List T) → Says g known n ls items new → length items ≡ length (data_of known ls)
+says_count = Taking.says_count

@@ -6,7 +6,6 @@ pub mod LawFacts
 pub mod Laws
 pub mod Reach
 pub mod SeriesFacts
-pub mod Splits
 pub mod StageFacts
 pub mod Taking
 pub mod ToldFacts

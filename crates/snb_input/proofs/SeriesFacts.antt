@@ -10,7 +10,8 @@ use Rattle.snb_input.specs.declared.load.Load.TheVariants.{Refused, ReadFault, M
 use Rattle.snb_input.specs.declared.series.Series.{Series}
 use Rattle.snb_input.specs.declared.walk.Walk.{Walk}
 use Rattle.snb_input.specs.FirstOf.{FirstOf}
-use Rattle.snb_input.specs.Grammar.{Grammar, Heard}
+use Rattle.snb_lines.specs.Sinks.{Heard}
+use Rattle.snb_input.specs.Format.{Format}
 use Rattle.snb_input.specs.Looking.{Agrees, AreTold, IsFileTold, IsLook, IsSeries, Rises, look_of}
 use Rattle.snb_input.specs.Places.{FilesSay}
 use Rattle.snb_input.specs.Ranks.{rank}
@@ -51,7 +52,7 @@ left_none most i h = omega arith
 left_all : (most : ℕ) → most ≡ most - 0
 left_all most = omega arith
 
-module _ {P T : Type 0} (g : Grammar T) (heard : Heard P T) (contents : Option Files) (folder : List ℕ) (s : Series) (start : Before) (looked : List Look) where
+module _ {P K T : Type 0} (g : Format K T) (heard : Heard P T) (contents : Option Files) (folder : List ℕ) (s : Series) (start : Before) (looked : List Look) where
   -- the files of the series up to one number were looked for
   pub record Along (part : ℕ) (role : Role) (w : Walk P) : Type 0 where
     pub ls : List Look

@@ -12,7 +12,8 @@ use Rattle.snb_input.specs.declared.series.Series.{Series}
 use Rattle.snb_input.specs.declared.walk.Walk.{Walk}
 use Rattle.snb_input.specs.Files.{held_in}
 use Rattle.snb_input.specs.FirstOf.{FirstOf}
-use Rattle.snb_input.specs.Grammar.{Grammar, Heard}
+use Rattle.snb_lines.specs.Sinks.{Heard}
+use Rattle.snb_input.specs.Format.{Format}
 use Rattle.snb_input.specs.Looking.{Agrees, AreTold, IsSeries, Rises}
 use Rattle.snb_input.specs.Ranks.{ordinal, rank}
 use Rattle.snb_input.specs.Stages.{AreRising, IsStage, Walked, before}
@@ -64,7 +65,7 @@ pub held_of : (contents : Option Files) (folder : List ℕ) (ls : List Look) (lo
 held_of None folder ls low high r t = record { held = λ file. find (rank file) ls; told = tt; agrees = finds ls ls low high r (λ n h. refl) }
 held_of (Some files) folder ls low high r t = record { held = held_in folder files; told = λ file. refl; agrees = t }
 
-module _ {P T : Type 0} (g : Grammar T) (heard : Heard P T) (contents : Option Files) (folder : List ℕ) (stage : List Series) (start : Before) where
+module _ {P K T : Type 0} (g : Format K T) (heard : Heard P T) (contents : Option Files) (folder : List ℕ) (stage : List Series) (start : Before) where
   -- the files of some series were looked for, and those of these series are left
   pub record Staged (left : List Series) (w : Walk P) : Type 0 where
     pub ls : List Look
@@ -128,5 +129,5 @@ next_series ss i h = drop-cons ss i no_series h ∙ ap (λ (n : ℕ). get_or ss 
     one_on n = omega arith
 
 -- before the first
-pub walked_first : {P T : Type 0} (g : Grammar T) (heard : Heard P T) (used : Used) (taker : P) → heard taker [] [] → Walked g heard (before used) [] (record { used = used; taker = taker })
+pub walked_first : {P K T : Type 0} (g : Format K T) (heard : Heard P T) (used : Used) (taker : P) → heard taker [] [] → Walked g heard (before used) [] (record { used = used; taker = taker })
 walked_first g heard used taker fresh = record { clean = tt; bytes_are = refl; rows_are = refl; done = []; said = tt; fresh = fresh }

@@ -14,10 +14,11 @@ use Rattle.snb_input.specs.declared.walk.Looked.TheVariants.{Absent, Whole}
 use Rattle.snb_input.specs.declared.walk.Walk.{Walk}
 use Rattle.snb_input.specs.Files.{held_in}
 use Rattle.snb_input.specs.FirstOf.{FirstOf, NoneOf}
-use Rattle.snb_input.specs.Grammar.{Grammar, Heard}
+use Rattle.snb_lines.specs.Sinks.{Heard}
+use Rattle.snb_input.specs.Format.{Format}
 use Rattle.snb_input.specs.Loading.{IsAnswer, IsTold}
 use Rattle.snb_input.specs.Looking.{Agrees, AreTold, IsFileTold, IsLook, Rises, look_of}
-use Rattle.snb_input.specs.Places.{FileSays, FilesSay, Source, data_of, file_checks, opening}
+use Rattle.snb_input.specs.Places.{FileSays, FilesSay, Source, file_checks, opening, rows_in}
 use Rattle.snb_input.specs.Ranks.{rank}
 use Rattle.snb_input.specs.Stages.{Walked}
 use Rattle.snb_input.specs.Walk.{Before, Held, Look, Role, after_look, after_walk, first_role, look_checks, walk_checks, with_file}
@@ -55,7 +56,7 @@ rises_wider [] low mid high p q = omega (arith, p, q)
 rises_wider (x ∷ xs) low mid high p q = (p.0, rises_wider xs (rank x.file + 1) mid high p.1 q)
 
 -- the checks of looks and then more
-module _ {T : Type 0} (g : Grammar T) where
+module _ {K T : Type 0} (g : Format K T) where
   pub walk_append : (at : Before) (xs ys : List Look) → walk_checks g at (xs ++ ys) ≡ walk_checks g at xs ++ walk_checks g (after_walk g at xs) ys
   walk_append at [] ys = refl
   walk_append at (x ∷ xs) ys =
@@ -157,7 +158,7 @@ module _ {T : Type 0} (g : Grammar T) where
         walked = record {
           clean = snoc_none start looked file (first_role needed) (Some b) k.clean (subst NoneOf (ap (λ p. file_checks g p b) (placed b) ∙ sym (there_checks at file needed b)) whole.clean);
           bytes_are = bytes ∙ ap (λ (n : ℕ). n + length b) k.bytes_are ∙ ap (λ (z : Before). z.bytes) same;
-          rows_are = whole.counted ∙ ap (λ (n : ℕ). n + length (data_of (g.has_header file) (lines b))) k.rows_are ∙ ap (λ (z : Before). z.rows) same;
+          rows_are = whole.counted ∙ ap (λ (n : ℕ). n + rows_in g file (lines b)) k.rows_are ∙ ap (λ (z : Before). z.rows) same;
           done = whole.done ++ whole.mine ∷ [];
           said = subst (λ (z : Before). FilesSay g z.past (whole.done ++ whole.mine ∷ [])) same (say_more at.past whole.done (record { file = file; bytes = b }) whole.mine whole.said whole.says);
           fresh = put whole.done whole.mine whole.tells;

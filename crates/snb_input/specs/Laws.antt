@@ -4,21 +4,21 @@ use Rattle.snb_base.specs.Shelf.{Files}
 use Rattle.snb_schema.specs.declared.refusal.Refusal.{Refusal}
 use Rattle.snb_input.specs.declared.series.Series.{Series}
 use Rattle.snb_input.specs.FirstOf.{FirstOf, NoneOf}
-use Rattle.snb_input.specs.Grammar.{Grammar}
+use Rattle.snb_input.specs.Format.{Format}
 use Rattle.snb_input.specs.Places.{FilesSay, Source}
 use Rattle.snb_input.specs.Ranks.{ordinal}
 use Rattle.snb_input.specs.Walk.{Before, Held, IsHeldTold, stage_checks, stage_looks}
 
 -- a stage of an input has one refusal at most
-abbrev pub OneRefusal : {T : Type 0} → Grammar T → Type 0
+abbrev pub OneRefusal : {K T : Type 0} → Format K T → Type 0
 OneRefusal g = (at : Before) (held : Held) (stage : List Series) (r q : Refusal) → FirstOf (stage_checks g at held stage) r → FirstOf (stage_checks g at held stage) q → r ≡ q
 
 -- where it has one, something is wrong with it
-abbrev pub RefusedOrNot : {T : Type 0} → Grammar T → Type 0
+abbrev pub RefusedOrNot : {K T : Type 0} → Format K T → Type 0
 RefusedOrNot g = (at : Before) (held : Held) (stage : List Series) (r : Refusal) → FirstOf (stage_checks g at held stage) r → ¬ NoneOf (stage_checks g at held stage)
 
 -- files say one list of items each
-abbrev pub OneSaying : {T : Type 0} → Grammar T → Type 0
+abbrev pub OneSaying : {K T : Type 0} → Format K T → Type 0
 OneSaying {T} g = (sources : List Source) (xss yss : List (List T)) → FilesSay g sources xss → FilesSay g sources yss → xss ≡ yss
 
 -- the kind of each series comes before those from this number on

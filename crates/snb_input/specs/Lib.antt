@@ -1,7 +1,6 @@
 pub mod Files
 pub mod FirstOf
-pub mod Grammar
-pub mod Intake
+pub mod Format
 pub mod Laws
 pub mod Loading
 pub mod Looking

@@ -4,7 +4,7 @@ use Rattle.snb_base.specs.Shelf.{Files}
 use Rattle.snb_schema.specs.declared.fault.Fault.{Fault}
 use Rattle.snb_schema.specs.declared.fault.Fault.TheVariants as fault
 use Rattle.snb_schema.specs.declared.file.FileId.{FileId}
-use Rattle.snb_schema.specs.declared.limits.TheConstants.{MAX_BYTES, MAX_ROWS}
+use Rattle.snb_schema.specs.declared.limits.TheConstants.{MAX_BYTES}
 use Rattle.snb_schema.specs.Lines.{lines}
 use Rattle.snb_input.specs.declared.file.Loaded.{Loaded}
 use Rattle.snb_input.specs.declared.file.Loaded.TheVariants.{Absent, Whole}
@@ -12,8 +12,10 @@ use Rattle.snb_input.specs.declared.load.Load.{Load}
 use Rattle.snb_input.specs.declared.load.Load.TheVariants.{Refused, ReadFault, Memory}
 use Rattle.snb_input.specs.declared.load.Used.{Used}
 use Rattle.snb_input.specs.FirstOf.{FirstOf, NoneOf}
-use Rattle.snb_input.specs.Grammar.{Grammar, Heard}
-use Rattle.snb_input.specs.Places.{FilesSay, Says, Source, data_of, file_checks, opening}
+use Rattle.snb_lines.specs.Counts.{IsUnder}
+use Rattle.snb_lines.specs.Sinks.{Heard}
+use Rattle.snb_input.specs.Format.{Format}
+use Rattle.snb_input.specs.Places.{FileSays, FilesSay, Source, file_checks, opening, rows_in}
 
 -- a fact where the shelf failed
 abbrev pub OnReadFault : {A : Type 0} → Result A Load → Type 0 → Type 0
@@ -32,18 +34,18 @@ abbrev pub IsTold : Option Files → List ℕ → Option (List ℕ) → Type 0
 IsTold contents name held = IfSome contents (λ files. files name ≡ held)
 
 -- nothing is wrong with a file of these bytes, the taker was told by it what it says, and its data lines are counted
-pub record IsTakenWhole {P T : Type 0} (g : Grammar T) (heard : Heard P T) (file : FileId) (bytes rows : ℕ) (past : List Source) (whole : List ℕ) (taker : P) (new_rows : ℕ) : Type 0 where
+pub record IsTakenWhole {P K T : Type 0} (g : Format K T) (heard : Heard P T) (file : FileId) (bytes rows : ℕ) (past : List Source) (whole : List ℕ) (taker : P) (new_rows : ℕ) : Type 0 where
   pub clean : NoneOf (file_checks g (opening file bytes rows past whole) whole)
   pub done : List (List T)
   pub mine : List T
   pub said : FilesSay g past done
-  pub says : Says g file 0 (g.has_header file) (lines whole) mine
+  pub says : FileSays g (record { file = file; bytes = whole }) mine
   pub tells : heard taker done mine
-  pub counted : new_rows ≡ rows + length (data_of (g.has_header file) (lines whole))
+  pub counted : new_rows ≡ rows + rows_in g file (lines whole)
 
 -- what the loading of a file answers: it isn't held; or these are its bytes, of which nothing is wrong and all is taken, or which are
 -- refused so; and where the shelf tells what it holds, that is what it tells
-abbrev pub IsAnswer : {P T : Type 0} → Grammar T → Heard P T → Option Files → List ℕ → FileId → Used → List Source → P → Result (Loaded P) Load → Type 0
+abbrev pub IsAnswer : {P K T : Type 0} → Format K T → Heard P T → Option Files → List ℕ → FileId → Used → List Source → P → Result (Loaded P) Load → Type 0
 IsAnswer g heard contents name file used past taker (Ok (Absent new)) = IsTold contents name None × (new ≡ taker)
 IsAnswer g heard contents name file used past taker (Ok (Whole new now)) =
     (whole : List ℕ)
@@ -58,6 +60,6 @@ IsAnswer g heard contents name file used past taker (Err ReadFault) = Unit {0}
 IsAnswer g heard contents name file used past taker (Err Memory) = Unit {0}
 
 -- what was read with a file keeps within the limits
-abbrev pub IsWithin : {P : Type 0} → Loaded P → Type 0
-IsWithin (Absent new) = Unit {0}
-IsWithin (Whole new now) = (now.bytes ≤ MAX_BYTES) × (now.rows ≤ MAX_ROWS)
+abbrev pub IsWithin : {P : Type 0} → Option ℕ → Loaded P → Type 0
+IsWithin limit (Absent new) = Unit {0}
+IsWithin limit (Whole new now) = (now.bytes ≤ MAX_BYTES) × IsUnder limit now.rows

@@ -10,7 +10,8 @@ use Rattle.snb_input.specs.declared.walk.Looked.TheVariants.{Absent, Whole}
 use Rattle.snb_input.specs.declared.walk.Walk.{Walk}
 use Rattle.snb_input.specs.Files.{held_in}
 use Rattle.snb_input.specs.FirstOf.{FirstOf}
-use Rattle.snb_input.specs.Grammar.{Grammar, Heard}
+use Rattle.snb_lines.specs.Sinks.{Heard}
+use Rattle.snb_input.specs.Format.{Format}
 use Rattle.snb_input.specs.Ranks.{rank}
 use Rattle.snb_input.specs.Stages.{IsWalkWithin, Walked}
 use Rattle.snb_input.specs.Walk.{Before, Held, Look, Role, file_at, first_role, series_looks, walk_checks}
@@ -33,7 +34,7 @@ abbrev pub look_of : FileId → Role → Option (List ℕ) → Look
 look_of file role held = record { file = file; role = role; held = held }
 
 -- what a look for a file answers, after others
-abbrev pub IsLook : {P T : Type 0} → Grammar T → Heard P T → Option Files → List ℕ → FileId → Bool → Before → List Look → Result (Looked P) Load → Type 0
+abbrev pub IsLook : {P K T : Type 0} → Format K T → Heard P T → Option Files → List ℕ → FileId → Bool → Before → List Look → Result (Looked P) Load → Type 0
 IsLook g heard contents folder file needed start looked (Ok (Absent w)) =
     IsFileTold contents folder file None × Walked g heard start (looked ++ look_of file (first_role needed) None ∷ []) w
 IsLook g heard contents folder file needed start looked (Ok (Whole w)) =
@@ -56,9 +57,9 @@ IsNotRefused (Err ReadFault) = Unit {0}
 IsNotRefused (Err Memory) = Unit {0}
 
 -- what was read keeps within the limits, whether the file is held or not
-abbrev pub IsLookedWithin : {P : Type 0} → Looked P → Type 0
-IsLookedWithin (Absent w) = IsWalkWithin w
-IsLookedWithin (Whole w) = IsWalkWithin w
+abbrev pub IsLookedWithin : {P : Type 0} → Option ℕ → Looked P → Type 0
+IsLookedWithin limit (Absent w) = IsWalkWithin limit w
+IsLookedWithin limit (Whole w) = IsWalkWithin limit w
 
 -- the ranks of the files of these looks rise, from one number on and below another
 abbrev pub Rises : ℕ → List Look → ℕ → Type 0
@@ -78,13 +79,13 @@ pub record LooksSome (contents : Option Files) (folder : List ℕ) (full : Held 
   pub some : (held : Held) → Agrees held ls → (rest : List Look) × (full held ≡ ls ++ rest)
 
 -- what the walk over some files answers, after others
-abbrev pub IsWalk : {P T : Type 0} → Grammar T → Heard P T → Option Files → List ℕ → (Held → List Look) → ℕ → ℕ → Before → List Look → Result (Walk P) Load → Type 0
+abbrev pub IsWalk : {P K T : Type 0} → Format K T → Heard P T → Option Files → List ℕ → (Held → List Look) → ℕ → ℕ → Before → List Look → Result (Walk P) Load → Type 0
 IsWalk g heard contents folder full low high start looked (Ok w) = (ls : List Look) × LooksAll contents folder full low high ls × Walked g heard start (looked ++ ls) w
 IsWalk g heard contents folder full low high start looked (Err (Refused r)) = (ls : List Look) × LooksSome contents folder full low high ls × FirstOf (walk_checks g start (looked ++ ls)) r
 IsWalk g heard contents folder full low high start looked (Err ReadFault) = Unit {0}
 IsWalk g heard contents folder full low high start looked (Err Memory) = Unit {0}
 
 -- what the walk over the files of a series answers, after others
-abbrev pub IsSeries : {P T : Type 0} → Grammar T → Heard P T → Option Files → List ℕ → Series → Before → List Look → Result (Walk P) Load → Type 0
+abbrev pub IsSeries : {P K T : Type 0} → Format K T → Heard P T → Option Files → List ℕ → Series → Before → List Look → Result (Walk P) Load → Type 0
 IsSeries g heard contents folder s start looked result =
     IsWalk g heard contents folder (λ held. series_looks held s) (rank (file_at s 0)) (rank (file_at s 0) + 2 ^ 32) start looked result

@@ -1,11 +1,14 @@
 -- How far a file is read, piece by piece. Cited by contracts of private functions alone.
-use Rattle.std.specs.Prelude.{◌≡◌, ◌≢◌, ℕ, ◌+◌, false, List, [], ◌++◌, length, take, Option, Some, None, Result, Ok, Err, IfSome}
+use Rattle.std.specs.Prelude.{◌≡◌, ◌≢◌, ℕ, ◌+◌, List, [], ◌++◌, length, take, Option, Some, None, Result, Ok, Err, IfSome}
 use Rattle.snb_base.specs.Shelf.{Files}
 use Rattle.snb_schema.specs.declared.file.FileId.{FileId}
 use Rattle.snb_schema.specs.declared.limits.TheConstants.{MAX_BYTES}
 use Rattle.snb_schema.specs.declared.refusal.Refusal.{Refusal}
-use Rattle.snb_lines.specs.Cut.{rest_of, whole_lines}
-use Rattle.snb_lines.specs.Reading.{Reader, Reads}
+use Rattle.snb_lines.specs.Counts.{RowTakes}
+use Rattle.snb_lines.specs.declared.counted.RowCount.{RowCount}
+use Rattle.snb_lines.specs.Fed.{Fed}
+use Rattle.snb_lines.specs.Feeding.{Reader}
+use Rattle.snb_lines.specs.Sinks.{Heard, Takes}
 use Rattle.snb_input.specs.declared.file.Loaded.{Loaded}
 use Rattle.snb_input.specs.declared.file.Loaded.TheVariants.{Absent, Whole}
 use Rattle.snb_input.specs.declared.load.Load.{Load}
@@ -14,8 +17,7 @@ use Rattle.snb_input.specs.declared.load.Used.{Used}
 use Rattle.snb_input.specs.declared.pieces.Step.{Step}
 use Rattle.snb_input.specs.declared.pieces.Step.TheVariants as step
 use Rattle.snb_input.specs.FirstOf.{FirstOf}
-use Rattle.snb_input.specs.Grammar.{Grammar, Heard}
-use Rattle.snb_input.specs.Intake.{Taken, Takes}
+use Rattle.snb_input.specs.Format.{Format}
 use Rattle.snb_input.specs.Loading.{IsTakenWhole}
 use Rattle.snb_input.specs.Places.{FilesSay, LinesRefuse, Source, file_checks, opening}
 
@@ -31,37 +33,30 @@ pub record IsBegun (files : Files) (name bytes : List ℕ) : Type 0 where
   pub begins : (file : List ℕ) → files name ≡ Some file → bytes ≡ take (length bytes) file
   pub held : bytes ≢ [] → (file : List ℕ) × (files name ≡ Some file)
 
--- an intake is before the first line of a file, and was told by these files of the stage what they say
-pub record Opened {P T : Type 0} (g : Grammar T) (heard : Heard P T) (file : FileId) (rows : ℕ) (past : List Source) (s : Taken P) : Type 0 where
-  pub file_is : s.file ≡ file
-  pub due : s.due ≡ g.has_header file
+-- a sink is before the first line of a file, after so many data lines of files before, and was told by these files of the stage what they say
+pub record Opened {P K T : Type 0} (g : Format K T) (heard : Heard P T) (rows : ℕ) (past : List Source) (s : RowCount P) : Type 0 where
   pub done : List (List T)
   pub said : FilesSay g past done
-  pub fresh : heard s.taker done []
+  pub fresh : heard s.sink done []
   pub rows_are : s.rows ≡ rows
+  pub most_is : s.most ≡ g.rules.limit
 
--- a reader was fed these bytes of a file, with the intake first in this state, and no line is refused so far
-pub record Fed {P T : Type 0} (g : Grammar T) (heard : Heard P T) (start : Taken P) (reader : Reader (Taken P)) (text : List ℕ) : Type 0 where
-  pub same_file : reader.file ≡ start.file
-  pub fed : reader.fed ≡ length text
-  pub units : List (Unit {0})
-  pub reads : Reads (Takes g heard) start 0 (whole_lines text) units reader.meaning
-  pub ended : reader.ended ≡ length (whole_lines text)
-  pub begun : reader.begun ≡ rest_of text
-  pub goes_on : reader.over ≡ false
-  pub good : reader.fault ≡ None
+-- a reader was fed these bytes of a file, no line is refused so far, and the sink, first in this state, has the items
+abbrev pub IsFed : {P G K T : Type 0} → Format K T → Takes P T → FileId → G → RowCount P → List ℕ → Reader G K → RowCount P → Type 0
+IsFed g takes file grammar start text reader sink = Fed (g.language file) (RowTakes takes) file grammar start text reader sink
 
 -- a reader is fed this piece, whatever it was fed before
-abbrev pub IsFedMore : {P T : Type 0} → Grammar T → Heard P T → Reader (Taken P) → List ℕ → Reader (Taken P) → Type 0
-IsFedMore {P} g heard old piece new = (start : Taken P) (text : List ℕ) → Fed g heard start old text → Fed g heard start new (text ++ piece)
+abbrev pub IsFedMore : {P G K T : Type 0} → Format K T → Takes P T → FileId → G → Reader G K → RowCount P → List ℕ → Reader G K → RowCount P → Type 0
+IsFedMore {P} g takes file grammar old had piece new has =
+    (start : RowCount P) (text : List ℕ) → IsFed g takes file grammar start text old had → IsFed g takes file grammar start (text ++ piece) new has
 
 -- a file that goes on with this piece, of which so many bytes may be read, is refused so, whatever follows
-abbrev pub IsBadPiece : {P T : Type 0} → Grammar T → Heard P T → FileId → ℕ → Reader (Taken P) → List ℕ → Refusal → Type 0
-IsBadPiece {P} g heard file most old piece r =
-    (bytes rows : ℕ) (past : List Source) (start : Taken P) (text rest : List ℕ)
+abbrev pub IsBadPiece : {P G K T : Type 0} → Format K T → Heard P T → Takes P T → FileId → G → ℕ → Reader G K → RowCount P → List ℕ → Refusal → Type 0
+IsBadPiece {P} g heard takes file grammar most old had piece r =
+    (bytes rows : ℕ) (past : List Source) (start : RowCount P) (text rest : List ℕ)
     → bytes + most ≡ MAX_BYTES
-    → Opened g heard file rows past start
-    → Fed g heard start old text
+    → Opened g heard rows past start
+    → IsFed g takes file grammar start text old had
     → LinesRefuse g (opening file bytes rows past ((text ++ piece) ++ rest)) ((text ++ piece) ++ rest) r
 
 -- a piece more was read of the file after these bytes
@@ -69,16 +64,20 @@ abbrev pub IsMore : Option Files → List ℕ → List ℕ → List ℕ → Type
 IsMore contents name text piece = (piece ≢ []) × IfSome contents (λ files. IsBegun files name text → IsBegun files name (text ++ piece))
 
 -- what one read of the file answers, of which so many bytes may be read, after those that the reader was fed
-abbrev pub IsStep : {P T : Type 0} → Grammar T → Heard P T → Option Files → List ℕ → FileId → ℕ → Reader (Taken P) → Reader (Taken P) → Result Step Load → Type 0
-IsStep g heard contents name file most old new (Ok step.More) = (piece : List ℕ) × ((text : List ℕ) → length text ≡ old.fed → IsMore contents name text piece) × IsFedMore g heard old piece new
-IsStep g heard contents name file most old new (Ok step.End) = (new ≡ old) × ((text : List ℕ) → length text ≡ old.fed → IfSome contents (λ files. IsBegun files name text → files name ≡ Some text))
-IsStep g heard contents name file most old new (Ok step.Absent) = (new ≡ old) × (old.fed ≡ 0) × IfSome contents (λ files. files name ≡ None)
-IsStep g heard contents name file most old new (Err (Refused r)) = (piece : List ℕ) × ((text : List ℕ) → length text ≡ old.fed → IsMore contents name text piece) × IsBadPiece g heard file most old piece r
-IsStep g heard contents name file most old new (Err ReadFault) = Unit {0}
-IsStep g heard contents name file most old new (Err Memory) = Unit {0}
+abbrev pub IsStep : {P G K T : Type 0} → Format K T → Heard P T → Takes P T → Option Files → List ℕ → FileId → G → ℕ → Reader G K → RowCount P → Reader G K → RowCount P → Result Step Load → Type 0
+IsStep g heard takes contents name file grammar most old had new has (Ok step.More) =
+    (piece : List ℕ) × ((text : List ℕ) → length text ≡ old.fed → IsMore contents name text piece) × IsFedMore g takes file grammar old had piece new has
+IsStep g heard takes contents name file grammar most old had new has (Ok step.End) =
+    (new ≡ old) × (has ≡ had) × ((text : List ℕ) → length text ≡ old.fed → IfSome contents (λ files. IsBegun files name text → files name ≡ Some text))
+IsStep g heard takes contents name file grammar most old had new has (Ok step.Absent) =
+    (new ≡ old) × (has ≡ had) × (old.fed ≡ 0) × IfSome contents (λ files. files name ≡ None)
+IsStep g heard takes contents name file grammar most old had new has (Err (Refused r)) =
+    (piece : List ℕ) × ((text : List ℕ) → length text ≡ old.fed → IsMore contents name text piece) × IsBadPiece g heard takes file grammar most old had piece r
+IsStep g heard takes contents name file grammar most old had new has (Err ReadFault) = Unit {0}
+IsStep g heard takes contents name file grammar most old had new has (Err Memory) = Unit {0}
 
 -- what the loading of a file answers that is read to its end, of which these are the bytes
-abbrev pub IsEnd : {P T : Type 0} → Grammar T → Heard P T → FileId → Used → List Source → List ℕ → Result (Loaded P) Load → Type 0
+abbrev pub IsEnd : {P K T : Type 0} → Format K T → Heard P T → FileId → Used → List Source → List ℕ → Result (Loaded P) Load → Type 0
 IsEnd g heard file used past text (Ok (Absent new)) = ⊥
 IsEnd g heard file used past text (Ok (Whole new now)) = (now.bytes ≡ used.bytes + length text) × IsTakenWhole g heard file used.bytes used.rows past text new now.rows
 IsEnd g heard file used past text (Err (Refused r)) = FirstOf (file_checks g (opening file used.bytes used.rows past text) text) r

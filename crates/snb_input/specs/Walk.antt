@@ -8,8 +8,8 @@ use Rattle.snb_schema.specs.declared.refusal.Refusal.TheVariants.{Absent, TooMan
 use Rattle.snb_schema.specs.Lines.{lines}
 use Rattle.snb_input.specs.declared.series.Series.{Series}
 use Rattle.snb_input.specs.Files.{held_in}
-use Rattle.snb_input.specs.Grammar.{Grammar}
-use Rattle.snb_input.specs.Places.{Source, data_of, file_checks, opening}
+use Rattle.snb_input.specs.Format.{Format}
+use Rattle.snb_input.specs.Places.{Source, file_checks, opening, rows_in}
 
 -- the bytes of each file of a folder, where it is held
 abbrev pub Held : Type 0
@@ -38,7 +38,7 @@ pub record Before : Type 0 where
   pub past : List Source
 
 -- what is tried of a file in a role, which is held or not
-abbrev pub look_checks : {T : Type 0} → Grammar T → Before → FileId → Role → Option (List ℕ) → List {1} (Refusal → Type 0)
+abbrev pub look_checks : {K T : Type 0} → Format K T → Before → FileId → Role → Option (List ℕ) → List {1} (Refusal → Type 0)
 look_checks g at file Needed None = (λ r. r ≡ Absent file) ∷ []
 look_checks g at file Needed (Some b) = file_checks g (opening file at.bytes at.rows at.past b) b
 look_checks g at file Further None = []
@@ -47,15 +47,15 @@ look_checks g at file (Beyond what) None = []
 look_checks g at file (Beyond what) (Some b) = (λ r. r ≡ TooMany what) ∷ []
 
 -- what was read after a file of these bytes
-abbrev pub with_file : {T : Type 0} → Grammar T → Before → FileId → List ℕ → Before
+abbrev pub with_file : {K T : Type 0} → Format K T → Before → FileId → List ℕ → Before
 with_file g at file b = record {
   bytes = at.bytes + length b;
-  rows = at.rows + length (data_of (g.has_header file) (lines b));
+  rows = at.rows + rows_in g file (lines b);
   past = at.past ++ record { file = file; bytes = b } ∷ [];
 }
 
 -- what was read after a look: a file that isn't held isn't read, nor is one too many
-abbrev pub after_look : {T : Type 0} → Grammar T → Before → FileId → Role → Option (List ℕ) → Before
+abbrev pub after_look : {K T : Type 0} → Format K T → Before → FileId → Role → Option (List ℕ) → Before
 after_look g at file Needed None = at
 after_look g at file Needed (Some b) = with_file g at file b
 after_look g at file Further None = at
@@ -63,12 +63,12 @@ after_look g at file Further (Some b) = with_file g at file b
 after_look g at file (Beyond what) held = at
 
 -- what is tried of files that are looked for one after the other
-abbrev pub walk_checks : {T : Type 0} → Grammar T → Before → List Look → List {1} (Refusal → Type 0)
+abbrev pub walk_checks : {K T : Type 0} → Format K T → Before → List Look → List {1} (Refusal → Type 0)
 walk_checks g at [] = []
 walk_checks g at (l ∷ ls) = look_checks g at l.file l.role l.held ++ walk_checks g (after_look g at l.file l.role l.held) ls
 
 -- what was read after them
-abbrev pub after_walk : {T : Type 0} → Grammar T → Before → List Look → Before
+abbrev pub after_walk : {K T : Type 0} → Format K T → Before → List Look → Before
 after_walk g at [] = at
 after_walk g at (l ∷ ls) = after_walk g (after_look g at l.file l.role l.held) ls
 
@@ -103,5 +103,5 @@ stage_looks held [] = []
 stage_looks held (s ∷ ss) = series_looks held s ++ stage_looks held ss
 
 -- what is tried of a stage of an input, in order: the stage is refused by the first of these that refuses
-abbrev pub stage_checks : {T : Type 0} → Grammar T → Before → Held → List Series → List {1} (Refusal → Type 0)
+abbrev pub stage_checks : {K T : Type 0} → Format K T → Before → Held → List Series → List {1} (Refusal → Type 0)
 stage_checks g at held ss = walk_checks g at (stage_looks held ss)

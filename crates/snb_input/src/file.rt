@@ -1,19 +1,21 @@
 //! The loading of one file.
 
-ghost use Rattle.std.specs.Prelude.{◌≡◌, ◌+◌, ◌≤◌, ◌<◌, ℕ, [], List, IfOk, length, vec_len, None, false};
+ghost use Rattle.std.specs.Prelude.{◌≡◌, ◌+◌, ◌≤◌, ◌<◌, ℕ, [], List, IfOk, vec_len, None, false};
 ghost use Rattle.snb_base.specs.Shelf.{Rose};
-ghost use Rattle.snb_schema.specs.declared.limits.TheConstants.{MAX_BYTES, MAX_ROWS};
-ghost use Rattle.snb_input.specs.Grammar.{Lawful};
-ghost use Rattle.snb_input.specs.Intake.{Taken};
+ghost use Rattle.snb_schema.specs.declared.limits.TheConstants.{MAX_BYTES};
+ghost use Rattle.snb_lines.specs.Counts.{IsUnder};
+ghost use Rattle.snb_lines.specs.declared.counted.RowCount.{RowCount as Row};
+ghost use Rattle.snb_input.specs.Format.{IsTaker, format_of};
 ghost use Rattle.snb_input.specs.Loading.{IsAnswer, IsWithin, OnReadFault};
-ghost use Rattle.snb_input.specs.Pieces.{Fed, IsEnd, Opened};
+ghost use Rattle.snb_input.specs.Pieces.{IsEnd, IsFed, Opened};
 ghost use Rattle.snb_input.specs.Places.{FilesSay, Source};
 
-use crate::intake::Intake;
 use crate::load::{Load, Used, load_of};
 use crate::pieces::{Step, read_piece};
 use crate::taker::Taker;
 use snb_base::shelf::Shelf;
+use snb_lines::counted::RowCount;
+use snb_lines::grammar::Grammar;
 use snb_lines::lines::Lines;
 use snb_schema::file::FileId;
 use snb_schema::limits::MAX_BYTES;
@@ -46,35 +48,38 @@ pub enum Loaded<P> {
     },
 }
 
-// Ends a file that was read to its end, after so many bytes and data lines before it. The error is
-// what the last line, the lack of a header or too little that was said is refused for, or want of
-// memory.
-fn end_file<P: Taker + Drop>(
-    alloc: Global,
+// Ends a file that was read to its end, after so many bytes of files before it. The error is what the
+// last line, the lack of a header or too little that was said is refused for, or want of memory.
+fn end_file<G: Grammar + Drop, P: Taker<G> + Drop>(
     file: FileId,
     used: Used,
-    mut reader: Lines<Intake<P>>,
+    mut reader: Lines<G>,
+    mut sink: RowCount<P>,
 ) -> Result<Loaded<P>, Load>
-    requires lawful { Lawful P.grammar }
+    requires right { IsTaker (format_of G.language P.grammar_of P.rules) P.heard P.fits P.takes P.refuses P.ends P.turns }
+    requires of_file { reader.file ≡ file }
+    requires by_grammar { reader.grammar ≡ P.grammar_of file }
     requires few { used.bytes + reader.fed ≤ MAX_BYTES }
     requires goes_on { reader.over ≡ false }
     requires good { reader.fault ≡ None }
-    ensures end { (past : List Source) (start : Taken P) (text : List ℕ) → Opened P.grammar P.heard file used.rows past start → Fed P.grammar P.heard start reader text
-        → IsEnd P.grammar P.heard file used past text result }
-    ensures within { (start : Taken P) (text : List ℕ) → start.rows ≤ MAX_ROWS → Fed P.grammar P.heard start reader text → IfOk result IsWithin }
+    ensures end { (past : List Source) (start : Row P) (text : List ℕ)
+        → Opened (format_of G.language P.grammar_of P.rules) P.heard used.rows past start
+        → IsFed (format_of G.language P.grammar_of P.rules) P.takes file (P.grammar_of file) start text reader sink
+        → IsEnd (format_of G.language P.grammar_of P.rules) P.heard file used past text result }
+    ensures within { (start : Row P) (text : List ℕ) → start.most ≡ P.rules.limit → IsUnder P.rules.limit start.rows
+        → IsFed (format_of G.language P.grammar_of P.rules) P.takes file (P.grammar_of file) start text reader sink
+        → IfOk result (IsWithin P.rules.limit) }
     ensures fault { OnReadFault result ⊥ }
 {
-    let mut units = Vec::new(alloc);
-    match reader.end(&mut units) {
+    match reader.end_to(&mut sink) {
         Err(fault) => Err(load_of(fault)),
         Ok(()) => {
             let bytes = used.bytes + reader.fed();
-            let intake = reader.into_meaning();
-            let rows = intake.rows();
-            let taker = intake.into_taker();
-            if let Some(refusal) = taker.at_end(file) {
-                return Err(Load::Refused { refusal });
-            }
+            let RowCount {
+                most: _,
+                rows,
+                sink: taker,
+            } = sink;
             Ok(Loaded::Whole {
                 taker,
                 used: Used { bytes, rows },
@@ -91,13 +96,14 @@ fn end_file<P: Taker + Drop>(
 /// a header is due and none is there; else that what it said isn't enough. A line is refused, where it
 /// has a byte, for the first of these: bytes past the most that are read reach it (`TooLarge`); it
 /// begins with a byte order mark (`BadLine` in column 1); it isn't UTF-8; it should be the header and
-/// isn't one (`BadLine` in column 0); its bad column (`BadLine`); it is a data line too many
-/// (`TooMany`); the file's own check. A line without a byte is counted, and refused only as too large.
-/// The other errors are a read that failed and want of memory. The taker is gone with an error.
+/// isn't one, or is a data line and spells no item (`BadLine` in its bad column); it is a data line too
+/// many, where there is a limit (`TooMany`); the file's own check. A line without a byte is counted, and
+/// refused only as too large. The other errors are a read that failed and want of memory. The taker is
+/// gone with an error.
 ///
-/// The grammar is lawful (`lawful`), and what was read before is within the limits on bytes (`bytes`)
-/// and on data lines (`rows`).
-pub fn load_file<S: Shelf, P: Taker + Drop>(
+/// The taker is one of the format (`right`), and what was read before is within the limits on bytes
+/// (`bytes`) and on data lines (`rows`).
+pub fn load_file<S: Shelf, G: Grammar + Drop, P: Taker<G> + Drop>(
     alloc: Global,
     shelf: &mut S,
     path: &str,
@@ -105,28 +111,29 @@ pub fn load_file<S: Shelf, P: Taker + Drop>(
     used: Used,
     taker: P,
 ) -> Result<Loaded<P>, Load>
-    requires lawful { Lawful P.grammar }
+    requires right { IsTaker (format_of G.language P.grammar_of P.rules) P.heard P.fits P.takes P.refuses P.ends P.turns }
     requires bytes { used.bytes ≤ MAX_BYTES }
-    requires rows { used.rows ≤ MAX_ROWS }
-    ensures answer { (past : List Source) (done : List (List P.Item)) → FilesSay P.grammar past done → P.heard taker done []
-        → IsAnswer P.grammar P.heard (S.contents shelf.old) path.now file used past taker result }
-    ensures within { IfOk result IsWithin }
+    requires rows { IsUnder P.rules.limit used.rows }
+    ensures answer { (past : List Source) (done : List (List G.Item)) → FilesSay (format_of G.language P.grammar_of P.rules) past done → P.heard taker done []
+        → IsAnswer (format_of G.language P.grammar_of P.rules) P.heard (S.contents shelf.old) path.now file used past taker result }
+    ensures within { IfOk result (IsWithin P.rules.limit) }
     ensures fault { OnReadFault result (Rose (S.faults shelf.old) (S.faults shelf.new)) }
     ensures later { S.faults shelf.old ≤ S.faults shelf.new }
     ensures same { S.contents shelf.new ≡ S.contents shelf.old }
 {
     let most = MAX_BYTES - used.bytes;
     let mut buffer = piece_buffer(alloc)?;
-    let mut reader = Lines::of_file(alloc, file, Intake::new(file, used.rows, taker));
+    let mut reader = Lines::of_file(alloc, file, taker.grammar(file));
+    let mut sink = RowCount {
+        most: taker.most(),
+        rows: used.rows,
+        sink: taker,
+    };
     'pieces: loop {
-        match read_piece(alloc, shelf, path, file, most, &mut reader, &mut buffer) {
+        match read_piece(shelf, path, file, most, &mut reader, &mut sink, &mut buffer) {
             Err(load) => return Err(load),
-            Ok(Step::Absent) => {
-                return Ok(Loaded::Absent {
-                    taker: reader.into_meaning().into_taker(),
-                });
-            }
-            Ok(Step::End) => return end_file(alloc, file, used, reader),
+            Ok(Step::Absent) => return Ok(Loaded::Absent { taker: sink.sink }),
+            Ok(Step::End) => return end_file(file, used, reader, sink),
             Ok(Step::More) => {}
         }
     }

@@ -1,22 +1,23 @@
 //! Laws of what is wrong with an input, over every input.
 
-ghost use Rattle.snb_input.specs.Grammar.{Lawful};
+ghost use Rattle.snb_input.specs.Format.{Lawful, format_of};
 ghost use Rattle.snb_input.specs.Laws.{OneRefusal, OneSaying, RefusedOrNot, StagesJoin};
 
 use crate::taker::Taker;
+use snb_lines::grammar::Grammar;
 
-/// A stage of an input has one refusal at most, and none where nothing is wrong. The grammar is lawful
+/// A stage of an input has one refusal at most, and none where nothing is wrong. The format is lawful
 /// (`lawful`).
-pub fn one_refusal<P: Taker>()
-    requires lawful { Lawful P.grammar }
-    ensures one { OneRefusal P.grammar }
-    ensures or_not { RefusedOrNot P.grammar }
+pub fn one_refusal<G: Grammar, P: Taker<G>>()
+    requires lawful { Lawful (format_of G.language P.grammar_of P.rules) }
+    ensures one { OneRefusal (format_of G.language P.grammar_of P.rules) }
+    ensures or_not { RefusedOrNot (format_of G.language P.grammar_of P.rules) }
 {}
 
-/// The data lines of a file say one list of items at most. The grammar is lawful (`lawful`).
-pub fn one_saying<P: Taker>()
-    requires lawful { Lawful P.grammar }
-    ensures { OneSaying P.grammar }
+/// The data lines of a file say one list of items at most. The format is lawful (`lawful`).
+pub fn one_saying<G: Grammar, P: Taker<G>>()
+    requires lawful { Lawful (format_of G.language P.grammar_of P.rules) }
+    ensures { OneSaying (format_of G.language P.grammar_of P.rules) }
 {}
 
 /// What two stages found is what one folder holds, where the kinds of files of one come before those

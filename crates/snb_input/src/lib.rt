@@ -4,7 +4,6 @@
 #![tactic(auto)]
 
 pub mod file;
-mod intake;
 pub mod law;
 pub mod load;
 mod pieces;

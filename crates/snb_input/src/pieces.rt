@@ -1,21 +1,21 @@
 //! The pieces of a file, fed to its reader as they come.
 
-ghost use Rattle.std.specs.Prelude.{◌≡◌, ◌≢◌, ◌+◌, ◌<◌, ◌≤◌, [], IfOk, OnOk, length, None, false};
+ghost use Rattle.std.specs.Prelude.{◌≡◌, ◌+◌, ◌<◌, ◌≤◌, IfOk, OnOk, length, None, false};
 ghost use Rattle.snb_base.specs.Shelf.{Rose};
 ghost use Rattle.snb_schema.specs.declared.limits.TheConstants.{MAX_BYTES};
-ghost use Rattle.snb_input.specs.Grammar.{Lawful};
+ghost use Rattle.snb_input.specs.Format.{IsTaker, format_of};
 ghost use Rattle.snb_input.specs.Loading.{OnReadFault};
 ghost use Rattle.snb_input.specs.Pieces.{IsBadPiece, IsFedMore, IsStep, OnRefused};
 
-use crate::intake::Intake;
 use crate::load::{Load, load_of};
 use crate::taker::Taker;
 use snb_base::shelf::{Got, Shelf};
+use snb_lines::counted::RowCount;
+use snb_lines::grammar::Grammar;
 use snb_lines::lines::Lines;
 use snb_schema::file::FileId;
 use snb_schema::limits::MAX_BYTES;
 use snb_schema::refusal::Refusal;
-use std::alloc::Global;
 
 /// What a read of a file was.
 #[derive(Clone, Copy)]
@@ -31,29 +31,33 @@ pub enum Step {
 // Feeds the reader the next piece of a file, of which `most` bytes may be read. The error is the first
 // line that is refused, which is the one that too many bytes reach where the piece goes on beyond
 // them, or want of memory.
-fn feed_piece<P: Taker + Drop>(
-    alloc: Global,
+fn feed_piece<G: Grammar + Drop, P: Taker<G> + Drop>(
     file: FileId,
     most: u64,
-    reader: &mut Lines<Intake<P>>,
+    reader: &mut Lines<G>,
+    sink: &mut RowCount<P>,
     piece: &[u8],
 ) -> Result<(), Load>
-    requires lawful { Lawful P.grammar }
+    requires right { IsTaker (format_of G.language P.grammar_of P.rules) P.heard P.fits P.takes P.refuses P.ends P.turns }
+    requires of_file { reader.old.file ≡ file }
+    requires by_grammar { reader.old.grammar ≡ P.grammar_of file }
     requires most { most ≤ MAX_BYTES }
     requires few { reader.old.fed ≤ most }
     requires goes_on { reader.old.over ≡ false }
     requires good { reader.old.fault ≡ None }
-    ensures ok { OnOk result (IsFedMore P.grammar P.heard reader.old piece.now reader.new) }
+    ensures ok { OnOk result (IsFedMore (format_of G.language P.grammar_of P.rules) P.takes file (P.grammar_of file) reader.old sink.old piece.now reader.new sink.new) }
     ensures fed { OnOk result (reader.new.fed ≡ reader.old.fed + length piece.now) }
     ensures few { OnOk result (reader.new.fed ≤ most) }
     ensures goes_on { OnOk result (reader.new.over ≡ false) }
     ensures good { OnOk result (reader.new.fault ≡ None) }
-    ensures refused { OnRefused result (IsBadPiece P.grammar P.heard file most reader.old piece.now) }
+    ensures of_file { reader.new.file ≡ file }
+    ensures by_grammar { reader.new.grammar ≡ P.grammar_of file }
+    ensures refused { OnRefused result
+        (IsBadPiece (format_of G.language P.grammar_of P.rules) P.heard P.takes file (P.grammar_of file) most reader.old sink.old piece.now) }
     ensures fault { OnReadFault result ⊥ }
 {
     let kept = piece.len().min((most - reader.fed()) as usize);
-    let mut units = Vec::new(alloc);
-    match reader.feed(&piece[..kept], &mut units) {
+    match reader.feed_to(&piece[..kept], sink) {
         Err(fault) => Err(load_of(fault)),
         Ok(()) => {
             if kept < piece.len() {
@@ -70,29 +74,34 @@ fn feed_piece<P: Taker + Drop>(
 /// bytes of it, its end, or that it isn't held. A file that is gone after its first piece ends there.
 /// The error is the first line that is refused, a read that failed, or want of memory.
 ///
-/// The grammar is lawful (`lawful`). No more than the most bytes of an input may be read (`most`), and
-/// no more than these were (`few`); the reader has neither ended (`goes_on`) nor stopped (`good`). The
-/// buffer has room for a byte (`room`).
-pub fn read_piece<S: Shelf, P: Taker + Drop>(
-    alloc: Global,
+/// The taker is one of the format (`right`). The reader is of the file, by its grammar (`of_file`, `by_grammar`). No more than the most bytes of an input may be read
+/// (`most`), and no more than these were (`few`); the reader has neither ended (`goes_on`) nor stopped
+/// (`good`). The buffer has room for a byte (`room`).
+pub fn read_piece<S: Shelf, G: Grammar + Drop, P: Taker<G> + Drop>(
     shelf: &mut S,
     name: &str,
     file: FileId,
     most: u64,
-    reader: &mut Lines<Intake<P>>,
+    reader: &mut Lines<G>,
+    sink: &mut RowCount<P>,
     buffer: &mut [u8],
 ) -> Result<Step, Load>
-    requires lawful { Lawful P.grammar }
+    requires right { IsTaker (format_of G.language P.grammar_of P.rules) P.heard P.fits P.takes P.refuses P.ends P.turns }
+    requires of_file { reader.old.file ≡ file }
+    requires by_grammar { reader.old.grammar ≡ P.grammar_of file }
     requires most { most ≤ MAX_BYTES }
     requires few { reader.old.fed ≤ most }
     requires goes_on { reader.old.over ≡ false }
     requires good { reader.old.fault ≡ None }
     requires room { 0 < length buffer.old }
-    ensures step { IsStep P.grammar P.heard (S.contents shelf.old) name.now file most reader.old reader.new result }
+    ensures step { IsStep (format_of G.language P.grammar_of P.rules) P.heard P.takes (S.contents shelf.old) name.now file (P.grammar_of file) most
+        reader.old sink.old reader.new sink.new result }
     ensures more { IfOk result (λ step. step ≡ Step.More → reader.old.fed < reader.new.fed) }
     ensures few { OnOk result (reader.new.fed ≤ most) }
     ensures goes_on { OnOk result (reader.new.over ≡ false) }
     ensures good { OnOk result (reader.new.fault ≡ None) }
+    ensures of_file { reader.new.file ≡ file }
+    ensures by_grammar { reader.new.grammar ≡ P.grammar_of file }
     ensures fault { OnReadFault result (Rose (S.faults shelf.old) (S.faults shelf.new)) }
     ensures later { S.faults shelf.old ≤ S.faults shelf.new }
     ensures same { S.contents shelf.new ≡ S.contents shelf.old }
@@ -111,7 +120,7 @@ pub fn read_piece<S: Shelf, P: Taker + Drop>(
             if count == 0 {
                 return Ok(Step::End);
             }
-            match feed_piece(alloc, file, most, reader, &buffer[..count]) {
+            match feed_piece(file, most, reader, sink, &buffer[..count]) {
                 Err(load) => Err(load),
                 Ok(()) => Ok(Step::More),
             }

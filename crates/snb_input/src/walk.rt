@@ -2,9 +2,10 @@
 
 ghost use Rattle.std.specs.Prelude.{◌≡◌, ◌++◌, ◌∷◌, ◌≤◌, ◌<◌, ◌^◌, ℕ, [], List, IfOk, string_bytes};
 ghost use Rattle.snb_base.specs.Shelf.{Rose};
-ghost use Rattle.snb_schema.specs.declared.limits.TheConstants.{MAX_BYTES, MAX_ROWS};
+ghost use Rattle.snb_schema.specs.declared.limits.TheConstants.{MAX_BYTES};
+ghost use Rattle.snb_lines.specs.Counts.{IsUnder};
 ghost use Rattle.snb_schema.specs.FileNames.{name_of};
-ghost use Rattle.snb_input.specs.Grammar.{Lawful};
+ghost use Rattle.snb_input.specs.Format.{IsTaker, format_of};
 ghost use Rattle.snb_input.specs.Loading.{OnReadFault};
 ghost use Rattle.snb_input.specs.Looking.{IsLook, IsLookedWithin, IsNotRefused, IsPeek, IsSeries};
 ghost use Rattle.snb_input.specs.Stages.{AreRising, IsStage, IsWalkWithin, Walked, before};
@@ -15,6 +16,7 @@ use crate::load::{Load, Used};
 use crate::series::Series;
 use crate::taker::Taker;
 use snb_base::shelf::{Got, Shelf};
+use snb_lines::grammar::Grammar;
 use snb_schema::file::{FileId, name_text};
 use snb_schema::refusal::Refusal;
 use std::alloc::{AllocError, Global};
@@ -70,7 +72,7 @@ fn is_held<S: Shelf>(alloc: Global, shelf: &mut S, folder: &str, file: FileId) -
 
 // Looks for a file of the folder, and has the items of its data lines taken. One that is needed is
 // refused where it isn't held.
-fn look<S: Shelf, P: Taker + Drop>(
+fn look<S: Shelf, G: Grammar + Drop, P: Taker<G> + Drop>(
     alloc: Global,
     shelf: &mut S,
     folder: &str,
@@ -78,12 +80,12 @@ fn look<S: Shelf, P: Taker + Drop>(
     needed: bool,
     walk: Walk<P>,
 ) -> Result<Looked<P>, Load>
-    requires lawful { Lawful P.grammar }
+    requires right { IsTaker (format_of G.language P.grammar_of P.rules) P.heard P.fits P.takes P.refuses P.ends P.turns }
     requires bytes { walk.used.bytes ≤ MAX_BYTES }
-    requires rows { walk.used.rows ≤ MAX_ROWS }
-    ensures answer { (start : Before) (looked : List Look) → Walked P.grammar P.heard start looked walk
-        → IsLook P.grammar P.heard (S.contents shelf.old) folder.now file needed start looked result }
-    ensures within { IfOk result IsLookedWithin }
+    requires rows { IsUnder P.rules.limit walk.used.rows }
+    ensures answer { (start : Before) (looked : List Look) → Walked (format_of G.language P.grammar_of P.rules) P.heard start looked walk
+        → IsLook (format_of G.language P.grammar_of P.rules) P.heard (S.contents shelf.old) folder.now file needed start looked result }
+    ensures within { IfOk result (IsLookedWithin P.rules.limit) }
     ensures fault { OnReadFault result (Rose (S.faults shelf.old) (S.faults shelf.new)) }
     ensures later { S.faults shelf.old ≤ S.faults shelf.new }
     ensures same { S.contents shelf.new ≡ S.contents shelf.old }
@@ -113,20 +115,20 @@ fn look<S: Shelf, P: Taker + Drop>(
 
 // Looks for the files of a series, from the first on up to one that isn't held, and has the items of
 // their data lines taken. One file too many is refused, and isn't read.
-fn walk_series<S: Shelf, P: Taker + Drop>(
+fn walk_series<S: Shelf, G: Grammar + Drop, P: Taker<G> + Drop>(
     alloc: Global,
     shelf: &mut S,
     folder: &str,
     series: Series,
     walk: Walk<P>,
 ) -> Result<Walk<P>, Load>
-    requires lawful { Lawful P.grammar }
+    requires right { IsTaker (format_of G.language P.grammar_of P.rules) P.heard P.fits P.takes P.refuses P.ends P.turns }
     requires bytes { walk.used.bytes ≤ MAX_BYTES }
-    requires rows { walk.used.rows ≤ MAX_ROWS }
+    requires rows { IsUnder P.rules.limit walk.used.rows }
     requires few { series.most < 2 ^ 32 }
-    ensures answer { (start : Before) (looked : List Look) → Walked P.grammar P.heard start looked walk
-        → IsSeries P.grammar P.heard (S.contents shelf.old) folder.now series start looked result }
-    ensures within { IfOk result IsWalkWithin }
+    ensures answer { (start : Before) (looked : List Look) → Walked (format_of G.language P.grammar_of P.rules) P.heard start looked walk
+        → IsSeries (format_of G.language P.grammar_of P.rules) P.heard (S.contents shelf.old) folder.now series start looked result }
+    ensures within { IfOk result (IsWalkWithin P.rules.limit) }
     ensures fault { OnReadFault result (Rose (S.faults shelf.old) (S.faults shelf.new)) }
     ensures later { S.faults shelf.old ≤ S.faults shelf.new }
     ensures same { S.contents shelf.new ≡ S.contents shelf.old }
@@ -172,10 +174,10 @@ fn walk_series<S: Shelf, P: Taker + Drop>(
 /// what `load_file` refuses a file for, or one file too many of a series (`TooMany`). The other errors
 /// are a read that failed and want of memory. The taker is gone with an error.
 ///
-/// The grammar is lawful (`lawful`), what was read before is within the limits on bytes (`bytes`) and
-/// on data lines (`rows`), and the series come in the order of files (`rising`). The answer is of a
+/// The taker is one of the format (`right`), what was read before is within the limits on bytes
+/// (`bytes`) and on data lines (`rows`), and the series come in the order of files (`rising`). The answer is of a
 /// taker that was told nothing before.
-pub fn walk_stage<S: Shelf, P: Taker + Drop>(
+pub fn walk_stage<S: Shelf, G: Grammar + Drop, P: Taker<G> + Drop>(
     alloc: Global,
     shelf: &mut S,
     folder: &str,
@@ -183,13 +185,13 @@ pub fn walk_stage<S: Shelf, P: Taker + Drop>(
     used: Used,
     taker: P,
 ) -> Result<Walk<P>, Load>
-    requires lawful { Lawful P.grammar }
+    requires right { IsTaker (format_of G.language P.grammar_of P.rules) P.heard P.fits P.takes P.refuses P.ends P.turns }
     requires bytes { used.bytes ≤ MAX_BYTES }
-    requires rows { used.rows ≤ MAX_ROWS }
+    requires rows { IsUnder P.rules.limit used.rows }
     requires rising { AreRising 0 stage.now }
     ensures answer { P.heard taker [] []
-        → IsStage P.grammar P.heard (S.contents shelf.old) folder.now stage.now (before used) result }
-    ensures within { IfOk result IsWalkWithin }
+        → IsStage (format_of G.language P.grammar_of P.rules) P.heard (S.contents shelf.old) folder.now stage.now (before used) result }
+    ensures within { IfOk result (IsWalkWithin P.rules.limit) }
     ensures fault { OnReadFault result (Rose (S.faults shelf.old) (S.faults shelf.new)) }
     ensures later { S.faults shelf.old ≤ S.faults shelf.new }
     ensures same { S.contents shelf.new ≡ S.contents shelf.old }

@@ -1,11 +1,14 @@
 -- Facts of texts cut at their line ends.
-use Rattle.std.proofs.Common.{◌≡◌, ◌≢◌, ◌==◌, ◌++◌, ◌∷◌, ◌∙◌, ◌⊎◌, ◌+◌, ◌<◌, ◌≤◌, [], ℕ, List, refl, sym, ap, subst, false, append_assoc, inl, inr, suc, length, arith, length-append, cond, All, zero}
+use Rattle.std.proofs.Common.{◌≡◌, ◌≢◌, ◌==◌, ◌++◌, ◌∷◌, ◌∙◌, ◌⊎◌, ◌+◌, ◌<◌, ◌≤◌, [], ℕ, List, refl, sym, ap, subst, false, append_assoc, inl, inr, suc, length, arith, length-append, length-take, cond, All, zero, get_or, take, drop, true}
 use Rattle.std.proofs.lemmas.Bool.{cases_Bool, eqb-true, ne_eqb, eq-eqb}
-use Rattle.std.proofs.lemmas.List.Elements.{All-nil, All-cons, All-head, All-tail}
+use Rattle.std.proofs.Math.Seq.{drop-cons}
+use Rattle.std.proofs.lemmas.Bool.Decides.{Decides-eqb}
+use Rattle.std.proofs.lemmas.List.{get_or-take, take-append-drop}
+use Rattle.std.proofs.lemmas.List.Elements.{All-from_get_or, All-nil, All-cons, All-head, All-tail}
 use Rattle.std.proofs.lemmas.List.Splits.{slice_split_at, slice_split_none, length-slice_split}
 use Rattle.std.specs.List.{slice_split, onto_first}
 use Rattle.snb_schema.specs.Lines.{lines}
-use Rattle.snb_lines.specs.Cut.{all_but_last, last_lines, last_part, rest_of, whole_lines}
+use Rattle.snb_lines.specs.Cut.{IsCutAtEnd, all_but_last, last_lines, last_part, rest_of, whole_lines}
 use Rattle.snb_schema.specs.Lines.{HasNoEnd}
 
 -- what holds of each of some elements and others holds of each of the others
@@ -124,3 +127,19 @@ cut_any a b = by_cuts 10 (λ t. (whole_lines (t ++ b) ≡ whole_lines t ++ whole
       ap rest_of t ∙ f.1 ∙ k.1 ∙ sym (ap (λ (r : List ℕ). rest_of (r ++ b)) e.1),
     ))
     a
+
+-- a text has no line end where no byte of it is one
+pub none_here : (text : List ℕ) → ((k : ℕ) → 0 ≤ k → k < length text → ¬ ((get_or text k 0 == 10) ≡ true)) → HasNoEnd text
+none_here text none = All-from_get_or (λ b. b ≢ 10) text 0 (λ i l e. none i (omega arith) l (rw e refl))
+
+-- it is cut at the first byte that is one
+pub cut_here : (text : List ℕ) (k : ℕ) → k < length text → ((i : ℕ) → 0 ≤ i → i < k → ¬ ((get_or text i 0 == 10) ≡ true)) → (get_or text k 0 == 10) ≡ true → IsCutAtEnd text (take k text) (drop k text)
+cut_here text k l none is =
+    let byte : get_or text k 0 ≡ 10 = grind (arith, Decides-eqb (get_or text k 0) 10) in
+    let back : drop k text ≡ 10 ∷ drop (suc k) text = drop-cons text k 0 l ∙ ap (λ (b : ℕ). b ∷ drop (suc k) text) byte in
+    record {
+      rest = drop (suc k) text;
+      one_line = All-from_get_or (λ b. b ≢ 10) (take k text) 0 (λ i m e. let at : i < k = omega (arith, m, length-take k text) in none i (omega arith) at (rw (sym (get_or-take k text i 0 at) ∙ e) refl));
+      ends = back;
+      joined = sym (take-append-drop k text) ∙ ap (λ (xs : List ℕ). take k text ++ xs) back;
+    }

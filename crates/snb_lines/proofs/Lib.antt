@@ -1,7 +1,6 @@
 pub mod BarFacts
 pub mod CutFacts
 pub mod FieldFacts
-pub mod HeadedFacts
 pub mod Laws
-pub mod OnceFacts
-pub mod ReadingFacts
+pub mod ListFacts
+pub mod RunFacts

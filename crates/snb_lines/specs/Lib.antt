@@ -1,10 +1,15 @@
 pub mod Bars
+pub mod Counts
 pub mod Cut
+pub mod Fed
 pub mod Feeding
 pub mod Files
-pub mod Headed
+pub mod Language
 pub mod Laws
+pub mod Lists
 pub mod Reading
 pub mod Records
+pub mod Sinks
 pub mod Steps
 pub mod View
+pub mod Whole

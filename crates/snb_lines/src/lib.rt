@@ -1,12 +1,15 @@
-//! Lines out of the pieces of a file: one reader for tables, update streams, parameter files and
-//! logs, which differ in what a line means.
+//! Lines out of the pieces of a file: one reader for files of every kind. What the lines say is a
+//! grammar's, and what takes that is a sink.
 #![tactic(auto)]
 
-pub mod headed;
+pub mod counted;
+pub mod grammar;
 pub mod law;
 pub mod lines;
-pub mod meaning;
+pub mod lists;
 pub mod open;
 mod progress;
 pub mod record;
+pub mod sink;
 pub mod split;
+mod whole;

@@ -1,37 +1,39 @@
 //! The reader of lines.
 
-ghost use Rattle.std.specs.Prelude.{◌≡◌, ◌+◌, ◌≤◌, length, OnOk, OnErr, None, false};
+ghost use Rattle.std.specs.Prelude.{◌≡◌, ◌+◌, ◌≤◌, length, OnOk, OnErr, None, Some, false, option_map};
 ghost use Rattle.snb_schema.specs.declared.limits.TheConstants.{MAX_BYTES};
 ghost use Rattle.snb_schema.specs.Faults.{OnBad};
-ghost use Rattle.snb_lines.specs.Feeding.{HasRead, HasRunOut, HasStopped, HasStoppedAtEnd, IsSameFile, KeepsFault, at_begin, at_file_end, fed_more, left_lines, new_lines};
-ghost use Rattle.snb_lines.specs.Reading.{OnMemory};
+ghost use Rattle.snb_lines.specs.Feeding.{HasRead, HasRunOut, HasStopped, HasStoppedAtEnd, IsSameFile, KeepsFault, OnMemory, at_begin, at_file_end, fed_more, left_lines, new_lines};
+ghost use Rattle.snb_lines.specs.Language.{Fits};
+ghost use Rattle.snb_lines.specs.Reading.{end_fault};
 
-use crate::meaning::Meaning;
+use crate::grammar::Grammar;
 use crate::open::Open;
-use crate::progress::Progress;
+use crate::progress::{Progress, Source, finish, take_piece};
+use crate::sink::Sink;
 use snb_schema::fault::Fault;
 use snb_schema::file::FileId;
 use std::alloc::Global;
 use std::marker::Model;
 
-/// Turns the lines of a file into items, where the file comes in pieces that are cut anywhere. Of
-/// what it was fed it keeps the line begun alone.
+/// Reads the lines of a file that comes in pieces, which are cut anywhere, by a grammar. Of what it was
+/// fed it keeps the line begun alone.
 ///
 /// A line that begins with a byte order mark is refused as `BadLine` in column 1, and one that isn't
-/// UTF-8 as `NotUtf8`. A line without a byte is counted and passed over. Any other is cut into fields
-/// at each `|`: there is no quoting, and a `\r` is a byte of its field.
+/// UTF-8 as `NotUtf8`. A line without a byte is counted and passed over.
 #[derive(Drop)]
-pub struct Lines<M> {
-    progress: Progress<M>,
+pub struct Lines<G: Grammar> {
+    source: Source<G>,
+    progress: Progress<G::Known>,
     fed: u64,
     over: bool,
     fault: Option<Fault>,
 }
 
-impl<M> Model for Lines<M> {
-    ghost use Rattle.snb_lines.specs.Reading.{Reader};
+impl<G: Grammar> Model for Lines<G> {
+    ghost use Rattle.snb_lines.specs.Feeding.{Reader};
 
-    ghost Value = { Reader M };
+    ghost Value = { Reader G G.Known };
 
     ghost use Rattle.snb_lines.specs.View.{view_of, IsSound};
 
@@ -40,30 +42,22 @@ impl<M> Model for Lines<M> {
     ghost invariant = { IsSound };
 }
 
-impl<M: Open> Lines<M> {
-    /// A reader of the file of this name, from its first byte on. There is such a file. Takes no
-    /// memory.
-    pub fn new(alloc: Global, named: M::Named) -> Lines<M>
-        requires { M.can_open named }
-        ensures begins { M.begins named result.meaning }
-        ensures fresh { result ≡ at_begin (M.file_of named) result.meaning }
+impl<G: Grammar> Lines<G> {
+    /// A reader of the file from its first byte on, by this grammar. Takes no memory.
+    pub fn of_file(alloc: Global, file: FileId, grammar: G) -> Lines<G>
+        ensures { result ≡ at_begin file grammar (G.language grammar).begins }
     {
-        Lines::of_file(alloc, M::file(named), M::open(alloc, named))
-    }
-}
-
-impl<M> Lines<M> {
-    /// A reader of the file from its first byte on, where its lines mean this. Takes no memory.
-    pub fn of_file(alloc: Global, file: FileId, meaning: M) -> Lines<M>
-        ensures { result ≡ at_begin file meaning }
-    {
+        let known = grammar.begin();
         Lines {
-            progress: Progress {
+            source: Source {
                 alloc,
                 file,
+                grammar,
+            },
+            progress: Progress {
                 ended: 0,
                 begun: Vec::new(alloc),
-                meaning,
+                known,
             },
             fed: 0,
             over: false,
@@ -85,47 +79,38 @@ impl<M> Lines<M> {
         self.progress.ended
     }
 
-    /// What the lines so far mean, as long as the reader keeps no fault.
-    pub fn meaning(&self) -> &M
-        ensures { result.now ≡ self.now.meaning }
+    /// What is known of the file, as long as the reader keeps no fault: what its header said.
+    pub fn known(&self) -> Option<&G::Known>
+        ensures { option_map (λ k. k.now) result ≡ self.now.known }
     {
-        &self.progress.meaning
+        self.progress.known.as_ref()
     }
 
-    /// What the lines so far mean, by value, as long as the reader keeps no fault. The reader is gone,
-    /// and with it the line begun.
-    pub fn into_meaning(self) -> M
-        ensures { result ≡ self.meaning }
-    {
-        self.progress.meaning
-    }
-}
-
-impl<M: Meaning> Lines<M> {
-    /// Takes the next piece of the file, and appends the items of the lines that end in it, each line
-    /// at its `\n` and numbered from 1. The pieces may be cut anywhere, and are 268,435,456 bytes at
-    /// most together. None follows an `end` that answered Ok.
+    /// Takes the next piece of the file, and tells the sink the items of the lines that end in it, each
+    /// line at its `\n` and numbered from 1. The pieces may be cut anywhere, and are 268,435,456 bytes at
+    /// most together. None follows an `end_to` that answered Ok. The sink may be told what lines spell.
     ///
-    /// The error is the first line that is refused, or want of memory. The items of the lines before
-    /// it are appended. From then on the reader answers that error, and appends nothing.
-    pub fn feed(&mut self, piece: &[u8], into: &mut Vec<M::Item>) -> Result<(), Fault>
+    /// The error is the first line that is refused, or want of memory. The sink has the items of the
+    /// lines before it. From then on the reader answers that error, and tells nothing.
+    pub fn feed_to<S: Sink<G::Item>>(&mut self, piece: &[u8], sink: &mut S) -> Result<(), Fault>
         requires bytes { self.old.fed + length piece.now ≤ MAX_BYTES }
         requires goes_on { self.old.over ≡ false }
-        ensures kept { KeepsFault result self.old into.old.items self.new into.new.items }
+        requires fits { Fits (G.language self.old.grammar) S.fits }
+        ensures kept { KeepsFault result self.old sink.old self.new sink.new }
         ensures was_good { OnOk result (self.old.fault ≡ None) }
         ensures ok { OnOk result
-            (HasRead M.takes (new_lines self.old piece.now) self.old into.old.items self.new into.new.items) }
-        ensures after { OnOk result (self.new ≡ fed_more self.old piece.now self.new.meaning) }
+            (HasRead (G.language self.old.grammar) S.takes (new_lines self.old piece.now) self.old sink.old self.new sink.new) }
+        ensures after { OnOk result (self.new ≡ fed_more self.old piece.now self.new.known) }
         ensures bad { self.old.fault ≡ None → OnBad result
-            (HasStopped M.takes M.refuses (new_lines self.old piece.now) self.old into.old.items self.new into.new.items) }
+            (HasStopped (G.language self.old.grammar) S.takes S.refuses S.same (new_lines self.old piece.now) self.old sink.old self.new sink.new) }
         ensures memory { self.old.fault ≡ None → OnMemory result
-            (HasRunOut M.takes (new_lines self.old piece.now) self.old into.old.items self.new into.new.items) }
+            (HasRunOut (G.language self.old.grammar) S.takes S.same (new_lines self.old piece.now) self.old sink.old self.new sink.new) }
         ensures same { OnErr result (IsSameFile self.old self.new) }
     {
         if let Some(fault) = self.fault {
             return Err(fault);
         }
-        let taken = self.progress.take_piece(piece, into);
+        let taken = take_piece(&self.source, &mut self.progress, piece, sink);
         match taken {
             Ok(()) => self.fed += piece.len() as u64,
             Err(fault) => self.fault = Some(fault),
@@ -133,33 +118,45 @@ impl<M: Meaning> Lines<M> {
         taken
     }
 
-    /// Ends the file, and appends the items of a last line without a `\n`, where it has a byte. No
-    /// `end` before it answered Ok. Once this has answered Ok, the reader is fed and ended no more.
+    /// Ends the file, and tells the sink the item of a last line without a `\n`, where it has a byte. No
+    /// `end_to` before it answered Ok. Once this has answered Ok, the reader is fed and ended no more.
     ///
-    /// The error is that last line, where it is refused, or what the meaning refuses at the end of
-    /// the file, or want of memory. It is kept as an error of `feed` is.
-    pub fn end(&mut self, into: &mut Vec<M::Item>) -> Result<(), Fault>
+    /// The error is that last line, where it is refused, or that a header is due, or what the sink has
+    /// against the end of the file, or want of memory. It is kept as an error of `feed_to` is.
+    pub fn end_to<S: Sink<G::Item>>(&mut self, sink: &mut S) -> Result<(), Fault>
         requires goes_on { self.old.over ≡ false }
-        ensures kept { KeepsFault result self.old into.old.items self.new into.new.items }
+        requires fits { Fits (G.language self.old.grammar) S.fits }
+        ensures kept { KeepsFault result self.old sink.old self.new sink.new }
         ensures was_good { OnOk result (self.old.fault ≡ None) }
         ensures ok { OnOk result
-            (HasRead M.takes (left_lines self.old) self.old into.old.items self.new into.new.items) }
-        ensures ends { OnOk result (M.ends self.new.meaning ≡ None) }
-        ensures after { OnOk result (self.new ≡ at_file_end self.old self.new.meaning) }
+            (HasRead (G.language self.old.grammar) S.takes (left_lines self.old) self.old sink.old self.new sink.new) }
+        ensures ends { OnOk result (end_fault self.old.file self.new.known (S.ends sink.new self.old.file) ≡ None) }
+        ensures after { OnOk result (self.new ≡ at_file_end self.old self.new.known) }
         ensures bad { self.old.fault ≡ None → OnBad result
-            (HasStoppedAtEnd M.takes M.refuses M.ends (left_lines self.old) self.old into.old.items self.new into.new.items) }
+            (HasStoppedAtEnd (G.language self.old.grammar) S.takes S.refuses S.same S.ends (left_lines self.old) self.old sink.old self.new sink.new) }
         ensures memory { self.old.fault ≡ None → OnMemory result
-            (HasRunOut M.takes (left_lines self.old) self.old into.old.items self.new into.new.items) }
+            (HasRunOut (G.language self.old.grammar) S.takes S.same (left_lines self.old) self.old sink.old self.new sink.new) }
         ensures same { OnErr result (IsSameFile self.old self.new) }
     {
         if let Some(fault) = self.fault {
             return Err(fault);
         }
-        let taken = self.progress.finish(into);
+        let taken = finish(&self.source, &mut self.progress, sink);
         match taken {
             Ok(()) => self.over = true,
             Err(fault) => self.fault = Some(fault),
         }
         taken
+    }
+}
+
+impl<G: Grammar + Open> Lines<G> {
+    /// A reader of the file of this name, from its first byte on. There is such a file. Takes no
+    /// memory.
+    pub fn new(alloc: Global, named: G::Named) -> Lines<G>
+        requires { G.can_open named }
+        ensures { result ≡ at_begin (G.file_of named) (G.grammar_of named) (G.language (G.grammar_of named)).begins }
+    {
+        Lines::of_file(alloc, G::file(named), G::open(alloc, named))
     }
 }

@@ -1,21 +1,24 @@
 //! How far a reader of lines has come.
 
-ghost use Rattle.std.specs.Prelude.{◌≡◌, ◌+◌, ◌^◌, ◌≢◌, ◌<◌, ◌≤◌, ◌++◌, [], length, IsUtf8, IfErr, OnOk, OnErr, Some, None, ◌⊎◌, false};
+ghost use Rattle.std.specs.Prelude.{◌≡◌, ◌+◌, ◌^◌, ◌≢◌, ◌<◌, ◌≤◌, ◌++◌, ◌∷◌, ℕ, List, [], length, IfErr, OnOk, OnErr, None, false};
 ghost use Rattle.snb_schema.specs.declared.fault.Fault.TheVariants.{Bad};
 ghost use Rattle.snb_schema.specs.declared.limits.TheConstants.{MAX_BYTES};
 ghost use Rattle.snb_schema.specs.declared.refusal.Refusal.{Refusal as Refused};
 ghost use Rattle.snb_schema.specs.Faults.{OnBad};
-ghost use Rattle.snb_schema.specs.Lines.{begins_with_mark, fields};
-ghost use Rattle.snb_lines.specs.Cut.{last_lines, rest_of, whole_lines};
-ghost use Rattle.snb_schema.specs.Lines.{HasNoEnd};
-ghost use Rattle.snb_lines.specs.Reading.{OnMemory};
-ghost use Rattle.snb_lines.specs.Steps.{FileStopped, LineRead, LineRefused, LinesRead, LinesRunOut, LinesStopped};
 ghost use Rattle.snb_schema.specs.LineFaults.{RefusesText};
+ghost use Rattle.snb_schema.specs.Lines.{HasNoEnd, fields};
+ghost use Rattle.snb_lines.specs.Cut.{last_lines, rest_of, whole_lines};
+ghost use Rattle.snb_lines.specs.Feeding.{OnMemory};
+ghost use Rattle.snb_lines.specs.Language.{FieldsAs, Fits, IsText, IsTextLine};
+ghost use Rattle.snb_lines.specs.Reading.{RefusesAs, end_fault};
+ghost use Rattle.snb_lines.specs.Steps.{FileStopped, LineRefused, LineTaken, LinesRunOut, LinesStopped, LinesTaken, TextTaken, fault_of};
 
-use crate::meaning::Meaning;
+use crate::grammar::Grammar;
 use crate::record::Record;
+use crate::sink::Sink;
 use crate::split::{EndedLines, cut_at_end, is_marked, split_line};
-use snb_schema::fault::Fault;
+use crate::whole::WholeLines;
+use snb_schema::fault::{Fault, LineFault};
 use snb_schema::file::FileId;
 use snb_schema::refusal::Refusal;
 use std::alloc::Global;
@@ -23,7 +26,7 @@ use std::{mem, str};
 
 // Finds fault with a line that begins with a byte order mark, or that isn't UTF-8.
 fn check_line(file: FileId, number: u32, line: &[u8]) -> Result<(), Fault>
-    ensures ok { OnOk result ((begins_with_mark line.now ≡ false) × IsUtf8 line.now) }
+    ensures ok { OnOk result (IsText line.now) }
     ensures err { IfErr result (λ fault. (r : Refused) × (fault ≡ Bad r) × RefusesText file number line.now r) }
 {
     if is_marked(line) {
@@ -43,121 +46,251 @@ fn check_line(file: FileId, number: u32, line: &[u8]) -> Result<(), Fault>
     Ok(())
 }
 
-/// The file, how many of its lines have ended, the bytes of the line begun, and what the lines so
-/// far mean.
+/// What a reader reads, and by what.
 #[derive(Drop)]
-pub struct Progress<M> {
+pub struct Source<G> {
     pub alloc: Global,
     pub file: FileId,
-    pub ended: u32,
-    pub begun: Vec<u8>,
-    pub meaning: M,
+    pub grammar: G,
 }
 
-impl<M: Meaning> Progress<M> {
-    // Takes the next line. Its fields are in `row`, where it has a byte.
-    fn take_line(&mut self, line: &[u8], row: &Record, into: &mut Vec<M::Item>) -> Result<(), Fault>
-        requires room { self.old.ended + 1 < 2 ^ 32 }
-        requires one_line { HasNoEnd line.now }
-        requires split { line.now ≢ [] → row.now ≡ fields line.now }
-        ensures ok { OnOk result (LineRead M.takes line.now self.old into.old.items self.new into.new.items) }
-        ensures bad { OnBad result (LineRefused M.refuses line.now self.old) }
-        ensures same { OnErr result (into.new.items ≡ into.old.items) }
-        ensures file { self.new.file ≡ self.old.file }
-        ensures ended { OnOk result (self.new.ended ≡ self.old.ended + 1) }
-        ensures begun { self.new.begun.items ≡ self.old.begun.items }
-    {
-        let number = self.ended + 1;
-        if !line.is_empty() {
-            check_line(self.file, number, line)?;
-            self.meaning.take(number, row, into)?;
-        }
-        self.ended = number;
-        Ok(())
-    }
+/// How many lines have ended, the bytes of the line begun, and what the header said.
+#[derive(Drop)]
+pub struct Progress<K> {
+    pub ended: u32,
+    pub begun: Vec<u8>,
+    pub known: Option<K>,
+}
 
-    // Takes the line begun, which nothing follows.
-    fn take_last(&mut self, into: &mut Vec<M::Item>) -> Result<(), Fault>
-        requires room { self.old.ended + 1 < 2 ^ 32 }
-        requires one_line { HasNoEnd self.old.begun.items }
-        ensures ok { OnOk result
-            (LineRead M.takes self.old.begun.items self.old into.old.items self.new into.new.items) }
-        ensures bad { OnBad result (LineRefused M.refuses self.old.begun.items self.old) }
-        ensures same { OnErr result (into.new.items ≡ into.old.items) }
-        ensures file { self.new.file ≡ self.old.file }
-        ensures ended { OnOk result (self.new.ended ≡ self.old.ended + 1) }
-        ensures begun { self.new.begun.items ≡ [] }
-    {
-        let mut row = Record::new(self.alloc);
-        let line = mem::replace(&mut self.begun, Vec::new(self.alloc));
-        split_line(self.alloc, line.as_slice(), &mut row)?;
-        self.take_line(line.as_slice(), &row, into)
+// What is wrong with the file where its line of this number is refused so.
+fn fault_at(file: FileId, line: u32, why: LineFault) -> Fault
+    ensures { result ≡ fault_of file line why }
+{
+    match why {
+        LineFault::Bad { column } => Fault::Bad {
+            refusal: Refusal::BadLine { file, line, column },
+        },
+        LineFault::Memory => Fault::Memory,
     }
+}
 
-    // Takes the lines of a text that are ended, and begins the line that follows them.
-    fn take_lines(&mut self, mut text: EndedLines<'_>, into: &mut Vec<M::Item>) -> Result<(), Fault>
-        requires fresh { self.old.begun.items ≡ [] }
-        requires room { self.old.ended + length text ≤ MAX_BYTES }
-        ensures ok { OnOk result (LinesRead M.takes (whole_lines text.entry) self.old into.old.items self.new into.new.items) }
-        ensures bad { OnBad result (LinesStopped M.takes M.refuses (whole_lines text.entry) self.old into.old.items into.new.items) }
-        ensures memory { OnMemory result (LinesRunOut M.takes (whole_lines text.entry) self.old into.old.items into.new.items) }
-        ensures file { self.new.file ≡ self.old.file }
-        ensures ended { OnOk result (self.new.ended ≡ self.old.ended + length (whole_lines text.entry)) }
-        ensures begun { OnOk result (self.new.begun.items ≡ rest_of text.entry) }
-    {
-        let mut row = Record::new(self.alloc);
-        while let Some(line) = text.read(&mut row)? {
-            self.take_line(line, &row, into)?;
-        }
-        self.begun.extend_from_slice(text.rest())?;
-        Ok(())
+// Takes the line of this number, which is a text that has a byte.
+fn take_text<G: Grammar, S: Sink<G::Item>>(
+    of: &Source<G>,
+    at: &mut Progress<G::Known>,
+    number: u32,
+    line: &[u8],
+    row: &Record,
+    sink: &mut S,
+) -> Result<(), Fault>
+    requires text { IsTextLine (G.language of.now.grammar).splits line.now (row.now) }
+    requires fits { Fits (G.language of.now.grammar) S.fits }
+    ensures ok { OnOk result (TextTaken (G.language of.now.grammar) S.takes of.now.file number line.now at.old sink.old at.new sink.new) }
+    ensures bad { OnBad result (RefusesAs (G.language of.now.grammar) S.refuses of.now.file at.old.known sink.old number line.now) }
+    ensures same { OnErr result (S.same sink.old sink.new) }
+    ensures ended { at.new.ended ≡ at.old.ended }
+    ensures begun { at.new.begun.items ≡ at.old.begun.items }
+{
+    match &at.known {
+        None => match of.grammar.read_header(line, row) {
+            Ok(known) => {
+                at.known = Some(known);
+                Ok(())
+            }
+            Err(why) => Err(fault_at(of.file, number, why)),
+        },
+        Some(known) => match of.grammar.read_item(known, number, line, row) {
+            Ok(item) => sink.put(of.file, item),
+            Err(fault) => Err(fault_at(of.file, number, fault)),
+        },
     }
+}
 
-    /// Takes the lines that are ended in the piece, and begins the line that follows them.
-    pub fn take_piece(&mut self, piece: &[u8], into: &mut Vec<M::Item>) -> Result<(), Fault>
-        requires one_line { HasNoEnd self.old.begun.items }
-        requires room { self.old.ended + length self.old.begun.items + length piece.now ≤ MAX_BYTES }
-        ensures ok { OnOk result
-            (LinesRead M.takes (whole_lines (self.old.begun.items ++ piece.now)) self.old into.old.items self.new into.new.items) }
-        ensures bad { OnBad result
-            (LinesStopped M.takes M.refuses (whole_lines (self.old.begun.items ++ piece.now)) self.old into.old.items into.new.items) }
-        ensures memory { OnMemory result
-            (LinesRunOut M.takes (whole_lines (self.old.begun.items ++ piece.now)) self.old into.old.items into.new.items) }
-        ensures file { self.new.file ≡ self.old.file }
-        ensures ended { OnOk result (self.new.ended ≡ self.old.ended + length (whole_lines (self.old.begun.items ++ piece.now))) }
-        ensures begun { OnOk result (self.new.begun.items ≡ rest_of (self.old.begun.items ++ piece.now)) }
-    {
-        let Some((head, others)) = cut_at_end(piece) else {
-            self.begun.extend_from_slice(piece)?;
-            return Ok(());
-        };
-        let mut line = mem::replace(&mut self.begun, Vec::new(self.alloc));
-        line.extend_from_slice(head)?;
-        let text = EndedLines::new(self.alloc, line.as_slice(), others);
-        self.take_lines(text, into)
+// Takes the next line. Its fields are in `row`, where it has a byte.
+fn take_line<G: Grammar, S: Sink<G::Item>>(
+    of: &Source<G>,
+    at: &mut Progress<G::Known>,
+    line: &[u8],
+    row: &Record,
+    sink: &mut S,
+) -> Result<(), Fault>
+    requires room { at.old.ended + 1 < 2 ^ 32 }
+    requires one_line { HasNoEnd line.now }
+    requires split { line.now ≢ [] → FieldsAs (G.language of.now.grammar).splits line.now (row.now) }
+    requires fits { Fits (G.language of.now.grammar) S.fits }
+    ensures ok { OnOk result (LineTaken (G.language of.now.grammar) S.takes of.now.file line.now at.old sink.old at.new sink.new) }
+    ensures bad { OnBad result (LineRefused (G.language of.now.grammar) S.refuses of.now.file line.now at.old sink.old) }
+    ensures same { OnErr result (S.same sink.old sink.new) }
+    ensures ended { OnOk result (at.new.ended ≡ at.old.ended + 1) }
+    ensures begun { at.new.begun.items ≡ at.old.begun.items }
+{
+    let number = at.ended + 1;
+    if !line.is_empty() {
+        check_line(of.file, number, line)?;
+        take_text(of, at, number, line, row, sink)?;
     }
+    at.ended = number;
+    Ok(())
+}
 
-    /// Takes the line begun, where it has a byte, and ends the file.
-    pub fn finish(&mut self, into: &mut Vec<M::Item>) -> Result<(), Fault>
-        requires one_line { HasNoEnd self.old.begun.items }
-        requires room { self.old.ended + length self.old.begun.items ≤ MAX_BYTES }
-        ensures ok { OnOk result
-            (LinesRead M.takes (last_lines self.old.begun.items) self.old into.old.items self.new into.new.items) }
-        ensures ends { OnOk result (M.ends self.new.meaning ≡ None) }
-        ensures bad { OnBad result
-            (FileStopped M.takes M.refuses M.ends (last_lines self.old.begun.items) self.old into.old.items into.new.items) }
-        ensures memory { OnMemory result
-            (LinesRunOut M.takes (last_lines self.old.begun.items) self.old into.old.items into.new.items) }
-        ensures file { self.new.file ≡ self.old.file }
-        ensures ended { OnOk result (self.new.ended ≡ self.old.ended + length (last_lines self.old.begun.items)) }
-        ensures begun { OnOk result (self.new.begun.items ≡ []) }
-    {
-        if !self.begun.is_empty() {
-            self.take_last(into)?;
-        }
-        match self.meaning.at_end() {
-            Some(refusal) => Err(Fault::Bad { refusal }),
-            None => Ok(()),
-        }
+// Takes the line begun, which nothing follows.
+fn take_last<G: Grammar, S: Sink<G::Item>>(
+    of: &Source<G>,
+    at: &mut Progress<G::Known>,
+    sink: &mut S,
+) -> Result<(), Fault>
+    requires room { at.old.ended + 1 < 2 ^ 32 }
+    requires one_line { HasNoEnd at.old.begun.items }
+    requires fits { Fits (G.language of.now.grammar) S.fits }
+    ensures ok { OnOk result (LineTaken (G.language of.now.grammar) S.takes of.now.file at.old.begun.items at.old sink.old at.new sink.new) }
+    ensures bad { OnBad result (LineRefused (G.language of.now.grammar) S.refuses of.now.file at.old.begun.items at.old sink.old) }
+    ensures same { OnErr result (S.same sink.old sink.new) }
+    ensures ended { OnOk result (at.new.ended ≡ at.old.ended + 1) }
+    ensures begun { at.new.begun.items ≡ [] }
+{
+    let mut row = Record::new(of.alloc);
+    let line = mem::replace(&mut at.begun, Vec::new(of.alloc));
+    split_line(of.alloc, line.as_slice(), &mut row)?;
+    take_line(of, at, line.as_slice(), &row, sink)
+}
+
+// Takes the lines of a text that are ended, and begins the line that follows them.
+fn take_lines<G: Grammar, S: Sink<G::Item>>(
+    of: &Source<G>,
+    at: &mut Progress<G::Known>,
+    mut text: EndedLines<'_>,
+    sink: &mut S,
+) -> Result<(), Fault>
+    requires fresh { at.old.begun.items ≡ [] }
+    requires room { at.old.ended + length text ≤ MAX_BYTES }
+    requires fits { Fits (G.language of.now.grammar) S.fits }
+    ensures ok { OnOk result (LinesTaken (G.language of.now.grammar) S.takes of.now.file (whole_lines text.entry) at.old sink.old at.new sink.new) }
+    ensures bad { OnBad result (LinesStopped (G.language of.now.grammar) S.takes S.refuses S.same of.now.file (whole_lines text.entry) at.old sink.old sink.new) }
+    ensures memory { OnMemory result (LinesRunOut (G.language of.now.grammar) S.takes S.same of.now.file (whole_lines text.entry) at.old sink.old sink.new) }
+    ensures ended { OnOk result (at.new.ended ≡ at.old.ended + length (whole_lines text.entry)) }
+    ensures begun { OnOk result (at.new.begun.items ≡ rest_of text.entry) }
+{
+    let mut row = Record::new(of.alloc);
+    while let Some(line) = text.read(&mut row)? {
+        take_line(of, at, line, &row, sink)?;
     }
+    at.begun.extend_from_slice(text.rest())?;
+    Ok(())
+}
+
+// Takes the lines of a text that are ended, each seen whole, and begins the line that follows them.
+fn take_whole<G: Grammar, S: Sink<G::Item>>(
+    of: &Source<G>,
+    at: &mut Progress<G::Known>,
+    mut text: WholeLines<'_>,
+    sink: &mut S,
+) -> Result<(), Fault>
+    requires unsplit { (G.language of.now.grammar).splits ≡ false }
+    requires fresh { at.old.begun.items ≡ [] }
+    requires room { at.old.ended + length text ≤ MAX_BYTES }
+    requires fits { Fits (G.language of.now.grammar) S.fits }
+    ensures ok { OnOk result (LinesTaken (G.language of.now.grammar) S.takes of.now.file (whole_lines text.entry) at.old sink.old at.new sink.new) }
+    ensures bad { OnBad result (LinesStopped (G.language of.now.grammar) S.takes S.refuses S.same of.now.file (whole_lines text.entry) at.old sink.old sink.new) }
+    ensures memory { OnMemory result (LinesRunOut (G.language of.now.grammar) S.takes S.same of.now.file (whole_lines text.entry) at.old sink.old sink.new) }
+    ensures ended { OnOk result (at.new.ended ≡ at.old.ended + length (whole_lines text.entry)) }
+    ensures begun { OnOk result (at.new.begun.items ≡ rest_of text.entry) }
+{
+    let row = Record::new(of.alloc);
+    while let Some(line) = text.read() {
+        take_line(of, at, line, &row, sink)?;
+    }
+    at.begun.extend_from_slice(text.rest())?;
+    Ok(())
+}
+
+// Takes the lines that are ended of a line and of what follows it, which begins with its end, and begins
+// the line that follows them.
+fn take_ended<G: Grammar, S: Sink<G::Item>>(
+    of: &Source<G>,
+    at: &mut Progress<G::Known>,
+    first: &[u8],
+    others: &[u8],
+    sink: &mut S,
+) -> Result<(), Fault>
+    requires one_line { HasNoEnd first.now }
+    requires ends { (rest : List ℕ) × (others.now ≡ 10 ∷ rest) }
+    requires fresh { at.old.begun.items ≡ [] }
+    requires room { at.old.ended + length (first.now ++ others.now) ≤ MAX_BYTES }
+    requires fits { Fits (G.language of.now.grammar) S.fits }
+    ensures ok { OnOk result (LinesTaken (G.language of.now.grammar) S.takes of.now.file (whole_lines (first.now ++ others.now)) at.old sink.old at.new sink.new) }
+    ensures bad { OnBad result (LinesStopped (G.language of.now.grammar) S.takes S.refuses S.same of.now.file (whole_lines (first.now ++ others.now)) at.old sink.old sink.new) }
+    ensures memory { OnMemory result (LinesRunOut (G.language of.now.grammar) S.takes S.same of.now.file (whole_lines (first.now ++ others.now)) at.old sink.old sink.new) }
+    ensures ended { OnOk result (at.new.ended ≡ at.old.ended + length (whole_lines (first.now ++ others.now))) }
+    ensures begun { OnOk result (at.new.begun.items ≡ rest_of (first.now ++ others.now)) }
+{
+    if of.grammar.splits() {
+        return take_lines(of, at, EndedLines::new(of.alloc, first, others), sink);
+    }
+    take_whole(of, at, WholeLines::new(first, others), sink)
+}
+
+/// Takes the lines that are ended in the piece, and begins the line that follows them.
+pub fn take_piece<G: Grammar, S: Sink<G::Item>>(
+    of: &Source<G>,
+    at: &mut Progress<G::Known>,
+    piece: &[u8],
+    sink: &mut S,
+) -> Result<(), Fault>
+    requires one_line { HasNoEnd at.old.begun.items }
+    requires room { at.old.ended + length at.old.begun.items + length piece.now ≤ MAX_BYTES }
+    requires fits { Fits (G.language of.now.grammar) S.fits }
+    ensures ok { OnOk result
+        (LinesTaken (G.language of.now.grammar) S.takes of.now.file (whole_lines (at.old.begun.items ++ piece.now)) at.old sink.old at.new sink.new) }
+    ensures bad { OnBad result
+        (LinesStopped (G.language of.now.grammar) S.takes S.refuses S.same of.now.file (whole_lines (at.old.begun.items ++ piece.now)) at.old sink.old sink.new) }
+    ensures memory { OnMemory result
+        (LinesRunOut (G.language of.now.grammar) S.takes S.same of.now.file (whole_lines (at.old.begun.items ++ piece.now)) at.old sink.old sink.new) }
+    ensures ended { OnOk result (at.new.ended ≡ at.old.ended + length (whole_lines (at.old.begun.items ++ piece.now))) }
+    ensures begun { OnOk result (at.new.begun.items ≡ rest_of (at.old.begun.items ++ piece.now)) }
+{
+    let Some((head, others)) = cut_at_end(piece) else {
+        at.begun.extend_from_slice(piece)?;
+        return Ok(());
+    };
+    let mut line = mem::replace(&mut at.begun, Vec::new(of.alloc));
+    line.extend_from_slice(head)?;
+    take_ended(of, at, line.as_slice(), others, sink)
+}
+
+/// Takes the line begun, where it has a byte, and ends the file.
+pub fn finish<G: Grammar, S: Sink<G::Item>>(
+    of: &Source<G>,
+    at: &mut Progress<G::Known>,
+    sink: &mut S,
+) -> Result<(), Fault>
+    requires one_line { HasNoEnd at.old.begun.items }
+    requires room { at.old.ended + length at.old.begun.items ≤ MAX_BYTES }
+    requires fits { Fits (G.language of.now.grammar) S.fits }
+    ensures ok { OnOk result
+        (LinesTaken (G.language of.now.grammar) S.takes of.now.file (last_lines at.old.begun.items) at.old sink.old at.new sink.new) }
+    ensures ends { OnOk result (end_fault of.now.file at.new.known (S.ends sink.new of.now.file) ≡ None) }
+    ensures bad { OnBad result
+        (FileStopped (G.language of.now.grammar) S.takes S.refuses S.same S.ends of.now.file (last_lines at.old.begun.items) at.old sink.old sink.new) }
+    ensures memory { OnMemory result
+        (LinesRunOut (G.language of.now.grammar) S.takes S.same of.now.file (last_lines at.old.begun.items) at.old sink.old sink.new) }
+    ensures ended { OnOk result (at.new.ended ≡ at.old.ended + length (last_lines at.old.begun.items)) }
+    ensures begun { OnOk result (at.new.begun.items ≡ []) }
+{
+    if !at.begun.is_empty() {
+        take_last(of, at, sink)?;
+    }
+    match end_refusal(of.file, &at.known, sink.at_end(of.file)) {
+        Some(refusal) => Err(Fault::Bad { refusal }),
+        None => Ok(()),
+    }
+}
+
+// What is refused at the end of a file.
+fn end_refusal<K>(file: FileId, known: &Option<K>, own: Option<Refusal>) -> Option<Refusal>
+    ensures { result ≡ end_fault file known.now own }
+{
+    if known.is_none() {
+        return Some(Refusal::NoHeader { file });
+    }
+    own
 }

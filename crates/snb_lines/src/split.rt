@@ -12,6 +12,7 @@ ghost use Rattle.snb_schema.specs.Lines.{HasNoEnd};
 
 use crate::record::Record;
 use csv::{ByteRecord, ErrorKind, Reader, ReaderBuilder, Terminator};
+use memchr::memchr;
 use std::alloc::{AllocError, Global};
 use std::io::{Chain, Read};
 use std::marker::Model;
@@ -68,8 +69,10 @@ fn take_fields(reader: &mut Reader<Source<'_>>, row: &mut ByteRecord) -> Result<
 pub fn cut_at_end<'a>(text: &'a [u8]) -> Option<(&'a [u8], &'a [u8])>
     ensures { MatchOption result (HasNoEnd text.entry.now) (λ parts. IsCutAtEnd text.entry.now parts.0.now parts.1.now) }
 {
-    let end = text.iter().position(|b| *b == b'\n')?;
-    Some((&text[..end], &text[end..]))
+    match memchr(b'\n', text) {
+        None => None,
+        Some(end) => Some((&text[..end], &text[end..])),
+    }
 }
 
 /// Splits a line, which has no `\n`, at its bars into `row`, where it has a byte. The one error is want

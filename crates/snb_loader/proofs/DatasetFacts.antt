@@ -22,7 +22,7 @@ use Rattle.snb_tables.specs.Soundness.{Held as IsHeldAll, Sound, missing}
 use Rattle.snb_loader.specs.declared.order.TheConstants.{TABLES}
 use Rattle.snb_loader.specs.Dataset.{IsDatasetAnswer, IsRefusedGraph, IsUnsound, after_tables, refusal_for}
 use Rattle.snb_loader.specs.Dataset.IsRefusedGraph.{lacks, cycle}
-use Rattle.snb_loader.specs.Tables.{IsHeard, table_grammar}
+use Rattle.snb_loader.specs.Tables.{IsHeard, table_format}
 
 -- a sound graph isn't refused
 not_refused : (g : List Row) (r : Refusal) → Sound g → ¬ IsRefusedGraph g r
@@ -33,13 +33,13 @@ not_refused g r sound (lacks node id edge lack) = no_first (node, id, edge) lack
 not_refused g r sound (cycle comment complete loose) = loose.loose (sound.rooted comment loose.held)
 
 -- the tables are refused
-pub files_err : (contents : Option Files) (folder : List ℕ) (old : Used) (load : Load) → IsStage {P = List Row} table_grammar IsHeard contents folder TABLES (before old) (Err load) → IsDatasetAnswer contents folder old old (Err load)
-files_err contents folder old (Refused r) (held, told, wrong) = (held, told, first_anyway (stage_checks table_grammar (before old) held TABLES) (IsUnsound (after_tables (before old) held).past ∷ []) r wrong)
+pub files_err : (contents : Option Files) (folder : List ℕ) (old : Used) (load : Load) → IsStage {P = List Row} table_format IsHeard contents folder TABLES (before old) (Err load) → IsDatasetAnswer contents folder old old (Err load)
+files_err contents folder old (Refused r) (held, told, wrong) = (held, told, first_anyway (stage_checks table_format (before old) held TABLES) (IsUnsound (after_tables (before old) held).past ∷ []) r wrong)
 files_err contents folder old ReadFault h = tt
 files_err contents folder old Memory h = tt
 
-module _ (contents : Option Files) (folder : List ℕ) (old : Used) (w : Walk (List Row)) (tables : IsStage table_grammar IsHeard contents folder TABLES (before old) (Ok w)) where
-  walked : Walked table_grammar IsHeard (before old) (stage_looks tables.0 TABLES) w
+module _ (contents : Option Files) (folder : List ℕ) (old : Used) (w : Walk (List Row)) (tables : IsStage table_format IsHeard contents folder TABLES (before old) (Ok w)) where
+  walked : Walked table_format IsHeard (before old) (stage_looks tables.0 TABLES) w
   walked = tables.2
 
   -- the files that were read
@@ -50,7 +50,7 @@ module _ (contents : Option Files) (folder : List ℕ) (old : Used) (w : Walk (L
   unsound_first r wrong = (
     tables.0,
     tables.1,
-    first_later (stage_checks table_grammar (before old) tables.0 TABLES) (IsUnsound sources ∷ []) r walked.clean
+    first_later (stage_checks table_format (before old) tables.0 TABLES) (IsUnsound sources ∷ []) r walked.clean
         (inl (record {
           rows = walked.done;
           said = walked.said;
@@ -66,7 +66,7 @@ module _ (contents : Option Files) (folder : List ℕ) (old : Used) (w : Walk (L
   graph_err (unsound.Cycle comment) wrong = unsound_first (Cycle comment) (cycle comment wrong.0 wrong.1)
   graph_err unsound.Memory wrong = tt
 
-  module _ (one : OneSaying table_grammar) (apart : GraphsAreTheirRows) (if_held : IsHeldAll w.taker → Sound w.taker) where
+  module _ (one : OneSaying table_format) (apart : GraphsAreTheirRows) (if_held : IsHeldAll w.taker → Sound w.taker) where
     sound : Sound w.taker
     sound = if_held walked.fresh.held
 
@@ -87,7 +87,7 @@ module _ (contents : Option Files) (folder : List ℕ) (old : Used) (w : Walk (L
       tables.0,
       tables.1,
       record {
-        clean = none_append (stage_checks table_grammar (before old) tables.0 TABLES) (IsUnsound sources ∷ []) walked.clean (none_unsound, tt);
+        clean = none_append (stage_checks table_format (before old) tables.0 TABLES) (IsUnsound sources ∷ []) walked.clean (none_unsound, tt);
         rows = walked.done;
         said = walked.said;
         heard = walked.fresh;

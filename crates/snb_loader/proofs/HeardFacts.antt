@@ -1,12 +1,10 @@
 -- What a graph that heard lines of tables has of their rows.
-use Rattle.std.proofs.Common.{◌≡◌, ◌∙◌, ◌↔◌, ◌⊎◌, ◌++◌, ◌∷◌, [], ℕ, Bool, true, false, List, All, Option, Some, None, Result, Ok, Err, OnOk, map, sym, ap, subst, inl, inr, arith, append_assoc, append-nil}
+use Rattle.std.proofs.Common.{◌≡◌, ◌∙◌, ◌↔◌, ◌⊎◌, ◌++◌, ◌∷◌, [], ℕ, Bool, true, false, List, All, Option, Some, None, map, sym, ap, subst, inl, inr, arith, append_assoc, append-nil}
 use Rattle.std.specs.List.{Contains, flat_map}
 use Rattle.std.proofs.lemmas.List.{flat_map_more, map-append}
 use Rattle.std.proofs.lemmas.List.Elements.{All-append, All-cons, All-head, All-nil, All-tail, All-weaker, Contains-append_cases, Contains-append_left, Contains-append_right}
 use Rattle.std.proofs.lemmas.List.Sorted.{Contains-permutation, IsPermutation-sym}
 use Rattle.snb_base.proofs.Laws.{contains_cases, contains_here}
-use Rattle.snb_schema.specs.declared.fault.Fault.{Fault}
-use Rattle.snb_schema.specs.declared.fault.Fault.TheVariants.{Bad, Memory}
 use Rattle.snb_schema.specs.declared.file.FileId.{FileId}
 use Rattle.snb_schema.specs.declared.refusal.Missing.{Missing}
 use Rattle.snb_schema.specs.declared.refusal.Refusal.{Refusal}
@@ -14,18 +12,14 @@ use Rattle.snb_schema.specs.declared.row.Placed.{Placed}
 use Rattle.snb_schema.specs.declared.row.Row.{Row}
 use Rattle.snb_schema.specs.declared.row.Row.TheVariants as row
 use Rattle.snb_schema.specs.declared.table.Kind.{Kind}
-use Rattle.snb_schema.specs.Faults.{OnBad}
 use Rattle.snb_schema.specs.References.{end_ref, from_kind, ref, refs_of_row, to_kind}
 use Rattle.snb_schema.specs.RowKeys.{RowKey, node_key, slot_of}
 use Rattle.snb_store.proofs.Laws.{contains_gained}
+use Rattle.snb_lines.specs.Sinks.{Hears}
 use Rattle.snb_tables.specs.Graphs.{HasGained, HasKey, HasSlot, IsGraph}
 use Rattle.snb_tables.specs.Soundness.{Held}
-use Rattle.snb_loader.specs.Tables.{HasTaken, IsAmiss, IsAmissBeside, IsFirstLacking, IsHeard, IsRepeat, IsSecond, IsThere, said_rows}
+use Rattle.snb_loader.specs.Tables.{HasTaken, IsAmiss, IsAmissBeside, IsFirstLacking, IsHeard, IsRepeat, IsSecond, IsThere, TakesPlaced, said_rows}
 use Rattle.snb_loader.proofs.LackingFacts.{none_first}
-
--- the nodes that a line refers to are there, and its row was taken
-abbrev IsTaken : List Row → Placed → List Row → Type 0
-IsTaken old p new = All (IsThere old) (refs_of_row p.row p.turned) × HasTaken old p.row new
 
 -- ---- the rows that lines said
 
@@ -125,7 +119,7 @@ module _ (g : List Row) (done : List (List Placed)) (mine : List Placed) (p : Pl
   is_amiss file r (inl a) = inl (a.0, first_moved g (said_rows done mine) h.same (refs_of_row p.row p.turned) a.0 a.1, a.2)
   is_amiss file r (inr b) = inr (there_moved g (said_rows done mine) (λ x. (h.same x).0) (refs_of_row p.row p.turned) b.0, second_moved g (said_rows done mine) h.same p.row b.1, b.2)
 
-  module _ (new : List Row) (taken : IsTaken g p new) where
+  module _ (new : List Row) (taken : TakesPlaced g p new) where
     not_second : HasTaken g p.row new → ¬ IsSecond (said_rows done mine) p.row
     not_second (inl again) second = second.1 (repeat_moved g (said_rows done mine) (λ r. (h.same r).0) p.row again.0)
     not_second (inr more) second = more.1 (slot_moved (said_rows done mine) g (λ r. (h.same r).1) (slot_of p.row) second.0)
@@ -195,21 +189,14 @@ module _ (g : List Row) (done : List (List Placed)) (mine : List Placed) (p : Pl
     heard_more : IsHeard new done (mine ++ p ∷ [])
     heard_more = by_taking taken.1
 
--- ---- what a call that puts a line answers
+-- what a graph takes it has, and what it refuses is refused by all that lines said before
+pub graph_hears : Hears (λ (old : List Row) (file : FileId) (p : Placed) (new : List Row). TakesPlaced old p new) IsAmissBeside IsHeard IsAmiss
+graph_hears = record {
+  more = λ old new file p done mine h taken. heard_more old done mine p h new taken;
+  passes = λ old new file p done mine r h taken. is_fine old done mine p h new taken file r;
+  bad = λ old file p done mine r h wrong. is_amiss old done mine p h file r wrong;
+}
 
-module _ (g new : List Row) (file : FileId) (item placed : Placed) (one : placed ≡ item) where
-  -- it was taken: nothing is wrong with it
-  pub passes : {E : Type 0} (result : Result (Unit {0}) E) → OnOk result (All (IsThere g) (refs_of_row placed.row placed.turned)) → OnOk result (HasTaken g placed.row new) → OnOk result ((done : List (List Placed)) (mine : List Placed) → IsHeard g done mine → (r : Refusal) → ¬ IsAmiss file done mine item r)
-  passes (Ok x) there taken = λ done mine h r. is_fine g done mine item h new (subst (λ (p : Placed). IsTaken g p new) one (there, taken)) file r
-  passes (Err x) there taken = tt
-
-  -- and it is heard
-  pub more : {E : Type 0} (result : Result (Unit {0}) E) → OnOk result (All (IsThere g) (refs_of_row placed.row placed.turned)) → OnOk result (HasTaken g placed.row new) → OnOk result ((done : List (List Placed)) (mine : List Placed) → IsHeard g done mine → IsHeard new done (mine ++ item ∷ []))
-  more (Ok x) there taken = λ done mine h. heard_more g done mine item h new (subst (λ (p : Placed). IsTaken g p new) one (there, taken))
-  more (Err x) there taken = tt
-
-  -- or it is refused for what is wrong with it
-  pub bad : (result : Result (Unit {0}) Fault) → OnBad result (λ r. IsAmissBeside g file placed r) → OnBad result (λ r. (done : List (List Placed)) (mine : List Placed) → IsHeard g done mine → IsAmiss file done mine item r)
-  bad (Ok x) wrong = tt
-  bad (Err (Bad r)) wrong = λ done mine h. is_amiss g done mine item h file r (subst (λ (p : Placed). IsAmissBeside g file p r) one wrong)
-  bad (Err Memory) wrong = tt
+-- past the end of a file the graph is as it was
+pub graph_turned : (old new : List Row) (done : List (List Placed)) (mine : List Placed) → IsHeard old done mine → new ≡ old → IsHeard new (done ++ mine ∷ []) []
+graph_turned old new done mine h e = subst (λ (g : List Row). IsHeard g (done ++ mine ∷ []) []) (sym e) (heard_next old done mine h)

@@ -23,7 +23,7 @@ use Rattle.snb_input.specs.Stages.{IsStage, Walked, before}
 use Rattle.snb_input.specs.Walk.{Before, Held, IsHeldTold, Look, after_walk, stage_checks, stage_looks, walk_checks}
 use Rattle.snb_input.proofs.Laws.{first_anyway, first_later, none_append}
 use Rattle.snb_loader.specs.declared.order.TheConstants.{FORUM_STREAMS, PERSON_STREAMS}
-use Rattle.snb_loader.specs.Lanes.{AreTaken, IsHeard, IsLanesAnswer, StreamLines, after_persons, next_stage, stream_grammar}
+use Rattle.snb_loader.specs.Lanes.{AreTaken, IsHeard, IsLanesAnswer, StreamLines, after_persons, next_stage, stream_format}
 use Rattle.snb_loader.proofs.CountFacts.{concat, said_by, walk_count}
 use Rattle.snb_loader.proofs.OrderFacts.{files_inserts, of_streams}
 use Rattle.snb_loader.proofs.PastFacts.{says_length, stage_read}
@@ -36,27 +36,27 @@ forums_from : AreFrom 34 FORUM_STREAMS
 forums_from = search rules
 
 -- a stage of one series has at most as many lanes as there may be files
-few_of : (s : Series) (used : Used) (held : Held) (w : Walk StreamLines) → Walked stream_grammar IsHeard (before used) (stage_looks held (s ∷ [])) w → length w.taker.done ≤ s.most
+few_of : (s : Series) (used : Used) (held : Held) (w : Walk StreamLines) → Walked stream_format IsHeard (before used) (stage_looks held (s ∷ [])) w → length w.taker.done ≤ s.most
 few_of s used held w k =
-    let grown = stage_read stream_grammar held s (before used) in
-    let same = says_length stream_grammar (after_walk stream_grammar (before used) (stage_looks held (s ∷ []))).past w.taker.done (said_by (before used) (stage_looks held (s ∷ [])) w k) in
+    let grown = stage_read stream_format held s (before used) in
+    let same = says_length stream_format (after_walk stream_format (before used) (stage_looks held (s ∷ []))).past w.taker.done (said_by (before used) (stage_looks held (s ∷ [])) w k) in
     let more = ap (λ (ss : List Source). length ss) grown.past in
     let few = grown.few in
     omega (arith, same, more, few)
 
 -- there are at most `MAX_LANES` lanes of persons
-pub persons_few : (contents : Option Files) (folder : List ℕ) (used : Used) (w : Walk StreamLines) → IsStage stream_grammar IsHeard contents folder PERSON_STREAMS (before used) (Ok w) → length w.taker.done ≤ MAX_LANES
+pub persons_few : (contents : Option Files) (folder : List ℕ) (used : Used) (w : Walk StreamLines) → IsStage stream_format IsHeard contents folder PERSON_STREAMS (before used) (Ok w) → length w.taker.done ≤ MAX_LANES
 persons_few contents folder used w (held, told, k) = few_of _ used held w k
 
 -- there are at most `MAX_LANES` forum lanes
-pub forums_few : (contents : Option Files) (folder : List ℕ) (used : Used) (w : Walk StreamLines) → IsStage stream_grammar IsHeard contents folder FORUM_STREAMS (before used) (Ok w) → length w.taker.done ≤ MAX_LANES
+pub forums_few : (contents : Option Files) (folder : List ℕ) (used : Used) (w : Walk StreamLines) → IsStage stream_format IsHeard contents folder FORUM_STREAMS (before used) (Ok w) → length w.taker.done ≤ MAX_LANES
 forums_few contents folder used w (held, told, k) = few_of _ used held w k
 
 -- the lines of a stage of one series are inserts of its kind
-inserts_of_series : (s : Series) (used : Used) (held : Held) (w : Walk StreamLines) → Walked stream_grammar IsHeard (before used) (stage_looks held (s ∷ [])) w → All (λ lines. AreInserts (allowed_in s.kind) lines) w.taker.done
+inserts_of_series : (s : Series) (used : Used) (held : Held) (w : Walk StreamLines) → Walked stream_format IsHeard (before used) (stage_looks held (s ∷ [])) w → All (λ lines. AreInserts (allowed_in s.kind) lines) w.taker.done
 inserts_of_series s used held w k =
-    let grown = stage_read stream_grammar held s (before used) in
-    files_inserts s.kind grown.more w.taker.done grown.kinds (subst (λ (ss : List Source). FilesSay stream_grammar ss w.taker.done) grown.past (said_by (before used) (stage_looks held (s ∷ [])) w k))
+    let grown = stage_read stream_format held s (before used) in
+    files_inserts s.kind grown.more w.taker.done grown.kinds (subst (λ (ss : List Source). FilesSay stream_format ss w.taker.done) grown.past (said_by (before used) (stage_looks held (s ∷ [])) w k))
 
 abbrev line_count : List Line → ℕ
 line_count lines = length lines
@@ -66,7 +66,7 @@ concat_count : (lanes : List (List Line)) → length (concat lanes) ≡ sum_by l
 concat_count lanes = length-flat_map (λ (lines : List Line). lines) lanes
 
 module _ (first last : Walk StreamLines) (lanes : LineLanes) (are : lanes ≡ record { persons = first.taker.done; forums = last.taker.done }) where
-  module _ (contents later : Option Files) (folder : List ℕ) (old : Used) (persons : IsStage stream_grammar IsHeard contents folder PERSON_STREAMS (before old) (Ok first)) (forums : IsStage stream_grammar IsHeard later folder FORUM_STREAMS (before first.used) (Ok last)) where
+  module _ (contents later : Option Files) (folder : List ℕ) (old : Used) (persons : IsStage stream_format IsHeard contents folder PERSON_STREAMS (before old) (Ok first)) (forums : IsStage stream_format IsHeard later folder FORUM_STREAMS (before first.used) (Ok last)) where
     -- the lanes are those of streams, for each stage has the inserts of its kind
     pub lanes_streams : All AreTaken lanes.persons × All AreTaken lanes.forums → AreOfStreams lanes
     lanes_streams taken = record {
@@ -86,20 +86,20 @@ module _ (first last : Walk StreamLines) (lanes : LineLanes) (are : lanes ≡ re
         omega (arith, one, other, persons, forums, both, same)
 
 -- the person streams are refused
-pub persons_err : (contents : Option Files) (folder : List ℕ) (old new : Used) (load : Load) → IsStage {P = StreamLines} stream_grammar IsHeard contents folder PERSON_STREAMS (before old) (Err load) → IsLanesAnswer contents folder old new (Err load)
+pub persons_err : (contents : Option Files) (folder : List ℕ) (old new : Used) (load : Load) → IsStage {P = StreamLines} stream_format IsHeard contents folder PERSON_STREAMS (before old) (Err load) → IsLanesAnswer contents folder old new (Err load)
 persons_err contents folder old new (Refused r) (held, told, bad) =
-    (held, told, first_anyway (stage_checks stream_grammar (before old) held PERSON_STREAMS) (stage_checks stream_grammar (next_stage (after_persons (before old) held)) held FORUM_STREAMS) r bad)
+    (held, told, first_anyway (stage_checks stream_format (before old) held PERSON_STREAMS) (stage_checks stream_format (next_stage (after_persons (before old) held)) held FORUM_STREAMS) r bad)
 persons_err contents folder old new ReadFault h = tt
 persons_err contents folder old new Memory h = tt
 
-module _ (contents : Option Files) (folder : List ℕ) (old : Used) (join : StagesJoin) (first : Walk StreamLines) (persons : IsStage stream_grammar IsHeard contents folder PERSON_STREAMS (before old) (Ok first)) where
+module _ (contents : Option Files) (folder : List ℕ) (old : Used) (join : StagesJoin) (first : Walk StreamLines) (persons : IsStage stream_format IsHeard contents folder PERSON_STREAMS (before old) (Ok first)) where
   -- the files of both stages
   module _ (second : Held) (told : IsHeldTold contents folder second) where
     both : (held : Held) × Joined contents folder persons.0 second 34 held
     both = join contents folder persons.0 second 34 persons.1 told
 
-    walked : Walked stream_grammar IsHeard (before old) (stage_looks both.0 PERSON_STREAMS) first
-    walked = subst (λ (ls : List Look). Walked stream_grammar IsHeard (before old) ls first) (sym (both.1.below PERSON_STREAMS persons_below)) persons.2
+    walked : Walked stream_format IsHeard (before old) (stage_looks both.0 PERSON_STREAMS) first
+    walked = subst (λ (ls : List Look). Walked stream_format IsHeard (before old) ls first) (sym (both.1.below PERSON_STREAMS persons_below)) persons.2
 
     at : before first.used ≡ next_stage (after_persons (before old) both.0)
     at = λ i. record { bytes = walked.bytes_are i; rows = walked.rows_are i; past = [] }
@@ -107,21 +107,21 @@ module _ (contents : Option Files) (folder : List ℕ) (old : Used) (join : Stag
     forums : stage_looks second FORUM_STREAMS ≡ stage_looks both.0 FORUM_STREAMS
     forums = sym (both.1.from FORUM_STREAMS forums_from)
 
-    refused : (r : Refusal) → FirstOf (stage_checks stream_grammar (before first.used) second FORUM_STREAMS) r → IsLanesAnswer contents folder old old (Err (Refused r))
+    refused : (r : Refusal) → FirstOf (stage_checks stream_format (before first.used) second FORUM_STREAMS) r → IsLanesAnswer contents folder old old (Err (Refused r))
     refused r bad = (
       both.0,
       both.1.told,
-      first_later (stage_checks stream_grammar (before old) both.0 PERSON_STREAMS) (stage_checks stream_grammar (next_stage (after_persons (before old) both.0)) both.0 FORUM_STREAMS) r walked.clean
-          (subst (λ (cs : List {1} (Refusal → Type 0)). FirstOf cs r) (λ i. walk_checks stream_grammar (at i) (forums i)) bad),
+      first_later (stage_checks stream_format (before old) both.0 PERSON_STREAMS) (stage_checks stream_format (next_stage (after_persons (before old) both.0)) both.0 FORUM_STREAMS) r walked.clean
+          (subst (λ (cs : List {1} (Refusal → Type 0)). FirstOf cs r) (λ i. walk_checks stream_format (at i) (forums i)) bad),
     )
 
-    taken : (last : Walk StreamLines) → Walked stream_grammar IsHeard (before first.used) (stage_looks second FORUM_STREAMS) last → IsLanesAnswer contents folder old last.used (Ok (record { persons = first.taker.done; forums = last.taker.done }))
+    taken : (last : Walk StreamLines) → Walked stream_format IsHeard (before first.used) (stage_looks second FORUM_STREAMS) last → IsLanesAnswer contents folder old last.used (Ok (record { persons = first.taker.done; forums = last.taker.done }))
     taken last k =
-        let h = subst (λ (z : Before × List Look). Walked stream_grammar IsHeard z.0 z.1 last) (λ i. (at i, forums i)) k in (
+        let h = subst (λ (z : Before × List Look). Walked stream_format IsHeard z.0 z.1 last) (λ i. (at i, forums i)) k in (
           both.0,
           both.1.told,
           record {
-            clean = none_append (stage_checks stream_grammar (before old) both.0 PERSON_STREAMS) (stage_checks stream_grammar (next_stage (after_persons (before old) both.0)) both.0 FORUM_STREAMS) walked.clean h.clean;
+            clean = none_append (stage_checks stream_format (before old) both.0 PERSON_STREAMS) (stage_checks stream_format (next_stage (after_persons (before old) both.0)) both.0 FORUM_STREAMS) walked.clean h.clean;
             persons = said_by (before old) (stage_looks both.0 PERSON_STREAMS) first walked;
             forums = said_by (next_stage (after_persons (before old) both.0)) (stage_looks both.0 FORUM_STREAMS) last h;
           },
@@ -130,11 +130,11 @@ module _ (contents : Option Files) (folder : List ℕ) (old : Used) (join : Stag
         )
 
   -- the forum streams are refused
-  pub forums_err : (load : Load) → IsStage {P = StreamLines} stream_grammar IsHeard contents folder FORUM_STREAMS (before first.used) (Err load) → IsLanesAnswer contents folder old old (Err load)
+  pub forums_err : (load : Load) → IsStage {P = StreamLines} stream_format IsHeard contents folder FORUM_STREAMS (before first.used) (Err load) → IsLanesAnswer contents folder old old (Err load)
   forums_err (Refused r) (second, told, bad) = refused second told r bad
   forums_err ReadFault h = tt
   forums_err Memory h = tt
 
   -- nothing is refused
-  pub forums_ok : (last : Walk StreamLines) → IsStage stream_grammar IsHeard contents folder FORUM_STREAMS (before first.used) (Ok last) → (lanes : LineLanes) → lanes ≡ record { persons = first.taker.done; forums = last.taker.done } → IsLanesAnswer contents folder old last.used (Ok lanes)
+  pub forums_ok : (last : Walk StreamLines) → IsStage stream_format IsHeard contents folder FORUM_STREAMS (before first.used) (Ok last) → (lanes : LineLanes) → lanes ≡ record { persons = first.taker.done; forums = last.taker.done } → IsLanesAnswer contents folder old last.used (Ok lanes)
   forums_ok last (second, told, k) lanes e = subst (λ (l : LineLanes). IsLanesAnswer contents folder old last.used (Ok l)) (sym e) (taken second told last k)

@@ -9,7 +9,7 @@ use Rattle.snb_schema.specs.Frequencies.{frequency_at}
 use Rattle.snb_schema.specs.QueryLists.{list_of}
 use Rattle.snb_streams.specs.Parameters.{params_file}
 use Rattle.snb_input.specs.declared.series.Series.{Series}
-use Rattle.snb_input.specs.Grammar.{Grammar}
+use Rattle.snb_input.specs.Format.{Format}
 use Rattle.snb_input.specs.Laws.{OneRefusal, OneSaying, RefusedOrNot}
 use Rattle.snb_input.specs.Places.{FileSays, Source}
 use Rattle.snb_input.specs.Walk.{Before, Held, stage_checks}
@@ -18,10 +18,10 @@ use Rattle.snb_tables.specs.Soundness.{Need, missing}
 use Rattle.snb_loader.specs.declared.order.TheConstants.{FORUM_STREAMS, PERSON_STREAMS, TABLES}
 use Rattle.snb_loader.specs.Dataset.{IsRefusedGraph, IsUnsound, after_tables}
 use Rattle.snb_loader.specs.Dataset.IsRefusedGraph.{lacks, cycle}
-use Rattle.snb_loader.specs.Lanes.{after_lanes, after_persons, next_stage, stream_grammar}
+use Rattle.snb_loader.specs.Lanes.{after_lanes, after_persons, next_stage, stream_format}
 use Rattle.snb_loader.specs.Laws.{DatasetIsOne, DatasetRefusesOnce, LanesAreOne, LanesRefuseOnce, ParamsAreOne, ParamsRefuseOnce, RefuseOnce}
-use Rattle.snb_loader.specs.Params.{IsListSaid, params_grammar, params_stage}
-use Rattle.snb_loader.specs.Tables.{IsHeard, table_grammar}
+use Rattle.snb_loader.specs.Params.{IsListSaid, params_format, params_stage}
+use Rattle.snb_loader.specs.Tables.{IsHeard, table_format}
 use Rattle.snb_loader.proofs.Laws.{once_append, once_single}
 
 first_same : {X : Type 0} (x y : X) (xs ys : List X) → x ∷ xs ≡ y ∷ ys → x ≡ y
@@ -31,7 +31,7 @@ none_first : {X : Type 0} (x : X) (xs ys : List X) → ys ≡ x ∷ xs → ys �
 none_first x xs ys e f = absurd cc
 
 -- a stage gives one refusal at most
-stage_once : {T : Type 0} (g : Grammar T) → OneRefusal g → RefusedOrNot g → (at : Before) (held : Held) (stage : List Series) → RefuseOnce (stage_checks g at held stage)
+stage_once : {K T : Type 0} (g : Format K T) → OneRefusal g → RefusedOrNot g → (at : Before) (held : Held) (stage : List Series) → RefuseOnce (stage_checks g at held stage)
 stage_once g one or_not at held stage = record { one = one at held stage; or_not = or_not at held stage }
 
 -- a graph is refused in one way
@@ -45,7 +45,7 @@ one_graph g r q (cycle comment complete a) (cycle other full b) =
     let down = b.least comment a.held a.loose in
     ap Cycle (omega (arith, up, down))
 
-module _ (one : OneSaying table_grammar) (apart : GraphsAreTheirRows) where
+module _ (one : OneSaying table_format) (apart : GraphsAreTheirRows) where
   -- the same lines give one graph
   same_graph : (rows other : List (List Placed)) (g h : List Row) → rows ≡ other → IsHeard g rows [] → IsHeard h other [] → g ≡ h
   same_graph rows other g h e a c =
@@ -57,38 +57,38 @@ module _ (one : OneSaying table_grammar) (apart : GraphsAreTheirRows) where
       let e = same_graph u.rows v.rows u.graph v.graph (one ss u.rows v.rows u.said v.said) u.heard v.heard in
       one_graph u.graph r q u.refused (subst (λ (g : List Row). IsRefusedGraph g q) (sym e) v.refused)
 
-  pub dataset_once : OneRefusal table_grammar → RefusedOrNot table_grammar → DatasetRefusesOnce
+  pub dataset_once : OneRefusal table_format → RefusedOrNot table_format → DatasetRefusesOnce
   dataset_once refusal or_not at held =
-      once_append (stage_checks table_grammar at held TABLES) (IsUnsound (after_tables at held).past ∷ [])
-      (stage_once table_grammar refusal or_not at held TABLES)
+      once_append (stage_checks table_format at held TABLES) (IsUnsound (after_tables at held).past ∷ [])
+      (stage_once table_format refusal or_not at held TABLES)
       (once_single (IsUnsound (after_tables at held).past) (one_unsound (after_tables at held).past))
 
   pub dataset_one : DatasetIsOne
   dataset_one at held g h a b = same_graph a.rows b.rows g h (one (after_tables at held).past a.rows b.rows a.said b.said) a.heard b.heard
 
-module _ (one : OneSaying stream_grammar) where
+module _ (one : OneSaying stream_format) where
   pub lanes_one : LanesAreOne
   lanes_one at held a b p q =
       let persons = one (after_persons at held).past a.persons b.persons p.persons q.persons in
       let forums = one (after_lanes at held).past a.forums b.forums p.forums q.forums in
       λ i. record { persons = persons i; forums = forums i }
 
-module _ (refusal : OneRefusal stream_grammar) (or_not : RefusedOrNot stream_grammar) where
+module _ (refusal : OneRefusal stream_format) (or_not : RefusedOrNot stream_format) where
   pub lanes_once : LanesRefuseOnce
   lanes_once at held =
-      once_append (stage_checks stream_grammar at held PERSON_STREAMS) (stage_checks stream_grammar (next_stage (after_persons at held)) held FORUM_STREAMS)
-      (stage_once stream_grammar refusal or_not at held PERSON_STREAMS)
-      (stage_once stream_grammar refusal or_not (next_stage (after_persons at held)) held FORUM_STREAMS)
+      once_append (stage_checks stream_format at held PERSON_STREAMS) (stage_checks stream_format (next_stage (after_persons at held)) held FORUM_STREAMS)
+      (stage_once stream_format refusal or_not at held PERSON_STREAMS)
+      (stage_once stream_format refusal or_not (next_stage (after_persons at held)) held FORUM_STREAMS)
 
-pub params_once : OneRefusal params_grammar → RefusedOrNot params_grammar → ParamsRefuseOnce
-params_once refusal or_not at held table = stage_once params_grammar refusal or_not at held (params_stage table)
+pub params_once : OneRefusal params_format → RefusedOrNot params_format → ParamsRefuseOnce
+params_once refusal or_not at held table = stage_once params_format refusal or_not at held (params_stage table)
 
-module _ (one : OneSaying params_grammar) where
+module _ (one : OneSaying params_format) where
   -- a parameter file says one list
   one_said : (held : Held) (q : ℕ) (xs ys : List Query) → IsListSaid held q xs → IsListSaid held q ys → xs ≡ ys
   one_said held q xs ys a b =
       let bytes : b.0 ≡ a.0 = cc_some a.0 b.0 (sym a.1 ∙ b.1) in
-      first_same xs ys [] [] (one (source a.0 ∷ []) (xs ∷ []) (ys ∷ []) (a.2, tt) (subst (λ (z : List ℕ). FileSays params_grammar (source z) ys) bytes b.2, tt))
+      first_same xs ys [] [] (one (source a.0 ∷ []) (xs ∷ []) (ys ∷ []) (a.2, tt) (subst (λ (z : List ℕ). FileSays params_format (source z) ys) bytes b.2, tt))
     where
       source : List ℕ → Source
       source bytes = record { file = params_file q; bytes = bytes }

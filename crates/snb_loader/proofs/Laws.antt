@@ -14,10 +14,10 @@ use Rattle.snb_input.specs.Places.{FilesSay}
 use Rattle.snb_input.specs.Walk.{Before, Held, Look, after_walk, looks_from, series_looks, stage_looks, walk_checks}
 use Rattle.snb_loader.specs.declared.order.TheConstants.{FORUM_STREAMS, PERSON_STREAMS, TABLES}
 use Rattle.snb_loader.specs.Dataset.{IsDataset, IsUnsound, after_tables, dataset_checks}
-use Rattle.snb_loader.specs.Lanes.{AreLanes, after_lanes, after_persons, lane_checks, next_stage, stream_grammar}
+use Rattle.snb_loader.specs.Lanes.{AreLanes, after_lanes, after_persons, lane_checks, next_stage, stream_format}
 use Rattle.snb_loader.specs.Laws.{RefuseOnce}
-use Rattle.snb_loader.specs.Params.{AreParams, after_params, asked, params_checks, params_grammar, params_series, params_stage}
-use Rattle.snb_loader.specs.Tables.{table_grammar}
+use Rattle.snb_loader.specs.Params.{AreParams, after_params, asked, params_checks, params_format, params_series, params_stage}
+use Rattle.snb_loader.specs.Tables.{table_format}
 
 -- ---- checks, and then more checks
 
@@ -95,17 +95,17 @@ same_dataset a b e = record {
   is = λ at g d. record {
     clean = subst (λ (cs : List {1} (Refusal → Type 0)). NoneOf cs) (checks at) d.clean;
     rows = d.rows;
-    said = subst (λ (z : Before). FilesSay table_grammar z.past d.rows) (after at) d.said;
+    said = subst (λ (z : Before). FilesSay table_format z.past d.rows) (after at) d.said;
     heard = d.heard;
     sound = d.sound;
   };
 }
   where
     checks : (at : Before) → dataset_checks at a ≡ dataset_checks at b
-    checks at i = walk_checks table_grammar at (e i) ++ IsUnsound (after_walk table_grammar at (e i)).past ∷ []
+    checks at i = walk_checks table_format at (e i) ++ IsUnsound (after_walk table_format at (e i)).past ∷ []
 
     after : (at : Before) → after_tables at a ≡ after_tables at b
-    after at = ap (λ (ls : List Look). after_walk table_grammar at ls) e
+    after at = ap (λ (ls : List Look). after_walk table_format at ls) e
 
 same_lanes : (a b : Held) → stage_looks a PERSON_STREAMS ≡ stage_looks b PERSON_STREAMS → stage_looks a FORUM_STREAMS ≡ stage_looks b FORUM_STREAMS → SameLanes a b
 same_lanes a b e f = record {
@@ -113,26 +113,26 @@ same_lanes a b e f = record {
   after = λ at. after at;
   are = λ at lanes k. record {
     clean = subst (λ (cs : List {1} (Refusal → Type 0)). NoneOf cs) (checks at) k.clean;
-    persons = subst (λ (z : Before). FilesSay stream_grammar z.past lanes.persons) (persons at) k.persons;
-    forums = subst (λ (z : Before). FilesSay stream_grammar z.past lanes.forums) (after at) k.forums;
+    persons = subst (λ (z : Before). FilesSay stream_format z.past lanes.persons) (persons at) k.persons;
+    forums = subst (λ (z : Before). FilesSay stream_format z.past lanes.forums) (after at) k.forums;
   };
 }
   where
     persons : (at : Before) → after_persons at a ≡ after_persons at b
-    persons at = ap (λ (ls : List Look). after_walk stream_grammar at ls) e
+    persons at = ap (λ (ls : List Look). after_walk stream_format at ls) e
 
     checks : (at : Before) → lane_checks at a ≡ lane_checks at b
-    checks at i = walk_checks stream_grammar at (e i) ++ walk_checks stream_grammar (next_stage (persons at i)) (f i)
+    checks at i = walk_checks stream_format at (e i) ++ walk_checks stream_format (next_stage (persons at i)) (f i)
 
     after : (at : Before) → after_lanes at a ≡ after_lanes at b
-    after at i = after_walk stream_grammar (next_stage (persons at i)) (f i)
+    after at i = after_walk stream_format (next_stage (persons at i)) (f i)
 
 same_params : (table : FrequencyTable) (a b : Held) → stage_looks a (params_stage table) ≡ stage_looks b (params_stage table) → ((q : ℕ) → a (params_file q) ≡ b (params_file q)) → SameParams table a b
 same_params table a b e file = record {
-  checks = λ at i. walk_checks params_grammar at (e i);
-  after = λ at. ap (λ (ls : List Look). after_walk params_grammar at ls) e;
+  checks = λ at i. walk_checks params_format at (e i);
+  after = λ at. ap (λ (ls : List Look). after_walk params_format at ls) e;
   are = λ at lists k. record {
-    clean = subst (λ (ls : List Look). NoneOf (walk_checks params_grammar at ls)) e k.clean;
+    clean = subst (λ (ls : List Look). NoneOf (walk_checks params_format at ls)) e k.clean;
     said = λ q l. (let h = k.said q l in (h.0, sym (file q) ∙ h.1, h.2));
     others = k.others;
   };

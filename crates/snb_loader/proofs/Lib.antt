@@ -5,9 +5,10 @@ mod HeardFacts
 mod LackingFacts
 mod LaneFacts
 mod LawFacts
-pub mod Laws
 mod OrderFacts
 mod ParamFacts
 mod ParamListFacts
 mod PastFacts
 mod StreamFacts
+pub mod Laws
+pub mod TakerFacts

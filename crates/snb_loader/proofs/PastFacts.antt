@@ -4,9 +4,9 @@ use Rattle.snb_schema.specs.declared.file.FileId.{FileId}
 use Rattle.snb_schema.specs.declared.file.FileKind.{FileKind}
 use Rattle.snb_schema.specs.declared.refusal.Counted.{Counted}
 use Rattle.snb_input.specs.declared.series.Series.{Series}
-use Rattle.snb_input.specs.Grammar.{Grammar}
+use Rattle.snb_input.specs.Format.{Format}
 use Rattle.snb_schema.specs.Lines.{lines}
-use Rattle.snb_input.specs.Places.{FilesSay, Source, data_of}
+use Rattle.snb_input.specs.Places.{FilesSay, Source, rows_in}
 use Rattle.snb_input.specs.Walk.{Before, Held, Look, Role, after_look, after_walk, file_at, first_role, look_beyond, looks_from, series_looks, stage_looks, with_file}
 use Rattle.snb_input.specs.Walk.Role.{Needed, Further, Beyond}
 
@@ -16,19 +16,19 @@ AreOfKind kind [] = Unit {0}
 AreOfKind kind (s ∷ ss) = (s.file.kind ≡ kind) × AreOfKind kind ss
 
 -- how many data lines the files have
-abbrev pub data_count : {T : Type 0} → Grammar T → List Source → ℕ
+abbrev pub data_count : {K T : Type 0} → Format K T → List Source → ℕ
 data_count g [] = 0
-data_count g (s ∷ ss) = length (data_of (g.has_header s.file) (lines s.bytes)) + data_count g ss
+data_count g (s ∷ ss) = rows_in g s.file (lines s.bytes) + data_count g ss
 
 -- between two moments at most so many files of a kind were read
-pub record Grown {T : Type 0} (g : Grammar T) (kind : FileKind) (n : ℕ) (a b : Before) : Type 0 where
+pub record Grown {K T : Type 0} (g : Format K T) (kind : FileKind) (n : ℕ) (a b : Before) : Type 0 where
   pub more : List Source
   pub past : b.past ≡ a.past ++ more
   pub few : length more ≤ n
   pub kinds : AreOfKind kind more
   pub rows : b.rows ≡ a.rows + data_count g more
 
-module _ {T : Type 0} (g : Grammar T) where
+module _ {K T : Type 0} (g : Format K T) where
   none_read : (kind : FileKind) (n : ℕ) (a : Before) → Grown g kind n a a
   none_read kind n a = record { more = []; past = sym (append-nil a.past); few = omega arith; kinds = tt; rows = omega arith }
 

@@ -15,12 +15,12 @@ use Rattle.snb_input.specs.Walk.{Before, Held, IsHeldTold, after_walk, stage_che
 use Rattle.snb_soundness.specs.declared.unsound.Unsound.{Unsound}
 use Rattle.snb_soundness.specs.declared.unsound.Unsound.TheVariants as unsound
 use Rattle.snb_loader.specs.declared.order.TheConstants.{TABLES}
-use Rattle.snb_loader.specs.Tables.{IsHeard, table_grammar}
+use Rattle.snb_loader.specs.Tables.{IsHeard, table_format}
 use Rattle.snb_tables.specs.Soundness.{Cycle as IsFirstCycle, IsComplete, Lacks as IsFirstLack, Sound}
 
 -- what was read after the tables of a folder
 abbrev pub after_tables : Before → Held → Before
-after_tables at held = after_walk table_grammar at (stage_looks held TABLES)
+after_tables at held = after_walk table_format at (stage_looks held TABLES)
 
 -- a graph is refused so: it lacks an edge, or lacks none and a comment's chain of parents doesn't end at a post
 pub data IsRefusedGraph (g : List Row) : Refusal → Type 0 where
@@ -36,20 +36,20 @@ refusal_for unsound.Memory = Memory
 -- the graph of the rows that these files say isn't sound, and is refused so
 pub record IsUnsound (sources : List Source) (r : Refusal) : Type 0 where
   pub rows : List (List Placed)
-  pub said : FilesSay table_grammar sources rows
+  pub said : FilesSay table_format sources rows
   pub graph : List Row
   pub heard : IsHeard graph rows []
   pub refused : IsRefusedGraph graph r
 
 -- what is tried of a dataset, in order: its files, then whether its graph is sound
 abbrev pub dataset_checks : Before → Held → List {1} (Refusal → Type 0)
-dataset_checks at held = stage_checks table_grammar at held TABLES ++ IsUnsound (after_tables at held).past ∷ []
+dataset_checks at held = stage_checks table_format at held TABLES ++ IsUnsound (after_tables at held).past ∷ []
 
 -- nothing is wrong with a dataset, and this is its graph
 pub record IsDataset (at : Before) (held : Held) (g : List Row) : Type 0 where
   pub clean : NoneOf (dataset_checks at held)
   pub rows : List (List Placed)
-  pub said : FilesSay table_grammar (after_tables at held).past rows
+  pub said : FilesSay table_format (after_tables at held).past rows
   pub heard : IsHeard g rows []
   pub sound : Sound g
 

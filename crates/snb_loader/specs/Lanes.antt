@@ -1,8 +1,8 @@
 -- What the update streams of a folder are refused for, and the lanes that they are.
-use Rattle.std.specs.Prelude.{◌≡◌, ℕ, ◌-◌, ◌<◌, false, List, [], ◌++◌, length, slice_index_or, All, Option, None, Result, Ok, Err}
+use Rattle.std.specs.Prelude.{◌≡◌, ℕ, ◌-◌, ◌<◌, ◌≤◌, List, [], ◌∷◌, ◌++◌, length, slice_index_or, All, Option, Some, None, Result, Ok, Err}
 use Rattle.snb_base.specs.Shelf.{Files}
 use Rattle.snb_schema.specs.declared.file.FileId.{FileId}
-use Rattle.snb_schema.specs.declared.file.FileKind.{FileKind}
+use Rattle.snb_schema.specs.declared.limits.TheConstants.{MAX_ROWS}
 use Rattle.snb_schema.specs.declared.op.Line.{Line}
 use Rattle.snb_schema.specs.declared.op.OpKind.{OpKind}
 use Rattle.snb_schema.specs.declared.refusal.Refusal.{Refusal}
@@ -10,38 +10,30 @@ use Rattle.snb_schema.specs.declared.refusal.Refusal.TheVariants.{OutOfOrder}
 use Rattle.snb_schema.specs.LineLanes.{LineLanes}
 use Rattle.snb_schema.specs.StreamLines.{IsOfLine, NeverFalls}
 use Rattle.snb_schema.specs.TableRows.{IsFieldText}
-use Rattle.snb_schema.specs.UpdateLines.{IsBadInsert}
 use Rattle.snb_streams.specs.Spelled.{SpellsInsert}
-use Rattle.snb_streams.specs.Updates.{allowed_in}
+use Rattle.snb_lines.specs.Sinks.{Refuses, Takes}
+use Rattle.snb_streams.specs.Lines.{stream_language}
 use Rattle.snb_input.specs.declared.load.Load.{Load}
 use Rattle.snb_input.specs.declared.load.Load.TheVariants.{Refused, ReadFault, Memory}
 use Rattle.snb_input.specs.declared.load.Used.{Used}
 use Rattle.snb_input.specs.FirstOf.{FirstOf, NoneOf}
-use Rattle.snb_input.specs.Grammar.{Grammar}
+use Rattle.snb_input.specs.Format.{Format, IsTaker, Rules}
 use Rattle.snb_input.specs.Places.{FilesSay}
 use Rattle.snb_input.specs.Stages.{before}
 use Rattle.snb_input.specs.Walk.{Before, Held, IsHeldTold, after_walk, stage_checks, stage_looks}
 use Rattle.snb_loader.specs.declared.order.TheConstants.{FORUM_STREAMS, PERSON_STREAMS}
 
--- the fields of a line of this number spell an insert that streams of this kind have
-pub record SpellsLine (kind : FileKind) (n : ℕ) (fs : List (List ℕ)) (x : Line) : Type 0 where
-  pub spells : SpellsInsert (allowed_in kind) fs x.t x.t_d x.op
-  pub number_is : x.number ≡ n
-
 -- the line before has a greater t
 abbrev pub Falls : FileId → List (List Line) → List Line → Line → Refusal → Type 0
 Falls file done mine x r = (0 < length mine) × (x.t < (slice_index_or mine (length mine - 1) x).t) × (r ≡ OutOfOrder file x.number)
 
--- what streams say
-abbrev pub stream_grammar : Grammar Line
-stream_grammar = record {
-  has_header = λ file. false;
-  heads = λ file fs. ⊥;
-  spells = λ file n fs x. SpellsLine file.kind n fs x;
-  column = λ file fs column. IsBadInsert (allowed_in file.kind) fs column;
-  own = Falls;
-  bare = λ file items. None;
-}
+-- what the inserts of streams are refused for
+abbrev pub stream_rules : Rules Line
+stream_rules = record { limit = Some MAX_ROWS; own = Falls; bare = λ file items. None }
+
+-- what streams say, and what their inserts are refused for
+abbrev pub stream_format : Format (Unit {0}) Line
+stream_format = record { language = λ file. stream_language file.kind; rules = stream_rules }
 
 -- an insert that texts of fields spell is that of some line
 abbrev pub InsertsOfFieldsFit : Type 0
@@ -60,25 +52,49 @@ pub record StreamLines : Type 0 where
 abbrev pub IsHeard : StreamLines → List (List Line) → List Line → Type 0
 IsHeard s done mine = (s.done ≡ done) × (s.mine ≡ mine)
 
+-- a line whose t is no lower than that of the line before comes after it
+abbrev pub TakesLine : Takes StreamLines Line
+TakesLine old file x new =
+    (new.done ≡ old.done)
+    × (new.mine ≡ old.mine ++ x ∷ [])
+    × (0 < length old.mine → (slice_index_or old.mine (length old.mine - 1) x).t ≤ x.t)
+
+-- one whose t is lower is out of order
+abbrev pub RefusesLine : Refuses StreamLines Line
+RefusesLine old file x r = Falls file old.done old.mine x r
+
+-- the stream is at its end
+abbrev pub EndsStream : StreamLines → StreamLines → Type 0
+EndsStream old new = (new.done ≡ old.done ++ old.mine ∷ []) × (new.mine ≡ [])
+
+-- what takes streams is a taker of their files
+abbrev pub IsStreamTaker : Type 0
+IsStreamTaker = IsTaker stream_format IsHeard IsOfLine TakesLine RefusesLine (λ s file. None) EndsStream
+
+-- this is the t of the last of the lines, or 0
+pub record IsLastOf (lines : List Line) (last : ℕ) : Type 0 where
+  pub none : length lines ≡ 0 → last ≡ 0
+  pub some : (x : Line) → 0 < length lines → (slice_index_or lines (length lines - 1) x).t ≡ last
+
 -- what was read after the person streams, where the forum streams begin; and after these
 abbrev pub after_persons : Before → Held → Before
-after_persons at held = after_walk stream_grammar at (stage_looks held PERSON_STREAMS)
+after_persons at held = after_walk stream_format at (stage_looks held PERSON_STREAMS)
 
 abbrev pub next_stage : Before → Before
 next_stage at = record { bytes = at.bytes; rows = at.rows; past = [] }
 
 abbrev pub after_lanes : Before → Held → Before
-after_lanes at held = after_walk stream_grammar (next_stage (after_persons at held)) (stage_looks held FORUM_STREAMS)
+after_lanes at held = after_walk stream_format (next_stage (after_persons at held)) (stage_looks held FORUM_STREAMS)
 
 -- what is tried of the streams, in order: the person streams, then the forum streams
 abbrev pub lane_checks : Before → Held → List {1} (Refusal → Type 0)
-lane_checks at held = stage_checks stream_grammar at held PERSON_STREAMS ++ stage_checks stream_grammar (next_stage (after_persons at held)) held FORUM_STREAMS
+lane_checks at held = stage_checks stream_format at held PERSON_STREAMS ++ stage_checks stream_format (next_stage (after_persons at held)) held FORUM_STREAMS
 
 -- nothing is wrong with the streams, and these are their lanes
 pub record AreLanes (at : Before) (held : Held) (lanes : LineLanes) : Type 0 where
   pub clean : NoneOf (lane_checks at held)
-  pub persons : FilesSay stream_grammar (after_persons at held).past lanes.persons
-  pub forums : FilesSay stream_grammar (after_lanes at held).past lanes.forums
+  pub persons : FilesSay stream_format (after_persons at held).past lanes.persons
+  pub forums : FilesSay stream_format (after_lanes at held).past lanes.forums
 
 -- what the loading of the streams answers: there are files in the folder, which are those that the shelf tells where it tells any, of
 -- which nothing is wrong and these are the lanes, or which are refused so

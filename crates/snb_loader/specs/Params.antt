@@ -1,23 +1,23 @@
 -- What the parameter files of a folder are refused for, and the lists of parameters that they are.
-use Rattle.std.specs.Prelude.{◌≡◌, ℕ, ◌<◌, ltb, true, ◌⊎◌, List, [], ◌∷◌, length, filter, map, Option, Some, None, Result, Ok, Err}
+use Rattle.std.specs.Prelude.{◌≡◌, ℕ, ◌<◌, ltb, true, List, [], ◌∷◌, ◌++◌, filter, map, Option, Some, None, Result, Ok, Err}
 use Rattle.snb_base.specs.Shelf.{Files}
 use Rattle.snb_schema.specs.declared.file.FileId.{FileId}
 use Rattle.snb_schema.specs.declared.file.FileKind.{FileKind}
 use Rattle.snb_schema.specs.declared.file.FileKind.TheVariants.{Table, PersonStream, ForumStream, Params, Log, Cases}
+use Rattle.snb_schema.specs.declared.limits.TheConstants.{MAX_ROWS}
 use Rattle.snb_schema.specs.declared.query.Query.{Query}
 use Rattle.snb_schema.specs.declared.refusal.Refusal.{Refusal}
 use Rattle.snb_schema.specs.declared.refusal.Refusal.TheVariants.{NoParameters}
 use Rattle.snb_schema.specs.Frequencies.{FrequencyTable, frequency_at}
-use Rattle.snb_schema.specs.ParameterLines.{IsBadQuery, SpellsQuery, query_columns}
-use Rattle.snb_schema.specs.Queries.{IsComplex}
 use Rattle.snb_schema.specs.QueryLists.{AreOf, QueryLists, list_of}
-use Rattle.snb_streams.specs.Parameters.{params_file}
+use Rattle.snb_lines.specs.Sinks.{Takes}
+use Rattle.snb_streams.specs.Parameters.{params_file, params_language}
 use Rattle.snb_input.specs.declared.load.Load.{Load}
 use Rattle.snb_input.specs.declared.load.Load.TheVariants.{Refused, ReadFault, Memory}
 use Rattle.snb_input.specs.declared.load.Used.{Used}
 use Rattle.snb_input.specs.declared.series.Series.{Series}
 use Rattle.snb_input.specs.FirstOf.{FirstOf, NoneOf}
-use Rattle.snb_input.specs.Grammar.{Grammar}
+use Rattle.snb_input.specs.Format.{Format, IsTaker, Rules}
 use Rattle.snb_input.specs.Places.{FileSays}
 use Rattle.snb_input.specs.Stages.{before}
 use Rattle.snb_input.specs.Walk.{Before, Held, IsHeldTold, after_walk, stage_checks, stage_looks}
@@ -44,25 +44,18 @@ query_in (Params q) = q
 query_in Log = 0
 query_in Cases = 0
 
--- these fields are no parameters of the query, in this column first; where the number isn't one of the seven, none are
-abbrev pub IsBadParams : ℕ → List (List ℕ) → ℕ → Type 0
-IsBadParams q fs column = (IsComplex q × IsBadQuery q fs column) ⊎ ((¬ IsComplex q) × (column ≡ 0))
-
 -- what is wrong with a file that has these parameters: there must be one
 abbrev pub no_parameters : FileId → List Query → Option Refusal
 no_parameters file [] = Some (NoParameters file)
 no_parameters file (x ∷ xs) = None
 
--- what parameter files say: of the header only the number of fields counts, and each later line has the parameters of one query
-abbrev pub params_grammar : Grammar Query
-params_grammar = record {
-  has_header = λ file. true;
-  heads = λ file fs. length fs ≡ length (query_columns (query_in file.kind));
-  spells = λ file n fs x. IsComplex (query_in file.kind) × SpellsQuery (query_in file.kind) fs x;
-  column = λ file fs column. IsBadParams (query_in file.kind) fs column;
-  own = λ file done mine x r. ⊥;
-  bare = no_parameters;
-}
+-- what the parameters of queries are refused for: a file has one at least
+abbrev pub params_rules : Rules Query
+params_rules = record { limit = Some MAX_ROWS; own = λ file done mine x r. ⊥; bare = no_parameters }
+
+-- what parameter files say, and what their parameters are refused for
+abbrev pub params_format : Format (Unit {0}) Query
+params_format = record { language = λ file. params_language (query_in file.kind); rules = params_rules }
 
 -- what the files before said, and what this one has said so far
 pub record ParamLines : Type 0 where
@@ -73,6 +66,18 @@ pub record ParamLines : Type 0 where
 abbrev pub HasHeard : ParamLines → List (List Query) → List Query → Type 0
 HasHeard s done mine = (s.done ≡ done) × (s.mine ≡ mine)
 
+-- the parameters come after those before
+abbrev pub TakesQuery : Takes ParamLines Query
+TakesQuery old file x new = (new.done ≡ old.done) × (new.mine ≡ old.mine ++ x ∷ [])
+
+-- the file is at its end
+abbrev pub EndsParams : ParamLines → ParamLines → Type 0
+EndsParams old new = (new.done ≡ old.done ++ old.mine ∷ []) × (new.mine ≡ [])
+
+-- what takes parameters is a taker of their files
+abbrev pub IsParamTaker : Type 0
+IsParamTaker = IsTaker params_format HasHeard (λ x. Unit {0}) TakesQuery (λ old file x r. ⊥) (λ s file. no_parameters file s.mine) EndsParams
+
 -- there is a list for each of these queries, with queries of its kind alone
 abbrev pub AreOfEach : List ℕ → List (List Query) → Type 0
 AreOfEach [] [] = Unit {0}
@@ -82,15 +87,15 @@ AreOfEach (q ∷ qs) (xs ∷ xss) = AreOf q xs × AreOfEach qs xss
 
 -- what was read after the parameter files
 abbrev pub after_params : Before → Held → FrequencyTable → Before
-after_params at held table = after_walk params_grammar at (stage_looks held (params_stage table))
+after_params at held table = after_walk params_format at (stage_looks held (params_stage table))
 
 -- what is tried of the parameter files, in order
 abbrev pub params_checks : Before → Held → FrequencyTable → List {1} (Refusal → Type 0)
-params_checks at held table = stage_checks params_grammar at held (params_stage table)
+params_checks at held table = stage_checks params_format at held (params_stage table)
 
 -- the parameter file of the query is there, and says this list
 abbrev pub IsListSaid : Held → ℕ → List Query → Type 0
-IsListSaid held q list = (bytes : List ℕ) × (held (params_file q) ≡ Some bytes) × FileSays params_grammar (record { file = params_file q; bytes = bytes }) list
+IsListSaid held q list = (bytes : List ℕ) × (held (params_file q) ≡ Some bytes) × FileSays params_format (record { file = params_file q; bytes = bytes }) list
 
 -- nothing is wrong with the parameter files, and these are the lists of parameters
 pub record AreParams (at : Before) (held : Held) (table : FrequencyTable) (lists : QueryLists) : Type 0 where

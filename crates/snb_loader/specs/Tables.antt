@@ -1,20 +1,19 @@
--- What the lines of the tables' files say, and what is wrong with a row beside those before it.
-use Rattle.std.specs.Prelude.{◌≡◌, ◌⊎◌, ◌↔◌, ◌++◌, ◌∷◌, ℕ, Bool, true, false, List, [], length, map, All, Contains, Option, Some, None}
+-- What the files of tables say, and what is wrong with a row beside those before it.
+use Rattle.std.specs.Prelude.{◌≡◌, ◌⊎◌, ◌↔◌, ◌++◌, ◌∷◌, ℕ, Bool, true, false, List, [], map, All, Contains, Option, Some, None}
 use Rattle.std.specs.List.{flat_map}
 use Rattle.snb_schema.specs.declared.file.FileId.{FileId}
-use Rattle.snb_schema.specs.declared.file.FileKind.{FileKind}
-use Rattle.snb_schema.specs.declared.file.FileKind.TheVariants.{Table, PersonStream, ForumStream, Params, Log, Cases}
+use Rattle.snb_schema.specs.declared.limits.TheConstants.{MAX_ROWS}
 use Rattle.snb_schema.specs.declared.refusal.Missing.{Missing}
 use Rattle.snb_schema.specs.declared.refusal.Refusal.{Refusal}
 use Rattle.snb_schema.specs.declared.refusal.Refusal.TheVariants.{Dangling, Duplicate}
 use Rattle.snb_schema.specs.declared.row.Placed.{Placed}
 use Rattle.snb_schema.specs.declared.row.Row.{Row}
 use Rattle.snb_schema.specs.declared.row.Row.TheVariants as row
-use Rattle.snb_schema.specs.Layouts.{columns}
 use Rattle.snb_schema.specs.References.{refs_of_row}
 use Rattle.snb_schema.specs.RowKeys.{node_key, slot_of}
-use Rattle.snb_schema.specs.RowLines.{IsBadColumn, IsWide, SpellsRow}
-use Rattle.snb_input.specs.Grammar.{Grammar}
+use Rattle.snb_schema.specs.TableRows.{IsTableRow}
+use Rattle.snb_csv.specs.Rows.{table_language}
+use Rattle.snb_input.specs.Format.{Format, IsTaker, Rules}
 use Rattle.snb_tables.specs.Graphs.{HasGained, HasKey, HasSlot, IsGraph}
 use Rattle.snb_tables.specs.Soundness.{Held}
 
@@ -73,43 +72,13 @@ IsAmissBeside rows file p r =
 abbrev pub IsAmiss : FileId → List (List Placed) → List Placed → Placed → Refusal → Type 0
 IsAmiss file done mine p r = IsAmissBeside (said_rows done mine) file p r
 
--- the fields are a header of the file's table
-abbrev pub HeadsIn : FileKind → List (List ℕ) → Type 0
-HeadsIn (Table t) fs = IsWide (length (columns t)) fs
-HeadsIn PersonStream fs = ⊥
-HeadsIn ForumStream fs = ⊥
-HeadsIn (Params query) fs = ⊥
-HeadsIn Log fs = ⊥
-HeadsIn Cases fs = ⊥
+-- what the rows of tables are refused for
+abbrev pub table_rules : Rules Placed
+table_rules = record { limit = Some MAX_ROWS; own = IsAmiss; bare = λ file items. None }
 
--- the fields spell a row of the file's table, at a line
-abbrev pub SpellsIn : FileKind → ℕ → List (List ℕ) → Placed → Type 0
-SpellsIn (Table t) n fs p = SpellsRow t fs p.row p.turned × (p.line ≡ n)
-SpellsIn PersonStream n fs p = ⊥
-SpellsIn ForumStream n fs p = ⊥
-SpellsIn (Params query) n fs p = ⊥
-SpellsIn Log n fs p = ⊥
-SpellsIn Cases n fs p = ⊥
-
--- the bad column of fields by the file's table; a file of no table has no columns
-abbrev pub ColumnIn : FileKind → List (List ℕ) → ℕ → Type 0
-ColumnIn (Table t) fs column = IsBadColumn t fs column
-ColumnIn PersonStream fs column = column ≡ 0
-ColumnIn ForumStream fs column = column ≡ 0
-ColumnIn (Params query) fs column = column ≡ 0
-ColumnIn Log fs column = column ≡ 0
-ColumnIn Cases fs column = column ≡ 0
-
--- what the files of tables say
-abbrev pub table_grammar : Grammar Placed
-table_grammar = record {
-  has_header = λ file. true;
-  heads = λ file fs. HeadsIn file.kind fs;
-  spells = λ file n fs p. SpellsIn file.kind n fs p;
-  column = λ file fs column. ColumnIn file.kind fs column;
-  own = IsAmiss;
-  bare = λ file items. None;
-}
+-- what the files of tables say, and what their rows are refused for
+abbrev pub table_format : Format (Unit {0}) Placed
+table_format = record { language = λ file. table_language file.kind; rules = table_rules }
 
 -- the graph has exactly the rows that the lines said, and each node that they refer to
 pub record IsHeard (g : List Row) (done : List (List Placed)) (mine : List Placed) : Type 0 where
@@ -120,3 +89,11 @@ pub record IsHeard (g : List Row) (done : List (List Placed)) (mine : List Place
 -- a row was taken: it repeats one that is there, or it is one row more, whose slot was free
 abbrev pub HasTaken : List Row → Row → List Row → Type 0
 HasTaken old r new = (IsRepeat old r × (new ≡ old)) ⊎ (HasGained old (r ∷ []) new × (¬ HasSlot old (slot_of r)))
+
+-- the nodes that a line refers to are there, and its row was taken
+abbrev pub TakesPlaced : List Row → Placed → List Row → Type 0
+TakesPlaced old p new = All (IsThere old) (refs_of_row p.row p.turned) × HasTaken old p.row new
+
+-- the graph is a taker of the files of tables
+abbrev pub IsTableTaker : Type 0
+IsTableTaker = IsTaker {P = List Row} table_format IsHeard (λ p. IsTableRow p.row) (λ old file p new. TakesPlaced old p new) IsAmissBeside (λ s file. None) (λ old new. new ≡ old)

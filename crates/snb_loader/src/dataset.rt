@@ -9,6 +9,7 @@ ghost use Rattle.snb_tables.specs.Soundness.{Sound};
 
 use crate::tables::{TableGraph, load_tables, tables_are_lawful};
 use snb_base::shelf::Shelf;
+use snb_csv::rows::TableLines;
 use snb_graph::graph::Graph;
 use snb_input::law::one_saying;
 use snb_input::load::{Load, Used};
@@ -56,7 +57,7 @@ pub fn load_dataset<S: Shelf>(
     ensures same { S.contents shelf.new ≡ S.contents shelf.old }
 {
     tables_are_lawful();
-    one_saying::<TableGraph>();
+    one_saying::<TableLines, TableGraph>();
     graphs_are_their_rows();
     let walk = match load_tables(alloc, shelf, folder, *used) {
         Ok(walk) => walk,

@@ -5,7 +5,10 @@ ghost use Rattle.snb_loader.specs.Laws.{DatasetIsOne, DatasetRefusesOnce, LanesA
 use crate::params::{ParamTaker, params_are_lawful};
 use crate::streams::{StreamTaker, streams_are_lawful};
 use crate::tables::{TableGraph, tables_are_lawful};
+use snb_csv::rows::TableLines;
 use snb_input::law::{one_refusal, one_saying};
+use snb_streams::lines::StreamLines;
+use snb_streams::params::QueryLines;
 use snb_tables::law::graphs_are_their_rows;
 
 /// Something is wrong with the tables of a folder in one first way, or nothing is, and they have one
@@ -15,8 +18,8 @@ pub fn one_dataset()
     ensures refusal { DatasetRefusesOnce }
 {
     tables_are_lawful();
-    one_refusal::<TableGraph>();
-    one_saying::<TableGraph>();
+    one_refusal::<TableLines, TableGraph>();
+    one_saying::<TableLines, TableGraph>();
     graphs_are_their_rows();
 }
 
@@ -27,8 +30,8 @@ pub fn one_lanes()
     ensures refusal { LanesRefuseOnce }
 {
     streams_are_lawful();
-    one_refusal::<StreamTaker>();
-    one_saying::<StreamTaker>();
+    one_refusal::<StreamLines, StreamTaker>();
+    one_saying::<StreamLines, StreamTaker>();
 }
 
 /// Something is wrong with the parameter files of a folder in one first way, or nothing is, and they
@@ -38,6 +41,6 @@ pub fn one_params()
     ensures refusal { ParamsRefuseOnce }
 {
     params_are_lawful();
-    one_refusal::<ParamTaker>();
-    one_saying::<ParamTaker>();
+    one_refusal::<QueryLines, ParamTaker>();
+    one_saying::<QueryLines, ParamTaker>();
 }

@@ -6,25 +6,26 @@ ghost use Rattle.snb_schema.specs.declared.limits.TheConstants.{MAX_BYTES, MAX_R
 ghost use Rattle.snb_schema.specs.Frequencies.{frequency_at};
 ghost use Rattle.snb_schema.specs.Queries.{IsComplex};
 ghost use Rattle.snb_schema.specs.QueryLists.{AreOf, HaveParameters, list_of};
-ghost use Rattle.snb_input.specs.Grammar.{Lawful};
+ghost use Rattle.snb_input.specs.Format.{Lawful};
 ghost use Rattle.snb_input.specs.Loading.{OnReadFault};
 ghost use Rattle.snb_input.specs.Stages.{AreRising, IsStage, IsWalkWithin, before};
-ghost use Rattle.snb_loader.specs.Params.{AreOfEach, HasHeard, IsParamsAnswer, asked, params_grammar, params_stage, query_in as query_within};
+ghost use Rattle.snb_loader.specs.Params.{AreOfEach, HasHeard, IsParamTaker, IsParamsAnswer, asked, params_format, params_stage, query_in as query_within};
 
 use snb_base::shelf::Shelf;
 use snb_input::load::{Load, Used};
 use snb_input::series::Series;
 use snb_input::taker::Taker;
 use snb_input::walk::{Walk, walk_stage};
-use snb_lines::record::Record;
-use snb_schema::fault::{Fault, LineFault};
+use snb_lines::sink::Sink;
+use snb_schema::fault::Fault;
 use snb_schema::file::{FileId, FileKind};
 use snb_schema::frequencies::Frequencies;
+use snb_schema::limits::MAX_ROWS;
 use snb_schema::lists::Lists;
-use snb_schema::query::{Query, is_complex};
+use snb_schema::query::Query;
 use snb_schema::refusal::Refusal;
 use snb_streams::law::one_query;
-use snb_streams::params::{columns_of, read_query};
+use snb_streams::params::QueryLines;
 use std::alloc::{AllocError, Global};
 use std::marker::Model;
 use std::mem;
@@ -76,30 +77,21 @@ impl ParamTaker {
     }
 }
 
-impl Taker for ParamTaker {
-    type Item = Query;
+impl Sink<Query> for ParamTaker {
+    ghost use Rattle.std.specs.Prelude.{◌≡◌, refl};
+    ghost use Rattle.snb_loader.specs.Params.{EndsParams, TakesQuery, no_parameters};
 
-    ghost use Rattle.snb_loader.specs.Params.{HasHeard, params_grammar};
+    ghost fits = { λ _. Unit {0} };
 
-    ghost grammar = { params_grammar };
+    ghost takes = { TakesQuery };
 
-    ghost heard = { HasHeard };
+    ghost refuses = { λ _ _ _ _. ⊥ };
 
-    fn has_header(&self, _file: FileId) -> bool {
-        true
-    }
+    ghost same = { λ old new. new ≡ old };
 
-    fn is_header(&self, file: FileId, fields: &Record) -> bool {
-        fields.len() == columns_of(query_in(file.kind)).len()
-    }
+    ghost ends = { λ s file. no_parameters file s.mine };
 
-    fn read_item(&self, file: FileId, _number: u32, fields: &Record) -> Result<Query, LineFault> {
-        let query = query_in(file.kind);
-        if !is_complex(query) {
-            return Err(LineFault::Bad { column: 0 });
-        }
-        read_query(self.alloc, query, fields)
-    }
+    ghost turns = { EndsParams };
 
     fn put(&mut self, _file: FileId, item: Query) -> Result<(), Fault> {
         self.mine.push(item)?;
@@ -119,11 +111,32 @@ impl Taker for ParamTaker {
         self.done.push(queries)?;
         Ok(())
     }
+
+    ghost same_self = { λ _. refl };
 }
 
-/// A line of a parameter file says one query at most, and is refused in one way at most.
+impl Taker<QueryLines> for ParamTaker {
+    ghost use Rattle.snb_loader.specs.Params.{HasHeard, params_rules, query_in};
+
+    ghost grammar_of = { λ file. query_in file.kind };
+
+    ghost rules = { params_rules };
+
+    ghost heard = { HasHeard };
+
+    fn grammar(&self, file: FileId) -> QueryLines {
+        QueryLines::new(self.alloc, query_in(file.kind))
+    }
+
+    fn most(&self) -> Option<u64> {
+        Some(MAX_ROWS)
+    }
+}
+
+/// The taker is one of parameter files. A line says one query at most, and is refused in one way at most.
 pub(crate) fn params_are_lawful()
-    ensures { Lawful params_grammar }
+    ensures lawful { Lawful params_format }
+    ensures right { IsParamTaker }
 {
     one_query();
 }
@@ -217,7 +230,14 @@ pub fn load_params<S: Shelf>(
 {
     params_are_lawful();
     let stage = stage_of(alloc, frequencies)?;
-    let walk = match walk_stage(alloc, shelf, folder, &stage, *used, ParamTaker::new(alloc)) {
+    let walk = match walk_stage::<S, QueryLines, ParamTaker>(
+        alloc,
+        shelf,
+        folder,
+        &stage,
+        *used,
+        ParamTaker::new(alloc),
+    ) {
         Ok(walk) => walk,
         Err(load) => return Err(load),
     };

@@ -1,12 +1,12 @@
 //! What takes the lines of the update streams of a folder.
 
-ghost use Rattle.std.specs.Prelude.{◌≡◌, ◌≤◌, [], All, IfOk, map};
+ghost use Rattle.std.specs.Prelude.{◌≡◌, ◌≤◌, [], All, IfOk, Some, map};
 ghost use Rattle.snb_base.specs.Shelf.{Rose};
 ghost use Rattle.snb_schema.specs.declared.limits.TheConstants.{MAX_BYTES, MAX_ROWS};
-ghost use Rattle.snb_input.specs.Grammar.{Lawful};
+ghost use Rattle.snb_input.specs.Format.{Lawful};
 ghost use Rattle.snb_input.specs.Loading.{OnReadFault};
 ghost use Rattle.snb_input.specs.Stages.{AreRising, IsStage, IsWalkWithin, before};
-ghost use Rattle.snb_loader.specs.Lanes.{AreTaken, InsertsOfFieldsFit, IsHeard, stream_grammar};
+ghost use Rattle.snb_loader.specs.Lanes.{AreTaken, InsertsOfFieldsFit, IsHeard, IsStreamTaker, stream_format};
 
 use snb_base::shelf::Shelf;
 use snb_fields::law::own_line;
@@ -14,33 +14,28 @@ use snb_input::load::{Load, Used};
 use snb_input::series::Series;
 use snb_input::taker::Taker;
 use snb_input::walk::{Walk, walk_stage};
-use snb_lines::record::Record;
-use snb_schema::fault::{Fault, LineFault};
+use snb_lines::sink::Sink;
+use snb_schema::fault::Fault;
 use snb_schema::file::FileId;
+use snb_schema::limits::MAX_ROWS;
 use snb_schema::op::Line;
 use snb_schema::refusal::Refusal;
 use snb_streams::law::{one_fault, one_insert_of_fields};
-use snb_streams::line::read_insert;
-use snb_streams::updates::inserts_of;
+use snb_streams::lines::StreamLines;
+use snb_streams::order::InOrder;
 use std::alloc::{AllocError, Global};
 use std::marker::Model;
 use std::mem;
 
-/// A line of a stream, which is that of some text. A contract sees the line.
-#[derive(Drop)]
-pub(crate) struct FileLine {
-    line: Line,
-}
-
-impl Model for FileLine {
-    ghost use Rattle.snb_schema.specs.declared.op.Line.{Line};
-    ghost use Rattle.snb_schema.specs.StreamLines.{IsOfLine};
-
-    ghost Value = { Line };
-
-    ghost view = { λ s. s.line };
-
-    ghost invariant = { λ s. IsOfLine s.line };
+// A stream before its first insert.
+fn no_lines(alloc: Global) -> InOrder<Vec<Line>>
+    ensures last { result.last ≡ 0 }
+    ensures none { result.sink.items ≡ [] }
+{
+    InOrder {
+        last: 0,
+        sink: Vec::new(alloc),
+    }
 }
 
 /// Takes the inserts of streams, stream by stream. Some text is each line, and in a stream t never
@@ -48,7 +43,7 @@ impl Model for FileLine {
 pub(crate) struct StreamTaker {
     alloc: Global,
     done: Vec<Vec<Line>>,
-    mine: Vec<Line>,
+    mine: InOrder<Vec<Line>>,
 }
 
 impl Drop for StreamTaker {
@@ -63,13 +58,16 @@ impl Drop for StreamTaker {
 
 impl Model for StreamTaker {
     ghost use Rattle.std.specs.Prelude.{All, map};
-    ghost use Rattle.snb_loader.specs.Lanes.{AreTaken, StreamLines};
+    ghost use Rattle.snb_loader.specs.Lanes.{AreTaken, IsLastOf, StreamLines};
 
     ghost Value = { StreamLines };
 
-    ghost view = { λ s. record { done = map (λ v. v.items) s.done.items; mine = s.mine.items } };
+    ghost view = { λ s. record { done = map (λ v. v.items) s.done.items; mine = s.mine.sink.items } };
 
-    ghost invariant = { λ s. All AreTaken (map (λ v. v.items) s.done.items) × AreTaken s.mine.items };
+    ghost invariant = { λ s.
+        All AreTaken (map (λ v. v.items) s.done.items)
+        × AreTaken s.mine.sink.items
+        × IsLastOf s.mine.sink.items s.mine.last };
 }
 
 impl StreamTaker {
@@ -80,7 +78,7 @@ impl StreamTaker {
         StreamTaker {
             alloc,
             done: Vec::new(alloc),
-            mine: Vec::new(alloc),
+            mine: no_lines(alloc),
         }
     }
 
@@ -105,59 +103,36 @@ fn inserts_of_fields_fit()
     own_line();
 }
 
-/// A line of a stream says one insert at most, and is refused in one way at most.
+/// The taker is one of the files of streams. A line says one insert at most, which is that of some line,
+/// and is refused in one way at most.
 pub(crate) fn streams_are_lawful()
-    ensures { Lawful stream_grammar }
+    ensures lawful { Lawful stream_format }
+    ensures right { IsStreamTaker }
 {
     one_insert_of_fields();
     one_fault();
+    inserts_of_fields_fit();
 }
 
-impl Taker for StreamTaker {
-    type Item = FileLine;
+impl Sink<Line> for StreamTaker {
+    ghost use Rattle.std.specs.Prelude.{◌≡◌, None, refl};
+    ghost use Rattle.snb_schema.specs.StreamLines.{IsOfLine};
+    ghost use Rattle.snb_loader.specs.Lanes.{EndsStream, RefusesLine, TakesLine};
 
-    ghost use Rattle.snb_loader.specs.Lanes.{IsHeard, stream_grammar};
+    ghost fits = { IsOfLine };
 
-    ghost grammar = { stream_grammar };
+    ghost takes = { TakesLine };
 
-    ghost heard = { IsHeard };
+    ghost refuses = { RefusesLine };
 
-    fn has_header(&self, _file: FileId) -> bool {
-        false
-    }
+    ghost same = { λ old new. new ≡ old };
 
-    fn is_header(&self, _file: FileId, _fields: &Record) -> bool {
-        false
-    }
+    ghost ends = { λ _ _. None };
 
-    fn read_item(&self, file: FileId, number: u32, fields: &Record) -> Result<FileLine, LineFault> {
-        inserts_of_fields_fit();
-        match read_insert(self.alloc, inserts_of(file.kind), fields) {
-            Ok(insert) => Ok(FileLine {
-                line: Line {
-                    t: insert.t,
-                    t_d: insert.t_d,
-                    op: insert.op,
-                    number,
-                },
-            }),
-            Err(fault) => Err(fault),
-        }
-    }
+    ghost turns = { EndsStream };
 
-    fn put(&mut self, file: FileId, item: FileLine) -> Result<(), Fault> {
-        let FileLine { line } = item;
-        let count = self.mine.len();
-        if count > 0 && line.t < self.mine[count - 1].t {
-            return Err(Fault::Bad {
-                refusal: Refusal::OutOfOrder {
-                    file,
-                    line: line.number,
-                },
-            });
-        }
-        self.mine.push(line)?;
-        Ok(())
+    fn put(&mut self, file: FileId, item: Line) -> Result<(), Fault> {
+        self.mine.put(file, item)
     }
 
     fn at_end(&self, _file: FileId) -> Option<Refusal> {
@@ -165,9 +140,29 @@ impl Taker for StreamTaker {
     }
 
     fn next_file(&mut self) -> Result<(), AllocError> {
-        let lines = mem::replace(&mut self.mine, Vec::new(self.alloc));
-        self.done.push(lines)?;
+        let mine = mem::replace(&mut self.mine, no_lines(self.alloc));
+        self.done.push(mine.sink)?;
         Ok(())
+    }
+
+    ghost same_self = { λ _. refl };
+}
+
+impl Taker<StreamLines> for StreamTaker {
+    ghost use Rattle.snb_loader.specs.Lanes.{IsHeard, stream_rules};
+
+    ghost grammar_of = { λ file. file.kind };
+
+    ghost rules = { stream_rules };
+
+    ghost heard = { IsHeard };
+
+    fn grammar(&self, file: FileId) -> StreamLines {
+        StreamLines::new(self.alloc, file.kind)
+    }
+
+    fn most(&self) -> Option<u64> {
+        Some(MAX_ROWS)
     }
 }
 
@@ -187,12 +182,19 @@ pub(crate) fn load_stage<S: Shelf>(
     requires bytes { used.bytes ≤ MAX_BYTES }
     requires rows { used.rows ≤ MAX_ROWS }
     requires rising { AreRising 0 stage.now }
-    ensures answer { IsStage stream_grammar IsHeard (S.contents shelf.old) folder.now stage.now (before used) result }
-    ensures within { IfOk result IsWalkWithin }
+    ensures answer { IsStage stream_format IsHeard (S.contents shelf.old) folder.now stage.now (before used) result }
+    ensures within { IfOk result (IsWalkWithin (Some MAX_ROWS)) }
     ensures fault { OnReadFault result (Rose (S.faults shelf.old) (S.faults shelf.new)) }
     ensures later { S.faults shelf.old ≤ S.faults shelf.new }
     ensures same { S.contents shelf.new ≡ S.contents shelf.old }
 {
     streams_are_lawful();
-    walk_stage(alloc, shelf, folder, stage, used, StreamTaker::new(alloc))
+    walk_stage::<S, StreamLines, StreamTaker>(
+        alloc,
+        shelf,
+        folder,
+        stage,
+        used,
+        StreamTaker::new(alloc),
+    )
 }

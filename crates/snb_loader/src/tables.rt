@@ -1,52 +1,33 @@
 //! The tables of a dataset, read into a graph.
 
-ghost use Rattle.std.specs.Prelude.{◌≡◌, ◌≤◌, [], All, OnOk, IfOk};
+ghost use Rattle.std.specs.Prelude.{◌≡◌, ◌≤◌, [], OnErr, OnOk, IfOk, Some};
 ghost use Rattle.snb_base.specs.Shelf.{Rose};
-ghost use Rattle.snb_input.specs.Grammar.{Lawful};
+ghost use Rattle.snb_input.specs.Format.{Lawful};
 ghost use Rattle.snb_input.specs.Loading.{OnReadFault};
 ghost use Rattle.snb_input.specs.Stages.{IsStage, IsWalkWithin, before};
 ghost use Rattle.snb_schema.specs.declared.limits.TheConstants.{MAX_BYTES, MAX_ROWS};
 ghost use Rattle.snb_schema.specs.Faults.{OnBad};
-ghost use Rattle.snb_schema.specs.References.{refs_of_row};
 ghost use Rattle.snb_schema.specs.TableRows.{IsTableRow};
-ghost use Rattle.snb_loader.specs.Tables.{HasTaken, IsAmissBeside, IsHeard, IsSecond, IsThere, table_grammar};
+ghost use Rattle.snb_loader.specs.Tables.{HasTaken, IsHeard, IsSecond, IsTableTaker, table_format};
 
 use crate::lacking::{first_lacking, may_repeat};
 use crate::order::TABLES;
 use snb_base::shelf::Shelf;
 use snb_csv::law::{one_column, one_row, rows_of_fields_fit};
-use snb_csv::read::read_row;
-use snb_fields::read::is_wide;
+use snb_csv::rows::TableLines;
 use snb_graph::graph::Graph;
 use snb_input::load::{Load, Used};
 use snb_input::taker::Taker;
 use snb_input::walk::{Walk, walk_stage};
-use snb_lines::record::Record;
-use snb_schema::fault::{Fault, LineFault};
-use snb_schema::file::{FileId, FileKind};
-use snb_schema::layout::columns_of;
+use snb_lines::sink::Sink;
+use snb_schema::fault::Fault;
+use snb_schema::file::FileId;
+use snb_schema::limits::MAX_ROWS;
 use snb_schema::refusal::Refusal;
 use snb_schema::row::{Placed, Row};
 use snb_store::insert::Insert;
 use std::alloc::{AllocError, Global};
 use std::marker::Model;
-
-/// A row of a table's file, which is one that its table can have. A contract sees it with its place.
-#[derive(Drop)]
-pub struct FileRow {
-    placed: Placed,
-}
-
-impl Model for FileRow {
-    ghost use Rattle.snb_schema.specs.declared.row.Placed.{Placed};
-    ghost use Rattle.snb_schema.specs.TableRows.{IsTableRow};
-
-    ghost Value = { Placed };
-
-    ghost view = { λ s. s.placed };
-
-    ghost invariant = { λ s. IsTableRow s.placed.row };
-}
 
 /// The graph of the rows so far. A line that repeats an edge or a word changes nothing.
 pub struct TableGraph {
@@ -94,6 +75,7 @@ impl TableGraph {
         requires { IsTableRow row }
         ensures ok { OnOk result (HasTaken self.old row self.new) }
         ensures bad { OnBad result (λ r. IsSecond self.old row × (r ≡ Refusal.Duplicate file line)) }
+        ensures same { OnErr result (self.new ≡ self.old) }
     {
         if may_repeat(&row) && self.graph.same_row(&row) {
             return Ok(());
@@ -106,64 +88,33 @@ impl TableGraph {
             Err(Insert::Memory) => Err(Fault::Memory),
         }
     }
+}
 
-    // Puts the row of a line into the graph. `Bad` says what is wrong with it beside the rows there.
-    fn put_placed(&mut self, file: FileId, placed: Placed) -> Result<(), Fault>
-        requires { IsTableRow placed.row }
-        ensures there { OnOk result (All (IsThere self.old) (refs_of_row placed.row placed.turned)) }
-        ensures taken { OnOk result (HasTaken self.old placed.row self.new) }
-        ensures bad { OnBad result (λ r. IsAmissBeside self.old file placed r) }
-    {
-        let line = placed.line;
-        match first_lacking(&self.graph, &placed.row, placed.turned) {
+impl Sink<Placed> for TableGraph {
+    ghost use Rattle.std.specs.Prelude.{◌≡◌, None, refl};
+    ghost use Rattle.snb_schema.specs.TableRows.{IsTableRow};
+    ghost use Rattle.snb_loader.specs.Tables.{IsAmissBeside, TakesPlaced};
+
+    ghost fits = { λ p. IsTableRow p.row };
+
+    ghost takes = { λ old _ p new. TakesPlaced old p new };
+
+    ghost refuses = { IsAmissBeside };
+
+    ghost same = { λ old new. new ≡ old };
+
+    ghost ends = { λ _ _. None };
+
+    ghost turns = { λ old new. new ≡ old };
+
+    fn put(&mut self, file: FileId, item: Placed) -> Result<(), Fault> {
+        let line = item.line;
+        match first_lacking(&self.graph, &item.row, item.turned) {
             Some(column) => Err(Fault::Bad {
                 refusal: Refusal::Dangling { file, line, column },
             }),
-            None => self.put_row(file, line, placed.row),
+            None => self.put_row(file, line, item.row),
         }
-    }
-}
-
-impl Taker for TableGraph {
-    type Item = FileRow;
-
-    ghost use Rattle.snb_loader.specs.Tables.{IsHeard, table_grammar};
-
-    ghost grammar = { table_grammar };
-
-    ghost heard = { IsHeard };
-
-    fn has_header(&self, _file: FileId) -> bool {
-        true
-    }
-
-    fn is_header(&self, file: FileId, fields: &Record) -> bool {
-        match file.kind {
-            FileKind::Table { table } => is_wide(columns_of(table).len(), fields),
-            _ => false,
-        }
-    }
-
-    fn read_item(&self, file: FileId, number: u32, fields: &Record) -> Result<FileRow, LineFault> {
-        rows_of_fields_fit();
-        match file.kind {
-            FileKind::Table { table } => match read_row(self.alloc, table, fields) {
-                Ok(read) => Ok(FileRow {
-                    placed: Placed {
-                        line: number,
-                        row: read.row,
-                        turned: read.turned,
-                    },
-                }),
-                Err(fault) => Err(fault),
-            },
-            _ => Err(LineFault::Bad { column: 0 }),
-        }
-    }
-
-    fn put(&mut self, file: FileId, item: FileRow) -> Result<(), Fault> {
-        let FileRow { placed } = item;
-        self.put_placed(file, placed)
     }
 
     fn at_end(&self, _file: FileId) -> Option<Refusal> {
@@ -173,14 +124,37 @@ impl Taker for TableGraph {
     fn next_file(&mut self) -> Result<(), AllocError> {
         Ok(())
     }
+
+    ghost same_self = { λ _. refl };
 }
 
-/// A line of a table's file says one row at most, and is refused in one way at most.
+impl Taker<TableLines> for TableGraph {
+    ghost use Rattle.snb_loader.specs.Tables.{IsHeard, table_rules};
+
+    ghost grammar_of = { λ file. file.kind };
+
+    ghost rules = { table_rules };
+
+    ghost heard = { IsHeard };
+
+    fn grammar(&self, file: FileId) -> TableLines {
+        TableLines::new(self.alloc, file.kind)
+    }
+
+    fn most(&self) -> Option<u64> {
+        Some(MAX_ROWS)
+    }
+}
+
+/// The graph is a taker of the files of tables. A line says one row at most, which is one that tables can
+/// have, and is refused in one way at most.
 pub(crate) fn tables_are_lawful()
-    ensures { Lawful table_grammar }
+    ensures lawful { Lawful table_format }
+    ensures right { IsTableTaker }
 {
     one_row();
     one_column();
+    rows_of_fields_fit();
 }
 
 /// Reads the tables of the folder into a graph, after so many bytes and data lines. `Refused` says
@@ -196,12 +170,19 @@ pub fn load_tables<S: Shelf>(
 ) -> Result<Walk<TableGraph>, Load>
     requires bytes { used.bytes ≤ MAX_BYTES }
     requires rows { used.rows ≤ MAX_ROWS }
-    ensures answer { IsStage table_grammar IsHeard (S.contents shelf.old) folder.now TABLES (before used) result }
-    ensures within { IfOk result IsWalkWithin }
+    ensures answer { IsStage table_format IsHeard (S.contents shelf.old) folder.now TABLES (before used) result }
+    ensures within { IfOk result (IsWalkWithin (Some MAX_ROWS)) }
     ensures fault { OnReadFault result (Rose (S.faults shelf.old) (S.faults shelf.new)) }
     ensures later { S.faults shelf.old ≤ S.faults shelf.new }
     ensures same { S.contents shelf.new ≡ S.contents shelf.old }
 {
     tables_are_lawful();
-    walk_stage(alloc, shelf, folder, &TABLES, used, TableGraph::new(alloc))
+    walk_stage::<S, TableLines, TableGraph>(
+        alloc,
+        shelf,
+        folder,
+        &TABLES,
+        used,
+        TableGraph::new(alloc),
+    )
 }

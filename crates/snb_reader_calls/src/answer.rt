@@ -4,6 +4,7 @@ use crate::folder::{lanes, parameters};
 use crate::inserts::{insert, insert_of};
 use crate::params::params;
 use crate::rows::{pieces, posts, rows};
+use crate::samples::{read_notes, read_shares};
 use crate::updates::updates;
 use snb_script::files::Files;
 use snb_script::flaw::Flaw;
@@ -26,6 +27,8 @@ fn answer_of_files(alloc: Global, files: &Files, call: &str, rest: &str) -> Resu
         "pieces" => pieces(alloc, files, rest),
         "updates" => updates(alloc, files, rest),
         "params" => params(alloc, files, rest),
+        "shares" => read_shares(alloc, files, rest),
+        "notes" => read_notes(alloc, files, rest),
         "lanes" => lanes(alloc, files, rest),
         "parameters" => parameters(alloc, files, rest),
         _ => answer_of_line(alloc, call, rest),

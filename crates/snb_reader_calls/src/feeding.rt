@@ -1,16 +1,18 @@
 //! The pieces of a file, fed to a reader of lines.
 
-ghost use Rattle.std.specs.Prelude.{◌≡◌, ◌+◌, ◌≤◌, IsTrue, false, length};
+ghost use Rattle.std.specs.Prelude.{◌≡◌, ◌+◌, ◌≤◌, ℕ, Bool, IsTrue, OnErr, false, length};
 ghost use Rattle.snb_schema.specs.declared.limits.TheConstants.{MAX_BYTES};
 
 use crate::told::told_refusal;
+use snb_lines::grammar::Grammar;
 use snb_lines::lines::Lines;
-use snb_lines::meaning::Meaning;
 use snb_schema::fault::Fault;
 use snb_schema::limits::MAX_BYTES;
+use snb_schema::op::Line;
 use snb_schema::refusal::Refusal;
 use snb_script::flaw::Flaw;
 use snb_script::told::Lines as Answer;
+use snb_streams::updates::Updates;
 use std::alloc::Global;
 
 /// What came of a file that was fed.
@@ -24,12 +26,79 @@ pub enum Came {
     Changed,
 }
 
+/// What makes items of the pieces of a file.
+pub trait Feeds {
+    /// What the file has.
+    type Item: Drop;
+
+    /// How many bytes it was fed.
+    ghost fed: { Self → ℕ };
+
+    /// Whether the file has ended.
+    ghost over: { Self → Bool };
+
+    /// How many bytes it was fed.
+    fn bytes(&self) -> u64
+        ensures { result ≡ fed self.now };
+
+    /// Takes the next piece of the file, which hasn't ended, and appends the items that end in it.
+    fn take(&mut self, piece: &[u8], into: &mut Vec<Self::Item>) -> Result<(), Fault>
+        requires bytes { fed self.old + length piece.now ≤ MAX_BYTES }
+        requires goes_on { over self.old ≡ false }
+        ensures { over self.new ≡ false };
+
+    /// Ends the file, which hasn't ended, and appends the last item.
+    fn finish(&mut self, into: &mut Vec<Self::Item>) -> Result<(), Fault>
+        requires goes_on { over self.old ≡ false }
+        ensures { OnErr result (over self.new ≡ false) };
+}
+
+impl<G: Grammar> Feeds for Lines<G> {
+    type Item = G::Item;
+
+    ghost fed = { λ reader. reader.fed };
+
+    ghost over = { λ reader. reader.over };
+
+    fn bytes(&self) -> u64 {
+        self.fed()
+    }
+
+    fn take(&mut self, piece: &[u8], into: &mut Vec<G::Item>) -> Result<(), Fault> {
+        self.feed(piece, into)
+    }
+
+    fn finish(&mut self, into: &mut Vec<G::Item>) -> Result<(), Fault> {
+        self.end(into)
+    }
+}
+
+impl Feeds for Updates {
+    type Item = Line;
+
+    ghost fed = { λ updates. updates.reader.fed };
+
+    ghost over = { λ updates. updates.reader.over };
+
+    fn bytes(&self) -> u64 {
+        self.fed()
+    }
+
+    fn take(&mut self, piece: &[u8], into: &mut Vec<Line>) -> Result<(), Fault> {
+        self.feed(piece, into)
+    }
+
+    fn finish(&mut self, into: &mut Vec<Line>) -> Result<(), Fault> {
+        self.end(into)
+    }
+}
+
 /// Whether the reader may be fed the piece too.
-pub fn fits<M: Meaning>(reader: &Lines<M>, piece: &[u8]) -> bool
-    ensures { IsTrue result → reader.now.fed + length piece.now ≤ MAX_BYTES }
+pub fn fits<R: Feeds>(reader: &R, piece: &[u8]) -> bool
+    ensures { IsTrue result → R.fed reader.now + length piece.now ≤ MAX_BYTES }
 {
     let bytes = piece.len() as u64;
-    bytes <= MAX_BYTES && reader.fed() <= MAX_BYTES - bytes
+    bytes <= MAX_BYTES && reader.bytes() <= MAX_BYTES - bytes
 }
 
 // Whether the reader answers with this refusal.
@@ -46,14 +115,14 @@ fn is_same(alloc: Global, answer: Result<(), Fault>, refusal: Refusal) -> Result
 }
 
 // What the reader answers once it has refused the file.
-fn refused<M: Meaning>(
+fn refused<R: Feeds>(
     alloc: Global,
-    reader: &mut Lines<M>,
+    reader: &mut R,
     fault: Fault,
     piece: &[u8],
-    into: &mut Vec<M::Item>,
+    into: &mut Vec<R::Item>,
 ) -> Result<Came, Flaw>
-    requires { reader.old.over ≡ false }
+    requires { R.over reader.old ≡ false }
 {
     let Fault::Bad { refusal } = fault else {
         return Err(Flaw::Memory);
@@ -62,8 +131,8 @@ fn refused<M: Meaning>(
     if !fits(reader, piece) {
         return Err(Flaw::OtherValue);
     }
-    let fed = reader.feed(piece, into);
-    let ended = reader.end(into);
+    let fed = reader.take(piece, into);
+    let ended = reader.finish(into);
     if into.len() == items && is_same(alloc, fed, refusal)? && is_same(alloc, ended, refusal)? {
         return Ok(Came::Refused { refusal });
     }
@@ -71,16 +140,16 @@ fn refused<M: Meaning>(
 }
 
 // Ends the file, whose last piece this was.
-fn end<M: Meaning>(
+fn end<R: Feeds>(
     alloc: Global,
-    reader: &mut Lines<M>,
+    reader: &mut R,
     piece: &[u8],
-    into: &mut Vec<M::Item>,
+    into: &mut Vec<R::Item>,
 ) -> Result<Came, Flaw>
-    requires { reader.old.over ≡ false }
+    requires { R.over reader.old ≡ false }
 {
     let items = into.len();
-    match reader.end(into) {
+    match reader.finish(into) {
         Ok(()) => Ok(Came::Ended { items }),
         Err(fault) => refused(alloc, reader, fault, piece, into),
     }
@@ -88,13 +157,13 @@ fn end<M: Meaning>(
 
 /// Feeds the pieces of a file to the reader, which must not be ended yet, and ends it. A refused file is
 /// fed and ended again.
-pub fn feed_pieces<M: Meaning>(
+pub fn feed_pieces<R: Feeds>(
     alloc: Global,
-    reader: &mut Lines<M>,
+    reader: &mut R,
     pieces: &[&[u8]],
-    into: &mut Vec<M::Item>,
+    into: &mut Vec<R::Item>,
 ) -> Result<Came, Flaw>
-    requires { reader.old.over ≡ false }
+    requires { R.over reader.old ≡ false }
 {
     let mut last: &[u8] = b"";
     for piece in pieces {
@@ -102,7 +171,7 @@ pub fn feed_pieces<M: Meaning>(
         if !fits(reader, piece) {
             return Err(Flaw::OtherValue);
         }
-        match reader.feed(piece, into) {
+        match reader.take(piece, into) {
             Ok(()) => {}
             Err(fault) => return refused(alloc, reader, fault, piece, into),
         }

@@ -9,5 +9,6 @@ mod folder;
 mod inserts;
 mod params;
 mod rows;
+mod samples;
 mod told;
 mod updates;

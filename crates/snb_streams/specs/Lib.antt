@@ -1,6 +1,8 @@
 pub mod FileLaws
 pub mod Laws
+pub mod Lines
 pub mod Make
+pub mod Order
 pub mod Parameters
 pub mod Spelled
 pub mod Split

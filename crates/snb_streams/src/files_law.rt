@@ -5,13 +5,14 @@ ghost use Rattle.snb_streams.specs.FileLaws.{OneParamsReading, OneStreamReading,
 use crate::law::{one_fault, one_query};
 use snb_fields::law::one_value;
 
-/// The inserts that a stream is read as are those of its lines with a byte, in order, each with the
-/// number of its line and of a kind that the stream has.
+/// The inserts that a stream says are those of its lines with a byte, in order, each with the number of
+/// its line and of a kind that the stream has.
 pub fn stream_files()
     ensures { StreamFiles }
 {}
 
-/// The lines of a stream are read in one way at most, and where they are read none of them is refused.
+/// The lines of a stream say one list of inserts at most, and where they say one none of them is refused
+/// for what it says. Where t never falls in that list, none is refused as out of order either.
 pub fn one_stream_reading()
     ensures { OneStreamReading }
 {
@@ -19,13 +20,13 @@ pub fn one_stream_reading()
     one_fault();
 }
 
-/// The queries that a parameter file is read as are those of its data lines, in order; the first line
-/// with a byte is a header.
+/// The queries that a parameter file says are those of its data lines, in order; the first line with a
+/// byte is a header.
 pub fn params_files()
     ensures { ParamsFiles }
 {}
 
-/// The lines of a parameter file are read in one way at most, and where they are read none of them is
+/// The lines of a parameter file say one list of queries at most, and where they say one none of them is
 /// refused.
 pub fn one_params_reading()
     ensures { OneParamsReading }

@@ -9,7 +9,7 @@ ghost use Rattle.snb_streams.specs.Parameters.{query_by};
 use snb_fields::law::taken_again;
 use snb_fields::read::read_values;
 use snb_fields::values::Values;
-use snb_lines::headed::{Body, Headed};
+use snb_lines::grammar::Grammar;
 use snb_lines::lines::Lines;
 use snb_lines::open::Open;
 use snb_lines::record::Record;
@@ -17,7 +17,7 @@ use snb_schema::column::Column;
 use snb_schema::fault::LineFault;
 use snb_schema::file::{FileId, FileKind};
 use snb_schema::limits::{MAX_ID, MAX_YEAR};
-use snb_schema::query::Query;
+use snb_schema::query::{Query, is_complex};
 use std::alloc::Global;
 use std::marker::Model;
 
@@ -109,8 +109,9 @@ pub fn read_query(alloc: Global, query: u32, fields: &Record) -> Result<Query, L
     }
 }
 
-/// What the lines of a parameter file mean: of the header only the number of fields counts, and each
-/// later line has the parameters of one query.
+/// What the lines of a parameter file say: of the header only the number of fields counts, and each
+/// later line has the parameters of one query. Where the number isn't one of the seven, no later line is
+/// right.
 pub struct QueryLines {
     alloc: Global,
     query: u32,
@@ -124,26 +125,32 @@ impl Drop for QueryLines {
 
 impl Model for QueryLines {
     ghost use Rattle.std.specs.Prelude.{ℕ};
-    ghost use Rattle.snb_schema.specs.Queries.{IsComplex};
 
     ghost Value = { ℕ };
 
     ghost view = { λ q. q.query };
+}
 
-    ghost invariant = { λ q. IsComplex q.query };
+impl QueryLines {
+    /// Those of the parameter file of this query.
+    pub fn new(alloc: Global, query: u32) -> QueryLines
+        ensures { result ≡ query }
+    {
+        QueryLines { alloc, query }
+    }
 }
 
 impl Open for QueryLines {
     type Named = u32;
 
     ghost use Rattle.snb_schema.specs.Queries.{IsComplex};
-    ghost use Rattle.snb_streams.specs.Parameters.{BeginsQuery, params_file};
+    ghost use Rattle.snb_streams.specs.Parameters.{params_file};
 
     ghost can_open = { IsComplex };
 
     ghost file_of = { params_file };
 
-    ghost begins = { BeginsQuery };
+    ghost grammar_of = { λ query. query };
 
     fn file(named: u32) -> FileId {
         FileId {
@@ -153,28 +160,28 @@ impl Open for QueryLines {
     }
 
     fn open(alloc: Global, named: u32) -> QueryLines {
-        QueryLines {
-            alloc,
-            query: named,
-        }
+        QueryLines::new(alloc, named)
     }
 }
 
-impl Body for QueryLines {
+impl Grammar for QueryLines {
     type Item = Query;
 
-    ghost use Rattle.snb_schema.specs.ParameterLines.{IsBadQuery};
-    ghost use Rattle.snb_streams.specs.Parameters.{GivesQuery, HeadsQuery, IsBadHeader};
+    type Known = ();
 
-    ghost heads = { HeadsQuery };
+    ghost use Rattle.snb_streams.specs.Parameters.{params_language};
 
-    ghost bad_header = { IsBadHeader };
+    ghost language = { params_language };
 
-    ghost gives = { GivesQuery };
+    fn begin(&self) -> Option<()> {
+        None
+    }
 
-    ghost bad_line = { IsBadQuery };
+    fn splits(&self) -> bool {
+        true
+    }
 
-    fn take_header(&mut self, fields: &Record) -> Result<(), LineFault> {
+    fn read_header(&self, _line: &[u8], fields: &Record) -> Result<(), LineFault> {
         if fields.len() == columns_of(self.query).len() {
             Ok(())
         } else {
@@ -182,15 +189,17 @@ impl Body for QueryLines {
         }
     }
 
-    fn take_line(
-        &mut self,
+    fn read_item(
+        &self,
+        _known: &(),
         _number: u32,
+        _line: &[u8],
         fields: &Record,
-        into: &mut Vec<Query>,
-    ) -> Result<(), LineFault> {
-        let one = read_query(self.alloc, self.query, fields)?;
-        into.push(one)?;
-        Ok(())
+    ) -> Result<Query, LineFault> {
+        if !is_complex(self.query) {
+            return Err(LineFault::Bad { column: 0 });
+        }
+        read_query(self.alloc, self.query, fields)
     }
 }
 
@@ -202,4 +211,4 @@ impl Body for QueryLines {
 /// The parameters of the complex queries are those of LDBC SNB Interactive v1: a person and a first
 /// name for 1, a person and a greatest date for 2 and 9, a person for 7 and 8, a person, a country
 /// and a year for 11, and two persons for 13.
-pub type Params = Lines<Headed<QueryLines>>;
+pub type Params = Lines<QueryLines>;

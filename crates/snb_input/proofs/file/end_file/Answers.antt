@@ -1,41 +1,43 @@
-use Rattle.std.proofs.Common.{◌≡◌, ◌∙◌, ◌+◌, ap, subst, sym, arith}
-use Rattle.snb_lines.specs.Reading.{Reader}
+use Rattle.std.proofs.Common.{◌≡◌, ◌∙◌, ◌+◌, refl, ap, subst, sym, arith}
+use Rattle.snb_lines.specs.Counts.{IsUnder, RowRefuses, RowSame, RowTakes}
+use Rattle.snb_lines.specs.Feeding.{HasRead, HasStoppedAtEnd, Reader, left_lines}
+use Rattle.snb_lines.specs.Language.{Fits}
+use Rattle.snb_lines.specs.Sinks.{Runs}
 use Rattle.snb_input.specs.FirstOf.{FirstOf}
-use Rattle.snb_input.specs.Intake.{Taken}
+use Rattle.snb_input.specs.Format.{format_of}
 use Rattle.snb_input.specs.Places.{file_checks, opening}
-use Rattle.snb_input.proofs.Going.{end_bad, end_bare, end_err, end_ok, few_rows, on_bad_more}
+use Rattle.snb_input.proofs.Going.{at_grammar, end_bad, end_err, end_ok, few_rows, on_bad_more}
 use Rattle.snb_input.proofs.file.end_file.Goals as goal
+
+pub end_to-requires-clause-fits : goal.end_to-requires-clause-fits
+end_to-requires-clause-fits g c = at_grammar g.G.Grammar.language (g.P.Taker.grammar_of c.args.file) c.args.reader.grammar (λ l. Fits l g.P.Sink.fits) (sym c.requires.by_grammar) (c.requires.right.fits c.args.file)
 
 pub returns-in-Err-clause-end : goal.returns-in-Err-clause-end
 returns-in-Err-clause-end g c =
     λ past start text at f.
-    end_err g.P.Taker.grammar g.P.Taker.heard c.in-Err.fault c.load_of.result c.args.file c.args.used past text c.load_of.ensures
-    (on_bad_more c.in-Err.fault _ (λ r. FirstOf (file_checks g.P.Taker.grammar (opening c.args.file c.args.used.bytes c.args.used.rows past text) text) r) (c.in-Err.ensures.bad c.requires.good)
-    (λ r h. end_bad g.P.Taker.grammar g.P.Taker.heard c.requires.lawful c.args.file c.args.used past start text c.args.reader at f c.requires.few h.items r h.stops))
+    end_err (format_of g.G.Grammar.language g.P.Taker.grammar_of g.P.Taker.rules) g.P.Taker.heard g.P.Sink.takes c.args.file (g.P.Taker.grammar_of c.args.file) c.in-Err.fault c.load_of.result c.args.used past text c.load_of.ensures
+    (on_bad_more c.in-Err.fault _ (λ r. FirstOf (file_checks (format_of g.G.Grammar.language g.P.Taker.grammar_of g.P.Taker.rules) (opening c.args.file c.args.used.bytes c.args.used.rows past text) text) r) (c.in-Err.ensures.bad c.requires.good)
+    (λ r h. end_bad (format_of g.G.Grammar.language g.P.Taker.grammar_of g.P.Taker.rules) g.P.Taker.heard g.P.Sink.takes c.args.file (g.P.Taker.grammar_of c.args.file) g.P.Sink.refuses c.requires.right.hears c.requires.right.lawful g.P.Sink.ends c.requires.right.ended c.args.used past start text c.args.reader c.args.sink at f c.requires.few
+    (RowSame g.P.Sink.same) c.end_to.new.self c.end_to.new.sink r
+    (at_grammar g.G.Grammar.language c.args.reader.grammar (g.P.Taker.grammar_of c.args.file) (λ l. HasStoppedAtEnd l (RowTakes g.P.Sink.takes) (RowRefuses g.P.Sink.refuses) (RowSame g.P.Sink.same) (λ z x. g.P.Sink.ends z.sink x) (left_lines c.args.reader) c.args.reader c.args.sink c.end_to.new.self c.end_to.new.sink r) c.requires.by_grammar h)))
 
-pub returns-in-Some-clause-end : goal.returns-in-Some-clause-end
-returns-in-Some-clause-end g c =
+pub returns-clause-end : goal.returns-clause-end
+returns-clause-end g c =
     λ past start text at f.
-    let same = c.into_taker-taker.ensures ∙ ap (λ (z : Taken g.row.P.Denot). z.taker) c.into_meaning-intake.ensures in
-    end_bare g.P.Taker.grammar g.P.Taker.heard c.requires.lawful c.args.file c.args.used past start text c.args.reader at f c.requires.few c.in-Ok.ensures.ok.items c.end.new.self.meaning c.in-Some.refusal c.in-Ok.ensures.ok.reads c.in-Ok.ensures.ends c.at_end.result
-    (λ done mine h. c.at_end.ensures done mine (subst (λ (t : g.row.P.Denot). g.P.Taker.heard t done mine) (sym same) h)) c.in-Some.is
+    end_ok (format_of g.G.Grammar.language g.P.Taker.grammar_of g.P.Taker.rules) g.P.Taker.heard g.P.Sink.takes c.args.file (g.P.Taker.grammar_of c.args.file) g.P.Sink.refuses c.requires.right.hears c.requires.right.lawful g.P.Sink.ends c.requires.right.ended c.args.used past start text c.args.reader c.args.sink at f c.requires.few
+    c.end_to.new.self c.end_to.new.sink (record { bytes = c.args.used.bytes + c.fed.result; rows = c.end_to.new.sink.rows })
+    (at_grammar g.G.Grammar.language c.args.reader.grammar (g.P.Taker.grammar_of c.args.file) (λ l. HasRead l (RowTakes g.P.Sink.takes) (left_lines c.args.reader) c.args.reader c.args.sink c.end_to.new.self c.end_to.new.sink) c.requires.by_grammar c.in-Ok.ensures.ok)
+    c.in-Ok.ensures.ends (ap (λ n. c.args.used.bytes + n) (c.fed.ensures ∙ ap (λ (z : Reader g.row.G.Denot g.row.G-Known.Denot). z.fed) c.in-Ok.ensures.after)) refl
 
-pub returns-in_default-clause-end : goal.returns-in_default-clause-end
-returns-in_default-clause-end g c =
-    λ past start text at f.
-    let same = c.into_taker-taker.ensures ∙ ap (λ (z : Taken g.row.P.Denot). z.taker) c.into_meaning-intake.ensures in
-    end_ok g.P.Taker.grammar g.P.Taker.heard c.requires.lawful c.args.file c.args.used past start text c.args.reader at f c.requires.few c.in-Ok.ensures.ok.items c.end.new.self.meaning (record { bytes = c.args.used.bytes + c.fed.result; rows = c.rows-rows.result }) c.into_taker-taker.result
-    c.in-Ok.ensures.ok.reads c.in-Ok.ensures.ends c.at_end.result (λ done mine h. c.at_end.ensures done mine (subst (λ (t : g.row.P.Denot). g.P.Taker.heard t done mine) (sym same) h)) c.in_default.is
-    (ap (λ n. c.args.used.bytes + n) (c.fed.ensures ∙ ap (λ (z : Reader (Taken g.row.P.Denot)). z.fed) c.in-Ok.ensures.after)) (c.rows-rows.ensures ∙ ap (λ (z : Taken g.row.P.Denot). z.rows) c.into_meaning-intake.ensures) same
-
-pub returns-in_default-clause-within : goal.returns-in_default-clause-within
-returns-in_default-clause-within g c =
-    λ start text few f.
-    let of_intake = c.rows-rows.ensures in
-    let intake = c.into_meaning-intake.ensures in
-    let rows : c.rows-rows.result ≡ c.end.new.self.meaning.rows = cc in
-    let all = few_rows g.P.Taker.grammar g.P.Taker.heard start c.args.reader.meaning c.end.new.self.meaning 0 c.args.reader.ended _ _ f.units c.in-Ok.ensures.ok.items few f.reads c.in-Ok.ensures.ok.reads in
-    let after : c.end.new.self.fed ≡ c.args.reader.fed = ap (λ (z : Reader (Taken g.row.P.Denot)). z.fed) c.in-Ok.ensures.after in
+pub returns-clause-within : goal.returns-clause-within
+returns-clause-within g c =
+    λ start text most few f.
+    let read =
+    at_grammar g.G.Grammar.language c.args.reader.grammar (g.P.Taker.grammar_of c.args.file) (λ l. HasRead l (RowTakes g.P.Sink.takes) (left_lines c.args.reader) c.args.reader c.args.sink c.end_to.new.self c.end_to.new.sink) c.requires.by_grammar c.in-Ok.ensures.ok in
+    let all =
+    few_rows (format_of g.G.Grammar.language g.P.Taker.grammar_of g.P.Taker.rules) g.P.Taker.heard g.P.Sink.takes c.args.file (g.P.Taker.grammar_of c.args.file) start c.args.sink c.end_to.new.sink text c.args.reader read.items (subst (λ o. IsUnder o start.rows) (sym most) few) f
+    (subst (λ x. Runs (RowTakes g.P.Sink.takes) x c.args.sink read.items c.end_to.new.sink) c.requires.of_file read.runs) in
+    let after : c.end_to.new.self.fed ≡ c.args.reader.fed = ap (λ (z : Reader g.row.G.Denot g.row.G-Known.Denot). z.fed) c.in-Ok.ensures.after in
     let fed = c.fed.ensures in
     let small = c.requires.few in
-    ((omega (arith, fed, after, small)), (omega (arith, rows, all)))
+    ((omega (arith, fed, after, small)), subst (λ o. IsUnder o c.end_to.new.sink.rows) (all.1 ∙ most) all.0)

@@ -1,5 +1,6 @@
+use Rattle.snb_input.specs.Format.{format_of}
 use Rattle.snb_input.proofs.Taking.{files_one}
 use Rattle.snb_input.proofs.law.one_saying.Goals as goal
 
 pub returns : goal.returns
-returns g c = files_one g.P.Taker.grammar c.requires.lawful
+returns g c = files_one (format_of g.G.Grammar.language g.P.Taker.grammar_of g.P.Taker.rules) c.requires.lawful

@@ -1,21 +1,37 @@
-use Rattle.std.proofs.Common.{◌≡◌, List, take, subst, arith, ℕ}
+use Rattle.std.proofs.Common.{◌≡◌, List, take, subst, sym, arith, ℕ}
 use Rattle.std.proofs.lemmas.List.{take_all}
+use Rattle.snb_lines.specs.Counts.{RowRefuses, RowSame, RowTakes}
+use Rattle.snb_lines.specs.Feeding.{HasRead, HasStopped, new_lines}
+use Rattle.snb_lines.specs.Language.{Fits}
+use Rattle.snb_input.specs.Format.{format_of}
 use Rattle.snb_input.specs.Pieces.{IsBadPiece, IsFedMore}
 use Rattle.snb_input.proofs.Feeding.{bad_piece, fed_more, large_piece, refused_bad}
+use Rattle.snb_input.proofs.Going.{at_grammar}
 use Rattle.snb_input.proofs.pieces.feed_piece.Goals as goal
+
+pub feed_to-requires-clause-fits : goal.feed_to-requires-clause-fits
+feed_to-requires-clause-fits g c = at_grammar g.G.Grammar.language (g.P.Taker.grammar_of c.args.file) c.args.reader.now.grammar (λ l. Fits l g.P.Sink.fits) (sym c.requires.by_grammar) (c.requires.right.fits c.args.file)
 
 pub returns-in-Err-clause-refused : goal.returns-in-Err-clause-refused
 returns-in-Err-clause-refused g c =
-    refused_bad (Unit {0}) c.in-Err.fault c.load_of.result _ (IsBadPiece g.P.Taker.grammar g.P.Taker.heard c.args.file c.args.most c.args.reader.now c.args.piece.now) c.load_of.ensures (c.in-Err.ensures.bad c.requires.good)
-    (λ r h. bad_piece g.P.Taker.grammar g.P.Taker.heard c.requires.lawful c.args.file c.args.most c.args.reader.now c.args.piece.now c.min-kept.result (let k = c.min-kept.ensures in let f = c.fed.ensures in omega (arith, k, f)) c.requires.few h.items r h.stops)
+    refused_bad (Unit {0}) c.in-Err.fault c.load_of.result _ (IsBadPiece (format_of g.G.Grammar.language g.P.Taker.grammar_of g.P.Taker.rules) g.P.Taker.heard g.P.Sink.takes c.args.file (g.P.Taker.grammar_of c.args.file) c.args.most c.args.reader.now c.args.sink.now c.args.piece.now) c.load_of.ensures
+    (c.in-Err.ensures.bad c.requires.good)
+    (λ r h. bad_piece (format_of g.G.Grammar.language g.P.Taker.grammar_of g.P.Taker.rules) g.P.Taker.heard g.P.Sink.takes c.args.file (g.P.Taker.grammar_of c.args.file) g.P.Sink.refuses c.requires.right.hears c.requires.right.lawful c.args.most c.args.reader.now c.args.sink.now c.args.piece.now c.min-kept.result
+    (let k = c.min-kept.ensures in let f = c.fed.ensures in omega (arith, k, f)) c.requires.few (RowSame g.P.Sink.same) c.feed_to.new.self c.feed_to.new.sink r
+    (at_grammar g.G.Grammar.language c.args.reader.now.grammar (g.P.Taker.grammar_of c.args.file) (λ l. HasStopped l (RowTakes g.P.Sink.takes) (RowRefuses g.P.Sink.refuses) (RowSame g.P.Sink.same) (new_lines c.args.reader.now (take c.min-kept.result c.args.piece.now)) c.args.reader.now c.args.sink.now c.feed_to.new.self c.feed_to.new.sink r) c.requires.by_grammar h))
 
 pub returns-then-kept-piece-clause-refused : goal.returns-then-kept-piece-clause-refused
 returns-then-kept-piece-clause-refused g c =
-    large_piece g.P.Taker.grammar g.P.Taker.heard c.requires.lawful c.args.file c.args.most c.args.reader.now c.args.piece.now c.min-kept.result (let k = c.min-kept.ensures in let f = c.fed.ensures in omega (arith, k, f)) c.requires.few
-    c.feed.new.self (λ start text f. fed_more g.P.Taker.grammar g.P.Taker.heard start text (take c.min-kept.result c.args.piece.now) c.args.reader.now c.feed.new.self _ _ f c.in-Ok.ensures.ok c.in-Ok.ensures.after) c.if-kept-piece.true
+    large_piece (format_of g.G.Grammar.language g.P.Taker.grammar_of g.P.Taker.rules) g.P.Taker.heard g.P.Sink.takes c.args.file (g.P.Taker.grammar_of c.args.file) g.P.Sink.refuses c.requires.right.hears c.requires.right.lawful c.args.most c.args.reader.now c.args.sink.now c.args.piece.now c.min-kept.result
+    (let k = c.min-kept.ensures in let f = c.fed.ensures in omega (arith, k, f)) c.requires.few c.feed_to.new.self c.feed_to.new.sink
+    (fed_more (format_of g.G.Grammar.language g.P.Taker.grammar_of g.P.Taker.rules) g.P.Taker.heard g.P.Sink.takes c.args.file (g.P.Taker.grammar_of c.args.file) (take c.min-kept.result c.args.piece.now) c.args.reader.now c.feed_to.new.self c.args.sink.now c.feed_to.new.sink
+    (at_grammar g.G.Grammar.language c.args.reader.now.grammar (g.P.Taker.grammar_of c.args.file) (λ l. HasRead l (RowTakes g.P.Sink.takes) (new_lines c.args.reader.now (take c.min-kept.result c.args.piece.now)) c.args.reader.now c.args.sink.now c.feed_to.new.self c.feed_to.new.sink) c.requires.by_grammar c.in-Ok.ensures.ok)
+    c.in-Ok.ensures.after) c.if-kept-piece.true
 
-pub returns-clause-ok : goal.returns-clause-ok
-returns-clause-ok g c =
+pub returns-else-kept-piece-clause-ok : goal.returns-else-kept-piece-clause-ok
+returns-else-kept-piece-clause-ok g c =
     let all : take c.min-kept.result c.args.piece.now ≡ c.args.piece.now = take_all c.min-kept.result c.args.piece.now (let h = c.if-kept-piece.false in omega (arith, h)) in
-    subst (λ (piece : List ℕ). IsFedMore g.P.Taker.grammar g.P.Taker.heard c.args.reader.now piece c.feed.new.self) all
-    (λ start text f. fed_more g.P.Taker.grammar g.P.Taker.heard start text (take c.min-kept.result c.args.piece.now) c.args.reader.now c.feed.new.self _ _ f c.in-Ok.ensures.ok c.in-Ok.ensures.after)
+    subst (λ (piece : List ℕ). IsFedMore (format_of g.G.Grammar.language g.P.Taker.grammar_of g.P.Taker.rules) g.P.Sink.takes c.args.file (g.P.Taker.grammar_of c.args.file) c.args.reader.now c.args.sink.now piece c.feed_to.new.self c.feed_to.new.sink) all
+    (fed_more (format_of g.G.Grammar.language g.P.Taker.grammar_of g.P.Taker.rules) g.P.Taker.heard g.P.Sink.takes c.args.file (g.P.Taker.grammar_of c.args.file) (take c.min-kept.result c.args.piece.now) c.args.reader.now c.feed_to.new.self c.args.sink.now c.feed_to.new.sink
+    (at_grammar g.G.Grammar.language c.args.reader.now.grammar (g.P.Taker.grammar_of c.args.file) (λ l. HasRead l (RowTakes g.P.Sink.takes) (new_lines c.args.reader.now (take c.min-kept.result c.args.piece.now)) c.args.reader.now c.args.sink.now c.feed_to.new.self c.feed_to.new.sink) c.requires.by_grammar c.in-Ok.ensures.ok)
+    c.in-Ok.ensures.after)

@@ -1,5 +1,7 @@
 use Rattle.std.proofs.Common.{◌≡◌, ◌≤◌, List}
-use Rattle.snb_schema.specs.declared.limits.TheConstants.{MAX_BYTES, MAX_ROWS}
+use Rattle.snb_schema.specs.declared.limits.TheConstants.{MAX_BYTES}
+use Rattle.snb_lines.specs.Counts.{IsUnder}
+use Rattle.snb_input.specs.Format.{format_of}
 use Rattle.snb_input.specs.Stages.{Walked}
 use Rattle.snb_input.specs.Walk.{Before, Look, first_role}
 use Rattle.snb_input.proofs.SeriesFacts.{Along}
@@ -10,10 +12,10 @@ abbrev pub invariant-loop-part : goal.invariant-loop-part
 invariant-loop-part g l = record {
   along :
       (start : Before) (looked : List Look)
-      → Walked g.P.Taker.grammar g.P.Taker.heard start looked l.fn.walk
-      → Along g.P.Taker.grammar g.P.Taker.heard (g.S.Shelf.contents l.fn.shelf) l.folder l.series start looked l.part (first_role l.needed) l.so_far;
+      → Walked (format_of g.G.Grammar.language g.P.Taker.grammar_of g.P.Taker.rules) g.P.Taker.heard start looked l.fn.walk
+      → Along (format_of g.G.Grammar.language g.P.Taker.grammar_of g.P.Taker.rules) g.P.Taker.heard (g.S.Shelf.contents l.fn.shelf) l.folder l.series start looked l.part (first_role l.needed) l.so_far;
   bytes : l.so_far.used.bytes ≤ MAX_BYTES;
-  rows : l.so_far.used.rows ≤ MAX_ROWS;
+  rows : IsUnder g.P.Taker.rules.limit l.so_far.used.rows;
   same : g.S.Shelf.contents l.shelf ≡ g.S.Shelf.contents l.fn.shelf;
   later : g.S.Shelf.faults l.fn.shelf ≤ g.S.Shelf.faults l.shelf;
 }

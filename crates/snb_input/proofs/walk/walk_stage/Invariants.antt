@@ -1,5 +1,7 @@
 use Rattle.std.proofs.Common.{◌≡◌, ◌≤◌, [], drop}
-use Rattle.snb_schema.specs.declared.limits.TheConstants.{MAX_BYTES, MAX_ROWS}
+use Rattle.snb_schema.specs.declared.limits.TheConstants.{MAX_BYTES}
+use Rattle.snb_lines.specs.Counts.{IsUnder}
+use Rattle.snb_input.specs.Format.{format_of}
 use Rattle.snb_input.specs.Stages.{before}
 use Rattle.snb_input.proofs.StageFacts.{Staged}
 use Rattle.snb_input.proofs.walk.walk_stage.Given as goal
@@ -9,9 +11,9 @@ abbrev pub invariant-loop-series : goal.invariant-loop-series
 invariant-loop-series g l = record {
   staged :
       g.P.Taker.heard l.fn.taker [] []
-      → Staged g.P.Taker.grammar g.P.Taker.heard (g.S.Shelf.contents l.fn.shelf) l.folder l.stage (before l.fn.used) (drop l.series-index l.stage) l.so_far;
+      → Staged (format_of g.G.Grammar.language g.P.Taker.grammar_of g.P.Taker.rules) g.P.Taker.heard (g.S.Shelf.contents l.fn.shelf) l.folder l.stage (before l.fn.used) (drop l.series-index l.stage) l.so_far;
   bytes : l.so_far.used.bytes ≤ MAX_BYTES;
-  rows : l.so_far.used.rows ≤ MAX_ROWS;
+  rows : IsUnder g.P.Taker.rules.limit l.so_far.used.rows;
   same : g.S.Shelf.contents l.shelf ≡ g.S.Shelf.contents l.fn.shelf;
   later : g.S.Shelf.faults l.fn.shelf ≤ g.S.Shelf.faults l.shelf;
 }

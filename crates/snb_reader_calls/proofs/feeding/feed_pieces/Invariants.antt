@@ -3,4 +3,4 @@ use Rattle.snb_reader_calls.proofs.feeding.feed_pieces.Given as goal
 
 -- the file isn't ended
 abbrev pub invariant-loop-piece : goal.invariant-loop-piece
-invariant-loop-piece g l = l.reader.over ≡ false
+invariant-loop-piece g l = g.R.Feeds.over l.reader ≡ false

@@ -1,19 +1,16 @@
-use Rattle.std.proofs.Common.{arith, sym, ◌≡◌, ◌≤◌, ◌+◌, ◌++◌, ap, subst, length, length-append, List, ℕ}
-use Rattle.snb_schema.specs.declared.limits.TheConstants.{MAX_BYTES}
-use Rattle.snb_lines.specs.Cut.{rest_of, whole_lines}
-use Rattle.snb_schema.specs.Lines.{HasNoEnd}
-use Rattle.snb_lines.proofs.CutFacts.{cut_counts, rest_no_end}
+use Rattle.std.proofs.lemmas.Result.{on_ok_weaker}
+use Rattle.snb_lines.proofs.ListFacts.{has_appended, has_run_out, has_stopped, on_bad_weaker, on_memory_weaker}
+use Rattle.snb_lines.specs.Feeding.{new_lines}
 use Rattle.snb_lines.proofs.lines.Lines.feed.Goals as goal
 
-counts : (begun piece next : List ℕ) (ended fed to : ℕ) → ended + length begun ≤ fed → to ≡ ended + length (whole_lines (begun ++ piece)) → next ≡ rest_of (begun ++ piece) → to + length next ≤ fed + length piece
-counts begun piece next ended fed to l t n = omega (arith, cut_counts (begun ++ piece), ap length n, length-append begun piece)
+pub returns-clause-ok : goal.returns-clause-ok
+returns-clause-ok g c =
+    on_ok_weaker c.feed_to.result (has_appended (λ v. v.items) (g.G.Grammar.language c.args.self.now.grammar) (new_lines c.args.self.now c.args.piece.now) c.args.self.now c.args.into.now c.feed_to.new.self c.feed_to.new.sink) c.feed_to.ensures.ok
 
-pub invariant_of-self : goal.invariant_of-self
-invariant_of-self g c none =
-    let old = c.self.invariant none in
-    let new = c.in-Ok.ensures in
-    record {
-      one_line = subst HasNoEnd (sym new.begun) (rest_no_end (c.self.inside.progress.begun.items ++ c.args.piece.now));
-      counted = counts c.self.inside.progress.begun.items c.args.piece.now c.take_piece-taken.new.self.begun.items c.self.inside.progress.ended c.self.inside.fed c.take_piece-taken.new.self.ended old.counted new.ended new.begun;
-      few = subst (λ (n : ℕ). n + length c.args.piece.now ≤ MAX_BYTES) (sym (ap (λ v. v.fed) c.self.view_is)) c.requires.bytes;
-    }
+pub returns-clause-bad : goal.returns-clause-bad
+returns-clause-bad g c none =
+    on_bad_weaker c.feed_to.result _ _ (has_stopped (λ v. v.items) (g.G.Grammar.language c.args.self.now.grammar) (new_lines c.args.self.now c.args.piece.now) c.args.self.now c.args.into.now c.feed_to.new.self c.feed_to.new.sink) (c.feed_to.ensures.bad none)
+
+pub returns-clause-memory : goal.returns-clause-memory
+returns-clause-memory g c none =
+    on_memory_weaker c.feed_to.result _ _ (has_run_out (λ v. v.items) (g.G.Grammar.language c.args.self.now.grammar) (new_lines c.args.self.now c.args.piece.now) c.args.self.now c.args.into.now c.feed_to.new.self c.feed_to.new.sink) (c.feed_to.ensures.memory none)

@@ -1,0 +1,82 @@
+//! What the lines of an update stream say.
+
+ghost use Rattle.std.specs.Prelude.{◌≡◌};
+
+use crate::line::read_insert;
+use crate::updates::inserts_of;
+use snb_lines::grammar::Grammar;
+use snb_lines::record::Record;
+use snb_schema::fault::LineFault;
+use snb_schema::file::FileKind;
+use snb_schema::op::Line;
+use std::alloc::Global;
+use std::marker::Model;
+
+/// What the lines of a stream say: each is an insert of the stream's kind. A stream has no header.
+pub struct StreamLines {
+    alloc: Global,
+    kind: FileKind,
+}
+
+impl Drop for StreamLines {
+    fn drop(self) {
+        let StreamLines { alloc: _, kind: _ } = self;
+    }
+}
+
+impl Model for StreamLines {
+    ghost use Rattle.snb_schema.specs.declared.file.FileKind.{FileKind};
+
+    ghost Value = { FileKind };
+
+    ghost view = { λ s. s.kind };
+}
+
+impl StreamLines {
+    /// Those of a stream of this kind.
+    pub fn new(alloc: Global, kind: FileKind) -> StreamLines
+        ensures { result ≡ kind }
+    {
+        StreamLines { alloc, kind }
+    }
+}
+
+impl Grammar for StreamLines {
+    type Item = Line;
+
+    type Known = ();
+
+    ghost use Rattle.snb_streams.specs.Lines.{stream_language};
+
+    ghost language = { stream_language };
+
+    fn begin(&self) -> Option<()> {
+        Some(())
+    }
+
+    fn splits(&self) -> bool {
+        true
+    }
+
+    fn read_header(&self, _line: &[u8], _fields: &Record) -> Result<(), LineFault> {
+        Err(LineFault::Bad { column: 0 })
+    }
+
+    fn read_item(
+        &self,
+        _known: &(),
+        number: u32,
+        _line: &[u8],
+        fields: &Record,
+    ) -> Result<Line, LineFault> {
+        match read_insert(self.alloc, inserts_of(self.kind), fields) {
+            Ok(insert) => Ok(Line {
+                t: insert.t,
+                t_d: insert.t_d,
+                op: insert.op,
+                number,
+            }),
+            Err(fault) => Err(fault),
+        }
+    }
+}
