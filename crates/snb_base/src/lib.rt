@@ -5,10 +5,7 @@
 pub mod bounds;
 mod calls;
 pub mod clock;
-pub mod folder_outbox;
-pub mod folder_shelf;
 pub mod gate;
-pub mod host_clock;
 pub mod memory_outbox;
 pub mod memory_shelf;
 pub mod null_outbox;
@@ -18,7 +15,5 @@ pub mod outbox;
 pub mod pairs;
 pub mod shelf;
 pub mod steady_shelf;
-#[cfg(test)]
-mod tests;
 pub mod text;
 pub mod texts;

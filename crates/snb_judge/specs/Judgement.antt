@@ -1,8 +1,8 @@
 -- Whether what came is what is wanted.
 use Rattle.std.specs.Prelude.{◌≡◌, ℕ, List, IfSome}
 use Rattle.snb_base.specs.Outbox.{Written}
-use Rattle.snb_judge.specs.declared.case.Texts.{Texts}
-use Rattle.snb_judge.specs.declared.case.Wanted.{Wanted}
+use Rattle.snb_cases.specs.declared.case.Texts.{Texts}
+use Rattle.snb_cases.specs.declared.case.Wanted.{Wanted}
 
 -- the bytes that are wanted on each channel
 abbrev pub wanted_on : Texts → Written

@@ -3,9 +3,9 @@ use Rattle.std.specs.Prelude.{ℕ, List, map, min, string_bytes}
 use Rattle.snb_base.specs.MemoryOutbox.{Rooms, Sheets}
 use Rattle.snb_base.specs.MemoryShelf.{Held}
 use Rattle.snb_base.specs.Outbox.{nothing}
-use Rattle.snb_judge.specs.declared.case.Case.{Case}
-use Rattle.snb_judge.specs.declared.case.Named.{Named}
-use Rattle.snb_judge.specs.declared.case.Rooms.{Rooms as CaseRooms}
+use Rattle.snb_cases.specs.declared.case.Case.{Case}
+use Rattle.snb_cases.specs.declared.case.Named.{Named}
+use Rattle.snb_cases.specs.declared.case.Rooms.{Rooms as CaseRooms}
 
 -- the name and the bytes of each
 abbrev pub held : List Named → List (List ℕ × List ℕ)

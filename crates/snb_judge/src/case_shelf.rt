@@ -4,10 +4,10 @@ ghost use Rattle.std.specs.Prelude.{◌≡◌, ◌<◌, ◌≤◌, length, None}
 ghost use Rattle.snb_base.specs.Shelf.{FitsBuffer, Rose};
 ghost use Rattle.snb_judge.specs.Kept.{faults_of};
 
-use crate::case::Holder;
 use snb_base::memory_shelf::MemoryShelf;
 use snb_base::shelf::{Got, Shelf};
 use snb_base::steady_shelf::SteadyShelf;
+use snb_cases::case::Holder;
 
 /// Which shelf holds the files of a case.
 pub enum Kept {

@@ -4,10 +4,10 @@ ghost use Rattle.std.specs.Prelude.{◌≡◌, ◌≤◌, ◌<◌, ◌↔◌, le
 ghost use Rattle.snb_judge.specs.Judgement.{IsAsWanted, IsToldAsWanted, wanted_on};
 ghost use Rattle.snb_judge.specs.declared.judge.Verdict.TheVariants.{AsWanted};
 
-use crate::case::{Texts, Wanted};
-use crate::escape::shown;
 use snb_base::memory_outbox::MemoryOutbox;
 use snb_base::outbox::Channel;
+use snb_cases::case::{Texts, Wanted};
+use snb_cases::escape::shown;
 use std::alloc::{AllocError, Global};
 
 /// What is said of a case.

@@ -5,11 +5,11 @@ ghost use Rattle.snb_base.specs.MemoryShelf.{file_of};
 ghost use Rattle.snb_base.specs.Outbox.{nothing};
 ghost use Rattle.snb_judge.specs.Outside.{held, shelf_at_first, rooms_at_first, outbox_at_first};
 
-use crate::case::{Case, Named, Rooms};
-use crate::flaw::Flaw;
 use snb_base::memory_outbox::MemoryOutbox;
 use snb_base::memory_shelf::MemoryShelf;
 use snb_base::outbox::Channel;
+use snb_cases::case::{Case, Named, Rooms};
+use snb_cases::flaw::Flaw;
 use std::alloc::Global;
 
 // Whether one of these has the name.

@@ -2,12 +2,12 @@
 //! clock.
 #![tactic(auto)]
 
-use snb_base::folder_outbox::FolderOutbox;
-use snb_base::folder_shelf::FolderShelf;
 use snb_base::gate::OpenGate;
-use snb_base::host_clock::HostClock;
 use snb_ending::ending;
 use snb_ending::fault::Fault;
+use snb_host::folder_outbox::FolderOutbox;
+use snb_host::folder_shelf::FolderShelf;
+use snb_host::host_clock::HostClock;
 use snb_tool::tool::snb;
 use std::alloc::AllocError;
 use std::env;

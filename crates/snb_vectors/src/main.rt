@@ -6,9 +6,9 @@
 mod play;
 
 use play::try_case;
-use snb_judge::case::Case;
+use snb_cases::case::Case;
+use snb_cases::reader::read_cases;
 use snb_judge::judge::Verdict;
-use snb_judge::reader::read_cases;
 use std::io;
 use std::process::ExitCode;
 use std::sync::Wait;

@@ -1,8 +1,8 @@
 //! A case is tried.
 
-use snb_judge::case::Case;
+use snb_cases::case::Case;
+use snb_cases::flaw::Flaw;
 use snb_judge::case_shelf::CaseShelf;
-use snb_judge::flaw::Flaw;
 use snb_judge::given::Given;
 use snb_judge::judge::{Verdict, verdict_on};
 use snb_judge::outside::{outbox_of, shelf_of};

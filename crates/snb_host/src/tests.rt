@@ -1,13 +1,13 @@
 //! What reaches the real world: files, standard output and the clock of the system, and fakes of them.
 //! These are tests, as a case has no handle and no files but those in memory.
 
-use crate::clock::{Clock, FarClock};
 use crate::folder_outbox::FolderOutbox;
 use crate::folder_shelf::FolderShelf;
-use crate::gate::{Gate, OpenGate, Phase};
 use crate::host_clock::HostClock;
-use crate::outbox::{Channel, Outbox, Put};
-use crate::shelf::{Got, Shelf};
+use snb_base::clock::{Clock, FarClock};
+use snb_base::gate::{Gate, OpenGate, Phase};
+use snb_base::outbox::{Channel, Outbox, Put};
+use snb_base::shelf::{Got, Shelf};
 use std::alloc::{AllocError, Allocator, Global};
 use std::fmt::Display;
 use std::fs::{Metadata, OpenFile, OpenOptions};

@@ -83,7 +83,7 @@ impl Texts {
 }
 
 /// How many bytes each channel takes.
-#[derive(Debug, Clone, Copy)]
+#[derive(Clone, Copy)]
 pub struct Rooms {
     pub log: usize,
     pub answers: usize,
@@ -115,7 +115,7 @@ impl Rooms {
 }
 
 /// Which shelf holds the files.
-#[derive(Debug, Clone, Copy, PartialEq, Eq)]
+#[derive(Clone, Copy)]
 pub enum Holder {
     /// A shelf in memory, which fails at the listed calls.
     Memory,

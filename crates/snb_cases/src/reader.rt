@@ -10,7 +10,7 @@ use std::alloc::Global;
 use std::mem;
 
 /// What is wrong with the table, and in which of its lines, counted from 1.
-#[derive(Clone, Copy, Debug, PartialEq, Eq)]
+#[derive(Clone, Copy)]
 pub struct Complaint {
     /// The line.
     pub line: usize,

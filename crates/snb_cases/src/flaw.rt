@@ -4,7 +4,7 @@ use std::alloc::{AllocError, AllocFailed};
 use thiserror::Error;
 
 /// Why a line of the table isn't taken, or a case isn't tried. Its text is what is printed.
-#[derive(Clone, Copy, Debug, PartialEq, Eq, Error)]
+#[derive(Clone, Copy, Debug, Error)]
 pub enum Flaw {
     /// The line begins with no word of a table's.
     #[error("no word of a table begins this line")]

@@ -2,7 +2,7 @@
 
 ghost use Rattle.std.specs.Prelude.{◌≡◌, None};
 
-use crate::clock::Clock;
+use snb_base::clock::Clock;
 use std::rt::Clock as SystemClock;
 use std::sync::{OnceLock, Wait};
 use std::thread;

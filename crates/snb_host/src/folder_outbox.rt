@@ -2,7 +2,7 @@
 
 ghost use Rattle.std.specs.Prelude.{◌≡◌, ◌≤◌, length, None, IfOk};
 
-use crate::outbox::{Channel, Outbox, Put};
+use snb_base::outbox::{Channel, Outbox, Put};
 use std::fs::File;
 use std::io;
 use std::io::{Print, Write};
