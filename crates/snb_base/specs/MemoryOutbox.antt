@@ -1,39 +1,14 @@
 -- An outbox in memory, as contracts see it.
 use Rattle.std.specs.Prelude.{◌≡◌, ℕ, ◌+◌, ◌-◌, ◌^◌, ◌≤◌, ◌&&◌, ◌||◌, min, nat_lt, nat_le, Bool, List, [], length, take, if◌then◌else◌}
 use Rattle.snb_base.specs.declared.outbox.Channel.{Channel}
-use Rattle.snb_base.specs.declared.outbox.Channel.TheVariants.{Screen, Log, Answers, Final, Cases}
 use Rattle.snb_base.specs.declared.outbox.Put.{Put}
 use Rattle.snb_base.specs.declared.outbox.Put.TheVariants.{Took, Failed}
 use Rattle.snb_base.specs.MemoryShelf.{is_listed}
-use Rattle.snb_base.specs.Outbox.{Written, bytes_on, appended}
-
--- how many bytes each channel may hold
-pub record Rooms : Type 0 where
-  pub screen : ℕ
-  pub log : ℕ
-  pub answers : ℕ
-  pub finals : ℕ
-  pub cases : ℕ
+use Rattle.snb_base.specs.Outbox.{Rooms, Written, appended, bytes_on, room_of}
 
 -- the same room for each
 abbrev pub equal_rooms : ℕ → Rooms
 equal_rooms room = record { screen = room; log = room; answers = room; finals = room; cases = room }
-
--- the room of one channel
-abbrev pub room_of : Rooms → Channel → ℕ
-room_of r Screen = r.screen
-room_of r Log = r.log
-room_of r Answers = r.answers
-room_of r Final = r.finals
-room_of r Cases = r.cases
-
--- with another room for one channel
-abbrev pub with_room : Rooms → Channel → ℕ → Rooms
-with_room r Screen room = record { screen = room; log = r.log; answers = r.answers; finals = r.finals; cases = r.cases }
-with_room r Log room = record { screen = r.screen; log = room; answers = r.answers; finals = r.finals; cases = r.cases }
-with_room r Answers room = record { screen = r.screen; log = r.log; answers = room; finals = r.finals; cases = r.cases }
-with_room r Final room = record { screen = r.screen; log = r.log; answers = r.answers; finals = room; cases = r.cases }
-with_room r Cases room = record { screen = r.screen; log = r.log; answers = r.answers; finals = r.finals; cases = room }
 
 -- the bytes, the rooms, the calls of `write` that are to fail, how many calls there were, and how many failed
 pub record Sheets : Type 0 where
@@ -70,6 +45,6 @@ after_write s channel piece = record {
 }
 
 -- no call is to fail, and each channel has room for so many bytes more
-pub record IsReady (s : Sheets) (n : ℕ) : Type 0 where
+pub record IsReady (s : Sheets) (rooms : Rooms) : Type 0 where
   pub unlisted : s.failing ≡ []
-  pub roomy : (channel : Channel) → length (bytes_on s.written channel) + n ≤ room_of s.rooms channel
+  pub roomy : (channel : Channel) → length (bytes_on s.written channel) + room_of rooms channel ≤ room_of s.rooms channel

@@ -44,13 +44,37 @@ joined w v = record {
   cases = w.cases ++ v.cases;
 }
 
+-- a number of bytes for each channel, as of those that it may hold or takes for sure
+pub record Rooms : Type 0 where
+  pub screen : ℕ
+  pub log : ℕ
+  pub answers : ℕ
+  pub finals : ℕ
+  pub cases : ℕ
+
+-- that of one channel
+abbrev pub room_of : Rooms → Channel → ℕ
+room_of r Screen = r.screen
+room_of r Log = r.log
+room_of r Answers = r.answers
+room_of r Final = r.finals
+room_of r Cases = r.cases
+
+-- with another number for one channel
+abbrev pub with_room : Rooms → Channel → ℕ → Rooms
+with_room r Screen room = record { screen = room; log = r.log; answers = r.answers; finals = r.finals; cases = r.cases }
+with_room r Log room = record { screen = r.screen; log = room; answers = r.answers; finals = r.finals; cases = r.cases }
+with_room r Answers room = record { screen = r.screen; log = r.log; answers = room; finals = r.finals; cases = r.cases }
+with_room r Final room = record { screen = r.screen; log = r.log; answers = r.answers; finals = room; cases = r.cases }
+with_room r Cases room = record { screen = r.screen; log = r.log; answers = r.answers; finals = r.finals; cases = room }
+
 -- what a call of `write` may answer, with the bytes before and after it
 abbrev pub IsWriting : Channel → List ℕ → Option Written → Option Written → Put → Type 0
 IsWriting channel piece old new (Took count) =
     (0 < count) × (count ≤ length piece) × (new ≡ option_map (λ w. appended w channel (take count piece)) old)
 IsWriting channel piece old new Failed = new ≡ old
 
--- it didn't fail, and of so many bytes that it was sure to take it is sure of the rest
-abbrev pub IsSure : Put → ℕ → (ℕ → Type 0) → Type 0
-IsSure (Took count) n ready = ready (n - count)
-IsSure Failed n ready = ⊥
+-- it didn't fail, and of so many bytes on each channel that it was sure to take it is sure of the rest
+abbrev pub IsSure : Put → Channel → Rooms → (Rooms → Type 0) → Type 0
+IsSure (Took count) channel rooms ready = ready (with_room rooms channel (room_of rooms channel - count))
+IsSure Failed channel rooms ready = ⊥

@@ -6,7 +6,7 @@ pub const LAST_TIME: u64 = 253402300799999;
 /// The greatest id.
 pub const LAST_ID: u64 = 9223372036854775807;
 
-/// The greatest moment of an event, in milliseconds since the clock of its run was made.
+/// The greatest moment of an event, in milliseconds since the start of its run's clock.
 pub const LAST_AT: u64 = 9223372036854775807;
 
 /// The greatest year.

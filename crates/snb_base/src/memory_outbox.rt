@@ -2,8 +2,8 @@
 
 ghost use Rattle.std.specs.Prelude.{◌≡◌, ℕ, ◌-◌, ◌^◌, ◌<◌, ◌≤◌, ◌↔◌, ◌⊎◌, ◌∷◌, ◌++◌, [], length, take, min, Some, IsTrue, IfOk, OnOk, OnErr};
 ghost use Rattle.snb_base.specs.MemoryShelf.{is_listed};
-ghost use Rattle.snb_base.specs.MemoryOutbox.{IsReady, equal_rooms, room_of, with_room, room_left, answer_of, after_write};
-ghost use Rattle.snb_base.specs.Outbox.{IsSure, IsWriting, nothing, bytes_on, appended};
+ghost use Rattle.snb_base.specs.MemoryOutbox.{IsReady, equal_rooms, room_left, answer_of, after_write};
+ghost use Rattle.snb_base.specs.Outbox.{IsSure, IsWriting, Rooms, nothing, appended, bytes_on, room_of, with_room};
 ghost use Rattle.snb_base.specs.Shelf.{Rose};
 
 use crate::calls::is_on;

@@ -3,7 +3,7 @@
 use crate::outbox::{Channel, Outbox, Put};
 
 /// Takes everything, tells nothing, and never fails.
-#[derive(Clone, Copy, Debug, PartialEq, Eq)]
+#[derive(Clone, Copy)]
 pub struct NullOutbox;
 
 impl Outbox for NullOutbox {

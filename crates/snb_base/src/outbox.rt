@@ -1,7 +1,7 @@
 //! Where bytes are written.
 
 ghost use Rattle.std.specs.Prelude.{◌≡◌, ℕ, ◌<◌, ◌≤◌, length, Option};
-ghost use Rattle.snb_base.specs.Outbox.{Written, IsSure, IsWriting};
+ghost use Rattle.snb_base.specs.Outbox.{IsSure, IsWriting, Rooms, Written, room_of};
 ghost use Rattle.snb_base.specs.Shelf.{Rose};
 
 /// What is written where.
@@ -34,7 +34,8 @@ pub enum Put {
 /// Five channels of bytes that only grow.
 ///
 /// Its meanings are the bytes of each channel, where it tells them, a count of faults that never
-/// falls, and how many bytes more it takes for sure. An outbox that can take nothing counts a fault.
+/// falls, and how many bytes more it takes for sure on each channel. An outbox that can take nothing
+/// counts a fault.
 pub trait Outbox {
     /// The bytes on each channel, where they are told.
     ghost written: { Self → Option Written };
@@ -42,8 +43,8 @@ pub trait Outbox {
     /// How many faults there have been.
     ghost faults: { Self → ℕ };
 
-    /// It takes so many bytes more, on whatever channels, and doesn't fail.
-    ghost ready: { Self → ℕ → Type 0 };
+    /// It takes so many bytes more on each channel, and doesn't fail.
+    ghost ready: { Self → Rooms → Type 0 };
 
     /// Appends a prefix of the piece to the channel, and nothing to another. The piece has one byte at
     /// least.
@@ -52,5 +53,5 @@ pub trait Outbox {
         ensures took { IsWriting channel piece.now (written self.old) (written self.new) result }
         ensures failed { result ≡ Put.Failed → Rose (faults self.old) (faults self.new) }
         ensures later { faults self.old ≤ faults self.new }
-        ensures sure { (n : ℕ) → ready self.old n → length piece.now ≤ n → IsSure result n (ready self.new) };
+        ensures sure { (rooms : Rooms) → ready self.old rooms → length piece.now ≤ room_of rooms channel → IsSure result channel rooms (ready self.new) };
 }

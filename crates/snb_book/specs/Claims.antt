@@ -53,7 +53,9 @@ pub record IsLaneBusy (s : Schedule) (h : List Event) (worker at op by_whom : �
   pub first : IsFirst s (IsDueHead s h at) op
   pub held : HoldsBefore s h op by_whom
 
--- the answer to a claim by the worker at this moment
+-- the answer to a claim by the worker at this moment, the first of these that applies: somebody has halted; all is started; the worker has an
+-- operation in hand; no head of a lane is due; the first head that is due and admitted; the first due head that isn't busy, which is blocked;
+-- all due heads are busy
 abbrev pub IsClaim : Schedule → List Event → ℕ → ℕ → Claim → Type 0
 IsClaim s h worker at Halted = (w : ℕ) × (halted h w ≡ true)
 IsClaim s h worker at AllStarted = ((w : ℕ) → halted h w ≡ false) × ((k : ℕ) → IsOperation s k → started h k ≡ true)

@@ -74,17 +74,17 @@ fn first_jobs(
 }
 
 // Whether a year is before another, and a place has a name.
-fn is_passing(since: u64, year: u32, place: &Place, name: &Text) -> bool
+fn is_passing(since: u64, year: u32, place: &Place, name: &str) -> bool
     ensures { result ≡ (nat_lt since year && bytes_eq place.now.name name.now) }
 {
-    since < u64::from(year) && place.name == *name
+    since < u64::from(year) && place.name.as_str() == name
 }
 
 // Appends the work rows of a person before a year in a country, each with the organisation's name.
 fn add_jobs<'a>(
     graph: &'a Graph,
     person: u64,
-    country: &Text,
+    country: &str,
     year: u32,
     found: &mut Vec<((u64, u64, u64), &'a Text)>,
 ) -> Result<(), AllocError>
@@ -116,7 +116,7 @@ pub fn ic11(
     alloc: Global,
     graph: &Graph,
     person: u64,
-    country: &Text,
+    country: &str,
     year: u32,
 ) -> Result<Answer, AllocError>
     requires sound { Sound graph.now }

@@ -163,7 +163,7 @@ fn first_namesakes(
 fn named<'a>(
     alloc: Global,
     graph: &'a Graph,
-    first_name: &Text,
+    first_name: &str,
     near: &[(u64, u64)],
 ) -> Result<Vec<(&'a Person, u64)>, AllocError>
     requires { All (IsNearFound graph.now) near.now }
@@ -172,7 +172,7 @@ fn named<'a>(
     let mut found = Vec::new(alloc);
     for one in near {
         let person = known(graph, one.0);
-        if person.first_name == *first_name {
+        if person.first_name.as_str() == first_name {
             found.push((person, one.1))?;
         }
     }
@@ -184,7 +184,7 @@ fn namesakes<'a>(
     alloc: Global,
     graph: &'a Graph,
     person: u64,
-    first_name: &Text,
+    first_name: &str,
     steps: u32,
 ) -> Result<Vec<(&'a Person, u64)>, AllocError>
     requires sound { Sound graph.now }
@@ -203,7 +203,7 @@ pub fn ic1(
     alloc: Global,
     graph: &Graph,
     person: u64,
-    first_name: &Text,
+    first_name: &str,
 ) -> Result<Answer, AllocError>
     requires sound { Sound graph.now }
     ensures { IfOk result (Ic1 graph.now person first_name.now) }

@@ -1,8 +1,8 @@
 -- The shelf and the outbox that a case is tried over.
 use Rattle.std.specs.Prelude.{ℕ, List, map, min, string_bytes}
-use Rattle.snb_base.specs.MemoryOutbox.{Rooms, Sheets}
+use Rattle.snb_base.specs.MemoryOutbox.{Sheets}
 use Rattle.snb_base.specs.MemoryShelf.{Held}
-use Rattle.snb_base.specs.Outbox.{nothing}
+use Rattle.snb_base.specs.Outbox.{Rooms, nothing}
 use Rattle.snb_cases.specs.declared.case.Case.{Case}
 use Rattle.snb_cases.specs.declared.case.Named.{Named}
 use Rattle.snb_cases.specs.declared.case.Rooms.{Rooms as CaseRooms}

@@ -80,6 +80,7 @@ pub record IsLastOf (lines : List Line) (last : ℕ) : Type 0 where
 abbrev pub after_persons : Before → Held → Before
 after_persons at held = after_walk stream_format at (stage_looks held PERSON_STREAMS)
 
+-- bytes and data lines are counted on, and the files of a stage begin anew
 abbrev pub next_stage : Before → Before
 next_stage at = record { bytes = at.bytes; rows = at.rows; past = [] }
 

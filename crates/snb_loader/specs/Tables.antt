@@ -69,6 +69,7 @@ IsAmissBeside rows file p r =
     ((column : ℕ) × IsFirstLacking rows (refs_of_row p.row p.turned) column × (r ≡ Dangling file p.line column))
     ⊎ (All (IsThere rows) (refs_of_row p.row p.turned) × IsSecond rows p.row × (r ≡ Duplicate file p.line))
 
+-- what is wrong with a line beside those of the files before it (`done`) and those before it in its file (`mine`)
 abbrev pub IsAmiss : FileId → List (List Placed) → List Placed → Placed → Refusal → Type 0
 IsAmiss file done mine p r = IsAmissBeside (said_rows done mine) file p r
 

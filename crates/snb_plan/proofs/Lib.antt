@@ -10,6 +10,7 @@ pub mod Planned
 pub mod Slots
 pub mod Spotting
 pub mod Streams
+pub mod Timely
 pub mod Turns
 pub mod Viewing
 pub mod Walking

@@ -139,7 +139,7 @@ read_kind lanes lane le = (to, from)
 -- ---- the schedule
 
 -- what is planned for no earlier is due no earlier
-due_rises : (num t0 t later : ℕ) → t ≤ later → due_of num t0 t ≤ due_of num t0 later
+pub due_rises : (num t0 t later : ℕ) → t ≤ later → due_of num t0 t ≤ due_of num t0 later
 due_rises num t0 t later le = (let product = mul-le (t - t0) num (later - t0) num (omega (arith, le)) (omega arith) in omega (arith, product))
 
 before_step : (lanes : LineLanes) (ratio t0 : ℕ) (a b : Spot) (x y : Step) → IsStepOf lanes ratio t0 a x → IsStepOf lanes ratio t0 b y → IsSpotBefore a b → ComesBefore x y

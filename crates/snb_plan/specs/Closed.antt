@@ -101,6 +101,6 @@ pub record IsClosedAt (holds : Key → Type 0) (all before : List Update) (u : U
   pub new : ¬ IsTaken holds before u
   pub met : All (IsMet holds all before u) (refs_of u.line.op)
 
--- each of the updates is so, after those before it
+-- each of the updates is closed, after those before it
 pub record IsClosed (holds : Key → Type 0) (all : List Update) : Type 0 where
   pub each : (before : List Update) (u : Update) (after : List Update) → before ++ u ∷ after ≡ all → IsClosedAt holds all before u

@@ -30,10 +30,11 @@ pub record AreInOrder {X : Type 0} (before : X → X → Type 0) (P : X → Type
 
 -- ---- lanes
 
--- the lanes of lines by their numbers: those of persons, and after them the forum lanes; the lane of the reads is the next
+-- the lanes of lines by their numbers: those of persons, and after them the forum lanes
 abbrev pub numbered_lanes : LineLanes → List (List Line)
 numbered_lanes lanes = lanes.persons ++ lanes.forums
 
+-- the lane of the reads is the next
 abbrev pub read_lane : LineLanes → ℕ
 read_lane lanes = length (numbered_lanes lanes)
 
@@ -92,10 +93,11 @@ IsSooner one other = (one.at < other.at) ⊎ ((one.at ≡ other.at) × (one.quer
 abbrev pub AreReads : FrequencyTable → ℕ → List Instance → Type 0
 AreReads frequencies count reads = AreInOrder IsSooner (IsInstance frequencies count) reads
 
--- how many instances of a frequency go with so many updates, and how many of all queries together
+-- how many instances of a frequency go with so many updates
 abbrev pub share : ℕ → ℕ → ℕ
 share count frequency = if frequency == 0 then 0 else count / frequency
 
+-- and how many of all queries together
 abbrev pub read_count : FrequencyTable → ℕ → ℕ
 read_count frequencies count = sum_by (λ q. share count (frequency_at frequencies q)) (1 ∷ 2 ∷ 7 ∷ 8 ∷ 9 ∷ 11 ∷ 13 ∷ [])
 
@@ -172,7 +174,7 @@ pub record Plan : Type 0 where
   pub kinds : List LaneKind
   pub operations : List Operation
 
--- the t of operation 0
+-- the t of operation 0, or 0 where there is none
 abbrev pub first_t : List Operation → ℕ
 first_t [] = 0
 first_t (o ∷ rest) = o.step.t
@@ -193,19 +195,21 @@ pub record IsPlan (lanes : LineLanes) (lists : QueryLists) (frequencies : Freque
 abbrev pub schedule_of : Plan → Schedule
 schedule_of plan = record { steps = map (λ (o : Operation). o.step) plan.operations; kinds = plan.kinds }
 
--- the update that an operation is, if it is one, and those of a plan in merged order
+-- the update that an operation is, if it is one
 abbrev pub update_from : Step → Work → Option Source → Option Update
 update_from step (Insert line) (Some source) = Some (record { lane = step.lane; file = source.file; line = line })
 update_from step work source = None
 
+-- those of a plan, in the order of their numbers, which is the merged order of the streams
 abbrev pub updates_in : Plan → List Update
 updates_in plan = filter_map (λ (o : Operation). update_from o.step o.work o.source) plan.operations
 
--- the query that an operation asks, if it is a read, and those of a plan in the order of their numbers
+-- the query that an operation asks, if it is a read
 abbrev pub query_from : Work → Option Query
 query_from (Insert line) = None
 query_from (Ask query) = Some query
 
+-- those of a plan, in the order of their numbers
 abbrev pub queries_in : Plan → List Query
 queries_in plan = filter_map (λ (o : Operation). query_from o.work) plan.operations
 

@@ -1,6 +1,6 @@
 //! Laws of plans and of closed updates.
 
-ghost use Rattle.snb_plan.specs.PlanLaws.{ClosedIsOne, PlanIsOne};
+ghost use Rattle.snb_plan.specs.PlanLaws.{ClosedIsOne, ClosedPlanIsNotStuck, ClosedPlanIsTimely, PlanIsOne};
 
 use snb_schema::key::Held;
 
@@ -13,4 +13,12 @@ pub fn closed_is_one<H: Held>(_held: &H)
 /// Lanes, parameters, frequencies and a ratio have one plan at most.
 pub fn plan_is_one()
     ensures { PlanIsOne }
+{}
+
+/// In a plan whose updates are closed, each dependent needs only what lies before it (`timely`). So no
+/// legal history of it, of however many workers, is stuck: where nobody has an operation in hand, nobody
+/// has halted and some operation is unstarted, some unstarted operation may start (`goes_on`).
+pub fn closed_plan_is_not_stuck<H: Held>(_held: &H)
+    ensures timely { ClosedPlanIsTimely (H.holds _held.now) }
+    ensures goes_on { ClosedPlanIsNotStuck (H.holds _held.now) }
 {}

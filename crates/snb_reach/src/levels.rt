@@ -6,7 +6,7 @@ ghost use Rattle.std.specs.List.{filter};
 ghost use Rattle.snb_reads.specs.Around.{is_friend};
 ghost use Rattle.snb_reads.specs.Distance.{IsDistance};
 ghost use Rattle.snb_reach.specs.Levels.{HasMet, IsGrowing, IsGrown, StaysMet};
-ghost use Rattle.snb_tables.specs.Soundness.{Sound};
+ghost use Rattle.snb_tables.specs.Soundness.{Held};
 
 use crate::near::Near;
 use snb_graph::graph::Graph;
@@ -39,7 +39,7 @@ fn meet_friends(
     met: &mut HashMap<u64, u64>,
     next: &mut Vec<u64>,
 ) -> Result<(), AllocError>
-    requires sound { Sound graph.now }
+    requires held { Held graph.now }
     requires above { 0 < level }
     requires reached { IsDistance graph.now start person (level - 1) }
     requires growing { IsGrowing graph.now start level (get nat_eq met.old) next.old.items }
@@ -63,7 +63,7 @@ pub(crate) fn grow(
     last: &[u64],
     met: &mut HashMap<u64, u64>,
 ) -> Result<Vec<u64>, AllocError>
-    requires sound { Sound graph.now }
+    requires held { Held graph.now }
     requires above { 0 < level }
     requires grown { IsGrown graph.now start (level - 1) (get nat_eq met.old) last.now }
     ensures { IfOk result (λ next. IsGrown graph.now start level (get nat_eq met.new) next.items) }

@@ -4,7 +4,7 @@ ghost use Rattle.std.specs.Prelude.{IfOk};
 ghost use Rattle.snb_reads.specs.ComplexReads.{Ic13};
 ghost use Rattle.snb_reads.specs.Distance.{IsLength, IsWithin};
 ghost use Rattle.snb_reach.specs.Around.{IsAround};
-ghost use Rattle.snb_tables.specs.Soundness.{Sound};
+ghost use Rattle.snb_tables.specs.Soundness.{Held};
 
 use crate::levels::{grow, others};
 use crate::near::Near;
@@ -19,7 +19,7 @@ use std::collections::HashMap;
 // The persons at distance 1 to `steps` from a person, with their distances, in any order. Nobody is near a
 // person that isn't held.
 fn around(alloc: Global, graph: &Graph, start: u64, steps: u32) -> Result<Near, AllocError>
-    requires sound { Sound graph.now }
+    requires held { Held graph.now }
     ensures { IfOk result (IsAround graph.now start steps) }
 {
     let Some(_) = graph.person(start) else {
@@ -37,9 +37,9 @@ fn around(alloc: Global, graph: &Graph, start: u64, steps: u32) -> Result<Near, 
 
 /// The persons at distance 1 to `steps` from a person, with their distances, by rising id. Nobody is
 /// near a person that isn't held.
-/// The condition: the graph is sound.
+/// The condition: each node that a row of the graph refers to is held.
 pub fn within(alloc: Global, graph: &Graph, start: u64, steps: u32) -> Result<Near, AllocError>
-    requires sound { Sound graph.now }
+    requires held { Held graph.now }
     ensures { IfOk result (IsWithin graph.now start steps) }
 {
     let mut near = around(alloc, graph, start, steps)?;
@@ -49,9 +49,9 @@ pub fn within(alloc: Global, graph: &Graph, start: u64, steps: u32) -> Result<Ne
 
 /// The length in steps of a shortest walk from one person to another, or -1 where there is none, as
 /// where one of them isn't held.
-/// The condition: the graph is sound.
+/// The condition: each node that a row of the graph refers to is held.
 pub fn shortest(alloc: Global, graph: &Graph, from: u64, to: u64) -> Result<i64, AllocError>
-    requires sound { Sound graph.now }
+    requires held { Held graph.now }
     ensures { IfOk result (IsLength graph.now from to) }
 {
     let Some(_) = graph.person(from) else {
@@ -68,9 +68,9 @@ pub fn shortest(alloc: Global, graph: &Graph, from: u64, to: u64) -> Result<i64,
 
 /// Complex read 13 of LDBC's Social Network Benchmark, Interactive workload v1: one row, with the
 /// length of a shortest walk from one person to another, or -1 where there is none.
-/// The condition: the graph is sound.
+/// The condition: each node that a row of the graph refers to is held.
 pub fn ic13(alloc: Global, graph: &Graph, from: u64, to: u64) -> Result<Answer, AllocError>
-    requires sound { Sound graph.now }
+    requires held { Held graph.now }
     ensures { IfOk result (Ic13 graph.now from to) }
 {
     let value = shortest(alloc, graph, from, to)?;

@@ -5,7 +5,7 @@ ghost use Rattle.std.specs.Prelude.{◌≡◌, ◌≢◌, ◌⊎◌, ◌∷◌, 
 ghost use Rattle.std.specs.HashMap.{get, hash_map_len};
 ghost use Rattle.snb_reads.specs.Distance.{IsLength, IsPerson, Walk};
 ghost use Rattle.snb_reach.specs.Sides.{HasGrown, HasMarked, HasMetFriends, IsMeeting, IsSide};
-ghost use Rattle.snb_tables.specs.Soundness.{Sound};
+ghost use Rattle.snb_tables.specs.Soundness.{Held};
 
 use snb_graph::graph::Graph;
 use std::alloc::{AllocError, Global};
@@ -42,7 +42,7 @@ fn meet_friends(
     met: &mut HashMap<u64, bool>,
     next: &mut Vec<u64>,
 ) -> Result<bool, AllocError>
-    requires sound { Sound graph.now }
+    requires held { Held graph.now }
     requires above { 0 < level }
     requires reached { Walk graph.now start person (level - 1) }
     requires side { IsSide graph.now start mark level level (get nat_eq met.old) next.old.items }
@@ -69,7 +69,7 @@ fn grow(
     last: &[u64],
     met: &mut HashMap<u64, bool>,
 ) -> Result<Option<Vec<u64>>, AllocError>
-    requires sound { Sound graph.now }
+    requires held { Held graph.now }
     requires above { 0 < level }
     requires side { IsSide graph.now start mark (level - 1) level (get nat_eq met.old) last.now }
     ensures met { IfOk result (λ grown. MatchOption grown (IsMeeting graph.now start mark level (get nat_eq met.old))
@@ -137,9 +137,9 @@ fn is_over(near: &End, far: &End) -> bool
 
 /// The length in steps of a shortest walk between two persons, or -1 where there is none. The end that has
 /// fewer persons to go on from takes the next step.
-/// The conditions: the graph is sound, and the persons are held and two.
+/// The conditions: each node that a row of the graph refers to is held, and so are the persons, who are two.
 pub(crate) fn between(alloc: Global, graph: &Graph, from: u64, to: u64) -> Result<i64, AllocError>
-    requires sound { Sound graph.now }
+    requires held { Held graph.now }
     requires from_held { IsPerson graph.now from }
     requires to_held { IsPerson graph.now to }
     requires apart { from ≢ to }

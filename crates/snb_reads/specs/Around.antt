@@ -82,6 +82,7 @@ abbrev pub word_in : ℕ → Row → Option (List ℕ)
 word_in p (row.Word t from text) = if from == p then Some text else None
 word_in p other = None
 
+-- the id is among these
 abbrev pub has : ℕ → List ℕ → Bool
 has x xs = list_any (λ y. y == x) xs
 

@@ -10,18 +10,20 @@ use Rattle.snb_reads.specs.declared.cell.Cell.TheVariants.{Number, Words}
 abbrev pub number : ℕ → Cell
 number n = Number (pos n)
 
--- a column of a row, counted from 1
+-- a column of a row, counted from 1; one that isn't there is 0
 abbrev pub column : ℕ → List Cell → Cell
 column n row = slice_index_or row (n - 1) (Number (pos 0))
 
+-- the number of a cell, 0 of any other
 abbrev pub number_in : Cell → ℤ
 number_in (Number z) = z
 number_in other = pos 0
 
+-- the text of a cell, empty of any other
 abbrev pub text_in : Cell → List ℕ
 text_in (Words t) = t
 text_in other = []
 
--- numbers compare as numbers, texts by their UTF-8 bytes
+-- numbers compare as numbers, texts by their UTF-8 bytes; any other cells are equal
 abbrev pub cell_cmp : Cell → Cell → Ordering
 cell_cmp = then_cmp (on number_in int_cmp) (on text_in (slice_cmp nat_cmp))

@@ -85,7 +85,7 @@ module _ (g : List Row) where
   abbrev pub is_named : List ℕ → ℕ × ℕ → Bool
   is_named name n = list_any (λ p. bytes_eq p.first_name name) (persons g n.0)
 
-  -- distance, last name, id, all ascending
+  -- IC1: the persons of a first name at distance 1 to 3, twenty at most: by distance, last name and id, all ascending
   pub record Ic1 (person : ℕ) (first_name : List ℕ) (answer : List (List Cell)) : Type 0 where
     pub near : List (ℕ × ℕ)
     pub within : IsWithin g person 3 near
@@ -95,7 +95,7 @@ module _ (g : List Row) where
   abbrev pub messages_of : (ℕ → Bool) → List (ℕ × ℕ) → List (ℕ × ℕ × ℕ)
   messages_of passes ps = flat_map (λ p. map (λ m. (p.0, m.0, m.1)) (filter (λ m. passes m.1) (messages g p.0))) ps
 
-  -- IC2 and IC9: a person's message
+  -- a person's message
   pub record IsSent (s : ℕ × ℕ × ℕ) (cells : List Cell) : Type 0 where
     pub person : Person
     pub held : persons g s.0 ≡ person ∷ []
@@ -103,9 +103,11 @@ module _ (g : List Row) where
     pub sent : with_id g s.1 ≡ message ∷ []
     pub is : cells ≡ number s.0 ∷ cell.Words person.first_name ∷ cell.Words person.last_name ∷ number s.1 ∷ cell.Words message.content ∷ number s.2 ∷ []
 
+  -- IC2: the messages of friends up to the date, it included, twenty at most: the latest first
   abbrev pub Ic2 : ℕ → ℕ → List (List Cell) → Type 0
   Ic2 person max_date = Answers (messages_of (λ date. nat_le date max_date) (friends g person)) IsSent latest (First 20)
 
+  -- IC9: the messages before the date of persons at distance 1 or 2, twenty at most: the latest first
   pub record Ic9 (person max_date : ℕ) (answer : List (List Cell)) : Type 0 where
     pub near : List (ℕ × ℕ)
     pub within : IsWithin g person 2 near
@@ -119,7 +121,7 @@ module _ (g : List Row) where
   abbrev pub best_likes : ℕ → List Like
   best_likes person = filter (λ l. not (list_any (λ k. beats k l) (liked person))) (liked person)
 
-  -- IC7: a like
+  -- a like
   pub record IsLiked (start : ℕ) (l : Like) (cells : List Cell) : Type 0 where
     pub person : Person
     pub held : persons g l.person ≡ person ∷ []
@@ -128,11 +130,11 @@ module _ (g : List Row) where
     pub is : cells ≡ number l.person ∷ cell.Words person.first_name ∷ cell.Words person.last_name ∷ number l.date ∷ number l.message
         ∷ cell.Words message.content ∷ cell.Number (minutes l.date l.sent) ∷ cell.Flag (not (is_friend g start l.person)) ∷ []
 
-  -- like date descending, person id ascending
+  -- IC7: who liked the person's messages, twenty at most: like date descending, person id ascending
   abbrev pub Ic7 : ℕ → List (List Cell) → Type 0
   Ic7 person = Answers (best_likes person) (IsLiked person) (Falling 4 ∷ Rising 1 ∷ []) (First 20)
 
-  -- IC8: a direct reply to a message of the person
+  -- a direct reply to a message of the person
   pub record IsAnswered (c : ℕ × ℕ) (cells : List Cell) : Type 0 where
     pub author : Person
     pub wrote : IsAuthor g c.0 author
@@ -141,7 +143,7 @@ module _ (g : List Row) where
     pub is : cells ≡ number author.id ∷ cell.Words author.first_name ∷ cell.Words author.last_name ∷ number c.1 ∷ number c.0
         ∷ cell.Words comment.content ∷ []
 
-  -- date descending, comment id ascending
+  -- IC8: the direct replies to the person's messages, twenty at most: date descending, comment id ascending
   abbrev pub Ic8 : ℕ → List (List Cell) → Type 0
   Ic8 person = Answers (flat_map (λ m. replies g m.0) (messages g person)) IsAnswered (Falling 4 ∷ Rising 5 ∷ []) (First 20)
 
@@ -153,7 +155,7 @@ module _ (g : List Row) where
   abbrev pub jobs : List ℕ → ℕ → List (ℕ × ℕ) → List (ℕ × ℕ × ℕ)
   jobs country year ps = flat_map (λ p. map (λ w. (p.0, w.0, w.1)) (filter (λ w. nat_lt w.1 year && is_in country w.0) (work g p.0))) ps
 
-  -- IC11: a work row
+  -- a work row
   pub record IsJob (j : ℕ × ℕ × ℕ) (cells : List Cell) : Type 0 where
     pub person : Person
     pub held : persons g j.0 ≡ person ∷ []
@@ -161,12 +163,12 @@ module _ (g : List Row) where
     pub at : organisations g j.1 ≡ organisation ∷ []
     pub is : cells ≡ number j.0 ∷ cell.Words person.first_name ∷ cell.Words person.last_name ∷ cell.Words organisation.name ∷ number j.2 ∷ []
 
-  -- year ascending, id ascending, name descending
+  -- IC11: the work before the year in the country of persons at distance 1 or 2, ten at most: year ascending, id ascending, name descending
   pub record Ic11 (person : ℕ) (country : List ℕ) (year : ℕ) (answer : List (List Cell)) : Type 0 where
     pub near : List (ℕ × ℕ)
     pub within : IsWithin g person 2 near
     pub answers : Answers (jobs country year near) IsJob (Rising 5 ∷ Rising 1 ∷ Falling 4 ∷ []) (First 10) answer
 
-  -- IC13
+  -- IC13: the length of a shortest walk from one person to another, or -1
   abbrev pub Ic13 : ℕ → ℕ → List (List Cell) → Type 0
   Ic13 a b answer = (z : ℤ) × IsLength g a b z × (answer ≡ (cell.Number z ∷ []) ∷ [])

@@ -27,6 +27,6 @@ module _ (g : List Row) where
     pub rises : AllPairs (λ x y. x.0 < y.0) near
     pub exact : (p n : ℕ) → Contains near (p, n) ↔ (IsDistance start p n × (1 ≤ n) × (n ≤ steps))
 
-  -- the length of a shortest walk, or -1 where there is none
+  -- the length of a shortest walk, or -1 where there is none, as where one of the two isn't held
   abbrev pub IsLength : ℕ → ℕ → ℤ → Type 0
   IsLength a b z = ((n : ℕ) × IsDistance a b n × (z ≡ pos n)) ⊎ (((n : ℕ) → ¬ Walk a b n) × (z ≡ negsuc 0))

@@ -9,17 +9,20 @@ use Rattle.snb_reads.specs.ComplexReads.{Ic1, Ic2, Ic7, Ic8, Ic9, Ic11, Ic13}
 use Rattle.snb_reads.specs.Cells.{column, number_in}
 use Rattle.snb_reads.specs.ShortReads.{Is1, Is2, Is3, Is4, Is5, Is6, Is7}
 
--- an id in a column of a row
+-- the id that a number is; below 0 it is 0
 abbrev pub id_of : ℤ → ℕ
 id_of (pos n) = n
 id_of (negsuc n) = 0
 
+-- the id in a column of a row
 abbrev pub id_at : ℕ → List Cell → ℕ
 id_at n row = id_of (number_in (column n row))
 
+-- the short reads that follow for a person
 abbrev pub person_reads : ℕ → List Query
 person_reads p = query.Is1 p ∷ query.Is2 p ∷ query.Is3 p ∷ []
 
+-- and for a message
 abbrev pub message_reads : ℕ → List Query
 message_reads m = query.Is4 m ∷ query.Is5 m ∷ query.Is6 m ∷ query.Is7 m ∷ []
 
@@ -33,12 +36,13 @@ followers (query.Ic7 person) row = person_reads (id_at 1 row) ++ message_reads (
 followers (query.Ic8 person) row = person_reads (id_at 1 row) ++ message_reads (id_at 5 row)
 followers _ row = []
 
--- none follow an answer without rows
+-- the reads that follow an answer: those of its first row, and none where it has no rows
 abbrev pub tail_reads : Query → List (List Cell) → List Query
 tail_reads q [] = []
 tail_reads q (row ∷ rows) = followers q row
 
 module _ (g : List Row) where
+  -- the answer to a query, without those of the reads that follow
   abbrev pub IsAnswer : Query → List (List Cell) → Type 0
   IsAnswer (query.Is1 person) = Is1 g person
   IsAnswer (query.Is2 person) = Is2 g person

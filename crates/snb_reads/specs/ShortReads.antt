@@ -18,17 +18,18 @@ module _ (g : List Row) where
     pub created : authors g m ≡ id ∷ []
     pub held : persons g id ≡ p ∷ []
 
-  -- IS1: the person
+  -- the profile of a person
   pub record IsProfile (p : Person) (cells : List Cell) : Type 0 where
     pub city : ℕ
     pub lives : ends g table.PersonIsLocatedInPlace p.id ≡ city ∷ []
     pub is : cells ≡ Words p.first_name ∷ Words p.last_name ∷ number p.birthday ∷ Words p.location_ip ∷ Words p.browser_used
         ∷ number city ∷ Words p.gender ∷ number p.creation_date ∷ []
 
+  -- IS1: the profile of a person
   abbrev pub Is1 : ℕ → List (List Cell) → Type 0
   Is1 person = Answers (persons g person) IsProfile [] Whole
 
-  -- IS2: a message, and the post at its root
+  -- a message, and the post at its root
   pub record IsRecent (m : ℕ × ℕ) (cells : List Cell) : Type 0 where
     pub message : Message
     pub held : with_id g m.0 ≡ message ∷ []
@@ -39,34 +40,35 @@ module _ (g : List Row) where
     pub is : cells ≡ number m.0 ∷ Words message.content ∷ number m.1 ∷ number root ∷ number author.id ∷ Words author.first_name
         ∷ Words author.last_name ∷ []
 
-  -- date descending, id descending
+  -- IS2: the messages of a person, ten at most: date descending, id descending
   abbrev pub Is2 : ℕ → List (List Cell) → Type 0
   Is2 person = Answers (messages g person) IsRecent (Falling 3 ∷ Falling 1 ∷ []) (First 10)
 
-  -- IS3: a friend
+  -- a friend
   pub record IsFriend (f : ℕ × ℕ) (cells : List Cell) : Type 0 where
     pub friend : Person
     pub held : persons g f.0 ≡ friend ∷ []
     pub is : cells ≡ number f.0 ∷ Words friend.first_name ∷ Words friend.last_name ∷ number f.1 ∷ []
 
-  -- date descending, id ascending
+  -- IS3: the friends of a person: date descending, id ascending
   abbrev pub Is3 : ℕ → List (List Cell) → Type 0
   Is3 person = Answers (friends g person) IsFriend (Falling 4 ∷ Rising 1 ∷ []) Whole
 
-  -- IS4: the message
+  -- IS4: the date and the content of a message
   abbrev pub Is4 : ℕ → List (List Cell) → Type 0
   Is4 message = Answers (with_id g message) (λ m cells. cells ≡ number m.date ∷ Words m.content ∷ []) [] Whole
 
-  -- IS5: the message's creator
+  -- the creator of a message
   pub record IsCreator (m : ℕ) (cells : List Cell) : Type 0 where
     pub author : Person
     pub wrote : IsAuthor m author
     pub is : cells ≡ number author.id ∷ Words author.first_name ∷ Words author.last_name ∷ []
 
+  -- IS5: the creator of a message
   abbrev pub Is5 : ℕ → List (List Cell) → Type 0
   Is5 message = Answers (with_id g message) (λ m. IsCreator m.id) [] Whole
 
-  -- IS6: the forum of the message's root
+  -- the forum of a message's root
   pub record IsForum (m : ℕ) (cells : List Cell) : Type 0 where
     pub root : ℕ
     pub from : IsRoot g m root
@@ -78,10 +80,11 @@ module _ (g : List Row) where
     pub known : persons g moderator.id ≡ moderator ∷ []
     pub is : cells ≡ number forum.id ∷ Words forum.title ∷ number moderator.id ∷ Words moderator.first_name ∷ Words moderator.last_name ∷ []
 
+  -- IS6: the forum of a message's root, with its moderator
   abbrev pub Is6 : ℕ → List (List Cell) → Type 0
   Is6 message = Answers (with_id g message) (λ m. IsForum m.id) [] Whole
 
-  -- IS7: a direct reply, and whether its author is a friend of the message's
+  -- a direct reply, and whether its author is a friend of the message's
   pub record IsReplyTo (message : ℕ) (c : ℕ × ℕ) (cells : List Cell) : Type 0 where
     pub comment : Message
     pub held : comments g c.0 ≡ comment ∷ []
@@ -92,6 +95,6 @@ module _ (g : List Row) where
     pub is : cells ≡ number c.0 ∷ Words comment.content ∷ number c.1 ∷ number author.id ∷ Words author.first_name
         ∷ Words author.last_name ∷ Flag (is_friend g answered author.id) ∷ []
 
-  -- date descending, author id ascending, comment id ascending
+  -- IS7: the direct replies to a message: date descending, author id ascending, comment id ascending
   abbrev pub Is7 : ℕ → List (List Cell) → Type 0
   Is7 message = Answers (replies g message) (IsReplyTo message) (Falling 3 ∷ Rising 4 ∷ Rising 1 ∷ []) Whole

@@ -7,3 +7,6 @@ pub mod Finishes
 pub mod Welcome
 pub mod Final
 pub mod Agreement
+pub mod Laws
+pub mod Prefixes
+pub mod OneInsert

@@ -4,7 +4,8 @@ use Rattle.snb_schema.specs.declared.event.Event.{Event}
 use Rattle.snb_schema.specs.declared.op.Op.{Op}
 use Rattle.snb_schema.specs.declared.row.Row.{Row}
 use Rattle.snb_schema.specs.Rules.{IsComplete, IsLegal}
-use Rattle.snb_tables.specs.Graphs.{HoldsKey}
+use Rattle.snb_tables.specs.Graphs.{HoldsKey, IsGraph}
+use Rattle.snb_tables.specs.Soundness.{Sound}
 use Rattle.snb_plan.specs.Closed.{IsClosed}
 use Rattle.snb_plan.specs.Plans.{IsOfStreams, Plan, schedule_of, updates_in}
 use Rattle.snb_inserts.specs.Applying.{IsWelcome}
@@ -33,3 +34,9 @@ HistoriesAgree =
     (base : List Row) (plan : Plan) (workers others : ℕ) (h k : List Event) (graph other : List Row) → IsLegal (schedule_of plan) workers h
     → IsComplete (schedule_of plan) h → IsAfter base plan h graph → IsLegal (schedule_of plan) others k → IsComplete (schedule_of plan) k
     → IsAfter base plan k other → graph ≡ other
+
+-- after each prefix of a legal history of a plan that is closed over a sound graph there is a graph, and it is sound
+abbrev pub PrefixesAreSound : Type 0
+PrefixesAreSound =
+    (base : List Row) (plan : Plan) (workers : ℕ) (g rest h : List Event) → IsGraph base → Sound base → IsReplayed base plan
+    → IsLegal (schedule_of plan) workers h → g ++ rest ≡ h → (graph : List Row) × IsAfter base plan g graph × Sound graph

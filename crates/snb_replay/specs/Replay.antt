@@ -9,7 +9,7 @@ use Rattle.snb_schema.specs.Inserts.{rows_of}
 use Rattle.snb_tables.specs.Graphs.{HasGained}
 use Rattle.snb_plan.specs.Plans.{Ask, Insert, Operation, Plan, Work}
 
--- what the operation of a number inserts, if it is an update
+-- what an operation inserts, where there is one and it is an update
 abbrev pub insert_in : Option Operation → Option Op
 insert_in None = None
 insert_in (Some o) = insert_of o.work
@@ -18,6 +18,7 @@ insert_in (Some o) = insert_of o.work
     insert_of (Insert line) = Some line.op
     insert_of (Ask query) = None
 
+-- what the operation of a number inserts
 abbrev pub insert_at : Plan → ℕ → Option Op
 insert_at plan k = insert_in (slice_get plan.operations k)
 
@@ -27,17 +28,19 @@ finished_insert plan (Start op worker at) = None
 finished_insert plan (Finish op worker at front) = insert_at plan op
 finished_insert plan (Halt worker) = None
 
--- the inserts that a history has finished, in the order of their Finish events, and their rows
+-- the inserts that a history has finished, in the order of their Finish events
 abbrev pub inserts_in : Plan → List Event → List Op
 inserts_in plan h = filter_map (finished_insert plan) h
 
+-- and their rows
 abbrev pub rows_in : Plan → List Event → List Row
 rows_in plan h = flat_map rows_of (inserts_in plan h)
 
--- the inserts of a plan, in the order of their operations, and their rows
+-- the inserts of a plan, in the order of their operations
 abbrev pub all_inserts : Plan → List Op
 all_inserts plan = filter_map (λ (o : Operation). insert_in (Some o)) plan.operations
 
+-- and their rows
 abbrev pub all_rows : Plan → List Row
 all_rows plan = flat_map rows_of (all_inserts plan)
 

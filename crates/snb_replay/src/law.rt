@@ -1,20 +1,25 @@
-//! Laws of replay. The function only cites laws of histories; its contract is the law.
+//! Laws of replay. The function only cites laws of histories, graphs and inserts; its contract is the law.
 
-ghost use Rattle.snb_replay.specs.Laws.{CompleteIsFinal, HistoriesAgree, WelcomeInTurn};
+ghost use Rattle.snb_replay.specs.Laws.{CompleteIsFinal, HistoriesAgree, PrefixesAreSound, WelcomeInTurn};
 
+use snb_inserts::law::inserts_are_kept;
 use snb_schema::law::{once_each, prefix_is_legal};
-use snb_tables::law::graphs_are_their_rows;
+use snb_tables::law::{graphs_are_their_rows, new_rows_are_gained};
 
 /// In a legal history of a plan whose updates are closed over a base, each insert finds all that it refers to
 /// in the graph that has the base and the inserts that have finished before it, and its keys are new there
 /// (`welcome`). After a complete one the graph has the rows of each insert, whatever the history (`last`);
-/// so two complete ones leave one graph (`one`).
+/// so two complete ones leave one graph (`one`). Where the base is a sound graph, there is a graph after
+/// each prefix of a legal history, and it is sound (`sound`).
 pub fn replay_is_welcome()
     ensures welcome { WelcomeInTurn }
     ensures last { CompleteIsFinal }
     ensures one { HistoriesAgree }
+    ensures sound { PrefixesAreSound }
 {
     once_each();
     prefix_is_legal();
     graphs_are_their_rows();
+    new_rows_are_gained();
+    inserts_are_kept();
 }

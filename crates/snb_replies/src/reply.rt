@@ -33,7 +33,7 @@ fn own_answer(alloc: Global, graph: &Graph, query: &Query) -> Result<Answer, All
         Query::Is5 { message } => is5(alloc, graph, *message),
         Query::Is6 { message } => is6(alloc, graph, *message),
         Query::Is7 { message } => is7(alloc, graph, *message),
-        Query::Ic1 { person, first_name } => ic1(alloc, graph, *person, first_name),
+        Query::Ic1 { person, first_name } => ic1(alloc, graph, *person, first_name.as_str()),
         Query::Ic2 { person, max_date } => ic2(alloc, graph, *person, *max_date),
         Query::Ic7 { person } => ic7(alloc, graph, *person),
         Query::Ic8 { person } => ic8(alloc, graph, *person),
@@ -42,7 +42,7 @@ fn own_answer(alloc: Global, graph: &Graph, query: &Query) -> Result<Answer, All
             person,
             country,
             year,
-        } => ic11(alloc, graph, *person, country, *year),
+        } => ic11(alloc, graph, *person, country.as_str(), *year),
         Query::Ic13 { from, to } => ic13(alloc, graph, *from, *to),
     }
 }

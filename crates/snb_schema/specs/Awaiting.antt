@@ -1,4 +1,4 @@
--- Who waits for whom: some inserts add nodes that others wait for, and some inserts wait.
+-- Who waits for whom: some inserts add nodes that others wait for, and some inserts wait. An insert may do both, one or neither.
 use Rattle.std.specs.Prelude.{Bool, true, false, Option, Some, None}
 use Rattle.snb_schema.specs.declared.op.Op.{Op}
 use Rattle.snb_schema.specs.declared.op.OpKind.{OpKind}

@@ -38,7 +38,7 @@ time_left_in s done lane = time_before s (λ k. ((step_of s k).lane == lane) && 
 abbrev pub is_awaited : Schedule → List Event → ℕ → Bool
 is_awaited s h k = is_left s (finished h) k
 
--- the least t of an unfinished dependency of the plan, less one, or MAX_TIME where there is none
+-- the least t of an unfinished dependency of the plan, less one, so -1 where that t is 0; or MAX_TIME where there is none
 abbrev pub completion : Schedule → List Event → ℤ
 completion s h = time_left s (finished h)
 

@@ -52,5 +52,6 @@ name_of_part (kind.Params query) part = codes "interactive_" ++ decimal query ++
 name_of_part kind.Log part = codes "log"
 name_of_part kind.Cases part = codes "cases"
 
+-- the name of a file, in its folder and in what is said of it
 abbrev pub name_of : FileId → List ℕ
 name_of file = name_of_part file.kind file.part

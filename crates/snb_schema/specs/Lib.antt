@@ -14,6 +14,7 @@ pub mod Lines
 pub mod ParameterLines
 pub mod Queries
 pub mod QueryLists
+pub mod ReadKinds
 pub mod RowLines
 pub mod Rules
 pub mod RunTexts

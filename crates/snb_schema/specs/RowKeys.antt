@@ -24,7 +24,8 @@ edge_key First t from to = (t, from, 0, [])
 edge_key Second t from to = (t, to, 0, [])
 edge_key FirstTwo t from to = (t, from, to, [])
 
--- the key of a row: a node's is its id, that of an edge with a date or a year its two ends, and a word's its person and text
+-- the key of a row: a node's is its id, that of an edge with a date or a year its two ends, that of any
+-- other edge what the key columns of its table say, and a word's its person and text
 abbrev pub row_key : Row → RowKey
 row_key (row.Place p) = (table.Place, p.id, 0, [])
 row_key (row.TagClass c) = (table.TagClass, c.id, 0, [])

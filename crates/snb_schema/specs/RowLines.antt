@@ -127,8 +127,8 @@ abbrev pub IsLoop : Bool → List (List ℕ) → Type 0
 IsLoop true (x ∷ y ∷ rest) = (id : ℕ) × SpellsId x id × SpellsId y id
 IsLoop _ fs = ⊥
 
--- these fields are no row of the table, in this column first: 0 where their number is wrong, 2 where an edge leads back, else that of
--- the first field that spells no value of its column
+-- these fields are no row of the table, in this column first: 0 where their number is wrong, 2 where an edge without direction leads back to its
+-- begin, else that of -- the first field that spells no value of its column
 abbrev pub IsBadColumn : Table → List (List ℕ) → ℕ → Type 0
 IsBadColumn t fs column =
     (¬ IsWide (length (columns t)) fs × (column ≡ 0))

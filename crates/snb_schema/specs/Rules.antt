@@ -9,14 +9,23 @@ use Rattle.snb_schema.specs.declared.limits.TheConstants.{MAX_AT}
 
 -- the rules of an event, by their numbers
 pub data Rule : Type 0 where
+  -- the operation is one of the plan, and the worker is one of so many and hasn't halted
   V1 : Rule
+  -- a Start: the operation isn't started, and all before it in its lane are
   V2 : Rule
+  -- a Start in a forum lane: all before it in its lane are finished
   V3 : Rule
+  -- a Start: the operation is due
   V4 : Rule
+  -- a Start of a dependent: each dependency whose t is at most its t_d is finished
   V5 : Rule
+  -- a Start: the worker has nothing in hand
   V6 : Rule
+  -- a Finish: the worker has this operation in hand
   V7 : Rule
+  -- a Finish: the front of a read lies after its Start, and that of an insert is 0
   V8 : Rule
+  -- a Start or a Finish: the moment isn't below the last one
   V9 : Rule
 
 -- the number of a rule

@@ -15,7 +15,3 @@ event_line (Halt worker) = codes "H|" ++ decimal worker ++ codes "\n"
 -- the log of a history with so many workers
 abbrev pub log_text : ℕ → List Event → List ℕ
 log_text workers h = codes "snblog|1|" ++ decimal workers ++ codes "\n" ++ flat_map event_line h
-
--- the answers of a run without reads
-abbrev pub no_answers_text : List ℕ
-no_answers_text = codes "answers|1\n"

@@ -11,7 +11,7 @@ pub record Schedule : Type 0 where
   pub steps : List Step
   pub kinds : List LaneKind
 
--- what the words below read at a number that is no operation
+-- the step that is read at a number that is no operation
 abbrev pub no_step : Step
 no_step = record { lane = 0; place = 0; t = 0; t_d = 0; due = 0; dependency = false; dependent = false; query = false }
 

@@ -30,6 +30,7 @@ kind_text kind.Forum = codes "forum"
 kind_text kind.Post = codes "post"
 kind_text kind.Comment = codes "comment"
 
+-- what there are too many of
 abbrev pub counted_text : Counted → List ℕ
 counted_text Rows = codes "rows"
 counted_text Reads = codes "reads"

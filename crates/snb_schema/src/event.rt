@@ -2,8 +2,8 @@
 
 /// What a worker did, and when.
 ///
-/// Operations and workers are numbered from 0. A moment `at` is in milliseconds since the clock of
-/// the run was made, and is at most `MAX_AT`.
+/// Operations and workers are numbered from 0. A moment `at` is in milliseconds since the start of the
+/// run's clock, and is at most `MAX_AT`.
 #[derive(Clone, Copy)]
 pub enum Event {
     /// The worker takes the operation in hand.

@@ -17,6 +17,7 @@ pub mod nodes;
 pub mod op;
 pub mod person;
 pub mod query;
+pub mod read_kind;
 pub mod refusal;
 pub mod row;
 pub mod schedule;

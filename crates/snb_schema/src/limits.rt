@@ -14,7 +14,7 @@ pub const MAX_YEAR: u32 = LAST_YEAR;
 /// The greatest length of a message.
 pub const MAX_LENGTH: u32 = 2147483647;
 
-/// The greatest moment of an event, in milliseconds since the clock of the run was made.
+/// The greatest moment of an event, in milliseconds since the start of the run's clock.
 pub const MAX_AT: u64 = LAST_AT;
 
 /// The most bytes of dataset, streams and parameter files together.

@@ -24,9 +24,9 @@ pub struct Step {
     pub place: u32,
     /// Its date and time, in milliseconds since 1970-01-01 UTC.
     pub t: u64,
-    /// Of a dependent, the date and time of the last dependency that it needs, in the same unit.
+    /// Of a dependent, up to when it needs dependencies, in the same unit: all whose `t` is at most this.
     pub t_d: u64,
-    /// When it is due, in milliseconds since the clock of the run was made.
+    /// When it is due, in milliseconds since the start of the run's clock.
     pub due: u64,
     /// Whether dependents may wait for it.
     pub dependency: bool,

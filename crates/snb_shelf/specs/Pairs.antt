@@ -31,14 +31,6 @@ pub record ArePairsOf (es : List ((ℕ × ℕ) × ℕ)) (of : ℕ) (ps : List ((
   pub rises : IsStrictlySortedBy pair_order (keys_of ps)
   pub same : (e : (ℕ × ℕ) × ℕ) → Contains ps e ↔ (Contains es e × (e.0.0 ≡ of))
 
--- two ids have each other as one pair more
-abbrev pub HasBoth : List ((ℕ × ℕ) × ℕ) → ℕ → ℕ → ℕ → List ((ℕ × ℕ) × ℕ) → Type 0
-HasBoth old low high date new = (e : (ℕ × ℕ) × ℕ) → Contains new e ↔ ((Contains old e ⊎ (((low, high), date) ≡ e)) ⊎ (((high, low), date) ≡ e))
-
--- the pairs are the same
-abbrev pub SamePairs : List ((ℕ × ℕ) × ℕ) → List ((ℕ × ℕ) × ℕ) → Type 0
-SamePairs old new = (e : (ℕ × ℕ) × ℕ) → Contains new e ↔ Contains old e
-
 -- the other id and the date of each entry
 abbrev pub ends_of : List ((ℕ × ℕ) × ℕ) → List (ℕ × ℕ)
 ends_of es = map (λ e. (e.0.1, e.1)) es
@@ -47,9 +39,3 @@ ends_of es = map (λ e. (e.0.1, e.1)) es
 pub record AreEndsOf (es : List ((ℕ × ℕ) × ℕ)) (of : ℕ) (ends : List (ℕ × ℕ)) : Type 0 where
   pub rises : IsStrictlySortedBy nat_cmp (keys_of ends)
   pub same : (id date : ℕ) → Contains ends (id, date) ↔ HasPair es of id date
-
--- what the pairs were, before two ids had each other as one pair more, they are again
-abbrev pub IsUndone : ℕ → ℕ → ℕ → List ((ℕ × ℕ) × ℕ) → List ((ℕ × ℕ) × ℕ) → Type 0
-IsUndone low high date now new =
-    (old : List ((ℕ × ℕ) × ℕ)) → ((d : ℕ) → ¬ HasPair old low high d) → ((d : ℕ) → ¬ HasPair old high low d)
-    → HasBoth old low high date now → SamePairs old new

@@ -16,35 +16,23 @@ use snb_lines::record::Record;
 use snb_schema::column::Column;
 use snb_schema::fault::LineFault;
 use snb_schema::file::{FileId, FileKind};
-use snb_schema::limits::{MAX_ID, MAX_YEAR};
 use snb_schema::query::{Query, is_complex};
+use snb_schema::read_kind::ReadKind;
 use std::alloc::Global;
 use std::marker::Model;
-
-const ID: Column = Column::Number { most: MAX_ID };
-
-const NAMED: [Column; 2] = [ID, Column::Words];
-
-const DATED: [Column; 2] = [ID, Column::Date];
-
-const ALONE: [Column; 1] = [ID];
-
-const PLACED: [Column; 3] = [ID, Column::Words, Column::Small { most: MAX_YEAR }];
-
-const PAIRED: [Column; 2] = [ID, ID];
 
 /// The columns of the parameters of the query of this number: none, where it isn't one of the seven.
 pub fn columns_of(query: u32) -> &'static [Column]
     ensures { result.now ≡ query_columns query }
 {
     match query {
-        1 => &NAMED,
-        2 => &DATED,
-        7 => &ALONE,
-        8 => &ALONE,
-        9 => &DATED,
-        11 => &PLACED,
-        13 => &PAIRED,
+        1 => ReadKind::Ic1.columns(),
+        2 => ReadKind::Ic2.columns(),
+        7 => ReadKind::Ic7.columns(),
+        8 => ReadKind::Ic8.columns(),
+        9 => ReadKind::Ic9.columns(),
+        11 => ReadKind::Ic11.columns(),
+        13 => ReadKind::Ic13.columns(),
         _ => &[],
     }
 }

@@ -62,7 +62,7 @@ rows g t = filter (λ r. same_table (table_of r) t) g
 abbrev pub count : List Row → Table → ℕ
 count g t = length (rows g t)
 
--- the new graph has these rows more
+-- the new graph has these rows more: each as often as it is in both together
 pub record HasGained (old : List Row) (more : List Row) (new : List Row) : Type 0 where
   pub graph : IsGraph new
   pub rows : IsPermutation new (old ++ more)

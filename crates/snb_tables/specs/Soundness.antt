@@ -31,7 +31,7 @@ needs_of r = map (λ edge. ((row_key r).0, (row_key r).1, edge)) (edges_of (row_
 abbrev pub needs : List Row → List Need
 needs g = flat_map (λ t. flat_map needs_of (rows g t)) all_tables
 
--- what of it isn't there: each of these edges has its node's id as its key, and a comment's parent may be in either table of replies
+-- the edges that nodes must have and that aren't there: each of these edges has its node's id as its key, and a comment's parent may be in either table of replies
 abbrev pub missing : List Row → List Need
 missing g = filter (λ need. not (fills g (slot (need.2, need.1, 0, [])))) (needs g)
 

@@ -9,5 +9,6 @@ use Rattle.snb_workers.specs.declared.done.Answered.{Answered}
 abbrev pub answer_line : Answered → List ℕ
 answer_line a = decimal a.op ++ codes "|" ++ decimal a.front ++ codes "|" ++ compact_text (reply_data a.reply) ++ codes "\n"
 
+-- the answers: a first line with their version, and a line for each reply
 abbrev pub answers_text : List Answered → List ℕ
 answers_text replies = codes "answers|1\n" ++ flat_map answer_line replies

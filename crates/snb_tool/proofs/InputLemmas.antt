@@ -32,10 +32,11 @@ use Rattle.snb_schema.specs.LineLanes.{LineLanes, update_count}
 use Rattle.snb_schema.specs.QueryLists.{QueryLists}
 use Rattle.snb_tables.specs.Graphs.{HoldsKey}
 use Rattle.snb_tables.specs.Soundness.{Sound}
-use Rattle.snb_tool.specs.Commands.{Command, Check, Run, Read}
+use Rattle.snb_words.specs.declared.command.Command.{Command}
+use Rattle.snb_words.specs.declared.command.Command.TheVariants.{Check, Run, Read}
 use Rattle.snb_tool.specs.declared.input.Input.{Input}
 use Rattle.snb_tool.specs.Endings.{IsInputAnswer, IsMade, IsMadeAnswer, IsOpen, IsReplyAnswer, IsReplyLine}
-use Rattle.snb_tool.specs.Inputs.{ArePlanned, AreTooMany, IsNotClosed, after_dataset, after_streams, at_first, checks_of, plan_checks}
+use Rattle.snb_tool.specs.Inputs.{ArePlanned, AreTooMany, Found, IsNotClosed, after_dataset, after_streams, at_first, checks_of, plan_checks}
 
 -- what is read of the files of one folder is one thing
 pub record AreOne : Type 0 where
@@ -107,10 +108,10 @@ module _ (one : AreOne) (ratio : ℕ) (table : FrequencyTable) (held : Held) whe
       (once_append (AreTooMany held table ∷ []) (IsNotClosed held ratio table ∷ []) (once_single (AreTooMany held table) too_many_once) (once_single (IsNotClosed held ratio table) not_closed_once))))
 
 -- the checks of a command give one refusal at most
-pub once : AreOne → RefuseEachOnce → (command : Command) (held : Held) → RefuseOnce (checks_of command held)
-once one each (Read folder query) held = each.dataset at_first held
-once one each (Check folder table) held = plan_once one 1000000 table held each
-once one each (Run folder workers ratio table) held = plan_once one ratio table held each
+pub once : AreOne → RefuseEachOnce → (command : Command) (found : Found) → RefuseOnce (checks_of command found)
+once one each (Read folder query) found = each.dataset at_first found.held
+once one each (Check folder table) found = plan_once one 1000000 table found.held each
+once one each (Run folder workers ratio table) found = plan_once one ratio table found.held each
 
 -- ---- what was read of one folder
 

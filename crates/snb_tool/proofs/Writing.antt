@@ -1,11 +1,36 @@
 -- Facts on what is written on channels.
-use Rattle.std.proofs.Common.{◌≡◌, ℕ, ◌+◌, Option, Some, None, List, [], ◌++◌, take, drop, refl, sym, ap, ◌∙◌, inl, inr, arith}
+use Rattle.std.proofs.Common.{◌≡◌, ℕ, ◌+◌, ◌-◌, Option, Some, None, List, [], ◌++◌, take, drop, refl, sym, ap, ◌∙◌, inl, inr, arith}
 use Rattle.std.specs.Option.{option_map}
 use Rattle.std.proofs.lemmas.List.{append_assoc, append-nil, take-append-drop, take-take, drop-take}
 use Rattle.snb_base.specs.declared.outbox.Channel.{Channel}
 use Rattle.snb_base.specs.declared.outbox.Channel.TheVariants.{Screen, Log, Answers, Final, Cases}
-use Rattle.snb_base.specs.Outbox.{Written, nothing, appended, joined}
+use Rattle.snb_base.specs.Outbox.{Rooms, Written, nothing, appended, joined, room_of, with_room}
 use Rattle.snb_tool.specs.Output.{IsPrefix, IsWrittenSoFar, on_screen}
+
+-- another number for one channel is that of the channel
+pub room_left : (rooms : Rooms) (channel : Channel) (n : ℕ) → room_of (with_room rooms channel n) channel ≡ n
+room_left rooms Screen n = refl
+room_left rooms Log n = refl
+room_left rooms Answers n = refl
+room_left rooms Final n = refl
+room_left rooms Cases n = refl
+
+-- that of another channel stands
+pub with_twice : (rooms : Rooms) (channel : Channel) (n m : ℕ) → with_room (with_room rooms channel n) channel m ≡ with_room rooms channel m
+with_twice rooms Screen n m = refl
+with_twice rooms Log n m = refl
+with_twice rooms Answers n m = refl
+with_twice rooms Final n m = refl
+with_twice rooms Cases n m = refl
+
+-- bytes taken off twice are taken off together
+pub less_left : (rooms : Rooms) (channel : Channel) (n m : ℕ)
+    → with_room (with_room rooms channel (room_of rooms channel - n)) channel (room_of (with_room rooms channel (room_of rooms channel - n)) channel - m)
+    ≡ with_room rooms channel (room_of rooms channel - (n + m))
+less_left rooms channel n m =
+    let e : room_of (with_room rooms channel (room_of rooms channel - n)) channel - m ≡ room_of rooms channel - (n + m) =
+    ap (λ (k : ℕ). k - m) (room_left rooms channel (room_of rooms channel - n)) ∙ omega arith in
+    with_twice rooms channel _ _ ∙ ap (with_room rooms channel) e
 
 -- two pieces on one channel are one
 pub appended-appended : (w : Written) (channel : Channel) (a b : List ℕ) → appended (appended w channel a) channel b ≡ appended w channel (a ++ b)

@@ -1,7 +1,7 @@
 -- How the parts of a call end. Cited by contracts of private functions alone.
 use Rattle.std.specs.Prelude.{◌≡◌, ℕ, ◌<◌, ◌≤◌, ◌⊎◌, List, [], length, Option, Result, Ok, Err, Vec}
 use Rattle.std.specs.declared.alloc.Global.{Global}
-use Rattle.snb_base.specs.Outbox.{Written}
+use Rattle.snb_base.specs.Outbox.{Rooms, Written}
 use Rattle.snb_base.specs.Shelf.{Files}
 use Rattle.snb_input.specs.FirstOf.{FirstOf, NoneOf}
 use Rattle.snb_input.specs.Walk.{Held, IsHeldTold}
@@ -10,7 +10,6 @@ use Rattle.snb_input.specs.declared.load.Load.TheVariants.{Refused, ReadFault, M
 use Rattle.snb_loader.specs.Dataset.{IsDataset, dataset_checks}
 use Rattle.snb_reads.specs.declared.cell.Cell.{Cell}
 use Rattle.snb_reads.specs.Replies.{IsReply}
-use Rattle.snb_schema.specs.declared.event.Event.{Event}
 use Rattle.snb_schema.specs.declared.limits.TheConstants.{MAX_READS}
 use Rattle.snb_schema.specs.declared.query.Query.{Query}
 use Rattle.snb_schema.specs.declared.refusal.Counted.TheVariants.{Reads}
@@ -29,29 +28,18 @@ use Rattle.snb_plan.specs.declared.plan.PlanFault.{PlanFault}
 use Rattle.snb_plan.specs.declared.plan.PlanFault.TheVariants as plan_faults
 use Rattle.snb_plan.specs.Closed.{IsClosed, IsFirstWrong}
 use Rattle.snb_plan.specs.Plans.{IsPlan, Plan, queries_in, read_count, updates_in}
-use Rattle.snb_workers.specs.declared.done.Answered.{Answered}
 use Rattle.snb_workers.specs.declared.run.Outcome.{Outcome as RunOutcome}
-use Rattle.snb_workers.specs.Runs.{HasRun}
 use Rattle.snb_tool.specs.declared.deliver.Output.{Output}
 use Rattle.snb_tool.specs.declared.input.Input.{Input}
 use Rattle.snb_tool.specs.Inputs.{IsInput, at_first, plan_checks}
-use Rattle.snb_tool.specs.Outcome.{reply_line, run_texts}
-use Rattle.snb_tool.specs.Output.{HasBegun, HasWritten, Wrote, on_screen}
+use Rattle.snb_tool.specs.Outcome.{reply_line}
+use Rattle.snb_tool.specs.Output.{HasBegun, Wrote, on_screen}
 
 -- a text is shown whole, with this status; or a front of it, where the outbox failed, which wasn't sure of all of it
-abbrev pub Shows : ℕ → List ℕ → Type 0 → (ℕ → Type 0) → Option Written → Option Written → ℕ → Type 0
+abbrev pub Shows : ℕ → List ℕ → Type 0 → (Rooms → Type 0) → Option Written → Option Written → ℕ → Type 0
 Shows status text wrote ready old new result =
     ((result ≡ status) × Wrote old new (on_screen text))
     ⊎ ((result ≡ 5) × wrote × HasBegun ready old new (λ texts. texts ≡ on_screen text))
-
--- a call ends with texts that belong to its status, whole; or a failed read; or a failed write, after a front of such texts; or want of
--- memory. In the second and the last case nothing is added to the channels
-abbrev pub Ends : (ℕ → Written → Type 0) → Type 0 → Type 0 → (ℕ → Type 0) → Option Written → Option Written → ℕ → Type 0
-Ends belongs read wrote ready old new status =
-    (((status ≡ 0) ⊎ (status ≡ 2) ⊎ (status ≡ 3)) × HasWritten old new (belongs status))
-    ⊎ ((status ≡ 4) × read × (new ≡ old))
-    ⊎ ((status ≡ 5) × wrote × ((s : ℕ) × HasBegun ready old new (belongs s)))
-    ⊎ ((status ≡ 6) × (new ≡ old))
 
 -- nothing is wrong with the files of a plan, and these are their dataset and the plan
 pub record IsLoaded (held : Held) (ratio : ℕ) (frequencies : FrequencyTable) (input : Input) : Type 0 where
@@ -102,14 +90,6 @@ AreTexts workers plan o texts = texts ≡ record {
   finals = final_text o.graph;
   cases = [];
 }
-
--- the texts of a run of a plan by so many workers over a dataset
-pub record IsRunOutput (workers : ℕ) (input : Input) (fixed : Option ℕ) (texts : Written) : Type 0 where
-  pub history : List Event
-  pub replies : List Answered
-  pub final : List Row
-  pub ran : HasRun workers input.plan fixed input.graph history replies final
-  pub shown : texts ≡ run_texts workers input.graph input.plan history replies final
 
 -- the bytes of each channel
 abbrev pub bytes_of : Output → Written

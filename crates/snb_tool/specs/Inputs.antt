@@ -1,6 +1,8 @@
 -- What each command tries of its files, in order.
-use Rattle.std.specs.Prelude.{◌≡◌, ℕ, ◌<◌, List, [], ◌∷◌, ◌++◌}
-use Rattle.snb_input.specs.Walk.{Before, Held}
+use Rattle.std.specs.Prelude.{◌≡◌, ℕ, ◌<◌, List, [], ◌∷◌, ◌++◌, Option, IfSome}
+use Rattle.snb_base.specs.Shelf.{Files}
+use Rattle.snb_input.specs.FirstOf.{FirstOf, NoneOf}
+use Rattle.snb_input.specs.Walk.{Before, Held, IsHeldTold}
 use Rattle.snb_loader.specs.Dataset.{IsDataset, after_tables, dataset_checks}
 use Rattle.snb_loader.specs.Lanes.{AreLanes, after_lanes, lane_checks, next_stage}
 use Rattle.snb_loader.specs.Params.{AreParams, params_checks}
@@ -15,7 +17,9 @@ use Rattle.snb_schema.specs.Frequencies.{FrequencyTable}
 use Rattle.snb_schema.specs.LineLanes.{LineLanes, update_count}
 use Rattle.snb_schema.specs.QueryLists.{QueryLists}
 use Rattle.snb_tables.specs.Graphs.{HoldsKey}
-use Rattle.snb_tool.specs.Commands.{Command, Check, Run, Read}
+use Rattle.snb_words.specs.declared.command.Command.{Command}
+use Rattle.snb_words.specs.declared.command.Command.TheVariants.{Check, Run, Read}
+use Rattle.snb_words.specs.Commands.{beside_of, folder_of}
 
 -- before the first file nothing is read
 abbrev pub at_first : Before
@@ -60,11 +64,30 @@ plan_checks ratio frequencies held =
     ++ (lane_checks (after_dataset held) held
     ++ (params_checks (after_streams held) held frequencies ++ AreTooMany held frequencies ∷ IsNotClosed held ratio frequencies ∷ []))
 
--- what a command tries of its files, in order; `check` has the ratio 1
-abbrev pub checks_of : Command → Held → List {1} (Refusal → Type 0)
-checks_of (Check folder frequencies) held = plan_checks 1000000 frequencies held
-checks_of (Run folder workers ratio frequencies) held = plan_checks ratio frequencies held
-checks_of (Read folder query) held = dataset_checks at_first held
+-- what a command finds: the files of its folder, and the file that it is given by name
+pub record Found : Type 0 where
+  pub held : Held
+  pub beside : Option (List ℕ)
+
+-- this is what it finds, as far as it has a folder or such a file, and the shelf tells what it holds
+abbrev pub IsFoundTold : Option Files → Command → Found → Type 0
+IsFoundTold contents command found =
+    IfSome (folder_of command) (λ folder. IsHeldTold contents folder found.held)
+    × IfSome (beside_of command) (λ name. IfSome contents (λ files. found.beside ≡ files name))
+
+-- what a command tries of what it finds, in order; `check` has the ratio 1
+abbrev pub checks_of : Command → Found → List {1} (Refusal → Type 0)
+checks_of (Check folder frequencies) found = plan_checks 1000000 frequencies found.held
+checks_of (Run folder workers ratio frequencies) found = plan_checks ratio frequencies found.held
+checks_of (Read folder query) found = dataset_checks at_first found.held
+
+-- nothing is wrong with what a command finds, whatever of it the shelf doesn't tell
+abbrev pub IsFine : Option Files → Command → Type 0
+IsFine contents command = (found : Found) → IsFoundTold contents command found → NoneOf (checks_of command found)
+
+-- and this is wrong with it first
+abbrev pub IsWrong : Option Files → Command → Refusal → Type 0
+IsWrong contents command r = (found : Found) → IsFoundTold contents command found → FirstOf (checks_of command found) r
 
 -- nothing is wrong with the files of a plan, and these are their dataset and the plan
 pub record IsInput (held : Held) (ratio : ℕ) (frequencies : FrequencyTable) (graph : List Row) (plan : Plan) : Type 0 where

@@ -4,7 +4,7 @@ use Rattle.serde_json.specs.Written.{compact_text}
 use Rattle.snb_base.specs.Outbox.{Written}
 use Rattle.snb_base.specs.Shelf.{Files}
 use Rattle.snb_input.specs.FirstOf.{FirstOf, NoneOf}
-use Rattle.snb_input.specs.Walk.{Held, IsHeldTold}
+use Rattle.snb_input.specs.Walk.{Held}
 use Rattle.snb_loader.specs.Dataset.{IsDataset}
 use Rattle.snb_plan.specs.Plans.{Plan, queries_in, updates_in}
 use Rattle.snb_reads.specs.declared.cell.Cell.{Cell}
@@ -23,8 +23,10 @@ use Rattle.snb_texts.specs.Counts.{check_text}
 use Rattle.snb_validation.specs.ReplyData.{reply_data}
 use Rattle.snb_workers.specs.declared.done.Answered.{Answered}
 use Rattle.snb_workers.specs.Runs.{HasRun}
-use Rattle.snb_tool.specs.Commands.{Command, Check, Run, Read, IsLineOf, IsOtherLine, folder_of}
-use Rattle.snb_tool.specs.Inputs.{IsInput, at_first, checks_of}
+use Rattle.snb_words.specs.declared.command.Command.{Command}
+use Rattle.snb_words.specs.declared.command.Command.TheVariants.{Check, Run, Read}
+use Rattle.snb_words.specs.Commands.{IsLineOf, IsOtherLine}
+use Rattle.snb_tool.specs.Inputs.{Found, IsFoundTold, IsInput, at_first, checks_of}
 use Rattle.snb_tool.specs.Output.{on_screen}
 
 -- what `check` shows of a dataset and a plan: how many rows, updates and reads there are
@@ -53,18 +55,22 @@ pub record IsChecked (held : Held) (frequencies : FrequencyTable) (texts : Writt
   pub input : IsInput held 1000000 frequencies graph plan
   pub shown : texts ≡ on_screen (check_of graph plan)
 
--- nothing is wrong with the files, and the texts are those of a legal, complete history of their plan for so many workers, of the replies to
--- its reads, each on the dataset with what had finished in the read's front, and of the dataset with the rows of each insert once; where the
--- clock tells a fixed moment, each event is of it
-pub record IsRun (held : Held) (workers ratio : ℕ) (frequencies : FrequencyTable) (fixed : Option ℕ) (texts : Written) : Type 0 where
-  pub graph : List Row
-  pub plan : Plan
-  pub input : IsInput held ratio frequencies graph plan
+-- what a run of a plan by so many workers over a dataset leaves: the texts of a legal, complete history, of the replies to its reads, each on
+-- the dataset with what had finished in the read's front, and of the dataset with the rows of each insert once; where the clock tells a fixed
+-- moment, each Start and Finish is at it
+pub record IsLeft (workers : ℕ) (graph : List Row) (plan : Plan) (fixed : Option ℕ) (texts : Written) : Type 0 where
   pub history : List Event
   pub replies : List Answered
   pub final : List Row
   pub ran : HasRun workers plan fixed graph history replies final
   pub shown : texts ≡ run_texts workers graph plan history replies final
+
+-- nothing is wrong with the files, and the texts are what a run of their plan leaves
+pub record IsRun (held : Held) (workers ratio : ℕ) (frequencies : FrequencyTable) (fixed : Option ℕ) (texts : Written) : Type 0 where
+  pub graph : List Row
+  pub plan : Plan
+  pub input : IsInput held ratio frequencies graph plan
+  pub left : IsLeft workers graph plan fixed texts
 
 -- the line of a reply: its JSON text, and a line feed
 abbrev pub reply_line : List (List (List Cell)) → List ℕ
@@ -78,25 +84,33 @@ pub record IsRead (held : Held) (query : Query) (texts : Written) : Type 0 where
   pub replies : IsReply graph query reply
   pub shown : texts ≡ on_screen (reply_line reply)
 
--- the texts of a command that is done
-abbrev pub IsDone : Command → Held → Option ℕ → Written → Type 0
-IsDone (Check folder frequencies) held fixed texts = IsChecked held frequencies texts
-IsDone (Run folder workers ratio frequencies) held fixed texts = IsRun held workers ratio frequencies fixed texts
-IsDone (Read folder query) held fixed texts = IsRead held query texts
+-- the status and the texts of a command that is done
+abbrev pub IsDone : Command → Found → Option ℕ → ℕ → Written → Type 0
+IsDone (Check folder frequencies) found fixed status texts = (status ≡ 0) × IsChecked found.held frequencies texts
+IsDone (Run folder workers ratio frequencies) found fixed status texts = (status ≡ 0) × IsRun found.held workers ratio frequencies fixed texts
+IsDone (Read folder query) found fixed status texts = (status ≡ 0) × IsRead found.held query texts
 
--- the texts that belong to a command's files and a status: nothing is wrong with the files and the command is done; or what is wrong with
--- them first is shown
-abbrev pub Belongs : Command → Held → Option ℕ → ℕ → Written → Type 0
-Belongs command held fixed status texts =
-    ((status ≡ 0) × NoneOf (checks_of command held) × IsDone command held fixed texts)
-    ⊎ ((status ≡ 3) × ((r : Refusal) × FirstOf (checks_of command held) r × (texts ≡ on_screen (refusal_text r))))
+-- the status and the texts of a command that is refused: what is wrong first is shown
+abbrev pub IsRefused : Refusal → ℕ → Written → Type 0
+IsRefused r status texts = (status ≡ 3) × (texts ≡ on_screen (refusal_text r))
 
--- the texts that a command answers with a status: there are files in its folder, which are those that the shelf tells where it tells any,
--- of which this is true
+-- the status and the texts that belong to what a command finds: nothing is wrong with it and the command is done, or what is wrong with it
+-- first is shown
+abbrev pub Belongs : Command → Found → Option ℕ → ℕ → Written → Type 0
+Belongs command found fixed status texts =
+    (NoneOf (checks_of command found) × IsDone command found fixed status texts)
+    ⊎ ((r : Refusal) × FirstOf (checks_of command found) r × IsRefused r status texts)
+
+-- the status and the texts that a command answers: there are files, which are those that the shelf tells where it tells any, of which this is
+-- true
 abbrev pub IsCommandAnswer : Command → Option Files → Option ℕ → ℕ → Written → Type 0
-IsCommandAnswer command contents fixed status texts = (held : Held) × IsHeldTold contents (folder_of command) held × Belongs command held fixed status texts
+IsCommandAnswer command contents fixed status texts = (found : Found) × IsFoundTold contents command found × Belongs command found fixed status texts
 
--- the texts that words are answered with and a status: the usage, where they are no command's line; else those of the command
+-- and where it is done
+abbrev pub IsDoneAnswer : Command → Option Files → Option ℕ → ℕ → Written → Type 0
+IsDoneAnswer command contents fixed status texts = (found : Found) × IsFoundTold contents command found × IsDone command found fixed status texts
+
+-- the status and the texts that words are answered with: the usage, where they are no command's line; else those of the command
 abbrev pub IsAnswer : List (List ℕ) → Option Files → Option ℕ → ℕ → Written → Type 0
 IsAnswer words contents fixed status texts =
     ((status ≡ 2) × IsOtherLine words × (texts ≡ on_screen usage_text))

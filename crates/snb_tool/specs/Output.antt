@@ -1,15 +1,16 @@
 -- What a call writes.
-use Rattle.std.specs.Prelude.{◌≡◌, ℕ, ◌+◌, ◌<◌, ◌⊎◌, List, [], ◌++◌, length, Option}
+use Rattle.std.specs.Prelude.{◌≡◌, ℕ, ◌≤◌, ◌⊎◌, List, [], ◌++◌, length, Option}
 use Rattle.std.specs.Option.{option_map}
-use Rattle.snb_base.specs.Outbox.{Written, joined}
+use Rattle.snb_base.specs.declared.outbox.Channel.{Channel}
+use Rattle.snb_base.specs.Outbox.{Rooms, Written, bytes_on, joined, room_of}
 
 -- a text on the screen, and nothing on the other channels
 abbrev pub on_screen : List ℕ → Written
 on_screen text = record { screen = text; log = []; answers = []; finals = []; cases = [] }
 
--- how many bytes there are on all channels together
-abbrev pub size_of : Written → ℕ
-size_of w = length w.log + (length w.answers + (length w.finals + (length w.cases + length w.screen)))
+-- each text is no longer than the number of bytes of its channel
+abbrev pub Fit : Written → Rooms → Type 0
+Fit texts rooms = (channel : Channel) → length (bytes_on texts channel) ≤ room_of rooms channel
 
 -- the bytes begin the text
 abbrev pub IsPrefix : List ℕ → List ℕ → Type 0
@@ -35,12 +36,12 @@ Wrote old new texts = new ≡ option_map (λ w. joined w texts) old
 abbrev pub HasWritten : Option Written → Option Written → (Written → Type 0) → Type 0
 HasWritten old new P = (texts : Written) × P texts × Wrote old new texts
 
--- a front of texts of which this holds was added to the channels, and an outbox that was sure to take so many bytes wasn't sure of all of
--- the texts
-pub record HasBegun (ready : ℕ → Type 0) (old new : Option Written) (P : Written → Type 0) : Type 0 where
+-- a front of texts of which this holds was added to the channels; an outbox that was sure to take so many bytes on each channel wasn't sure of
+-- all of the texts
+pub record HasBegun (ready : Rooms → Type 0) (old new : Option Written) (P : Written → Type 0) : Type 0 where
   pub texts : Written
   pub part : Written
   pub are : P texts
   pub front : IsWrittenSoFar part texts
   pub wrote : Wrote old new part
-  pub unsure : (n : ℕ) → ready n → n < size_of texts
+  pub unsure : (rooms : Rooms) → ready rooms → ¬ Fit texts rooms

@@ -1,10 +1,9 @@
 //! The command `check`.
 
-ghost use Rattle.std.specs.Prelude.{◌≡◌, ◌≤◌, IfOk, None};
-ghost use Rattle.snb_base.specs.Shelf.{Rose};
-ghost use Rattle.snb_tool.specs.Commands.{Check};
-ghost use Rattle.snb_tool.specs.Endings.{Ends};
+ghost use Rattle.std.specs.Prelude.{◌≡◌, ℕ, ◌≤◌, IfOk, Option};
+ghost use Rattle.snb_words.specs.declared.command.Command.TheVariants.{Check};
 ghost use Rattle.snb_tool.specs.Outcome.{IsCommandAnswer, check_of};
+ghost use Rattle.snb_tool.specs.Outside.{Ends, IsReadOnly, seen};
 
 use crate::input::{Input, load_input};
 use crate::show::{refuse, show_as};
@@ -37,11 +36,11 @@ pub fn check<S: Shelf, O: Outbox>(
     frequencies: Frequencies,
     out: &mut O,
 ) -> u8
-    ensures ends { Ends (IsCommandAnswer (Check folder.now frequencies) (S.contents shelf.old) None) (Rose (S.faults shelf.old) (S.faults shelf.new))
-        (Rose (O.faults out.old) (O.faults out.new)) (O.ready out.old) (O.written out.old) (O.written out.new) result }
-    ensures reads_later { S.faults shelf.old ≤ S.faults shelf.new }
+    ensures ends { (fixed : Option ℕ) → Ends (IsCommandAnswer (Check folder.now frequencies))
+        (seen (S.contents shelf.old) fixed (S.faults shelf.old) (O.faults out.old) (O.written out.old) (O.ready out.old))
+        (seen (S.contents shelf.new) fixed (S.faults shelf.new) (O.faults out.new) (O.written out.new) (O.ready out.new)) result }
+    ensures read_only { IsReadOnly (S.contents shelf.old) (S.faults shelf.old) (S.contents shelf.new) (S.faults shelf.new) }
     ensures writes_later { O.faults out.old ≤ O.faults out.new }
-    ensures same { S.contents shelf.new ≡ S.contents shelf.old }
 {
     match load_input(alloc, shelf, folder, Ratio::one(), frequencies) {
         Ok(input) => match counts_of(alloc, input) {

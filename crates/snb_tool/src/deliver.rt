@@ -1,10 +1,10 @@
 //! Texts on their channels.
 
-ghost use Rattle.std.specs.Prelude.{◌≡◌, ℕ, ◌-◌, ◌<◌, ◌≤◌, List, length, take, OnOk, OnErr};
+ghost use Rattle.std.specs.Prelude.{◌≡◌, ℕ, ◌-◌, ◌<◌, ◌≤◌, length, take, OnOk, OnErr};
 ghost use Rattle.std.specs.Option.{option_map};
-ghost use Rattle.snb_base.specs.Outbox.{Written as Bytes, appended, joined};
+ghost use Rattle.snb_base.specs.Outbox.{Rooms, Written as Bytes, appended, joined, room_of, with_room};
 ghost use Rattle.snb_base.specs.Shelf.{Rose};
-ghost use Rattle.snb_tool.specs.Output.{on_screen, size_of, IsWrittenSoFar};
+ghost use Rattle.snb_tool.specs.Output.{Fit, IsWrittenSoFar, on_screen};
 ghost use Rattle.snb_tool.specs.Endings.{bytes_of};
 
 use snb_base::outbox::{Channel, Outbox, Put};
@@ -38,8 +38,9 @@ fn write_all<O: Outbox>(out: &mut O, channel: Channel, bytes: &[u8]) -> Result<(
     ensures err { OnErr result ((n : ℕ) × (n < length bytes.now) × (O.written out.new ≡ option_map (λ w. appended w channel (take n bytes.now)) (O.written out.old))) }
     ensures failed { OnErr result (Rose (O.faults out.old) (O.faults out.new)) }
     ensures later { O.faults out.old ≤ O.faults out.new }
-    ensures sure { (n : ℕ) → O.ready out.old n → length bytes.now ≤ n → OnErr result ⊥ }
-    ensures left { OnOk result ((n : ℕ) → O.ready out.old n → length bytes.now ≤ n → O.ready out.new (n - length bytes.now)) }
+    ensures sure { (rooms : Rooms) → O.ready out.old rooms → length bytes.now ≤ room_of rooms channel → OnErr result ⊥ }
+    ensures left { OnOk result ((rooms : Rooms) → O.ready out.old rooms → length bytes.now ≤ room_of rooms channel
+        → O.ready out.new (with_room rooms channel (room_of rooms channel - length bytes.now))) }
 {
     let mut done = 0;
     while done < bytes.len() {
@@ -58,7 +59,7 @@ pub fn deliver<O: Outbox>(out: &mut O, output: &Output) -> Result<(), WriteFault
     ensures err { OnErr result ((part : Bytes) × IsWrittenSoFar part (bytes_of output.now) × (O.written out.new ≡ option_map (λ w. joined w part) (O.written out.old))) }
     ensures failed { OnErr result (Rose (O.faults out.old) (O.faults out.new)) }
     ensures later { O.faults out.old ≤ O.faults out.new }
-    ensures sure { (n : ℕ) → O.ready out.old n → size_of (bytes_of output.now) ≤ n → OnErr result ⊥ }
+    ensures sure { (rooms : Rooms) → O.ready out.old rooms → Fit (bytes_of output.now) rooms → OnErr result ⊥ }
 {
     if let Err(fault) = write_all(out, Channel::Log, &output.log) {
         return Err(fault);
@@ -78,7 +79,7 @@ pub fn show<O: Outbox>(out: &mut O, text: &[u8]) -> Result<(), WriteFault>
     ensures err { OnErr result ((part : Bytes) × IsWrittenSoFar part (on_screen text.now) × (O.written out.new ≡ option_map (λ w. joined w part) (O.written out.old))) }
     ensures failed { OnErr result (Rose (O.faults out.old) (O.faults out.new)) }
     ensures later { O.faults out.old ≤ O.faults out.new }
-    ensures sure { (n : ℕ) → O.ready out.old n → length text.now ≤ n → OnErr result ⊥ }
+    ensures sure { (rooms : Rooms) → O.ready out.old rooms → Fit (on_screen text.now) rooms → OnErr result ⊥ }
 {
     write_all(out, Channel::Screen, text)
 }

@@ -2,13 +2,10 @@
 #![tactic(auto)]
 
 mod check;
-mod command;
 mod deliver;
 mod input;
 pub mod law;
-mod options;
 mod read;
-mod request;
 mod run;
 mod show;
 pub mod tool;

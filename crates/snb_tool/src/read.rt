@@ -1,14 +1,14 @@
 //! The command `read`.
 
-ghost use Rattle.std.specs.Prelude.{◌≡◌, ◌≤◌, IfOk, None};
+ghost use Rattle.std.specs.Prelude.{◌≡◌, ℕ, ◌≤◌, IfOk, Option};
 ghost use Rattle.snb_base.specs.Shelf.{Rose};
 ghost use Rattle.snb_input.specs.Loading.{OnReadFault};
 ghost use Rattle.snb_tables.specs.Soundness.{Sound};
-ghost use Rattle.snb_tool.specs.Commands.{Read, asked};
-ghost use Rattle.snb_tool.specs.Endings.{Ends, IsReplyAnswer, IsReplyLine};
+ghost use Rattle.snb_words.specs.declared.command.Command.TheVariants.{Read};
+ghost use Rattle.snb_tool.specs.Endings.{IsReplyAnswer, IsReplyLine};
 ghost use Rattle.snb_tool.specs.Outcome.{IsCommandAnswer};
+ghost use Rattle.snb_tool.specs.Outside.{Ends, IsReadOnly, seen};
 
-use crate::request::{Request, query_of};
 use crate::show::{refuse, show_as};
 use snb_base::outbox::Outbox;
 use snb_base::shelf::Shelf;
@@ -61,20 +61,16 @@ pub fn read<S: Shelf, O: Outbox>(
     alloc: Global,
     shelf: &mut S,
     folder: &str,
-    request: Request,
+    query: &Query,
     out: &mut O,
 ) -> u8
-    ensures ends { Ends (IsCommandAnswer (Read folder.now (asked request.entry)) (S.contents shelf.old) None) (Rose (S.faults shelf.old) (S.faults shelf.new))
-        (Rose (O.faults out.old) (O.faults out.new)) (O.ready out.old) (O.written out.old) (O.written out.new) result }
-    ensures reads_later { S.faults shelf.old ≤ S.faults shelf.new }
+    ensures ends { (fixed : Option ℕ) → Ends (IsCommandAnswer (Read folder.now query.now))
+        (seen (S.contents shelf.old) fixed (S.faults shelf.old) (O.faults out.old) (O.written out.old) (O.ready out.old))
+        (seen (S.contents shelf.new) fixed (S.faults shelf.new) (O.faults out.new) (O.written out.new) (O.ready out.new)) result }
+    ensures read_only { IsReadOnly (S.contents shelf.old) (S.faults shelf.old) (S.contents shelf.new) (S.faults shelf.new) }
     ensures writes_later { O.faults out.old ≤ O.faults out.new }
-    ensures same { S.contents shelf.new ≡ S.contents shelf.old }
 {
-    let query = match query_of(alloc, request) {
-        Ok(query) => query,
-        Err(_) => return 6,
-    };
-    match read_line(alloc, shelf, folder, &query) {
+    match read_line(alloc, shelf, folder, query) {
         Ok(line) => show_as(out, &line, 0),
         Err(Load::Refused { refusal }) => refuse(alloc, refusal, out),
         Err(Load::ReadFault) => 4,

@@ -1,14 +1,14 @@
 //! The command `run`.
 
 ghost use Rattle.std.specs.Prelude.{◌≡◌, ◌≤◌, IfOk};
-ghost use Rattle.snb_base.specs.Shelf.{Rose};
 ghost use Rattle.snb_plan.specs.Closed.{IsClosed};
 ghost use Rattle.snb_plan.specs.Plans.{updates_in};
 ghost use Rattle.snb_tables.specs.Graphs.{HoldsKey};
 ghost use Rattle.snb_tables.specs.Soundness.{Sound};
-ghost use Rattle.snb_tool.specs.Commands.{Run};
-ghost use Rattle.snb_tool.specs.Endings.{AreTexts, Ends, IsRunOutput, bytes_of};
-ghost use Rattle.snb_tool.specs.Outcome.{IsCommandAnswer};
+ghost use Rattle.snb_words.specs.declared.command.Command.TheVariants.{Run};
+ghost use Rattle.snb_tool.specs.Endings.{AreTexts, bytes_of};
+ghost use Rattle.snb_tool.specs.Outcome.{IsCommandAnswer, IsLeft};
+ghost use Rattle.snb_tool.specs.Outside.{Ends, IsReadOnly, seen};
 
 use crate::deliver::{Output, deliver};
 use crate::input::{Input, load_input};
@@ -65,7 +65,7 @@ fn run_output<R: Wait, C: Clock, G: Gate>(
     requires workers { 1 ≤ workers }
     requires closed { IsClosed (HoldsKey input.graph) (updates_in input.plan) }
     requires sound { Sound input.graph }
-    ensures { IfOk result (λ output. IsRunOutput workers input (C.fixed clock.now) (bytes_of output)) }
+    ensures { IfOk result (λ output. IsLeft workers input.graph input.plan (C.fixed clock.now) (bytes_of output)) }
 {
     let outcome = run_alone(rt, alloc, &input.plan, &input.graph, clock, gate)?;
     texts_of(alloc, workers, &input.plan, outcome)
@@ -85,11 +85,11 @@ pub fn run<R: AllocGlobal + Wait, S: Shelf, O: Outbox, C: Clock, G: Gate>(
     gate: &G,
 ) -> u8
     requires workers { 1 ≤ workers }
-    ensures ends { Ends (IsCommandAnswer (Run folder.now workers ratio frequencies) (S.contents shelf.old) (C.fixed clock.now)) (Rose (S.faults shelf.old) (S.faults shelf.new))
-        (Rose (O.faults out.old) (O.faults out.new)) (O.ready out.old) (O.written out.old) (O.written out.new) result }
-    ensures reads_later { S.faults shelf.old ≤ S.faults shelf.new }
+    ensures ends { Ends (IsCommandAnswer (Run folder.now workers ratio frequencies))
+        (seen (S.contents shelf.old) (C.fixed clock.now) (S.faults shelf.old) (O.faults out.old) (O.written out.old) (O.ready out.old))
+        (seen (S.contents shelf.new) (C.fixed clock.now) (S.faults shelf.new) (O.faults out.new) (O.written out.new) (O.ready out.new)) result }
+    ensures read_only { IsReadOnly (S.contents shelf.old) (S.faults shelf.old) (S.contents shelf.new) (S.faults shelf.new) }
     ensures writes_later { O.faults out.old ≤ O.faults out.new }
-    ensures same { S.contents shelf.new ≡ S.contents shelf.old }
 {
     let input = match load_input(rt.alloc(), shelf, folder, ratio, frequencies) {
         Ok(input) => input,

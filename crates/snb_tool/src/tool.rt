@@ -1,19 +1,18 @@
 //! The one call that does all that the program does.
 
-ghost use Rattle.std.specs.Prelude.{◌≡◌, ℕ, ◌≤◌, ◌⊎◌, IfSome};
+ghost use Rattle.std.specs.Prelude.{◌≡◌, ℕ, ◌≤◌, ◌⊎◌};
 ghost use Rattle.snb_base.specs.Shelf.{Rose};
-ghost use Rattle.snb_input.specs.FirstOf.{FirstOf, NoneOf};
-ghost use Rattle.snb_input.specs.Files.{held_in};
 ghost use Rattle.snb_schema.specs.declared.refusal.Refusal.{Refusal as Refused};
-ghost use Rattle.snb_tool.specs.Commands.{Command as AnyCommand, IsLineOf, IsOtherLine, IsRunnable, folder_of, meant, texts_of};
-ghost use Rattle.snb_tool.specs.Endings.{Ends};
-ghost use Rattle.snb_tool.specs.Inputs.{checks_of};
-ghost use Rattle.snb_tool.specs.Outcome.{IsAnswer, IsCommandAnswer};
+ghost use Rattle.snb_words.specs.declared.command.Command.{Command as AnyCommand};
+ghost use Rattle.snb_words.specs.Commands.{IsLineOf, IsOtherLine, IsRunnable};
+ghost use Rattle.snb_words.specs.Words.{texts_of};
+ghost use Rattle.snb_tool.specs.Inputs.{IsFine, IsWrong};
+ghost use Rattle.snb_tool.specs.Outcome.{IsAnswer, IsCommandAnswer, IsDoneAnswer, IsRefused};
 ghost use Rattle.snb_tool.specs.Output.{HasBegun, HasWritten};
+ghost use Rattle.snb_tool.specs.Outside.{Ends, IsReadOnly, seen};
 
 use crate::check::check;
-use crate::command::{Command, command_of};
-use crate::law::refusal_is_one;
+use crate::law::{answers_have_status, refusal_is_one};
 use crate::read::read;
 use crate::run::run;
 use crate::show::show_as;
@@ -21,8 +20,8 @@ use snb_base::clock::Clock;
 use snb_base::gate::Gate;
 use snb_base::outbox::Outbox;
 use snb_base::shelf::Shelf;
-use snb_ratio::law::one_ratio;
-use snb_schema::law::frequencies_are_one;
+use snb_words::command::{Command, command_of};
+use snb_words::law::one_command;
 use std::sync::Wait;
 
 /// What is shown for words that aren't a line of the program's.
@@ -38,18 +37,18 @@ fn obey<R: AllocGlobal + Wait, S: Shelf, O: Outbox, C: Clock, G: Gate>(
     clock: &C,
     gate: &G,
 ) -> u8
-    requires { IsRunnable (meant command.now) }
-    ensures ends { Ends (IsCommandAnswer (meant command.now) (S.contents shelf.old) (C.fixed clock.now)) (Rose (S.faults shelf.old) (S.faults shelf.new))
-        (Rose (O.faults out.old) (O.faults out.new)) (O.ready out.old) (O.written out.old) (O.written out.new) result }
-    ensures reads_later { S.faults shelf.old ≤ S.faults shelf.new }
+    requires { IsRunnable command.now }
+    ensures ends { Ends (IsCommandAnswer command.now)
+        (seen (S.contents shelf.old) (C.fixed clock.now) (S.faults shelf.old) (O.faults out.old) (O.written out.old) (O.ready out.old))
+        (seen (S.contents shelf.new) (C.fixed clock.now) (S.faults shelf.new) (O.faults out.new) (O.written out.new) (O.ready out.new)) result }
+    ensures read_only { IsReadOnly (S.contents shelf.old) (S.faults shelf.old) (S.contents shelf.new) (S.faults shelf.new) }
     ensures writes_later { O.faults out.old ≤ O.faults out.new }
-    ensures same { S.contents shelf.new ≡ S.contents shelf.old }
 {
     match command {
         Command::Check {
             folder,
             frequencies,
-        } => check(rt.alloc(), shelf, folder, *frequencies, out),
+        } => check(rt.alloc(), shelf, folder.as_str(), *frequencies, out),
         Command::Run {
             folder,
             workers,
@@ -58,7 +57,7 @@ fn obey<R: AllocGlobal + Wait, S: Shelf, O: Outbox, C: Clock, G: Gate>(
         } => run(
             rt,
             shelf,
-            folder,
+            folder.as_str(),
             *workers,
             *ratio,
             *frequencies,
@@ -66,7 +65,7 @@ fn obey<R: AllocGlobal + Wait, S: Shelf, O: Outbox, C: Clock, G: Gate>(
             clock,
             gate,
         ),
-        Command::Read { folder, request } => read(rt.alloc(), shelf, folder, *request, out),
+        Command::Read { folder, query } => read(rt.alloc(), shelf, folder.as_str(), query, out),
     }
 }
 
@@ -79,16 +78,17 @@ fn answer<R: AllocGlobal + Wait, S: Shelf, O: Outbox, C: Clock, G: Gate>(
     clock: &C,
     gate: &G,
 ) -> u8
-    ensures ends { Ends (IsAnswer (texts_of words.now) (S.contents shelf.old) (C.fixed clock.now)) (Rose (S.faults shelf.old) (S.faults shelf.new))
-        (Rose (O.faults out.old) (O.faults out.new)) (O.ready out.old) (O.written out.old) (O.written out.new) result }
+    ensures ends { Ends (IsAnswer (texts_of words.now))
+        (seen (S.contents shelf.old) (C.fixed clock.now) (S.faults shelf.old) (O.faults out.old) (O.written out.old) (O.ready out.old))
+        (seen (S.contents shelf.new) (C.fixed clock.now) (S.faults shelf.new) (O.faults out.new) (O.written out.new) (O.ready out.new)) result }
     ensures other_line { IsOtherLine (texts_of words.now) → ((result ≡ 2) ⊎ (result ≡ 5)) × (shelf.new ≡ shelf.old) }
-    ensures reads_later { S.faults shelf.old ≤ S.faults shelf.new }
+    ensures read_only { IsReadOnly (S.contents shelf.old) (S.faults shelf.old) (S.contents shelf.new) (S.faults shelf.new) }
     ensures writes_later { O.faults out.old ≤ O.faults out.new }
-    ensures same { S.contents shelf.new ≡ S.contents shelf.old }
 {
-    match command_of(words) {
-        Some(command) => obey(rt, &command, shelf, out, clock, gate),
-        None => show_as(out, USAGE.as_bytes(), 2),
+    match command_of(rt.alloc(), words) {
+        Ok(Some(command)) => obey(rt, &command, shelf, out, clock, gate),
+        Ok(None) => show_as(out, USAGE.as_bytes(), 2),
+        Err(_) => 6,
     }
 }
 
@@ -109,6 +109,9 @@ fn answer<R: AllocGlobal + Wait, S: Shelf, O: Outbox, C: Clock, G: Gate>(
 ///   `IC13`, with as many parameters as it has: an id of a person or a message for a short read, of a
 ///   person first for a complex one; then a first name for `IC1`, a date for `IC2` and `IC9`, the name of
 ///   a country and a year for `IC11`, and a second person for `IC13`.
+///
+/// No word is empty, and none but an option's name begins with `-`. The options follow all other words, each
+/// as two words and at most once, in any order.
 ///
 /// What was read is the files that the shelf tells; of a shelf that tells none there are some files of
 /// which all this is true, each read once.
@@ -133,28 +136,25 @@ pub fn snb<R: AllocGlobal + Wait, S: Shelf, O: Outbox, C: Clock + Sync, G: Gate 
     clock: &C,
     gate: &G,
 ) -> u8
-    ensures statuses { (result ≡ 0) ⊎ (result ≡ 2) ⊎ (result ≡ 3) ⊎ (result ≡ 4) ⊎ (result ≡ 5) ⊎ (result ≡ 6) }
-    ensures done { result ≡ 0 → HasWritten (O.written out.old) (O.written out.new) (IsAnswer (texts_of words.now) (S.contents shelf.old) (C.fixed clock.now) 0) }
-    ensures usage { result ≡ 2 → HasWritten (O.written out.old) (O.written out.new) (IsAnswer (texts_of words.now) (S.contents shelf.old) (C.fixed clock.now) 2) }
-    ensures refused { result ≡ 3 → HasWritten (O.written out.old) (O.written out.new) (IsAnswer (texts_of words.now) (S.contents shelf.old) (C.fixed clock.now) 3) }
-    ensures other_line { IsOtherLine (texts_of words.now) → ((result ≡ 2) ⊎ (result ≡ 5)) × (shelf.new ≡ shelf.old) }
+    ensures answered { HasWritten (O.written out.old) (O.written out.new) (IsAnswer (texts_of words.now) (S.contents shelf.old) (C.fixed clock.now) result)
+        ⊎ ((result ≡ 4) ⊎ ((result ≡ 5) ⊎ (result ≡ 6))) }
     ensures read_fault { result ≡ 4 → Rose (S.faults shelf.old) (S.faults shelf.new) × (O.written out.new ≡ O.written out.old) }
     ensures write_fault { result ≡ 5 → Rose (O.faults out.old) (O.faults out.new) }
     ensures cut { result ≡ 5 → (status : ℕ) × HasBegun (O.ready out.old) (O.written out.old) (O.written out.new)
         (IsAnswer (texts_of words.now) (S.contents shelf.old) (C.fixed clock.now) status) }
     ensures memory { result ≡ 6 → O.written out.new ≡ O.written out.old }
-    ensures complete { IfSome (S.contents shelf.old) (λ files. (command : AnyCommand) → IsLineOf (texts_of words.now) command
-        → NoneOf (checks_of command (held_in (folder_of command) files))
-        → ¬ Rose (S.faults shelf.old) (S.faults shelf.new) → ¬ Rose (O.faults out.old) (O.faults out.new) → (result ≡ 0) ⊎ (result ≡ 6)) }
-    ensures refuses { IfSome (S.contents shelf.old) (λ files. (command : AnyCommand) → IsLineOf (texts_of words.now) command
-        → (r : Refused) → FirstOf (checks_of command (held_in (folder_of command) files)) r
-        → ¬ Rose (S.faults shelf.old) (S.faults shelf.new) → ¬ Rose (O.faults out.old) (O.faults out.new) → (result ≡ 3) ⊎ (result ≡ 6)) }
-    ensures reads_later { S.faults shelf.old ≤ S.faults shelf.new }
+    ensures other_line { IsOtherLine (texts_of words.now) → ((result ≡ 2) ⊎ (result ≡ 5)) × (shelf.new ≡ shelf.old) }
+    ensures complete { (command : AnyCommand) → IsLineOf (texts_of words.now) command → IsFine (S.contents shelf.old) command
+        → ¬ Rose (S.faults shelf.old) (S.faults shelf.new) → ¬ Rose (O.faults out.old) (O.faults out.new)
+        → HasWritten (O.written out.old) (O.written out.new) (IsDoneAnswer command (S.contents shelf.old) (C.fixed clock.now) result) ⊎ (result ≡ 6) }
+    ensures refuses { (command : AnyCommand) → IsLineOf (texts_of words.now) command → (r : Refused) → IsWrong (S.contents shelf.old) command r
+        → ¬ Rose (S.faults shelf.old) (S.faults shelf.new) → ¬ Rose (O.faults out.old) (O.faults out.new)
+        → HasWritten (O.written out.old) (O.written out.new) (IsRefused r result) ⊎ (result ≡ 6) }
+    ensures read_only { IsReadOnly (S.contents shelf.old) (S.faults shelf.old) (S.contents shelf.new) (S.faults shelf.new) }
     ensures writes_later { O.faults out.old ≤ O.faults out.new }
-    ensures same { S.contents shelf.new ≡ S.contents shelf.old }
 {
-    one_ratio();
-    frequencies_are_one();
+    one_command();
     refusal_is_one();
+    answers_have_status();
     answer(rt, words, shelf, out, clock, gate)
 }

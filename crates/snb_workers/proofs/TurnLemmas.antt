@@ -20,13 +20,13 @@ use Rattle.snb_book.specs.Claims.{IsClaim, IsIdle, MovesOn, NeedsEarlier}
 use Rattle.snb_book.specs.Kept.{Kept, moment_after}
 use Rattle.snb_plan.specs.Closed.{IsClosed}
 use Rattle.snb_plan.specs.Plans.{IsOfStreams, Plan, schedule_of, updates_in}
+use Rattle.snb_plan.proofs.Laws.{closed_plan_is_timely}
 use Rattle.snb_replay.specs.Laws.{CompleteIsFinal}
 use Rattle.snb_replay.specs.Replay.{all_rows}
 use Rattle.snb_workers.specs.declared.done.Answered.{Answered}
 use Rattle.snb_workers.specs.Replicas.{StandsFor, Taken}
 use Rattle.snb_workers.specs.Runs.{AreAt, AreReplies, HasRun}
 use Rattle.snb_workers.specs.Turns.{HasStarted, IsBehind, IsBookOf, IsServed, IsUnderWay}
-use Rattle.snb_workers.proofs.PlanSteps.{needs_earlier}
 use Rattle.snb_workers.proofs.TurnEvents.{all_done, behind_more, free_after, next_at, of_more, running_after}
 use Rattle.snb_workers.proofs.TurnReplies.{answered_at_finish, answered_at_start, front_is, none_replied}
 
@@ -68,7 +68,7 @@ moves_on : (plan : Plan) (fixed : Option ℕ) (base : List Row) (b : Kept) (r : 
     (k : ℕ) × IsOperation b.schedule k × (started b.history k ≡ false) → (NeedsEarlier b.schedule → IsIdle b.schedule b.history → MovesOn b.schedule b.history at claim) →
     ((ticket : Ticket) × (claim ≡ Go ticket)) ⊎ ((until : ℕ) × (claim ≡ NotDue until))
 moves_on plan fixed base b r replies at claim u left moves =
-    (moves (subst NeedsEarlier (sym u.book.schedule) (needs_earlier (HoldsKey base) plan u.way.streams u.way.closed)) (record { empty = u.way.free; running = u.way.running; left = left })).moves
+    (moves (subst NeedsEarlier (sym u.book.schedule) (closed_plan_is_timely (HoldsKey base) plan u.way.streams u.way.closed).below) (record { empty = u.way.free; running = u.way.running; left = left })).moves
 
 -- the one worker has nothing in hand, and no operation waits for one before it
 pub not_busy : (plan : Plan) (fixed : Option ℕ) (base : List Row) (b : Kept) (r : Taken) (replies : List Answered) (at op holder : ℕ) → IsUnderWay plan fixed base b r replies →
@@ -140,11 +140,11 @@ module _ (plan : Plan) (fixed : Option ℕ) (base : List Row) (b : Kept) (r : Ta
       behind_finish = behind_more base plan b.history after.history end caught stands begun.way.closed history (legal_of plan after after.history book legal)
 
       -- the reads are answered, that of the operation too
-      answered : AllPairs (λ one other. one.op < other.op) new → AreReplies base plan after.history new
+      answered : AllPairs (λ one other. one.op < other.op) new → AreReplies base plan after.history after.history new
       answered rise =
-          subst (λ (h : List Event). AreReplies base plan h new) (sym history)
+          subst (λ (h : List Event). AreReplies base plan h h new) (sym history)
           (answered_at_finish base plan b.history ticket.op ticket.worker (moment_after b.history now) front caught replies new begun.legal stands
-          (subst (λ (h : List Event). AreReplies base plan h replies) (sym begun.start)
+          (subst (λ (h : List Event). AreReplies base plan h h replies) (sym begun.start)
           (answered_at_start base plan begun.before ticket.op ticket.worker begun.at replies begun.way.legal begun.way.answered))
           rise served)
 

@@ -50,7 +50,7 @@ all_added P one old new added all is =
 -- ---- longer histories
 
 -- a reply stays one when events follow
-stays_answered : (base : List Row) (plan : Plan) (h more : List Event) (a : Answered) → IsLegal (schedule_of plan) 1 h → IsAnswered base plan h a → IsAnswered base plan (h ++ more) a
+stays_answered : (base : List Row) (plan : Plan) (h more : List Event) (a : Answered) → IsLegal (schedule_of plan) 1 h → IsAnswered base plan h h a → IsAnswered base plan (h ++ more) (h ++ more) a
 stays_answered base plan h more a legal is =
     record {
       worker = is.worker;
@@ -63,12 +63,12 @@ stays_answered base plan h more a legal is =
       replies = is.replies;
     }
 
-all_stay : (base : List Row) (plan : Plan) (h more : List Event) (replies : List Answered) → IsLegal (schedule_of plan) 1 h → All (IsAnswered base plan h) replies → All (IsAnswered base plan (h ++ more)) replies
+all_stay : (base : List Row) (plan : Plan) (h more : List Event) (replies : List Answered) → IsLegal (schedule_of plan) 1 h → All (IsAnswered base plan h h) replies → All (IsAnswered base plan (h ++ more) (h ++ more)) replies
 all_stay base plan h more replies legal each k d lt = stays_answered base plan h more _ legal (each k d lt)
 
 -- a Start changes no replies
-pub answered_at_start : (base : List Row) (plan : Plan) (h : List Event) (op worker at : ℕ) (replies : List Answered) → IsLegal (schedule_of plan) 1 h → AreReplies base plan h replies →
-    AreReplies base plan (h ++ Start op worker at ∷ []) replies
+pub answered_at_start : (base : List Row) (plan : Plan) (h : List Event) (op worker at : ℕ) (replies : List Answered) → IsLegal (schedule_of plan) 1 h → AreReplies base plan h h replies →
+    AreReplies base plan (h ++ Start op worker at ∷ []) (h ++ Start op worker at ∷ []) replies
 answered_at_start base plan h op worker at replies legal are =
     record {
       rise = are.rise;
@@ -80,7 +80,7 @@ answered_at_start base plan h op worker at replies legal are =
     before k w moment front c = elim (Contains-push_cases h (Start op worker at) (Finish k w moment front) c) [ inl there ↦ there | inr same ↦ absurd cc ]
 
 -- no reply is to an operation that hasn't started
-pub none_replied : (base : List Row) (plan : Plan) (h : List Event) (op : ℕ) (replies : List Answered) → IsLegal (schedule_of plan) 1 h → AreReplies base plan h replies → started h op ≡ false →
+pub none_replied : (base : List Row) (plan : Plan) (h : List Event) (op : ℕ) (replies : List Answered) → IsLegal (schedule_of plan) 1 h → AreReplies base plan h h replies → started h op ≡ false →
     All (λ other. other.op ≢ op) replies
 none_replied base plan h op replies legal are fresh k d lt same =
     let is = are.each k d lt in
@@ -91,7 +91,7 @@ none_replied base plan h op replies legal are fresh k d lt same =
 -- ---- the Finish of an operation that was served
 
 module _ (base : List Row) (plan : Plan) (h : List Event) (op worker at front : ℕ) (r : Taken) (old new : List Answered) (legal : IsLegal (schedule_of plan) 1 h) (stands : StandsFor base plan h r)
-    (are : AreReplies base plan h old) (rise : AllPairs (λ one other. one.op < other.op) new) (o : Operation) (here : slice_get plan.operations op ≡ Some o) where
+    (are : AreReplies base plan h h old) (rise : AllPairs (λ one other. one.op < other.op) new) (o : Operation) (here : slice_get plan.operations op ≡ Some o) where
   abbrev longer : List Event
   longer = h ++ Finish op worker at front ∷ []
 
@@ -100,7 +100,7 @@ module _ (base : List Row) (plan : Plan) (h : List Event) (op worker at front : 
   works query asks = ap (λ (x : Operation). x.work) (same_Some o asks.0 (sym here ∙ asks.1)) ∙ asks.2
 
   -- the reply to the read
-  one_answered : (query : Query) (a : Answered) → o.work ≡ Ask query → front ≡ r.front → a.op ≡ op → a.front ≡ front → IsReply r.graph query a.reply → IsAnswered base plan longer a
+  one_answered : (query : Query) (a : Answered) → o.work ≡ Ask query → front ≡ r.front → a.op ≡ op → a.front ≡ front → IsReply r.graph query a.reply → IsAnswered base plan longer longer a
   one_answered query a asked seen number told reply =
       let size : a.front ≡ length h = told ∙ (seen ∙ stands.front) in
       let e : Finish op worker at front ≡ Finish a.op worker at a.front = cc in
@@ -116,11 +116,11 @@ module _ (base : List Row) (plan : Plan) (h : List Event) (op worker at front : 
       }
 
   -- by what was done
-  answered_by : (work : Work) → o.work ≡ work → IsDone op r old new front work → AreReplies base plan longer new
+  answered_by : (work : Work) → o.work ≡ work → IsDone op r old new front work → AreReplies base plan longer longer new
   answered_by (Insert line) inserts done =
       record {
         rise = rise;
-        each = subst (All (IsAnswered base plan longer)) (sym done.1) (all_stay base plan h (Finish op worker at front ∷ []) old legal are.each);
+        each = subst (All (IsAnswered base plan longer longer)) (sym done.1) (all_stay base plan h (Finish op worker at front ∷ []) old legal are.each);
         all = λ k w moment seen query c asks. elim (Contains-push_cases h (Finish op worker at front) (Finish k w moment seen) c) [
           | inl there ↦ (
               let found = are.all k w moment seen query there asks in
@@ -136,7 +136,7 @@ module _ (base : List Row) (plan : Plan) (h : List Event) (op worker at front : 
       let added : HasAdded a old new = done.1.4 in
       record {
         rise = rise;
-        each = all_added (IsAnswered base plan longer) a old new added (all_stay base plan h (Finish op worker at front ∷ []) old legal are.each)
+        each = all_added (IsAnswered base plan longer longer) a old new added (all_stay base plan h (Finish op worker at front ∷ []) old legal are.each)
             (one_answered query a asked done.0 done.1.1 done.1.2 done.1.3);
         all = λ k w moment seen other c asks. elim (Contains-push_cases h (Finish op worker at front) (Finish k w moment seen) c) [
           | inl there ↦ (let found = are.all k w moment seen other there asks in (found.0, still_there a old new found.0 added found.1, found.2))
@@ -145,7 +145,7 @@ module _ (base : List Row) (plan : Plan) (h : List Event) (op worker at front : 
       }
 
 pub answered_at_finish : (base : List Row) (plan : Plan) (h : List Event) (op worker at front : ℕ) (r : Taken) (old new : List Answered) → IsLegal (schedule_of plan) 1 h → StandsFor base plan h r →
-    AreReplies base plan h old → AllPairs (λ one other. one.op < other.op) new → IsServed plan op r old new front → AreReplies base plan (h ++ Finish op worker at front ∷ []) new
+    AreReplies base plan h h old → AllPairs (λ one other. one.op < other.op) new → IsServed plan op r old new front → AreReplies base plan (h ++ Finish op worker at front ∷ []) (h ++ Finish op worker at front ∷ []) new
 answered_at_finish base plan h op worker at front r old new legal stands are rise served =
     answered_by base plan h op worker at front r old new legal stands are rise served.0 served.1 served.0.work refl served.2
 

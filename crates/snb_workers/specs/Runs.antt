@@ -19,7 +19,7 @@ IsAt moment (Start op worker at) = at ≡ moment
 IsAt moment (Finish op worker at front) = at ≡ moment
 IsAt moment (Halt worker) = Unit {0}
 
--- where the clock tells a fixed moment, each event is of it, or of the greatest
+-- where the clock tells a fixed moment, each Start and Finish is at this moment, or at MAX_AT where it is later
 abbrev pub AreAt : Option ℕ → List Event → Type 0
 AreAt fixed h = IfSome fixed (λ moment. All (IsAt (min moment MAX_AT)) h)
 
@@ -27,32 +27,33 @@ AreAt fixed h = IfSome fixed (λ moment. All (IsAt (min moment MAX_AT)) h)
 abbrev pub Asks : Plan → ℕ → Query → Type 0
 Asks plan op query = (o : Operation) × (slice_get plan.operations op ≡ Some o) × (o.work ≡ Ask query)
 
--- a read has finished in the history with this front, and the reply is that to its query on the graph of the base and of what had
--- finished in that front
-pub record IsAnswered (base : List Row) (plan : Plan) (h : List Event) (a : Answered) : Type 0 where
+-- one of these events finishes a read with this front, and the reply is that to its query on the graph of the base and of what had
+-- finished in that front of the history
+pub record IsAnswered (base : List Row) (plan : Plan) (finishes h : List Event) (a : Answered) : Type 0 where
   pub worker : ℕ
   pub at : ℕ
-  pub finished : Contains h (Finish a.op worker at a.front)
+  pub finished : Contains finishes (Finish a.op worker at a.front)
   pub query : Query
   pub asks : Asks plan a.op query
   pub graph : List Row
   pub after : IsAfter base plan (take a.front h) graph
   pub replies : IsReply graph query a.reply
 
--- these are the replies to the reads that have finished in the history, one for each, by rising operation
-pub record AreReplies (base : List Row) (plan : Plan) (h : List Event) (replies : List Answered) : Type 0 where
+-- these are the replies to the reads that these events finish, one for each, by rising operation, answered on fronts of the history; the
+-- events are those of the history, or those of one worker's part of it
+pub record AreReplies (base : List Row) (plan : Plan) (finishes h : List Event) (replies : List Answered) : Type 0 where
   pub rise : AllPairs (λ one other. one.op < other.op) replies
-  pub each : All (IsAnswered base plan h) replies
+  pub each : All (IsAnswered base plan finishes h) replies
   pub all :
-      (op worker at front : ℕ) (query : Query) → Contains h (Finish op worker at front) → Asks plan op query →
+      (op worker at front : ℕ) (query : Query) → Contains finishes (Finish op worker at front) → Asks plan op query →
       (a : Answered) × Contains replies a × (a.op ≡ op)
 
--- a legal, complete history of the plan for so many workers, whose events are of the fixed moment where the clock tells one; the replies to
+-- a legal, complete history of the plan for so many workers, whose events are at the fixed moment where the clock tells one; the replies to
 -- its reads; and a sound graph that has the rows of the base and of each insert
 pub record HasRun (workers : ℕ) (plan : Plan) (fixed : Option ℕ) (base : List Row) (h : List Event) (replies : List Answered) (graph : List Row) : Type 0 where
   pub legal : IsLegal (schedule_of plan) workers h
   pub complete : IsComplete (schedule_of plan) h
   pub moments : AreAt fixed h
-  pub answered : AreReplies base plan h replies
+  pub answered : AreReplies base plan h h replies
   pub final : IsFinal base plan graph
   pub sound : Sound graph

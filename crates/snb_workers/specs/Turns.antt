@@ -25,7 +25,7 @@ pub record IsOnWay (plan : Plan) (fixed : Option ℕ) (base : List Row) (h : Lis
   pub running : (w : ℕ) → halted h w ≡ false
   pub moments : AreAt fixed h
   pub stands : StandsFor base plan h r
-  pub answered : AreReplies base plan h replies
+  pub answered : AreReplies base plan h h replies
   pub streams : IsOfStreams plan
   pub closed : IsClosed (HoldsKey base) (updates_in plan)
 

@@ -1,6 +1,7 @@
-use Rattle.std.proofs.Common.{◌≡◌, ◌+◌, get_or, take, sym, subst, ◌∙◌}
+use Rattle.std.proofs.Common.{◌≡◌, ℕ, ◌+◌, List, ap, get_or, take, sym, subst, ◌∙◌}
 use Rattle.std.proofs.lemmas.List.Elements.{All-get_or}
 use Rattle.std.specs.List.{filter}
+use Rattle.std.specs.Str.{bytes_eq}
 use Rattle.snb_reads.specs.ComplexReads.{is_named}
 use Rattle.snb_reads.specs.Distance.{IsPerson}
 use Rattle.snb_short_reads.specs.Lookups.{IsOnlyPerson}
@@ -19,7 +20,7 @@ loop-one-preserved c =
     let near = c.args.near.now in
     let i = c.loop-one.one-index in
     let p = c.known-person.result.now in
-    let test : is_named g name (get_or near i (0, 0)) ≡ c.eq.result = named_is g name (get_or near i (0, 0)) p c.known-person.ensures.only ∙ sym c.eq.ensures in
+    let test : is_named g name (get_or near i (0, 0)) ≡ c.eq.result = named_is g name (get_or near i (0, 0)) p c.known-person.ensures.only ∙ ap (λ (text : List ℕ). bytes_eq text name) (sym c.as_str.ensures) ∙ sym c.eq.ensures in
     elim c.if-eq.branch [
       | then-eq+in_ok-push w ↦ (let found = All-get_or (IsNearFound g) near i (0, 0) c.loop-one-test.true c.requires in
           subst (λ v. AreNamesakes g (filter (is_named g name) (take (i + 1) near)) v.items) (sym w.found-is)

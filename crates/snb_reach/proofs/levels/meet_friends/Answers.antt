@@ -10,7 +10,7 @@ pub loop-friend-init : goal.loop-friend-init
 loop-friend-init c = record {
   growing = c.requires.growing;
   stays = λ q h. h;
-  looking = looks c.args.graph.now c.args.person _ _ c.requires.sound.held
+  looking = looks c.args.graph.now c.args.person _ _ c.requires.held
       (subst (AreFriendsOf c.args.graph.now c.args.person) (sym c.into_iter-friend-iterator.ensures.into_iter_gives) c.friends-friend-items.ensures);
 }
 

@@ -13,7 +13,7 @@ loop-friend-init c = record {
   side = c.requires.side;
   keeps = λ q h. h;
   others = λ q. (λ h. h, λ h. h);
-  looking = looks c.args.graph.now c.args.person _ _ c.requires.sound.held
+  looking = looks c.args.graph.now c.args.person _ _ c.requires.held
       (subst (AreFriendsOf c.args.graph.now c.args.person) (sym c.into_iter-friend-iterator.ensures.into_iter_gives) c.friends-friend-items.ensures);
   len = omega arith;
 }

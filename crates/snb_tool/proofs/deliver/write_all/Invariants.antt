@@ -1,7 +1,7 @@
 -- The bytes so far are written, and no fault is forgotten.
-use Rattle.std.proofs.Common.{ℕ, length, ◌-◌, ◌≡◌, ◌≤◌, take}
+use Rattle.std.proofs.Common.{length, ◌-◌, ◌≡◌, ◌≤◌, take}
 use Rattle.std.specs.Option.{option_map}
-use Rattle.snb_base.specs.Outbox.{appended}
+use Rattle.snb_base.specs.Outbox.{Rooms, appended, room_of, with_room}
 use Rattle.snb_tool.proofs.deliver.write_all.Given as goal
 
 abbrev pub invariant-loop-done : goal.invariant-loop-done
@@ -9,7 +9,8 @@ invariant-loop-done g l = record {
   within : l.done ≤ length l.bytes;
   written : g.O.Outbox.written l.out ≡ option_map (λ w. appended w l.fn.channel (take l.done l.bytes)) (g.O.Outbox.written l.initial.out);
   later : g.O.Outbox.faults l.initial.out ≤ g.O.Outbox.faults l.out;
-  sure : (n : ℕ) → g.O.Outbox.ready l.initial.out n → length l.bytes ≤ n → g.O.Outbox.ready l.out (n - l.done);
+  sure : (rooms : Rooms) → g.O.Outbox.ready l.initial.out rooms → length l.bytes ≤ room_of rooms l.fn.channel
+      → g.O.Outbox.ready l.out (with_room rooms l.fn.channel (room_of rooms l.fn.channel - l.done));
 }
 
 abbrev pub decreases-loop-done : goal.decreases-loop-done

@@ -2,13 +2,13 @@ use Rattle.snb_tool.proofs.InputLemmas.{AreOne, RefuseEachOnce, once}
 use Rattle.snb_tool.proofs.law.refusal_is_one.Goals as goal
 
 pub returns-clause-one : goal.returns-clause-one
-returns-clause-one c = λ command held r q a b.
+returns-clause-one c = λ command found r q a b.
     let one : AreOne = record { dataset = c.one_dataset.ensures.one; lanes = c.one_lanes.ensures.one; params = c.one_params.ensures.one; plan = c.plan_is_one.ensures } in
     let each : RefuseEachOnce = record { dataset = c.one_dataset.ensures.refusal; lanes = c.one_lanes.ensures.refusal; params = c.one_params.ensures.refusal } in
-    (once one each command held).one r q a b
+    (once one each command found).one r q a b
 
 pub returns-clause-or_not : goal.returns-clause-or_not
-returns-clause-or_not c = λ command held r a.
+returns-clause-or_not c = λ command found r a.
     let one : AreOne = record { dataset = c.one_dataset.ensures.one; lanes = c.one_lanes.ensures.one; params = c.one_params.ensures.one; plan = c.plan_is_one.ensures } in
     let each : RefuseEachOnce = record { dataset = c.one_dataset.ensures.refusal; lanes = c.one_lanes.ensures.refusal; params = c.one_params.ensures.refusal } in
-    (once one each command held).or_not r a
+    (once one each command found).or_not r a

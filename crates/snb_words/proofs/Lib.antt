@@ -1,0 +1,6 @@
+mod CommandLemmas
+mod LineLemmas
+mod OneRead
+mod OptionLemmas
+mod ReadLemmas
+mod WordLemmas

@@ -1,0 +1,73 @@
+-- The commands of the program, and the words of each.
+use Rattle.std.specs.Prelude.{◌≡◌, ℕ, ◌≤◌, List, [], ◌∷◌, Option, None, Some, codes}
+use Rattle.snb_schema.specs.declared.limits.TheConstants.{MAX_WORKERS}
+use Rattle.snb_schema.specs.declared.query.Query.{Query}
+use Rattle.snb_schema.specs.Columns.{SpellsAll}
+use Rattle.snb_schema.specs.ReadKinds.{kind_of, parameter_columns, parameter_values, read_word}
+use Rattle.snb_words.specs.declared.command.Command.{Command}
+use Rattle.snb_words.specs.declared.command.Command.TheVariants.{Check, Run, Read}
+use Rattle.snb_words.specs.declared.options.OptionName.{OptionName}
+use Rattle.snb_words.specs.declared.options.OptionName.TheVariants.{Workers, Ratio, Frequencies}
+use Rattle.snb_words.specs.declared.options.Options.{Options}
+use Rattle.snb_words.specs.Options.{AreSuited, frequencies_of, ratio_of}
+use Rattle.snb_words.specs.Words.{IsLine}
+
+-- how a command's line begins, and which options it admits and needs
+pub record Form : Type 0 where
+  pub name : List ℕ
+  pub admitted : List OptionName
+  pub needed : List OptionName
+
+-- the form of each command
+abbrev pub form_of : Command → Form
+form_of (Check folder frequencies) = record { name = codes "check"; admitted = Frequencies ∷ []; needed = [] }
+form_of (Run folder workers ratio frequencies) = record { name = codes "run"; admitted = Workers ∷ Ratio ∷ Frequencies ∷ []; needed = Workers ∷ [] }
+form_of (Read folder query) = record { name = codes "read"; admitted = []; needed = [] }
+
+-- the words are the kind of the query and its parameters
+abbrev pub IsReadOf : List ℕ → List (List ℕ) → Query → Type 0
+IsReadOf kind parameters query = (kind ≡ read_word (kind_of query)) × SpellsAll (parameter_columns (kind_of query)) parameters (parameter_values query)
+
+-- what the plain words and the options of a command's line say: a folder; for a run the number of workers, a ratio and frequencies; for a read
+-- its kind and its parameters
+abbrev pub IsSaid : Command → List (List ℕ) → Options → Type 0
+IsSaid (Check folder frequencies) plain said = (plain ≡ folder ∷ []) × (frequencies ≡ frequencies_of said)
+IsSaid (Run folder workers ratio frequencies) plain said =
+    (plain ≡ folder ∷ []) × (said.workers ≡ Some workers) × (ratio ≡ ratio_of said) × (frequencies ≡ frequencies_of said)
+IsSaid (Read folder query) plain said = (kind : List ℕ) × (parameters : List (List ℕ)) × (plain ≡ folder ∷ kind ∷ parameters) × IsReadOf kind parameters query
+
+-- the name, the plain words and the options are those of the command
+pub record AreOf (command : Command) (name : List ℕ) (plain : List (List ℕ)) (said : Options) : Type 0 where
+  pub named : name ≡ (form_of command).name
+  pub suited : AreSuited (form_of command).admitted (form_of command).needed said
+  pub is_said : IsSaid command plain said
+
+-- the words are the line of the command
+pub record IsLineOf (words : List (List ℕ)) (command : Command) : Type 0 where
+  pub name : List ℕ
+  pub plain : List (List ℕ)
+  pub said : Options
+  pub line : IsLine words name plain said
+  pub are : AreOf command name plain said
+
+-- the words are no command's line
+abbrev pub IsOtherLine : List (List ℕ) → Type 0
+IsOtherLine words = (command : Command) → ¬ IsLineOf words command
+
+-- a run has from one to `MAX_WORKERS` workers
+abbrev pub IsRunnable : Command → Type 0
+IsRunnable (Check folder frequencies) = Unit {0}
+IsRunnable (Run folder workers ratio frequencies) = (1 ≤ workers) × (workers ≤ MAX_WORKERS)
+IsRunnable (Read folder query) = Unit {0}
+
+-- the folder that a command reads, where it reads one
+abbrev pub folder_of : Command → Option (List ℕ)
+folder_of (Check folder frequencies) = Some folder
+folder_of (Run folder workers ratio frequencies) = Some folder
+folder_of (Read folder query) = Some folder
+
+-- the file that a command is given by name beside it, where it is given one
+abbrev pub beside_of : Command → Option (List ℕ)
+beside_of (Check folder frequencies) = None
+beside_of (Run folder workers ratio frequencies) = None
+beside_of (Read folder query) = None
