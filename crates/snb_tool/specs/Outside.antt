@@ -20,7 +20,7 @@ seen contents fixed read_faults write_faults written ready =
 
 -- the shelf was read and not changed: it tells what it told, and forgets no fault
 abbrev pub IsReadOnly : Option Files → ℕ → Option Files → ℕ → Type 0
-IsReadOnly contents faults now since = (now ≡ contents) × (faults ≤ since)
+IsReadOnly files faults files_after faults_after = (files_after ≡ files) × (faults ≤ faults_after)
 
 -- how a call ends: with texts that belong to its status, whole; with a failed read; with a failed write, after a front of texts that belong to
 -- some status; or for want of memory. After a failed read and for want of memory nothing is added to the channels
