@@ -30,14 +30,14 @@ pub completion_is : (b : Kept) (times : Progress) (heads : List ℕ) (held : Lis
 completion_is b times heads held latest stopped told = time_left-same b.schedule (flag times.finished) (finished b.history) told.over
 
 -- a dependent is cleared exactly where its t_d is below the least t that is waited for
-within_cleared : (s : Schedule) (h : List Event) → IsPlanned s → (op : ℕ) → IsOperation s op → IsWithin s (least_t s (is_awaited s h)) op → IsCleared s h op
+pub within_cleared : (s : Schedule) (h : List Event) → IsPlanned s → (op : ℕ) → IsOperation s op → IsWithin s (least_t s (is_awaited s h)) op → IsCleared s h op
 within_cleared s h planned op within below =
     (completion_decides s h op (planned.needs_timed op within)).1 (λ dependent. at_most (step_of s op).t_d (least_t s (is_awaited s h)) (below dependent))
   where
     at_most : (c l : ℕ) → c < l → pos c ≤ℤ (pos l -ℤ pos 1)
     at_most c l lt = omega (arith, ints)
 
-cleared_within : (s : Schedule) (h : List Event) → IsPlanned s → (op : ℕ) → IsOperation s op → IsCleared s h op → IsWithin s (least_t s (is_awaited s h)) op
+pub cleared_within : (s : Schedule) (h : List Event) → IsPlanned s → (op : ℕ) → IsOperation s op → IsCleared s h op → IsWithin s (least_t s (is_awaited s h)) op
 cleared_within s h planned op within cleared dependent =
     below (step_of s op).t_d (least_t s (is_awaited s h)) ((completion_decides s h op (planned.needs_timed op within)).0 cleared dependent)
   where

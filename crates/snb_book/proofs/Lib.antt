@@ -8,4 +8,5 @@ pub mod Waiting
 pub mod OneClaim
 pub mod Telling
 pub mod Answering
+pub mod Asking
 pub mod SomeClaim

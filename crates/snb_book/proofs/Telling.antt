@@ -201,10 +201,10 @@ IsTold-start b capacity times heads held latest stopped op worker at kept told f
     }
 
 -- what is in hand is an operation
-pub held_within : (b : Kept) (capacity w k : ℕ) → IsSoundBook b capacity → hand b.history w ≡ Some k → IsOperation b.schedule k
-held_within b capacity w k kept held =
+held_within : (b : Kept) (w k : ℕ) → IsLegal b.schedule b.workers b.history → hand b.history w ≡ Some k → IsOperation b.schedule k
+held_within b w k legal held =
     let p = hand_has_start w k b.history held in
-    ((kept.legal.fits p.0 (Start k w p.2) p.1 p.3).obeys V1).0
+    ((legal.fits p.0 (Start k w p.2) p.1 p.3).obeys V1).0
 
 pub IsTold-finish : (b : Kept) (times : Progress) (heads : List ℕ) (held : List (Option ℕ)) (latest : ℕ) (stopped : Bool) (op worker at front : ℕ)
     → IsTold b times heads held latest stopped → Fits b.schedule b.workers b.history (Finish op worker at front)
@@ -281,12 +281,12 @@ pub moment_later : (h : List Event) (now : ℕ) → last h ≤ moment_after h no
 moment_later h now = omega arith
 
 -- the Finish of what is in hand fits
-pub finish_fits : (b : Kept) (capacity op worker now front : ℕ) → IsSoundBook b capacity → hand b.history worker ≡ Some op → MayAct b.workers b.history worker
+pub finish_fits : (b : Kept) (op worker now front : ℕ) → IsLegal b.schedule b.workers b.history → hand b.history worker ≡ Some op → MayAct b.workers b.history worker
     → IsFront b.schedule b.history op front → Fits b.schedule b.workers b.history (Finish op worker (moment_after b.history now) front)
-finish_fits b capacity op worker now front kept held may at_front = record { obeys = by_rule }
+finish_fits b op worker now front legal held may at_front = record { obeys = by_rule }
   where
     by_rule : (r : Rule) → FinishObeys b.schedule b.workers b.history op worker (moment_after b.history now) front r
-    by_rule V1 = (held_within b capacity worker op kept held, may)
+    by_rule V1 = (held_within b worker op legal held, may)
     by_rule V2 = tt
     by_rule V3 = tt
     by_rule V4 = tt

@@ -1,5 +1,5 @@
 -- The heads of a schedule's lanes. Cited by contracts of private functions alone.
-use Rattle.std.specs.Prelude.{◌≡◌, ℕ, ◌<◌, ◌≤◌, nat_lt, true, List, Bool, Option, Some, None, slice_index_or, if◌then◌else◌, MatchOption}
+use Rattle.std.specs.Prelude.{◌≡◌, ℕ, ◌<◌, ◌≤◌, nat_lt, true, false, List, length, Bool, Option, Some, None, slice_index_or, if◌then◌else◌, MatchOption}
 use Rattle.snb_schema.specs.declared.event.Event.{Event}
 use Rattle.snb_schema.specs.declared.step.Step.{Step}
 use Rattle.snb_schema.specs.Schedule.{Schedule, no_step, step_of, IsOperation, IsBefore, IsInForum}
@@ -73,3 +73,19 @@ pub record AreFirsts (s : Schedule) (h : List Event) (firsts : Firsts) : Type 0 
 -- there is no such operation, or it is due later
 abbrev pub IsLate : Schedule → ℕ → Option ℕ → Type 0
 IsLate s at first = (op : ℕ) → first ≡ Some op → at < (step_of s op).due
+
+-- nobody has the operation in hand
+abbrev pub HasNobody : List (Option ℕ) → ℕ → Type 0
+HasNobody held op = (w : ℕ) → w < length held → ¬ (slice_index_or held w None ≡ Some op)
+
+-- the worker has the operation in hand
+abbrev pub IsWith : List (Option ℕ) → ℕ → ℕ → Type 0
+IsWith held op worker = (worker < length held) × (slice_index_or held worker None ≡ Some op)
+
+-- the flags below n are set
+abbrev pub AreSet : List Bool → ℕ → Type 0
+AreSet flags n = (k : ℕ) → k < n → flag flags k ≡ true
+
+-- the flag isn't set, and those before it are
+abbrev pub IsFirstUnset : List Bool → ℕ → Type 0
+IsFirstUnset flags k = (k < length flags) × (flag flags k ≡ false) × AreSet flags k

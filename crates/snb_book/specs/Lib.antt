@@ -3,3 +3,4 @@ pub mod Claims
 pub mod ClaimLaws
 pub mod Book
 pub mod Heads
+pub mod Asked

@@ -4,19 +4,21 @@ ghost use Rattle.std.specs.Prelude.{◌≡◌, ℕ, pos, ◌+◌, ◌<◌, ◌�
 ghost use Rattle.std.specs.Prelude.{IfOk, IfSome, IsTrue, MatchOption, length, replicate, slice_index_or, vec_capacity, None, Some, true, false};
 ghost use Rattle.std.specs.List.{list_all};
 ghost use Rattle.snb_schema.specs.Schedule.{IsOperation, IsPlanned, is_dependency, step_of};
-ghost use Rattle.snb_schema.specs.History.{finished};
+ghost use Rattle.snb_schema.specs.History.{finished, hand, holder, last, moment, started};
 ghost use Rattle.snb_schema.specs.Completion.{completion, is_awaited, least_t};
-ghost use Rattle.snb_schema.specs.Rules.{Fits, IsComplete, IsFront, IsLegal, IsNotBusy, MayAct};
+ghost use Rattle.snb_schema.specs.Rules.{Fits, IsCleared, IsComplete, IsFront, IsLegal, IsNotBusy, MayAct};
 ghost use Rattle.snb_book.specs.Kept.{IsAdding, IsInHand, moment_after};
 ghost use Rattle.snb_book.specs.Claims.{IsAdmitted, IsClaim, IsDueHead, IsFirst, IsPlanHead, IsUnderWay};
 ghost use Rattle.snb_book.specs.Claims.{HoldsBefore, IfGo, IfNotGo, IsIdle, MovesOn, NeedsEarlier};
 ghost use Rattle.snb_book.specs.Heads.{HasNoPredecessor, IsAtPlace, IsFree, IsLate, IsPassed, IsPredecessor, IsWithin};
 ghost use Rattle.snb_book.specs.Heads.{AreFirsts, AreFirstsBelow, TellsFirst, earlier_where};
+ghost use Rattle.snb_book.specs.Heads.{AreSet, HasNobody, IsFirstUnset, IsWith};
+ghost use Rattle.snb_book.specs.Asked.{AllFinished, IsFirstUnfinished, IsFirstUnstarted, IsWaitedFor};
 
 use crate::claim::{Claim, Ticket};
 use snb_completion::times::Times;
 use snb_schema::event::Event;
-use snb_schema::limits::{MAX_AT, MAX_WORKERS};
+use snb_schema::limits::{MAX_AT, MAX_TIME, MAX_WORKERS};
 use snb_schema::schedule::Schedule;
 use snb_schema::step::{LaneKind, Step};
 use std::alloc::{AllocError, Global};
@@ -217,6 +219,19 @@ fn due_by(schedule: &Schedule, first: Option<u32>, at: u64) -> Option<u32>
     }
 }
 
+/// The worker that has an operation in hand, if one has. `held` has what each worker has in hand.
+fn hand_with(held: &[Option<u32>], op: u32) -> Option<u32>
+    requires { length held.now ≤ MAX_WORKERS }
+    ensures { MatchOption result (HasNobody held.now op) (λ worker. IsWith held.now op worker) }
+{
+    for worker in 0..held.len() {
+        if held[worker] == Some(op) {
+            return Some(worker as u32);
+        }
+    }
+    None
+}
+
 /// The worker that has an operation in hand. `held` has what each worker has in hand.
 fn holder_of(held: &[Option<u32>], op: u32) -> u32
     requires few { length held.now ≤ MAX_WORKERS }
@@ -224,12 +239,23 @@ fn holder_of(held: &[Option<u32>], op: u32) -> u32
     ensures within { result < length held.now }
     ensures holds { slice_index_or held.now result None ≡ Some op }
 {
-    for worker in 0..held.len() {
-        if held[worker] == Some(op) {
-            return worker as u32;
+    match hand_with(held, op) {
+        Some(worker) => worker,
+        None => unreachable!(),
+    }
+}
+
+/// The number of the first flag that isn't set, if there is one.
+fn first_unset(flags: &[bool]) -> Option<u32>
+    requires { length flags.now < 2 ^ 32 }
+    ensures { MatchOption result (AreSet flags.now (length flags.now)) (λ k. IsFirstUnset flags.now k) }
+{
+    for number in 0..flags.len() {
+        if !flags[number] {
+            return Some(number as u32);
         }
     }
-    unreachable!()
+    None
 }
 
 /// Appends an event to a log that has room for it.
@@ -459,6 +485,25 @@ impl Book {
         self.last = at;
     }
 
+    /// Appends a Finish, for which there is room.
+    fn finish_at(&mut self, op: u32, worker: u32, at: u64, front: u32)
+        requires fits { Fits self.old.schedule self.old.workers self.old.history (Event.Finish op worker at front) }
+        requires bounded { at ≤ MAX_AT }
+        ensures appended { self.new ≡ record self.old { history = self.old.history ++ Event.Finish op worker at front ∷ [] } }
+        ensures adds { IsAdding worker self.old self.new }
+    {
+        let event = Event::Finish {
+            op,
+            worker,
+            at,
+            front,
+        };
+        append(&mut self.events, event);
+        self.times.finish(op);
+        self.held[worker as usize] = None;
+        self.last = at;
+    }
+
     /// Gives the worker, one of the book's, an operation, if one may start, where the clock shows
     /// `now`.
     ///
@@ -511,16 +556,7 @@ impl Book {
         ensures adds { IsAdding ticket.worker self.old self.new }
     {
         let at = self.moment(now);
-        let event = Event::Finish {
-            op: ticket.op,
-            worker: ticket.worker,
-            at,
-            front,
-        };
-        append(&mut self.events, event);
-        self.times.finish(ticket.op);
-        self.held[ticket.worker as usize] = None;
-        self.last = at;
+        self.finish_at(ticket.op, ticket.worker, at, front);
     }
 
     /// Appends the Halt of a worker, which is one of the book's and hasn't halted before: from then
@@ -534,5 +570,109 @@ impl Book {
     {
         append(&mut self.events, Event::Halt { worker });
         self.halted = true;
+    }
+
+    /// Appends an event that may follow what has happened, at a moment of at most `MAX_AT`. Takes no
+    /// memory.
+    pub fn push(&mut self, event: Event)
+        requires fits { Fits self.old.schedule self.old.workers self.old.history event }
+        requires bounded { moment event ≤ MAX_AT }
+        ensures { self.new ≡ record self.old { history = self.old.history ++ event ∷ [] } }
+    {
+        match event {
+            Event::Start { op, worker, at } => self.start(op, worker, at),
+            Event::Finish {
+                op,
+                worker,
+                at,
+                front,
+            } => self.finish_at(op, worker, at, front),
+            Event::Halt { worker } => self.halt(worker),
+        }
+    }
+
+    /// An operation of the plan.
+    pub fn step(&self, op: u32) -> Step
+        requires { IsOperation self.now.schedule op }
+        ensures value { result ≡ step_of self.now.schedule op }
+        ensures planned { IsPlanned self.now.schedule }
+        ensures due { result.due ≤ MAX_AT }
+        ensures needs { result.t_d ≤ MAX_TIME }
+    {
+        self.schedule().steps()[op as usize]
+    }
+
+    /// The moment of the last Start or Finish, or 0.
+    pub fn last(&self) -> u64
+        ensures value { result ≡ last self.now.history }
+        ensures bounded { result ≤ MAX_AT }
+    {
+        self.last
+    }
+
+    /// What a worker of the book has in hand.
+    pub fn hand(&self, worker: u32) -> Option<u32>
+        requires { worker < self.now.workers }
+        ensures { result ≡ hand self.now.history worker }
+    {
+        self.held[worker as usize]
+    }
+
+    /// The worker that has an operation in hand. Each worker is looked at once.
+    pub fn holder(&self, op: u32) -> Option<u32>
+        ensures { result ≡ holder self.now.history op }
+    {
+        hand_with(&self.held, op)
+    }
+
+    /// The first unstarted operation of an operation's lane, which is the operation itself exactly
+    /// where it is a head; `None` where it is started.
+    pub fn first_unstarted(&self, op: u32) -> Option<u32>
+        requires { IsOperation self.now.schedule op }
+        ensures { MatchOption result (started self.now.history op ≡ true)
+            (λ first. IsFirstUnstarted self.now.schedule self.now.history op first) }
+    {
+        if self.times.started()[op as usize] {
+            return None;
+        }
+        let lane = self.step(op).lane;
+        at_place(self.schedule(), lane, self.heads[lane as usize])
+    }
+
+    /// The first unfinished operation before a head of a forum lane, for which the head waits; `None`
+    /// where the head isn't busy.
+    pub fn first_unfinished_before(&self, op: u32) -> Option<u32>
+        requires { IsPlanHead self.now.schedule self.now.history op }
+        ensures { MatchOption result (IsNotBusy self.now.schedule self.now.history op)
+            (λ first. IsWaitedFor self.now.schedule self.now.history op first) }
+    {
+        match predecessor(self.schedule(), op) {
+            None => None,
+            Some(before) => {
+                if self.times.finished()[before as usize] {
+                    None
+                } else {
+                    Some(before)
+                }
+            }
+        }
+    }
+
+    /// Whether the dependency rule lets an operation start: it is no dependent, or all up to its
+    /// `t_d` is finished.
+    pub fn is_cleared(&self, op: u32) -> bool
+        requires { IsOperation self.now.schedule op }
+        ensures { IsTrue result ↔ IsCleared self.now.schedule self.now.history op }
+    {
+        let step = self.step(op);
+        !step.dependent || step.t_d < self.least()
+    }
+
+    /// The least operation that isn't finished, if there is one.
+    pub fn first_unfinished(&self) -> Option<u32>
+        ensures { MatchOption result (AllFinished self.now.schedule self.now.history)
+            (λ op. IsFirstUnfinished self.now.schedule self.now.history op) }
+    {
+        first_unset(self.times.finished())
     }
 }

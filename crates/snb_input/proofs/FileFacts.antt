@@ -14,7 +14,7 @@ use Rattle.snb_lines.proofs.Laws.{rest_no_end, says_cut}
 use Rattle.snb_input.specs.Files.{IsBeyond, NoFault}
 use Rattle.snb_input.specs.FirstOf.{FirstOf}
 use Rattle.snb_input.specs.Format.{Format, Lawful}
-use Rattle.snb_input.specs.Loading.{IsTakenWhole}
+use Rattle.snb_input.specs.Loading.{IsTakenKnown}
 use Rattle.snb_input.specs.Pieces.{Opened}
 use Rattle.snb_input.specs.Places.{FileSays, IsBare, Knows, LacksHeader, LineFault, LinesRefuse, LinesSay, Place, Source, file_checks, line_checks, opening}
 use Rattle.snb_input.proofs.FirstLine.{opens_with}
@@ -163,7 +163,7 @@ module _ {P K T : Type 0} (g : Format K T) (heard : Heard P T) (takes : Takes P 
             by_known (Some x) k h = inr (headed x k, inl (items, said x k, sym bare_is ∙ h))
 
         -- nothing is wrong with the file
-        pub ended_well : end_fault file known (ends to.sink file) ≡ None → IsTakenWhole g heard file bytes rows past text to.sink to.rows
+        pub ended_well : end_fault file known (ends to.sink file) ≡ None → IsTakenKnown g heard file bytes rows past text to.sink to.rows known
         ended_well e = by_known known refl e
           where
             not_bare : (k : K) → known ≡ Some k → ends to.sink file ≡ None → (q : Refusal) → ¬ IsBare g (place text) text q
@@ -171,14 +171,17 @@ module _ {P K T : Type 0} (g : Format K T) (heard : Heard P T) (takes : Takes P 
                 let same = (says_one g lawful file (lines text) bare.0 items (Some bare.1.0) known bare.1.1 says).0 in
                 none_some (g.rules.bare file items) q (sym bare_is ∙ fine) (subst (λ (xs : List T). g.rules.bare file xs ≡ Some q) same bare.2)
 
-            by_known : (o : Option K) → known ≡ o → end_fault file o (ends to.sink file) ≡ None → IsTakenWhole g heard file bytes rows past text to.sink to.rows
+            by_known : (o : Option K) → known ≡ o → end_fault file o (ends to.sink file) ≡ None → IsTakenKnown g heard file bytes rows past text to.sink to.rows known
             by_known None k h = absurd cc
-            by_known (Some x) k h = record {
-              clean = (lines_good, (headed x k, (not_bare x k h, tt)));
-              done = at.done;
-              mine = items;
-              said = at.said;
-              says = said x k;
-              tells = told;
-              counted = there.rows;
-            }
+            by_known (Some x) k h = (
+              record {
+                clean = (lines_good, (headed x k, (not_bare x k h, tt)));
+                done = at.done;
+                mine = items;
+                said = at.said;
+                says = (x, subst (λ (o : Option K). LinesSay g file (lines text) items o) k says);
+                tells = told;
+                counted = there.rows;
+              },
+              k,
+            )

@@ -24,7 +24,7 @@ use Rattle.snb_input.specs.declared.load.Used.{Used}
 use Rattle.snb_input.specs.declared.pieces.Step.TheVariants as step
 use Rattle.snb_input.specs.FirstOf.{FirstOf}
 use Rattle.snb_input.specs.Format.{Format, Lawful}
-use Rattle.snb_input.specs.Loading.{IsAnswer, IsTakenWhole, IsTold, load_for}
+use Rattle.snb_input.specs.Loading.{IsAnswer, IsKnownAnswer, IsTakenKnown, IsTold, load_for}
 use Rattle.snb_input.specs.Pieces.{IsBegun, IsEnd, IsFed, IsStep, Opened}
 use Rattle.snb_input.specs.Places.{FilesSay, Source, file_checks, opening}
 use Rattle.snb_input.proofs.FileFacts.{ended_bad, ended_well, last_stopped}
@@ -104,22 +104,28 @@ module _ {P G K T : Type 0} (g : Format K T) (heard : Heard P T) (takes : Takes 
       subst (λ (z : RowCount P). IsFed g takes file grammar start text new z) (sym s.1) (subst (λ (z : Reader G K). IsFed g takes file grammar start text z had) (sym s.0) f)
 
   -- the file has ended
-  pub going_end : (contents : Option Files) (name : List ℕ) (most : ℕ) (used : Used) (past : List Source) (taker : P) (old new : Reader G K) (had has : RowCount P) (result : Result (Loaded P) Load) → Going contents name (first used.rows taker) old had
+  pub going_end : (contents : Option Files) (name : List ℕ) (most : ℕ) (used : Used) (past : List Source) (taker : P) (old new : Reader G K) (had has : RowCount P) (known : Option K) (result : Result (Loaded P) Load) → Going contents name (first used.rows taker) old had
       → (done : List (List T)) → FilesSay g past done → heard taker done [] → IsStep g heard takes contents name file grammar most old had new has (Ok step.End)
-      → ((past : List Source) (start : RowCount P) (text : List ℕ) → Opened g heard used.rows past start → IsFed g takes file grammar start text new has → IsEnd g heard file used past text result)
-      → IsAnswer g heard contents name file used past taker result
-  going_end contents name most used past taker old new had has result k done said fresh s end =
+      → ((past : List Source) (start : RowCount P) (text : List ℕ) → Opened g heard used.rows past start → IsFed g takes file grammar start text new has → IsEnd g heard file used past text known result)
+      → IsKnownAnswer g heard contents name file used past taker known result
+  going_end contents name most used past taker old new had has known result k done said fresh s end =
       by_result result (end past (first used.rows taker) k.text (opened used.rows past taker done said fresh) (kept_reader contents name most (first used.rows taker) k.text old new had has k.fed s))
     where
       told : IsTold contents name (Some k.text)
       told = both contents (λ files. IsBegun files name k.text) (λ files. files name ≡ Some k.text) (s.2 k.text (sym k.fed.fed)) k.told
 
-      by_result : (result : Result (Loaded P) Load) → IsEnd g heard file used past k.text result → IsAnswer g heard contents name file used past taker result
+      by_result : (result : Result (Loaded P) Load) → IsEnd g heard file used past k.text known result → IsKnownAnswer g heard contents name file used past taker known result
       by_result (Ok (Absent t)) h = absurd h
       by_result (Ok (Whole t now)) h = (k.text, told, h.0, h.1)
       by_result (Err (Refused r)) h = (k.text, told, h)
       by_result (Err ReadFault) h = absurd h
       by_result (Err Memory) h = tt
+
+  -- a reader that was new when it came
+  pub going_begins : (contents : Option Files) (name : List ℕ) (rows : ℕ) (taker : P) (most : Option ℕ) (reader : Reader G K) → reader ≡ at_begin file grammar (g.language file).begins → most ≡ g.rules.limit
+      → Going contents name (first rows taker) reader (record { most = most; rows = rows; sink = taker })
+  going_begins contents name rows taker most reader e limit =
+      going_first contents name (first rows taker) (record { most = most; rows = rows; sink = taker }) reader e (ap (λ (o : Option ℕ). record { most = o; rows = rows; sink = taker }) limit)
 
   -- what the end of a reader says of the file
   module _ (refuses : Refuses P T) (hears : Hears takes refuses heard g.rules.own) (lawful : Lawful g) (ends : P → FileId → Option Refusal)
@@ -129,14 +135,14 @@ module _ {P G K T : Type 0} (g : Format K T) (heard : Heard P T) (takes : Takes 
     small = let l = f.fed in omega (arith, few, l)
 
     pub end_ok : (new : Reader G K) (has : RowCount P) (now : Used) → HasRead (g.language file) (RowTakes takes) (left_lines old) old had new has → end_fault old.file new.known (ends has.sink old.file) ≡ None
-        → now.bytes ≡ used.bytes + old.fed → now.rows ≡ has.rows → IsEnd g heard file used past text (Ok (Whole has.sink now))
+        → now.bytes ≡ used.bytes + old.fed → now.rows ≡ has.rows → IsEnd g heard file used past text new.known (Ok (Whole has.sink now))
     end_ok new has now read fine bytes rows =
         let says = fed_whole (g.language file) (RowTakes takes) file grammar start text old had f read.items new.known read.says in
         let run = fed_runs (g.language file) (RowTakes takes) file grammar start text old had f read.items has read.runs in
         let well =
         ended_well g heard takes refuses hears lawful file used.bytes used.rows past start at text small (f.items ++ read.items) new.known has says run ends ended
         (subst (λ (x : FileId). end_fault x new.known (ends has.sink x) ≡ None) f.file_is fine) in
-        (bytes ∙ ap (λ (n : ℕ). used.bytes + n) f.fed, subst (λ (n : ℕ). IsTakenWhole g heard file used.bytes used.rows past text has.sink n) (sym rows) well)
+        (bytes ∙ ap (λ (n : ℕ). used.bytes + n) f.fed, subst (λ (n : ℕ). IsTakenKnown g heard file used.bytes used.rows past text has.sink n new.known) (sym rows) well)
 
     pub end_bad : (same : RowCount P → RowCount P → Type 0) (new : Reader G K) (has : RowCount P) (r : Refusal)
         → HasStoppedAtEnd (g.language file) (RowTakes takes) (RowRefuses refuses) same (λ z x. ends z.sink x) (left_lines old) old had new has r
@@ -151,10 +157,10 @@ module _ {P G K T : Type 0} (g : Format K T) (heard : Heard P T) (takes : Takes 
     ]
 
   -- what stops at the end is the loading's
-  pub end_err : (fault : Fault) (load : Load) (used : Used) (past : List Source) (text : List ℕ) → load ≡ load_for fault → OnBad {A = Unit {0}} (Err fault) (λ r. FirstOf (file_checks g (opening file used.bytes used.rows past text) text) r)
-      → IsEnd g heard file used past text (Err load)
-  end_err (fault.Bad r) load used past text e h = subst (λ (l : Load). IsEnd g heard file used past text (Err l)) (sym e) h
-  end_err fault.Memory load used past text e h = subst (λ (l : Load). IsEnd g heard file used past text (Err l)) (sym e) tt
+  pub end_err : (fault : Fault) (load : Load) (used : Used) (past : List Source) (text : List ℕ) (known : Option K) → load ≡ load_for fault → OnBad {A = Unit {0}} (Err fault) (λ r. FirstOf (file_checks g (opening file used.bytes used.rows past text) text) r)
+      → IsEnd g heard file used past text known (Err load)
+  end_err (fault.Bad r) load used past text known e h = subst (λ (l : Load). IsEnd g heard file used past text known (Err l)) (sym e) h
+  end_err fault.Memory load used past text known e h = subst (λ (l : Load). IsEnd g heard file used past text known (Err l)) (sym e) tt
 
   -- the data lines stay within the limit
   pub few_rows : (start had has : RowCount P) (text : List ℕ) (old : Reader G K) (items : List T) → IsUnder start.most start.rows → IsFed g takes file grammar start text old had → Runs (RowTakes takes) file had items has
@@ -168,3 +174,10 @@ module _ {P G K T : Type 0} (g : Format K T) (heard : Heard P T) (takes : Takes 
 pub on_bad_more : (fault : Fault) (F G : Refusal → Type 0) → OnBad {A = Unit {0}} (Err fault) F → ((r : Refusal) → F r → G r) → OnBad {A = Unit {0}} (Err fault) G
 on_bad_more (fault.Bad r) F G h more = more r h
 on_bad_more fault.Memory F G h more = tt
+
+-- an answer of which more is known is an answer
+pub known_answer : {P K T : Type 0} (g : Format K T) (heard : Heard P T) (contents : Option Files) (name : List ℕ) (file : FileId) (used : Used) (past : List Source) (taker : P) (known : Option K) (result : Result (Loaded P) Load)
+    → IsKnownAnswer g heard contents name file used past taker known result → IsAnswer g heard contents name file used past taker result
+known_answer g heard contents name file used past taker known (Ok (Absent t)) h = h
+known_answer g heard contents name file used past taker known (Ok (Whole t now)) h = (h.0, h.1, h.2, h.3.0)
+known_answer g heard contents name file used past taker known (Err load) h = h

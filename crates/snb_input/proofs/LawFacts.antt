@@ -115,6 +115,10 @@ module _ {K T : Type 0} (g : Format K T) (lawful : Lawful g) where
     ((λ r q a b. a.1 ∙ sym b.1), (bare_one p whole, tt)),
   )
 
+  -- a file gives one refusal at most
+  pub file_one : (p : Place) (whole : List ℕ) (r q : Refusal) → FirstOf (file_checks g p whole) r → FirstOf (file_checks g p whole) q → r ≡ q
+  file_one p whole = first_one (file_checks g p whole) (file_ones p whole)
+
   look_ones : (at : Before) (file : FileId) (role : Role) (held : Option (List ℕ)) → Ones (look_checks g at file role held)
   look_ones at file Needed None = ((λ r q a b. a ∙ sym b), tt)
   look_ones at file Needed (Some b) = file_ones (opening file at.bytes at.rows at.past b) b

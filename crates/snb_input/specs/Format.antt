@@ -20,9 +20,12 @@ pub record Format (K T : Type 0) : Type 1 where
   pub language : FileId → Language K T
   pub rules : Rules T
 
--- the format of files that are read by these grammars
-abbrev pub format_of : {G K T : Type 0} → (G → Language K T) → (FileId → G) → Rules T → Format K T
-format_of language grammar_of rules = record { language = λ file. language (grammar_of file); rules = rules }
+-- the format of files that are read by these grammars, and whose items are refused by these rules
+abbrev pub format_of : {G K T : Type 0} → (G → Language K T) → (FileId → G) → Option ℕ → Own T → (FileId → List T → Option Refusal) → Format K T
+format_of language grammar_of limit own bare = record {
+  language = λ file. language (grammar_of file);
+  rules = record { limit = limit; own = own; bare = bare };
+}
 
 -- a line says one thing at most, and is refused in one way at most
 pub record Lawful {K T : Type 0} (g : Format K T) : Type 0 where
@@ -47,3 +50,9 @@ pub record IsTaker {P K T : Type 0} (g : Format K T) (heard : Heard P T) (may : 
   pub turned : (old new : P) (done : List (List T)) (mine : List T) → heard old done mine → turns old new → heard new (done ++ mine ∷ []) []
   -- where a file ends it is refused by the rules
   pub ended : (s : P) (file : FileId) (done : List (List T)) (mine : List T) → heard s done mine → ends s file ≡ g.rules.bare file mine
+
+-- sinks of such files, where a file's own check and what is told may be said by the state in which the first file was begun
+abbrev pub AreTakers : {P G K T : Type 0} → (G → Language K T) → (FileId → G) → Option ℕ → (P → Own T) → (FileId → List T → Option Refusal) → (P → Heard P T) → (T → Type 0)
+    → Takes P T → Refuses P T → (P → FileId → Option Refusal) → (P → P → Type 0) → Type 0
+AreTakers {P} language grammar_of limit own bare heard may takes refuses ends turns =
+    (begun : P) → IsTaker (format_of language grammar_of limit (own begun) bare) (heard begun) may takes refuses ends turns

@@ -43,6 +43,11 @@ pub record IsTakenWhole {P K T : Type 0} (g : Format K T) (heard : Heard P T) (f
   pub tells : heard taker done mine
   pub counted : new_rows ≡ rows + rows_in g file (lines whole)
 
+-- the same, and this is what the header said, by which the lines say what they say
+abbrev pub IsTakenKnown : {P K T : Type 0} → Format K T → Heard P T → FileId → ℕ → ℕ → List Source → List ℕ → P → ℕ → Option K → Type 0
+IsTakenKnown g heard file bytes rows past whole taker new_rows known =
+    (taken : IsTakenWhole g heard file bytes rows past whole taker new_rows) × (known ≡ Some taken.says.0)
+
 -- what the loading of a file answers: it isn't held; or these are its bytes, of which nothing is wrong and all is taken, or which are
 -- refused so; and where the shelf tells what it holds, that is what it tells
 abbrev pub IsAnswer : {P K T : Type 0} → Format K T → Heard P T → Option Files → List ℕ → FileId → Used → List Source → P → Result (Loaded P) Load → Type 0
@@ -58,6 +63,15 @@ IsAnswer g heard contents name file used past taker (Err (Refused r)) =
     × FirstOf (file_checks g (opening file used.bytes used.rows past whole) whole) r
 IsAnswer g heard contents name file used past taker (Err ReadFault) = Unit {0}
 IsAnswer g heard contents name file used past taker (Err Memory) = Unit {0}
+
+-- what the loading of a file answers, of which this is known in the end: the same, and this is what its header said
+abbrev pub IsKnownAnswer : {P K T : Type 0} → Format K T → Heard P T → Option Files → List ℕ → FileId → Used → List Source → P → Option K → Result (Loaded P) Load → Type 0
+IsKnownAnswer g heard contents name file used past taker known (Ok (Whole new now)) =
+    (whole : List ℕ)
+    × IsTold contents name (Some whole)
+    × (now.bytes ≡ used.bytes + length whole)
+    × IsTakenKnown g heard file used.bytes used.rows past whole new now.rows known
+IsKnownAnswer g heard contents name file used past taker known result = IsAnswer g heard contents name file used past taker result
 
 -- what was read with a file keeps within the limits
 abbrev pub IsWithin : {P : Type 0} → Option ℕ → Loaded P → Type 0

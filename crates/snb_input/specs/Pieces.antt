@@ -18,7 +18,7 @@ use Rattle.snb_input.specs.declared.pieces.Step.{Step}
 use Rattle.snb_input.specs.declared.pieces.Step.TheVariants as step
 use Rattle.snb_input.specs.FirstOf.{FirstOf}
 use Rattle.snb_input.specs.Format.{Format}
-use Rattle.snb_input.specs.Loading.{IsTakenWhole}
+use Rattle.snb_input.specs.Loading.{IsTakenKnown}
 use Rattle.snb_input.specs.Places.{FilesSay, LinesRefuse, Source, file_checks, opening}
 
 -- a fact of the refusal, where there is one
@@ -76,10 +76,10 @@ IsStep g heard takes contents name file grammar most old had new has (Err (Refus
 IsStep g heard takes contents name file grammar most old had new has (Err ReadFault) = Unit {0}
 IsStep g heard takes contents name file grammar most old had new has (Err Memory) = Unit {0}
 
--- what the loading of a file answers that is read to its end, of which these are the bytes
-abbrev pub IsEnd : {P K T : Type 0} → Format K T → Heard P T → FileId → Used → List Source → List ℕ → Result (Loaded P) Load → Type 0
-IsEnd g heard file used past text (Ok (Absent new)) = ⊥
-IsEnd g heard file used past text (Ok (Whole new now)) = (now.bytes ≡ used.bytes + length text) × IsTakenWhole g heard file used.bytes used.rows past text new now.rows
-IsEnd g heard file used past text (Err (Refused r)) = FirstOf (file_checks g (opening file used.bytes used.rows past text) text) r
-IsEnd g heard file used past text (Err ReadFault) = ⊥
-IsEnd g heard file used past text (Err Memory) = Unit {0}
+-- what the loading of a file answers that is read to its end, of which these are the bytes and this is known
+abbrev pub IsEnd : {P K T : Type 0} → Format K T → Heard P T → FileId → Used → List Source → List ℕ → Option K → Result (Loaded P) Load → Type 0
+IsEnd g heard file used past text known (Ok (Absent new)) = ⊥
+IsEnd g heard file used past text known (Ok (Whole new now)) = (now.bytes ≡ used.bytes + length text) × IsTakenKnown g heard file used.bytes used.rows past text new now.rows known
+IsEnd g heard file used past text known (Err (Refused r)) = FirstOf (file_checks g (opening file used.bytes used.rows past text) text) r
+IsEnd g heard file used past text known (Err ReadFault) = ⊥
+IsEnd g heard file used past text known (Err Memory) = Unit {0}

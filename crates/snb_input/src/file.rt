@@ -5,8 +5,9 @@ ghost use Rattle.snb_base.specs.Shelf.{Rose};
 ghost use Rattle.snb_schema.specs.declared.limits.TheConstants.{MAX_BYTES};
 ghost use Rattle.snb_lines.specs.Counts.{IsUnder};
 ghost use Rattle.snb_lines.specs.declared.counted.RowCount.{RowCount as Row};
-ghost use Rattle.snb_input.specs.Format.{IsTaker, format_of};
-ghost use Rattle.snb_input.specs.Loading.{IsAnswer, IsWithin, OnReadFault};
+ghost use Rattle.snb_lines.specs.Feeding.{at_begin};
+ghost use Rattle.snb_input.specs.Format.{AreTakers, format_of};
+ghost use Rattle.snb_input.specs.Loading.{IsAnswer, IsKnownAnswer, IsWithin, OnReadFault};
 ghost use Rattle.snb_input.specs.Pieces.{IsEnd, IsFed, Opened};
 ghost use Rattle.snb_input.specs.Places.{FilesSay, Source};
 
@@ -53,22 +54,22 @@ pub enum Loaded<P> {
 fn end_file<G: Grammar + Drop, P: Taker<G> + Drop>(
     file: FileId,
     used: Used,
-    mut reader: Lines<G>,
+    reader: &mut Lines<G>,
     mut sink: RowCount<P>,
 ) -> Result<Loaded<P>, Load>
-    requires right { IsTaker (format_of G.language P.grammar_of P.rules) P.heard P.fits P.takes P.refuses P.ends P.turns }
-    requires of_file { reader.file ≡ file }
-    requires by_grammar { reader.grammar ≡ P.grammar_of file }
-    requires few { used.bytes + reader.fed ≤ MAX_BYTES }
-    requires goes_on { reader.over ≡ false }
-    requires good { reader.fault ≡ None }
-    ensures end { (past : List Source) (start : Row P) (text : List ℕ)
-        → Opened (format_of G.language P.grammar_of P.rules) P.heard used.rows past start
-        → IsFed (format_of G.language P.grammar_of P.rules) P.takes file (P.grammar_of file) start text reader sink
-        → IsEnd (format_of G.language P.grammar_of P.rules) P.heard file used past text result }
-    ensures within { (start : Row P) (text : List ℕ) → start.most ≡ P.rules.limit → IsUnder P.rules.limit start.rows
-        → IsFed (format_of G.language P.grammar_of P.rules) P.takes file (P.grammar_of file) start text reader sink
-        → IfOk result (IsWithin P.rules.limit) }
+    requires right { AreTakers G.language P.grammar_of P.limit P.own P.bare P.heard P.fits P.takes P.refuses P.ends P.turns }
+    requires of_file { reader.old.file ≡ file }
+    requires by_grammar { reader.old.grammar ≡ P.grammar_of file }
+    requires few { used.bytes + reader.old.fed ≤ MAX_BYTES }
+    requires goes_on { reader.old.over ≡ false }
+    requires good { reader.old.fault ≡ None }
+    ensures end { (begun : P) (past : List Source) (start : Row P) (text : List ℕ)
+        → Opened (format_of G.language P.grammar_of P.limit (P.own begun) P.bare) (P.heard begun) used.rows past start
+        → IsFed (format_of G.language P.grammar_of P.limit (P.own begun) P.bare) P.takes file (P.grammar_of file) start text reader.old sink
+        → IsEnd (format_of G.language P.grammar_of P.limit (P.own begun) P.bare) (P.heard begun) file used past text reader.new.known result }
+    ensures within { (begun : P) (start : Row P) (text : List ℕ) → start.most ≡ P.limit → IsUnder P.limit start.rows
+        → IsFed (format_of G.language P.grammar_of P.limit (P.own begun) P.bare) P.takes file (P.grammar_of file) start text reader.old sink
+        → IfOk result (IsWithin P.limit) }
     ensures fault { OnReadFault result ⊥ }
 {
     match reader.end_to(&mut sink) {
@@ -111,26 +112,52 @@ pub fn load_file<S: Shelf, G: Grammar + Drop, P: Taker<G> + Drop>(
     used: Used,
     taker: P,
 ) -> Result<Loaded<P>, Load>
-    requires right { IsTaker (format_of G.language P.grammar_of P.rules) P.heard P.fits P.takes P.refuses P.ends P.turns }
+    requires right { AreTakers G.language P.grammar_of P.limit P.own P.bare P.heard P.fits P.takes P.refuses P.ends P.turns }
     requires bytes { used.bytes ≤ MAX_BYTES }
-    requires rows { IsUnder P.rules.limit used.rows }
-    ensures answer { (past : List Source) (done : List (List G.Item)) → FilesSay (format_of G.language P.grammar_of P.rules) past done → P.heard taker done []
-        → IsAnswer (format_of G.language P.grammar_of P.rules) P.heard (S.contents shelf.old) path.now file used past taker result }
-    ensures within { IfOk result (IsWithin P.rules.limit) }
+    requires rows { IsUnder P.limit used.rows }
+    ensures answer { (begun : P) (past : List Source) (done : List (List G.Item)) → FilesSay (format_of G.language P.grammar_of P.limit (P.own begun) P.bare) past done → (P.heard begun) taker done []
+        → IsAnswer (format_of G.language P.grammar_of P.limit (P.own begun) P.bare) (P.heard begun) (S.contents shelf.old) path.now file used past taker result }
+    ensures within { IfOk result (IsWithin P.limit) }
+    ensures fault { OnReadFault result (Rose (S.faults shelf.old) (S.faults shelf.new)) }
+    ensures later { S.faults shelf.old ≤ S.faults shelf.new }
+    ensures same { S.contents shelf.new ≡ S.contents shelf.old }
+{
+    let mut reader = Lines::of_file(alloc, file, taker.grammar(file));
+    load_known(alloc, shelf, path, file, used, &mut reader, taker)
+}
+
+/// Does what `load_file` does, with a reader that the caller keeps, so that it can be asked in the end
+/// what the header of the file said (`Lines::known`). It is a new reader of the file (`begins`). After an
+/// error it is done with.
+pub fn load_known<S: Shelf, G: Grammar + Drop, P: Taker<G> + Drop>(
+    alloc: Global,
+    shelf: &mut S,
+    path: &str,
+    file: FileId,
+    used: Used,
+    reader: &mut Lines<G>,
+    taker: P,
+) -> Result<Loaded<P>, Load>
+    requires right { AreTakers G.language P.grammar_of P.limit P.own P.bare P.heard P.fits P.takes P.refuses P.ends P.turns }
+    requires begins { reader.old ≡ at_begin file (P.grammar_of file) (G.language (P.grammar_of file)).begins }
+    requires bytes { used.bytes ≤ MAX_BYTES }
+    requires rows { IsUnder P.limit used.rows }
+    ensures answer { (begun : P) (past : List Source) (done : List (List G.Item)) → FilesSay (format_of G.language P.grammar_of P.limit (P.own begun) P.bare) past done → (P.heard begun) taker done []
+        → IsKnownAnswer (format_of G.language P.grammar_of P.limit (P.own begun) P.bare) (P.heard begun) (S.contents shelf.old) path.now file used past taker reader.new.known result }
+    ensures within { IfOk result (IsWithin P.limit) }
     ensures fault { OnReadFault result (Rose (S.faults shelf.old) (S.faults shelf.new)) }
     ensures later { S.faults shelf.old ≤ S.faults shelf.new }
     ensures same { S.contents shelf.new ≡ S.contents shelf.old }
 {
     let most = MAX_BYTES - used.bytes;
     let mut buffer = piece_buffer(alloc)?;
-    let mut reader = Lines::of_file(alloc, file, taker.grammar(file));
     let mut sink = RowCount {
         most: taker.most(),
         rows: used.rows,
         sink: taker,
     };
     'pieces: loop {
-        match read_piece(shelf, path, file, most, &mut reader, &mut sink, &mut buffer) {
+        match read_piece(shelf, path, file, most, reader, &mut sink, &mut buffer) {
             Err(load) => return Err(load),
             Ok(Step::Absent) => return Ok(Loaded::Absent { taker: sink.sink }),
             Ok(Step::End) => return end_file(file, used, reader, sink),

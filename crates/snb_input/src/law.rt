@@ -9,15 +9,15 @@ use snb_lines::grammar::Grammar;
 /// A stage of an input has one refusal at most, and none where nothing is wrong. The format is lawful
 /// (`lawful`).
 pub fn one_refusal<G: Grammar, P: Taker<G>>()
-    requires lawful { Lawful (format_of G.language P.grammar_of P.rules) }
-    ensures one { OneRefusal (format_of G.language P.grammar_of P.rules) }
-    ensures or_not { RefusedOrNot (format_of G.language P.grammar_of P.rules) }
+    requires lawful { (begun : P) → Lawful (format_of G.language P.grammar_of P.limit (P.own begun) P.bare) }
+    ensures one { (begun : P) → OneRefusal (format_of G.language P.grammar_of P.limit (P.own begun) P.bare) }
+    ensures or_not { (begun : P) → RefusedOrNot (format_of G.language P.grammar_of P.limit (P.own begun) P.bare) }
 {}
 
 /// The data lines of a file say one list of items at most. The format is lawful (`lawful`).
 pub fn one_saying<G: Grammar, P: Taker<G>>()
-    requires lawful { Lawful (format_of G.language P.grammar_of P.rules) }
-    ensures { OneSaying (format_of G.language P.grammar_of P.rules) }
+    requires lawful { (begun : P) → Lawful (format_of G.language P.grammar_of P.limit (P.own begun) P.bare) }
+    ensures { (begun : P) → OneSaying (format_of G.language P.grammar_of P.limit (P.own begun) P.bare) }
 {}
 
 /// What two stages found is what one folder holds, where the kinds of files of one come before those

@@ -5,7 +5,7 @@ ghost use Rattle.snb_base.specs.Shelf.{Rose};
 ghost use Rattle.snb_schema.specs.declared.limits.TheConstants.{MAX_BYTES};
 ghost use Rattle.snb_lines.specs.Counts.{IsUnder};
 ghost use Rattle.snb_schema.specs.FileNames.{name_of};
-ghost use Rattle.snb_input.specs.Format.{IsTaker, format_of};
+ghost use Rattle.snb_input.specs.Format.{AreTakers, format_of};
 ghost use Rattle.snb_input.specs.Loading.{OnReadFault};
 ghost use Rattle.snb_input.specs.Looking.{IsLook, IsLookedWithin, IsNotRefused, IsPeek, IsSeries};
 ghost use Rattle.snb_input.specs.Stages.{AreRising, IsStage, IsWalkWithin, Walked, before};
@@ -80,12 +80,12 @@ fn look<S: Shelf, G: Grammar + Drop, P: Taker<G> + Drop>(
     needed: bool,
     walk: Walk<P>,
 ) -> Result<Looked<P>, Load>
-    requires right { IsTaker (format_of G.language P.grammar_of P.rules) P.heard P.fits P.takes P.refuses P.ends P.turns }
+    requires right { AreTakers G.language P.grammar_of P.limit P.own P.bare P.heard P.fits P.takes P.refuses P.ends P.turns }
     requires bytes { walk.used.bytes ≤ MAX_BYTES }
-    requires rows { IsUnder P.rules.limit walk.used.rows }
-    ensures answer { (start : Before) (looked : List Look) → Walked (format_of G.language P.grammar_of P.rules) P.heard start looked walk
-        → IsLook (format_of G.language P.grammar_of P.rules) P.heard (S.contents shelf.old) folder.now file needed start looked result }
-    ensures within { IfOk result (IsLookedWithin P.rules.limit) }
+    requires rows { IsUnder P.limit walk.used.rows }
+    ensures answer { (begun : P) (start : Before) (looked : List Look) → Walked (format_of G.language P.grammar_of P.limit (P.own begun) P.bare) (P.heard begun) start looked walk
+        → IsLook (format_of G.language P.grammar_of P.limit (P.own begun) P.bare) (P.heard begun) (S.contents shelf.old) folder.now file needed start looked result }
+    ensures within { IfOk result (IsLookedWithin P.limit) }
     ensures fault { OnReadFault result (Rose (S.faults shelf.old) (S.faults shelf.new)) }
     ensures later { S.faults shelf.old ≤ S.faults shelf.new }
     ensures same { S.contents shelf.new ≡ S.contents shelf.old }
@@ -122,13 +122,13 @@ fn walk_series<S: Shelf, G: Grammar + Drop, P: Taker<G> + Drop>(
     series: Series,
     walk: Walk<P>,
 ) -> Result<Walk<P>, Load>
-    requires right { IsTaker (format_of G.language P.grammar_of P.rules) P.heard P.fits P.takes P.refuses P.ends P.turns }
+    requires right { AreTakers G.language P.grammar_of P.limit P.own P.bare P.heard P.fits P.takes P.refuses P.ends P.turns }
     requires bytes { walk.used.bytes ≤ MAX_BYTES }
-    requires rows { IsUnder P.rules.limit walk.used.rows }
+    requires rows { IsUnder P.limit walk.used.rows }
     requires few { series.most < 2 ^ 32 }
-    ensures answer { (start : Before) (looked : List Look) → Walked (format_of G.language P.grammar_of P.rules) P.heard start looked walk
-        → IsSeries (format_of G.language P.grammar_of P.rules) P.heard (S.contents shelf.old) folder.now series start looked result }
-    ensures within { IfOk result (IsWalkWithin P.rules.limit) }
+    ensures answer { (begun : P) (start : Before) (looked : List Look) → Walked (format_of G.language P.grammar_of P.limit (P.own begun) P.bare) (P.heard begun) start looked walk
+        → IsSeries (format_of G.language P.grammar_of P.limit (P.own begun) P.bare) (P.heard begun) (S.contents shelf.old) folder.now series start looked result }
+    ensures within { IfOk result (IsWalkWithin P.limit) }
     ensures fault { OnReadFault result (Rose (S.faults shelf.old) (S.faults shelf.new)) }
     ensures later { S.faults shelf.old ≤ S.faults shelf.new }
     ensures same { S.contents shelf.new ≡ S.contents shelf.old }
@@ -185,13 +185,13 @@ pub fn walk_stage<S: Shelf, G: Grammar + Drop, P: Taker<G> + Drop>(
     used: Used,
     taker: P,
 ) -> Result<Walk<P>, Load>
-    requires right { IsTaker (format_of G.language P.grammar_of P.rules) P.heard P.fits P.takes P.refuses P.ends P.turns }
+    requires right { AreTakers G.language P.grammar_of P.limit P.own P.bare P.heard P.fits P.takes P.refuses P.ends P.turns }
     requires bytes { used.bytes ≤ MAX_BYTES }
-    requires rows { IsUnder P.rules.limit used.rows }
+    requires rows { IsUnder P.limit used.rows }
     requires rising { AreRising 0 stage.now }
-    ensures answer { P.heard taker [] []
-        → IsStage (format_of G.language P.grammar_of P.rules) P.heard (S.contents shelf.old) folder.now stage.now (before used) result }
-    ensures within { IfOk result (IsWalkWithin P.rules.limit) }
+    ensures answer { (P.heard taker) taker [] []
+        → IsStage (format_of G.language P.grammar_of P.limit (P.own taker) P.bare) (P.heard taker) (S.contents shelf.old) folder.now stage.now (before used) result }
+    ensures within { IfOk result (IsWalkWithin P.limit) }
     ensures fault { OnReadFault result (Rose (S.faults shelf.old) (S.faults shelf.new)) }
     ensures later { S.faults shelf.old ≤ S.faults shelf.new }
     ensures same { S.contents shelf.new ≡ S.contents shelf.old }

@@ -120,9 +120,13 @@ impl Taker<QueryLines> for ParamTaker {
 
     ghost grammar_of = { λ file. query_in file.kind };
 
-    ghost rules = { params_rules };
+    ghost limit = { params_rules.limit };
 
-    ghost heard = { HasHeard };
+    ghost own = { λ _. params_rules.own };
+
+    ghost bare = { params_rules.bare };
+
+    ghost heard = { λ _. HasHeard };
 
     fn grammar(&self, file: FileId) -> QueryLines {
         QueryLines::new(self.alloc, query_in(file.kind))

@@ -153,9 +153,13 @@ impl Taker<StreamLines> for StreamTaker {
 
     ghost grammar_of = { λ file. file.kind };
 
-    ghost rules = { stream_rules };
+    ghost limit = { stream_rules.limit };
 
-    ghost heard = { IsHeard };
+    ghost own = { λ _. stream_rules.own };
+
+    ghost bare = { stream_rules.bare };
+
+    ghost heard = { λ _. IsHeard };
 
     fn grammar(&self, file: FileId) -> StreamLines {
         StreamLines::new(self.alloc, file.kind)

@@ -133,9 +133,13 @@ impl Taker<TableLines> for TableGraph {
 
     ghost grammar_of = { λ file. file.kind };
 
-    ghost rules = { table_rules };
+    ghost limit = { table_rules.limit };
 
-    ghost heard = { IsHeard };
+    ghost own = { λ _. table_rules.own };
+
+    ghost bare = { table_rules.bare };
+
+    ghost heard = { λ _. IsHeard };
 
     fn grammar(&self, file: FileId) -> TableLines {
         TableLines::new(self.alloc, file.kind)

@@ -2,6 +2,7 @@
 
 use crate::folder::{lanes, parameters};
 use crate::inserts::{insert, insert_of};
+use crate::logs::{log, log_again};
 use crate::params::params;
 use crate::rows::{pieces, posts, rows};
 use crate::samples::{read_notes, read_shares};
@@ -27,6 +28,8 @@ fn answer_of_files(alloc: Global, files: &Files, call: &str, rest: &str) -> Resu
         "pieces" => pieces(alloc, files, rest),
         "updates" => updates(alloc, files, rest),
         "params" => params(alloc, files, rest),
+        "log" => log(alloc, files, rest),
+        "log_again" => log_again(alloc, files, rest),
         "shares" => read_shares(alloc, files, rest),
         "notes" => read_notes(alloc, files, rest),
         "lanes" => lanes(alloc, files, rest),

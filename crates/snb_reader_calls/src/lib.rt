@@ -7,6 +7,7 @@ mod cutting;
 mod feeding;
 mod folder;
 mod inserts;
+mod logs;
 mod params;
 mod rows;
 mod samples;

@@ -1,2 +1,1 @@
 pub mod FinalLemmas
-pub mod LogLemmas

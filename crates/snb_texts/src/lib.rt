@@ -4,6 +4,4 @@
 pub mod answers;
 pub mod counts;
 pub mod final_lines;
-pub mod law;
-pub mod log_lines;
 pub mod refusal_text;

@@ -1,5 +1,6 @@
 -- Facts on what a call answers, by its words and by what its command finds.
-use Rattle.std.proofs.Common.{arith, ◌≡◌, ℕ, ◌≤◌, ◌⊎◌, ◌++◌, List, Option, Some, subst, ap, ◌∙◌, inl, inr}
+use Rattle.std.specs.Prelude.{◌↔◌}
+use Rattle.std.proofs.Common.{arith, ◌≡◌, ℕ, ◌≤◌, ◌⊎◌, ◌++◌, List, Option, Some, None, refl, sym, subst, ap, ◌∙◌, inl, inr}
 use Rattle.snb_base.specs.Outbox.{Written, joined}
 use Rattle.snb_base.specs.Shelf.{Files, Rose}
 use Rattle.snb_input.specs.Files.{held_in}
@@ -7,33 +8,73 @@ use Rattle.snb_input.specs.Walk.{Held, IsHeldTold}
 use Rattle.snb_schema.specs.declared.refusal.Refusal.{Refusal}
 use Rattle.snb_schema.specs.Frequencies.{FrequencyTable}
 use Rattle.snb_words.specs.declared.command.Command.{Command}
-use Rattle.snb_words.specs.declared.command.Command.TheVariants.{Check, Run, Read}
+use Rattle.snb_words.specs.declared.command.Command.TheVariants.{Audit, Check, Run, Read, Validate}
 use Rattle.snb_words.specs.Commands.{IsLineOf}
 use Rattle.snb_words.specs.Laws.{WordsAreOne}
-use Rattle.snb_tool.specs.Inputs.{Found, IsFine, IsFoundTold, IsWrong}
-use Rattle.snb_tool.specs.Laws.{AnswersHaveStatus, IsRunInShort, RefusalIsOne, RefusedOrNot, RunInShort}
-use Rattle.snb_tool.specs.Outcome.{IsAnswer, IsDone, IsDoneAnswer, IsRefused, IsRun}
+use Rattle.snb_tool.specs.Inputs.{at_first, Found, IsFine, IsFoundTold, IsWrong}
+use Rattle.snb_audit.specs.LogFiles.{IsLogOf}
+use Rattle.snb_case_lines.specs.declared.case.CaseAt.{CaseAt}
+use Rattle.snb_checker.specs.declared.difference.Difference.{Difference}
+use Rattle.snb_checker.specs.CasesFile.{AreCases, IsTally}
+use Rattle.snb_checker.specs.Checks.{AreRight, Finds}
+use Rattle.snb_checker.specs.CheckTexts.{outcome_status, tally_status, tally_text}
+use Rattle.snb_checker.specs.Laws.{FindingIsOne}
+use Rattle.snb_loader.specs.Dataset.{IsDataset}
+use Rattle.snb_audit.specs.VerdictTexts.{verdict_status}
+use Rattle.snb_auditor.specs.declared.verdict.Verdict.{Verdict}
+use Rattle.snb_auditor.specs.declared.verdict.Verdict.TheVariants.{Violated, Halted, Incomplete, TooLate, Accepted}
+use Rattle.snb_auditor.specs.VerdictLaws.{AcceptedExactly, VerdictIsOne}
+use Rattle.snb_auditor.specs.Verdicts.{IsTimelyRun, IsVerdict}
+use Rattle.snb_plan.specs.Plans.{schedule_of}
+use Rattle.snb_schema.specs.declared.event.Event.{Event}
+use Rattle.snb_schema.specs.declared.row.Row.{Row}
+use Rattle.snb_schema.specs.Schedule.{Schedule}
+use Rattle.snb_schema.specs.Rules.{IsComplete, IsLegal}
+use Rattle.snb_tool.specs.Laws.{AnswersHaveStatus, AuditInShort, IsAuditInShort, IsRunInShort, IsValidateInShort, RefusalIsOne, RefusedOrNot, RunInShort, ValidateInShort}
+use Rattle.snb_tool.specs.Outcome.{IsAnswer, TellsVerdict, IsDone, IsDoneAnswer, IsJudged, IsRefused, IsRun, IsValidated}
 use Rattle.snb_tool.specs.Output.{HasBegun, HasWritten, Wrote}
 use Rattle.snb_tool.specs.Outside.{Ends, OutOfMemory, Outside, ReadFault, Whole, WriteFault}
 
 -- ---- statuses
 
--- a command that is done has the status 0
-done_zero : (command : Command) (found : Found) (fixed : Option ℕ) (status : ℕ) (texts : Written) → IsDone command found fixed status texts → status ≡ 0
-done_zero (Check folder table) found fixed status texts d = d.0
-done_zero (Run folder workers ratio table) found fixed status texts d = d.0
-done_zero (Read folder query) found fixed status texts d = d.0
+-- a verdict's status is 0 or 1
+verdict_low : (verdict : Verdict) → (verdict_status verdict ≡ 0) ⊎ (verdict_status verdict ≡ 1)
+verdict_low (Violated v) = inr refl
+verdict_low (Halted w) = inr refl
+verdict_low (Incomplete op) = inr refl
+verdict_low (TooLate on_time all) = inr refl
+verdict_low (Accepted on_time all) = inl refl
+
+-- a status that is equal to one of these
+low_by : (s t : ℕ) → s ≡ t → (t ≡ 0) ⊎ (t ≡ 1) → (s ≡ 0) ⊎ (s ≡ 1) ⊎ (s ≡ 2) ⊎ (s ≡ 3)
+low_by s t e (inl z) = inl (e ∙ z)
+low_by s t e (inr o) = inr (inl (e ∙ o))
+
+-- and so is that of what is found over cases
+outcome_low : (first : Option Difference) → (outcome_status first ≡ 0) ⊎ (outcome_status first ≡ 1)
+outcome_low None = inl refl
+outcome_low (Some d) = inr refl
+
+-- a command that is done has the status 0, or 1
+done_low : (command : Command) (found : Found) (fixed : Option ℕ) (status : ℕ) (texts : Written) → IsDone command found fixed status texts
+    → (status ≡ 0) ⊎ (status ≡ 1) ⊎ (status ≡ 2) ⊎ (status ≡ 3)
+done_low (Check folder table) found fixed status texts d = inl d.0
+done_low (Run folder workers ratio table) found fixed status texts d = inl d.0
+done_low (Audit folder log ratio table) found fixed status texts d = low_by status (verdict_status d.verdict) d.status_is (verdict_low d.verdict)
+done_low (Validate folder cases) found fixed status texts d = low_by status (tally_status d.tally) d.status_is (outcome_low d.tally.first)
+done_low (Read folder query) found fixed status texts d = inl d.0
 
 pub answers_have_status : AnswersHaveStatus
-answers_have_status words contents fixed status texts (inl usage) = inr (inl usage.0)
-answers_have_status words contents fixed status texts (inr (c, l, (found, told, inl done))) = inl (done_zero c found fixed status texts done.1)
-answers_have_status words contents fixed status texts (inr (c, l, (found, told, inr bad))) = inr (inr bad.2.0)
+answers_have_status words contents fixed status texts (inl usage) = inr (inr (inl usage.0))
+answers_have_status words contents fixed status texts (inr (c, l, (found, told, inl done))) = done_low c found fixed status texts done.1
+answers_have_status words contents fixed status texts (inr (c, l, (found, told, inr bad))) = inr (inr (inr bad.2.0))
 
 -- so none of 4, 5 and 6
-known_low : (s n : ℕ) → (s ≡ 0) ⊎ (s ≡ 2) ⊎ (s ≡ 3) → s ≡ n → 4 ≤ n → ⊥
+known_low : (s n : ℕ) → (s ≡ 0) ⊎ (s ≡ 1) ⊎ (s ≡ 2) ⊎ (s ≡ 3) → s ≡ n → 4 ≤ n → ⊥
 known_low s n (inl a) b c = omega (arith, a, b, c)
 known_low s n (inr (inl a)) b c = omega (arith, a, b, c)
-known_low s n (inr (inr a)) b c = omega (arith, a, b, c)
+known_low s n (inr (inr (inl a))) b c = omega (arith, a, b, c)
+known_low s n (inr (inr (inr a))) b c = omega (arith, a, b, c)
 
 module _ (status : AnswersHaveStatus) (words : List (List ℕ)) (old new : Outside) (result : ℕ) where
   no_texts : {A : Type 0} (n : ℕ) → 4 ≤ n → HasWritten old.written new.written (IsAnswer words old.contents old.fixed result) → result ≡ n → A
@@ -138,3 +179,92 @@ run_in_short one words files fixed folder workers ratio table old new line (text
     let same = one words c (Run folder workers ratio table) l line in
     in_short files fixed folder workers ratio table old new texts found (subst (λ (d : Command). IsFoundTold (Some files) d found) same told)
     (subst (λ (d : Command). IsDone d found fixed 0 texts) same done.1) (added old new texts w)
+
+-- ---- an audit in short
+
+-- the status of a verdict is 0 exactly where what is accepted is
+status_exact : AcceptedExactly → VerdictIsOne → (s : Schedule) (workers : ℕ) (h : List Event) (verdict : Verdict) → IsVerdict s workers h verdict
+    → (verdict_status verdict ≡ 0) ↔ (IsLegal s workers h × IsComplete s h × IsTimelyRun s h)
+status_exact exactly one s workers h verdict is = (to verdict is, from)
+  where
+    to : (v : Verdict) → IsVerdict s workers h v → verdict_status v ≡ 0 → IsLegal s workers h × IsComplete s h × IsTimelyRun s h
+    to (Violated v) j e = absurd (omega (arith, e))
+    to (Halted w) j e = absurd (omega (arith, e))
+    to (Incomplete op) j e = absurd (omega (arith, e))
+    to (TooLate a b) j e = absurd (omega (arith, e))
+    to (Accepted a b) j e = (exactly s workers h).0 (a, b, j)
+
+    from : IsLegal s workers h × IsComplete s h × IsTimelyRun s h → verdict_status verdict ≡ 0
+    from good = let a = (exactly s workers h).1 good in ap verdict_status (one s workers h verdict (Accepted a.0 a.1) is a.2)
+
+audited_short : AcceptedExactly → VerdictIsOne → (files : Files) (folder log : List ℕ) (ratio : ℕ) (table : FrequencyTable) (status : ℕ) (old new texts : Written) (found : Found)
+    → IsFoundTold (Some files) (Audit folder log ratio table) found → TellsVerdict found.held found.beside ratio table status texts → new ≡ joined old texts
+    → IsAuditInShort files folder log ratio table status old new
+audited_short exactly one files folder log ratio table status old new texts found told done e =
+    let j : IsJudged (held_in folder files) found.beside ratio table done.verdict =
+    subst (λ (h : Held). IsJudged h found.beside ratio table done.verdict) (told_files folder files found.held told.0) done.judged in
+    record {
+      graph = j.graph;
+      plan = j.plan;
+      input = j.input;
+      workers = j.workers;
+      history = j.history;
+      said = subst (λ (b : Option (List ℕ)). IsLogOf b j.workers j.history) told.1 j.log;
+      exactly =
+          subst (λ (n : ℕ). (n ≡ 0) ↔ (IsLegal (schedule_of j.plan) j.workers j.history × IsComplete (schedule_of j.plan) j.history × IsTimelyRun (schedule_of j.plan) j.history))
+          (sym done.status_is) (status_exact exactly one (schedule_of j.plan) j.workers j.history done.verdict j.judged);
+      verdict = done.verdict;
+      judged = j.judged;
+      screen = ap (λ (w : Written). w.screen) e ∙ ap (λ (w : Written). old.screen ++ w.screen) done.shown;
+    }
+
+-- none of the statuses 0 and 1 is another
+not_low : {A : Type 0} (s n : ℕ) → (s ≡ 0) ⊎ (s ≡ 1) → s ≡ n → 2 ≤ n → A
+not_low s n (inl a) b c = absurd (omega (arith, a, b, c))
+not_low s n (inr a) b c = absurd (omega (arith, a, b, c))
+
+pub audit_in_short : WordsAreOne → AcceptedExactly → VerdictIsOne → AuditInShort
+audit_in_short words_one exactly one words files fixed folder log ratio table status old new line low (texts, inl usage, w) = not_low status 2 low usage.0 (omega arith)
+audit_in_short words_one exactly one words files fixed folder log ratio table status old new line low (texts, inr (c, l, (found, told, inr bad)), w) =
+    not_low status 3 low bad.2.0 (omega arith)
+audit_in_short words_one exactly one words files fixed folder log ratio table status old new line low (texts, inr (c, l, (found, told, inl done)), w) =
+    let same = words_one words c (Audit folder log ratio table) l line in
+    audited_short exactly one files folder log ratio table status old new texts found
+    (subst (λ (d : Command). IsFoundTold (Some files) d found) same told)
+    (subst (λ (d : Command). IsDone d found fixed status texts) same done.1) (added old new texts w)
+
+-- ---- a validation in short
+
+-- nothing is found exactly where all replies are right
+found_none : FindingIsOne → (graph : List Row) (cases : List CaseAt) (first : Option Difference) → Finds graph cases first → (outcome_status first ≡ 0) ↔ AreRight graph cases
+found_none one graph cases first is = (to first is, λ right. ap outcome_status (one graph cases first None is right))
+  where
+    to : (o : Option Difference) → Finds graph cases o → outcome_status o ≡ 0 → AreRight graph cases
+    to None f e = f
+    to (Some d) f e = absurd (omega (arith, e))
+
+validated_short : FindingIsOne → (files : Files) (folder name : List ℕ) (status : ℕ) (old new texts : Written) (found : Found)
+    → IsFoundTold (Some files) (Validate folder name) found → IsValidated found.held found.beside status texts → new ≡ joined old texts
+    → IsValidateInShort files folder name status old new
+validated_short one files folder name status old new texts found told done e =
+    let t : IsTally done.graph (files name) done.tally = subst (λ (b : Option (List ℕ)). IsTally done.graph b done.tally) told.1 done.found in
+    record {
+      graph = done.graph;
+      dataset = subst (λ (h : Held). IsDataset at_first h done.graph) (told_files folder files found.held told.0) done.dataset;
+      cases = t.cases;
+      said = t.said;
+      exactly = subst (λ (n : ℕ). (n ≡ 0) ↔ AreRight done.graph t.cases) (sym done.status_is) (found_none one done.graph t.cases done.tally.first t.found);
+      tally = done.tally;
+      found = t;
+      screen = ap (λ (w : Written). w.screen) e ∙ ap (λ (w : Written). old.screen ++ w.screen) done.shown;
+    }
+
+pub validate_in_short : WordsAreOne → FindingIsOne → ValidateInShort
+validate_in_short words_one one words files fixed folder name status old new line low (texts, inl usage, w) = not_low status 2 low usage.0 (omega arith)
+validate_in_short words_one one words files fixed folder name status old new line low (texts, inr (c, l, (found, told, inr bad)), w) =
+    not_low status 3 low bad.2.0 (omega arith)
+validate_in_short words_one one words files fixed folder name status old new line low (texts, inr (c, l, (found, told, inl done)), w) =
+    let same = words_one words c (Validate folder name) l line in
+    validated_short one files folder name status old new texts found
+    (subst (λ (d : Command). IsFoundTold (Some files) d found) same told)
+    (subst (λ (d : Command). IsDone d found fixed status texts) same done.1) (added old new texts w)

@@ -1,14 +1,14 @@
 -- Facts on what a folder is refused for, and on what is read of it.
-use Rattle.std.proofs.Common.{◌≡◌, ℕ, ◌<◌, ◌≤◌, List, [], ◌∷◌, ◌++◌, Option, Result, Ok, Err, Vec, inl, inr, sym, subst, ap, ◌∙◌, arith}
+use Rattle.std.proofs.Common.{◌≡◌, ℕ, ◌<◌, ◌≤◌, List, [], ◌∷◌, ◌++◌, Option, None, Some, Result, Ok, Err, Vec, refl, inl, inr, sym, subst, ap, ◌∙◌, arith}
 use Rattle.std.specs.declared.alloc.Global.{Global}
 use Rattle.std.specs.Result.{IfOk}
 use Rattle.snb_base.specs.Shelf.{Files}
 use Rattle.snb_input.specs.declared.load.Load.{Load}
 use Rattle.snb_input.specs.declared.load.Load.TheVariants.{Refused, ReadFault, Memory}
 use Rattle.snb_input.specs.declared.load.Used.{Used}
-use Rattle.snb_input.specs.FirstOf.{FirstOf}
+use Rattle.snb_input.specs.FirstOf.{FirstOf, NoneOf}
 use Rattle.snb_input.specs.Laws.{StagesJoin}
-use Rattle.snb_input.specs.Loading.{OnReadFault}
+use Rattle.snb_input.specs.Loading.{IsTold, OnReadFault}
 use Rattle.snb_input.specs.Stages.{before}
 use Rattle.snb_input.specs.Walk.{Before, Held, IsHeldTold}
 use Rattle.snb_input.proofs.Laws.{first_anyway, first_later, none_append}
@@ -33,10 +33,19 @@ use Rattle.snb_schema.specs.QueryLists.{QueryLists}
 use Rattle.snb_tables.specs.Graphs.{HoldsKey}
 use Rattle.snb_tables.specs.Soundness.{Sound}
 use Rattle.snb_words.specs.declared.command.Command.{Command}
-use Rattle.snb_words.specs.declared.command.Command.TheVariants.{Check, Run, Read}
+use Rattle.snb_words.specs.declared.command.Command.TheVariants.{Audit, Check, Run, Read, Validate}
 use Rattle.snb_tool.specs.declared.input.Input.{Input}
-use Rattle.snb_tool.specs.Endings.{IsInputAnswer, IsMade, IsMadeAnswer, IsOpen, IsReplyAnswer, IsReplyLine}
-use Rattle.snb_tool.specs.Inputs.{ArePlanned, AreTooMany, Found, IsNotClosed, after_dataset, after_streams, at_first, checks_of, plan_checks}
+use Rattle.snb_audit.specs.Audited.{IsAuditAnswer}
+use Rattle.snb_audit.specs.LogFiles.{log_checks}
+use Rattle.snb_auditor.specs.declared.verdict.Verdict.{Verdict}
+use Rattle.snb_auditor.specs.Verdicts.{IsVerdict}
+use Rattle.snb_plan.specs.Plans.{schedule_of}
+use Rattle.snb_schema.specs.Schedule.{Schedule}
+use Rattle.snb_checker.specs.declared.text.Tally.{Tally}
+use Rattle.snb_checker.specs.CasesFile.{IsCasesAnswer, cases_checks}
+use Rattle.snb_checker.specs.Laws.{CasesRefuseOnce, CasesRefusedOrNot}
+use Rattle.snb_tool.specs.Endings.{IsTallyAnswer, IsInputAnswer, IsJudgedAnswer, IsMade, IsMadeAnswer, IsOpen, IsReplyAnswer, IsReplyLine}
+use Rattle.snb_tool.specs.Inputs.{AreBadCases, ArePlanned, AreTooMany, Found, IsNotClosed, after_dataset, after_streams, at_first, checks_of, plan_checks}
 
 -- what is read of the files of one folder is one thing
 pub record AreOne : Type 0 where
@@ -50,6 +59,8 @@ pub record RefuseEachOnce : Type 0 where
   pub dataset : DatasetRefusesOnce
   pub lanes : LanesRefuseOnce
   pub params : ParamsRefuseOnce
+  pub log : (beside : Option (List ℕ)) → RefuseOnce (log_checks beside)
+  pub cases : CasesRefuseOnce
 
 -- the checks that come after the files
 abbrev last_checks : ℕ → FrequencyTable → Held → List {1} (Refusal → Type 0)
@@ -107,11 +118,21 @@ module _ (one : AreOne) (ratio : ℕ) (table : FrequencyTable) (held : Held) whe
       (once_append (params_checks (after_streams held) held table) (last_checks ratio table held) (each.params (after_streams held) held table)
       (once_append (AreTooMany held table ∷ []) (IsNotClosed held ratio table ∷ []) (once_single (AreTooMany held table) too_many_once) (once_single (IsNotClosed held ratio table) not_closed_once))))
 
+-- a file of cases is refused in one way over the graph of the tables
+bad_cases_once : AreOne → RefuseEachOnce → (held : Held) (beside : Option (List ℕ)) (r q : Refusal) → AreBadCases held beside r → AreBadCases held beside q → r ≡ q
+bad_cases_once one each held beside r q a b =
+    each.cases a.graph beside r q a.refused
+    (subst (λ (g : List Row). FirstOf (cases_checks g beside) q) (one.dataset at_first held b.graph a.graph b.dataset a.dataset) b.refused)
+
 -- the checks of a command give one refusal at most
 pub once : AreOne → RefuseEachOnce → (command : Command) (found : Found) → RefuseOnce (checks_of command found)
 once one each (Read folder query) found = each.dataset at_first found.held
 once one each (Check folder table) found = plan_once one 1000000 table found.held each
 once one each (Run folder workers ratio table) found = plan_once one ratio table found.held each
+once one each (Audit folder log ratio table) found = once_append (plan_checks ratio table found.held) (log_checks found.beside) (plan_once one ratio table found.held each) (each.log found.beside)
+once one each (Validate folder cases) found =
+    once_append (dataset_checks at_first found.held) (AreBadCases found.held found.beside ∷ []) (each.dataset at_first found.held)
+    (once_single (AreBadCases found.held found.beside) (bad_cases_once one each found.held found.beside))
 
 -- ---- what was read of one folder
 
@@ -331,3 +352,83 @@ module _ (contents : Option Files) (folder : List ℕ) (query : Query) where
   pub replied : (used : Used) (graph : List Row) (line : Vec ℕ Global) → IsDatasetAnswer contents folder nothing_used used (Ok graph) → IsReplyLine graph query line.items
       → IsReplyAnswer contents folder query (Ok line)
   replied used graph line d r = (d.0, d.1, record { graph = graph; dataset = d.2; shown = r })
+
+-- ---- of `audit`
+
+-- there is something that the shelf tells of a name
+told_of : (contents : Option Files) (name : List ℕ) → (held : Option (List ℕ)) × IsTold contents name held
+told_of None name = (None, tt)
+told_of (Some files) name = (files name, refl)
+
+module _ (contents : Option Files) (folder log : List ℕ) (ratio : ℕ) (table : FrequencyTable) where
+  pub judged_no_input : (load : Load) → IsInputAnswer contents folder ratio table (Err load) → IsJudgedAnswer contents folder log ratio table (Err load)
+  judged_no_input (Refused r) h =
+      let b = told_of contents log in
+      (h.0, b.0, h.1, b.1, first_anyway (plan_checks ratio table h.0) (log_checks b.0) r h.2)
+  judged_no_input ReadFault h = tt
+  judged_no_input Memory h = tt
+
+  pub judged_by_log : (input : Input) (schedule : Schedule) (result : Result Verdict Load) → schedule ≡ schedule_of input.plan → IsInputAnswer contents folder ratio table (Ok input)
+      → IsAuditAnswer schedule contents log result → IsJudgedAnswer contents folder log ratio table result
+  judged_by_log input schedule (Ok verdict) e h a = (
+    h.0,
+    a.0,
+    h.1,
+    a.1,
+    none_append (plan_checks ratio table h.0) (log_checks a.0) h.2.clean a.2.clean,
+    record {
+      graph = input.graph;
+      plan = input.plan;
+      input = h.2.is;
+      workers = a.2.workers;
+      history = a.2.history;
+      log = a.2.says;
+      judged = subst (λ (s : Schedule). IsVerdict s a.2.workers a.2.history verdict) e a.2.judged;
+    },
+  )
+  judged_by_log input schedule (Err (Refused r)) e h a =
+      (h.0, a.0, h.1, a.1, first_later (plan_checks ratio table h.0) (log_checks a.0) r h.2.clean a.2)
+  judged_by_log input schedule (Err ReadFault) e h a = tt
+  judged_by_log input schedule (Err Memory) e h a = tt
+
+-- ---- of `validate`
+
+module _ (contents : Option Files) (folder cases : List ℕ) (used : Used) where
+  pub tally_no_dataset : (load : Load) → IsDatasetAnswer contents folder nothing_used used (Err load) → IsTallyAnswer contents folder cases (Err load)
+  tally_no_dataset (Refused r) h =
+      let b = told_of contents cases in
+      (h.0, b.0, h.1, b.1, first_anyway (dataset_checks at_first h.0) (AreBadCases h.0 b.0 ∷ []) r h.2)
+  tally_no_dataset ReadFault h = tt
+  tally_no_dataset Memory h = tt
+
+  -- a file of cases with which nothing is wrong over one graph of the tables isn't refused over any
+  not_bad : DatasetIsOne → CasesRefusedOrNot → (held : Held) (beside : Option (List ℕ)) (graph : List Row) → IsDataset at_first held graph → NoneOf (cases_checks graph beside)
+      → (r : Refusal) → ¬ AreBadCases held beside r
+  not_bad one law held beside graph dataset clean r a =
+      law graph beside r (subst (λ (g : List Row). FirstOf (cases_checks g beside) r) (one at_first held a.graph graph a.dataset dataset) a.refused) clean
+
+  pub tallied : DatasetIsOne → CasesRefusedOrNot → (graph : List Row) (result : Result Tally Load) → IsDatasetAnswer contents folder nothing_used used (Ok graph)
+      → IsCasesAnswer contents cases graph result → IsTallyAnswer contents folder cases result
+  tallied one law graph (Ok tally) d a = (
+    d.0,
+    a.0,
+    d.1,
+    a.1,
+    record {
+      clean =
+          none_append (dataset_checks at_first d.0) (AreBadCases d.0 a.0 ∷ []) d.2.clean
+          (not_bad one law d.0 a.0 graph d.2 a.2.clean, tt);
+      graph = graph;
+      dataset = d.2;
+      found = a.2;
+    },
+  )
+  tallied one law graph (Err (Refused r)) d a = (
+    d.0,
+    a.0,
+    d.1,
+    a.1,
+    first_later (dataset_checks at_first d.0) (AreBadCases d.0 a.0 ∷ []) r d.2.clean (inl (record { graph = graph; dataset = d.2; refused = a.2 })),
+  )
+  tallied one law graph (Err ReadFault) d a = tt
+  tallied one law graph (Err Memory) d a = tt

@@ -1,26 +1,38 @@
 -- Facts on how a call ends.
-use Rattle.std.proofs.Common.{◌≡◌, ℕ, ◌+◌, ◌⊎◌, List, [], ◌++◌, length, length-append, Option, None, Ok, Err, Vec, refl, sym, subst, ap, ◌∙◌, inl, inr}
+use Rattle.std.proofs.Common.{◌≡◌, ℕ, ◌+◌, ◌⊎◌, ◌≤◌, List, [], ◌∷◌, ◌++◌, length, length-append, append_assoc, Option, None, Some, Ok, Err, Vec, refl, sym, subst, ap, ◌∙◌, inl, inr}
+use Rattle.std.proofs.lemmas.List.Elements.{All-cons, All-nil}
 use Rattle.std.proofs.lemmas.List.Sorted.{length_permutation}
 use Rattle.std.specs.declared.alloc.Global.{Global}
 use Rattle.snb_base.specs.Outbox.{Rooms, Written}
 use Rattle.snb_base.specs.Shelf.{Files, Rose}
+use Rattle.snb_runlog.specs.Writing.{AreTimed}
+use Rattle.snb_schema.specs.declared.event.Event.{Event}
+use Rattle.snb_schema.specs.declared.limits.TheConstants.{MAX_AT}
 use Rattle.snb_schema.specs.declared.query.Query.{Query}
 use Rattle.snb_schema.specs.declared.refusal.Refusal.{Refusal}
 use Rattle.snb_input.specs.declared.load.Load.TheVariants.{Refused}
+use Rattle.snb_input.specs.Loading.{IsTold}
+use Rattle.std.specs.Prelude.{IfSome}
 use Rattle.snb_schema.specs.declared.row.Row.{Row}
 use Rattle.snb_schema.specs.Frequencies.{FrequencyTable}
+use Rattle.snb_schema.specs.History.{moment}
 use Rattle.snb_schema.specs.RunTexts.{log_text}
 use Rattle.snb_schema.specs.ScreenTexts.{refusal_text, summary_text}
 use Rattle.snb_tables.specs.FinalText.{final_text}
 use Rattle.snb_tables.specs.Graphs.{HasGained}
-use Rattle.snb_plan.specs.Plans.{queries_in, updates_in}
+use Rattle.snb_plan.specs.Plans.{Plan, queries_in, updates_in}
 use Rattle.snb_replay.specs.Replay.{all_rows}
 use Rattle.snb_texts.specs.Answers.{answers_text}
-use Rattle.snb_words.specs.declared.command.Command.TheVariants.{Check, Run, Read}
+use Rattle.snb_words.specs.declared.command.Command.TheVariants.{Audit, Check, Run, Read, Validate}
+use Rattle.snb_workers.specs.declared.done.Answered.{Answered}
 use Rattle.snb_workers.specs.declared.run.Outcome.{Outcome}
 use Rattle.snb_workers.specs.Runs.{HasRun}
 use Rattle.snb_tool.specs.declared.input.Input.{Input}
-use Rattle.snb_tool.specs.Endings.{AreTexts, IsInputAnswer, IsReplyAnswer, Shows}
+use Rattle.snb_auditor.specs.declared.verdict.Verdict.{Verdict}
+use Rattle.snb_audit.specs.VerdictTexts.{verdict_status, verdict_text}
+use Rattle.snb_checker.specs.declared.text.Tally.{Tally}
+use Rattle.snb_checker.specs.CheckTexts.{tally_status, tally_text}
+use Rattle.snb_tool.specs.Endings.{AreTexts, IsInputAnswer, IsJudgedAnswer, IsReplyAnswer, IsTallyAnswer, Shows}
 use Rattle.snb_tool.specs.Outcome.{IsCommandAnswer, IsLeft, check_of}
 use Rattle.snb_tool.specs.Output.{Fit, HasBegun, IsWrittenSoFar, Wrote, on_screen}
 use Rattle.snb_tool.specs.Outside.{Ends, OutOfMemory, Outside, ReadFault, Whole, WriteFault}
@@ -97,6 +109,17 @@ pub run_done : (contents : Option Files) (folder : List ℕ) (workers ratio : �
 run_done contents folder workers ratio table fixed input texts h left =
     (record { held = h.0; beside = None }, (h.1, tt), inl (h.2.clean, (refl, record { graph = input.graph; plan = input.plan; input = h.2.is; left = left })))
 
+-- what is so of each event of a list, after those of a front, is so of all
+timed : (front h : List Event) → ((g : List Event) (e : Event) (rest : List Event) → g ++ e ∷ rest ≡ front ++ h → moment e ≤ MAX_AT) → AreTimed h
+timed front [] bounded = All-nil (λ e. moment e ≤ MAX_AT)
+timed front (e ∷ h) bounded =
+    All-cons (λ d. moment d ≤ MAX_AT) e h (bounded front e h refl)
+    (timed (front ++ e ∷ []) h (λ g d rest q. bounded g d rest (q ∙ append_assoc front (e ∷ []) h)))
+
+-- no moment of a run is above the greatest
+pub run_timed : (workers : ℕ) (plan : Plan) (fixed : Option ℕ) (base : List Row) (h : List Event) (replies : List Answered) (graph : List Row) → HasRun workers plan fixed base h replies graph → AreTimed h
+run_timed workers plan fixed base h replies graph ran = timed [] h ran.legal.bounded
+
 -- the texts of what a run left, where the final graph has the rows of the dataset and of each insert
 pub run_shown : (workers : ℕ) (input : Input) (fixed : Option ℕ) (o : Outcome) (texts : Written) → HasRun workers input.plan fixed input.graph o.events.items o.replies o.graph
     → AreTexts workers input.plan o texts → IsLeft workers input.graph input.plan fixed texts
@@ -137,3 +160,33 @@ read_done contents folder query fixed line text h e = (
     ),
   ),
 )
+
+-- what is told of a file, either way round
+beside_told : (contents : Option Files) (name : List ℕ) (held : Option (List ℕ)) → IsTold contents name held → IfSome contents (λ files. held ≡ files name)
+beside_told None name held told = tt
+beside_told (Some files) name held told = sym told
+
+module _ (contents : Option Files) (folder log : List ℕ) (ratio : ℕ) (table : FrequencyTable) (fixed : Option ℕ) where
+  pub audit_refused : (r : Refusal) → IsJudgedAnswer contents folder log ratio table (Err (Refused r))
+      → IsCommandAnswer (Audit folder log ratio table) contents fixed 3 (on_screen (refusal_text r))
+  audit_refused r h = (record { held = h.0; beside = h.1 }, (h.2, beside_told contents log h.1 h.3), inr (r, h.4, (refl, refl)))
+
+  pub audit_done : (verdict : Verdict) (text : List ℕ) → IsJudgedAnswer contents folder log ratio table (Ok verdict) → text ≡ verdict_text verdict
+      → IsCommandAnswer (Audit folder log ratio table) contents fixed (verdict_status verdict) (on_screen text)
+  audit_done verdict text h e = (
+    record { held = h.0; beside = h.1 },
+    (h.2, beside_told contents log h.1 h.3),
+    inl (h.4, record { verdict = verdict; judged = h.5; status_is = refl; shown = ap on_screen e }),
+  )
+
+module _ (contents : Option Files) (folder cases : List ℕ) (fixed : Option ℕ) where
+  pub validate_refused : (r : Refusal) → IsTallyAnswer contents folder cases (Err (Refused r)) → IsCommandAnswer (Validate folder cases) contents fixed 3 (on_screen (refusal_text r))
+  validate_refused r h = (record { held = h.0; beside = h.1 }, (h.2, beside_told contents cases h.1 h.3), inr (r, h.4, (refl, refl)))
+
+  pub validate_done : (tally : Tally) (text : List ℕ) → IsTallyAnswer contents folder cases (Ok tally) → text ≡ tally_text tally
+      → IsCommandAnswer (Validate folder cases) contents fixed (tally_status tally) (on_screen text)
+  validate_done tally text h e = (
+    record { held = h.0; beside = h.1 },
+    (h.2, beside_told contents cases h.1 h.3),
+    inl (h.4.clean, record { graph = h.4.graph; dataset = h.4.dataset; tally = tally; found = h.4.found; status_is = refl; shown = ap on_screen e }),
+  )

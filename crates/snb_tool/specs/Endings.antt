@@ -1,9 +1,12 @@
 -- How the parts of a call end. Cited by contracts of private functions alone.
-use Rattle.std.specs.Prelude.{◌≡◌, ℕ, ◌<◌, ◌≤◌, ◌⊎◌, List, [], length, Option, Result, Ok, Err, Vec}
+use Rattle.std.specs.Prelude.{◌≡◌, ℕ, ◌<◌, ◌≤◌, ◌⊎◌, List, [], ◌∷◌, ◌++◌, length, Option, Result, Ok, Err, Vec}
 use Rattle.std.specs.declared.alloc.Global.{Global}
+use Rattle.snb_audit.specs.LogFiles.{log_checks}
+use Rattle.snb_auditor.specs.declared.verdict.Verdict.{Verdict}
 use Rattle.snb_base.specs.Outbox.{Rooms, Written}
 use Rattle.snb_base.specs.Shelf.{Files}
 use Rattle.snb_input.specs.FirstOf.{FirstOf, NoneOf}
+use Rattle.snb_input.specs.Loading.{IsTold}
 use Rattle.snb_input.specs.Walk.{Held, IsHeldTold}
 use Rattle.snb_input.specs.declared.load.Load.{Load}
 use Rattle.snb_input.specs.declared.load.Load.TheVariants.{Refused, ReadFault, Memory}
@@ -31,8 +34,10 @@ use Rattle.snb_plan.specs.Plans.{IsPlan, Plan, queries_in, read_count, updates_i
 use Rattle.snb_workers.specs.declared.run.Outcome.{Outcome as RunOutcome}
 use Rattle.snb_tool.specs.declared.deliver.Output.{Output}
 use Rattle.snb_tool.specs.declared.input.Input.{Input}
-use Rattle.snb_tool.specs.Inputs.{IsInput, at_first, plan_checks}
-use Rattle.snb_tool.specs.Outcome.{reply_line}
+use Rattle.snb_checker.specs.declared.text.Tally.{Tally}
+use Rattle.snb_checker.specs.CasesFile.{IsTally}
+use Rattle.snb_tool.specs.Inputs.{AreBadCases, IsInput, at_first, plan_checks}
+use Rattle.snb_tool.specs.Outcome.{IsJudged, reply_line}
 use Rattle.snb_tool.specs.Output.{HasBegun, Wrote, on_screen}
 
 -- a text is shown whole, with this status; or a front of it, where the outbox failed, which wasn't sure of all of it
@@ -113,3 +118,47 @@ IsReplyAnswer contents folder query (Ok line) = (held : Held) × IsHeldTold cont
 IsReplyAnswer contents folder query (Err (Refused r)) = (held : Held) × IsHeldTold contents folder held × FirstOf (dataset_checks at_first held) r
 IsReplyAnswer contents folder query (Err ReadFault) = Unit {0}
 IsReplyAnswer contents folder query (Err Memory) = Unit {0}
+
+-- what is tried for an audit, in order: the files of the plan, then the log
+abbrev pub audit_checks : ℕ → FrequencyTable → Held → Option (List ℕ) → List {1} (Refusal → Type 0)
+audit_checks ratio frequencies held beside = plan_checks ratio frequencies held ++ log_checks beside
+
+-- what the judging of a log answers: there are files of a plan and a log, which are those that the shelf tells where it tells any, of which
+-- nothing is wrong and this is the verdict, or which are refused so
+abbrev pub IsJudgedAnswer : Option Files → List ℕ → List ℕ → ℕ → FrequencyTable → Result Verdict Load → Type 0
+IsJudgedAnswer contents folder log ratio frequencies (Ok verdict) =
+    (held : Held)
+    × (beside : Option (List ℕ))
+    × IsHeldTold contents folder held
+    × IsTold contents log beside
+    × NoneOf (audit_checks ratio frequencies held beside)
+    × IsJudged held beside ratio frequencies verdict
+IsJudgedAnswer contents folder log ratio frequencies (Err (Refused r)) =
+    (held : Held)
+    × (beside : Option (List ℕ))
+    × IsHeldTold contents folder held
+    × IsTold contents log beside
+    × FirstOf (audit_checks ratio frequencies held beside) r
+IsJudgedAnswer contents folder log ratio frequencies (Err ReadFault) = Unit {0}
+IsJudgedAnswer contents folder log ratio frequencies (Err Memory) = Unit {0}
+
+-- what is tried for a validation, in order: the tables, then the file of cases over their graph
+abbrev pub validate_checks : Held → Option (List ℕ) → List {1} (Refusal → Type 0)
+validate_checks held beside = dataset_checks at_first held ++ AreBadCases held beside ∷ []
+
+-- nothing is wrong with the tables and the cases, and this is what is found over them
+pub record IsTallied (held : Held) (beside : Option (List ℕ)) (tally : Tally) : Type 0 where
+  pub clean : NoneOf (validate_checks held beside)
+  pub graph : List Row
+  pub dataset : IsDataset at_first held graph
+  pub found : IsTally graph beside tally
+
+-- what the checking of cases over the tables of a folder answers: there are tables and a file of cases, which are those that the shelf tells
+-- where it tells any, of which this is found, or which are refused so
+abbrev pub IsTallyAnswer : Option Files → List ℕ → List ℕ → Result Tally Load → Type 0
+IsTallyAnswer contents folder cases (Ok tally) =
+    (held : Held) × (beside : Option (List ℕ)) × IsHeldTold contents folder held × IsTold contents cases beside × IsTallied held beside tally
+IsTallyAnswer contents folder cases (Err (Refused r)) =
+    (held : Held) × (beside : Option (List ℕ)) × IsHeldTold contents folder held × IsTold contents cases beside × FirstOf (validate_checks held beside) r
+IsTallyAnswer contents folder cases (Err ReadFault) = Unit {0}
+IsTallyAnswer contents folder cases (Err Memory) = Unit {0}

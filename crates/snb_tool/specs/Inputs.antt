@@ -1,6 +1,8 @@
 -- What each command tries of its files, in order.
 use Rattle.std.specs.Prelude.{◌≡◌, ℕ, ◌<◌, List, [], ◌∷◌, ◌++◌, Option, IfSome}
 use Rattle.snb_base.specs.Shelf.{Files}
+use Rattle.snb_audit.specs.LogFiles.{log_checks}
+use Rattle.snb_checker.specs.CasesFile.{cases_checks}
 use Rattle.snb_input.specs.FirstOf.{FirstOf, NoneOf}
 use Rattle.snb_input.specs.Walk.{Before, Held, IsHeldTold}
 use Rattle.snb_loader.specs.Dataset.{IsDataset, after_tables, dataset_checks}
@@ -18,7 +20,7 @@ use Rattle.snb_schema.specs.LineLanes.{LineLanes, update_count}
 use Rattle.snb_schema.specs.QueryLists.{QueryLists}
 use Rattle.snb_tables.specs.Graphs.{HoldsKey}
 use Rattle.snb_words.specs.declared.command.Command.{Command}
-use Rattle.snb_words.specs.declared.command.Command.TheVariants.{Check, Run, Read}
+use Rattle.snb_words.specs.declared.command.Command.TheVariants.{Audit, Check, Run, Read, Validate}
 use Rattle.snb_words.specs.Commands.{beside_of, folder_of}
 
 -- before the first file nothing is read
@@ -75,10 +77,18 @@ IsFoundTold contents command found =
     IfSome (folder_of command) (λ folder. IsHeldTold contents folder found.held)
     × IfSome (beside_of command) (λ name. IfSome contents (λ files. found.beside ≡ files name))
 
--- what a command tries of what it finds, in order; `check` has the ratio 1
+-- the tables have this graph, over which the file of cases is refused so
+pub record AreBadCases (held : Held) (beside : Option (List ℕ)) (r : Refusal) : Type 0 where
+  pub graph : List Row
+  pub dataset : IsDataset at_first held graph
+  pub refused : FirstOf (cases_checks graph beside) r
+
+-- what a command tries of what it finds, in order; `check` has the ratio 1, `audit` looks at the log last, and `validate` at the cases
 abbrev pub checks_of : Command → Found → List {1} (Refusal → Type 0)
 checks_of (Check folder frequencies) found = plan_checks 1000000 frequencies found.held
 checks_of (Run folder workers ratio frequencies) found = plan_checks ratio frequencies found.held
+checks_of (Audit folder log ratio frequencies) found = plan_checks ratio frequencies found.held ++ log_checks found.beside
+checks_of (Validate folder cases) found = dataset_checks at_first found.held ++ AreBadCases found.held found.beside ∷ []
 checks_of (Read folder query) found = dataset_checks at_first found.held
 
 -- nothing is wrong with what a command finds, whatever of it the shelf doesn't tell

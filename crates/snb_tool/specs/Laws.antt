@@ -1,6 +1,16 @@
 -- Laws of what the commands answer.
-use Rattle.std.specs.Prelude.{◌≡◌, ℕ, ◌⊎◌, ◌++◌, List, Option, Some}
+use Rattle.std.specs.Prelude.{◌≡◌, ℕ, ◌⊎◌, ◌↔◌, ◌++◌, List, Option, Some}
+use Rattle.snb_audit.specs.LogFiles.{IsLogOf}
+use Rattle.snb_audit.specs.VerdictTexts.{verdict_text}
+use Rattle.snb_auditor.specs.declared.verdict.Verdict.{Verdict}
+use Rattle.snb_auditor.specs.Verdicts.{IsTimelyRun, IsVerdict}
 use Rattle.snb_base.specs.Outbox.{Written}
+use Rattle.snb_case_lines.specs.declared.case.CaseAt.{CaseAt}
+use Rattle.snb_checker.specs.declared.text.Tally.{Tally}
+use Rattle.snb_checker.specs.CasesFile.{AreCases, IsTally}
+use Rattle.snb_checker.specs.CheckTexts.{tally_text}
+use Rattle.snb_checker.specs.Checks.{AreRight}
+use Rattle.snb_loader.specs.Dataset.{IsDataset}
 use Rattle.snb_base.specs.Shelf.{Files}
 use Rattle.snb_input.specs.Files.{held_in}
 use Rattle.snb_input.specs.FirstOf.{FirstOf, NoneOf}
@@ -15,11 +25,11 @@ use Rattle.snb_schema.specs.RunTexts.{log_text}
 use Rattle.snb_tables.specs.FinalText.{final_text}
 use Rattle.snb_texts.specs.Answers.{answers_text}
 use Rattle.snb_words.specs.declared.command.Command.{Command}
-use Rattle.snb_words.specs.declared.command.Command.TheVariants.{Run}
+use Rattle.snb_words.specs.declared.command.Command.TheVariants.{Audit, Run, Validate}
 use Rattle.snb_words.specs.Commands.{IsLineOf}
 use Rattle.snb_workers.specs.declared.done.Answered.{Answered}
 use Rattle.snb_workers.specs.Runs.{AreReplies}
-use Rattle.snb_tool.specs.Inputs.{Found, IsInput, checks_of}
+use Rattle.snb_tool.specs.Inputs.{Found, IsInput, at_first, checks_of}
 use Rattle.snb_tool.specs.Outcome.{IsAnswer}
 use Rattle.snb_tool.specs.Output.{HasWritten}
 
@@ -35,7 +45,7 @@ RefusedOrNot = (command : Command) (found : Found) (r : Refusal) → FirstOf (ch
 abbrev pub AnswersHaveStatus : Type 0
 AnswersHaveStatus =
     (words : List (List ℕ)) (contents : Option Files) (fixed : Option ℕ) (status : ℕ) (texts : Written) → IsAnswer words contents fixed status texts
-    → (status ≡ 0) ⊎ (status ≡ 2) ⊎ (status ≡ 3)
+    → (status ≡ 0) ⊎ (status ≡ 1) ⊎ (status ≡ 2) ⊎ (status ≡ 3)
 
 -- what a run that is done has added to the channels, where the files and the channels are told: the log of a legal, complete history of the plan
 -- of the files; the replies to its reads, each on the graph of its front; and the rows of the dataset and of each insert, each once
@@ -60,3 +70,46 @@ RunInShort =
     (words : List (List ℕ)) (files : Files) (fixed : Option ℕ) (folder : List ℕ) (workers ratio : ℕ) (frequencies : FrequencyTable) (old new : Written)
     → IsLineOf words (Run folder workers ratio frequencies) → HasWritten (Some old) (Some new) (IsAnswer words (Some files) fixed 0)
     → IsRunInShort files folder workers ratio frequencies old new
+
+-- what an audit that is done says, where the files and the channels are told: the log of this name says so many workers and one history; the
+-- status is 0 exactly where that history is legal and complete on the plan of the files, and at least 95 of 100 operations are on time; and the
+-- text of its verdict was added to the screen
+pub record IsAuditInShort (files : Files) (folder log : List ℕ) (ratio : ℕ) (frequencies : FrequencyTable) (status : ℕ) (old new : Written) : Type 0 where
+  pub graph : List Row
+  pub plan : Plan
+  pub input : IsInput (held_in folder files) ratio frequencies graph plan
+  pub workers : ℕ
+  pub history : List Event
+  pub said : IsLogOf (files log) workers history
+  pub exactly : (status ≡ 0) ↔ (IsLegal (schedule_of plan) workers history × IsComplete (schedule_of plan) history × IsTimelyRun (schedule_of plan) history)
+  pub verdict : Verdict
+  pub judged : IsVerdict (schedule_of plan) workers history verdict
+  pub screen : new.screen ≡ old.screen ++ verdict_text verdict
+
+-- status 0 or 1 of `audit` says that
+abbrev pub AuditInShort : Type 0
+AuditInShort =
+    (words : List (List ℕ)) (files : Files) (fixed : Option ℕ) (folder log : List ℕ) (ratio : ℕ) (frequencies : FrequencyTable) (status : ℕ) (old new : Written)
+    → IsLineOf words (Audit folder log ratio frequencies) → (status ≡ 0) ⊎ (status ≡ 1)
+    → HasWritten (Some old) (Some new) (IsAnswer words (Some files) fixed status)
+    → IsAuditInShort files folder log ratio frequencies status old new
+
+-- what a validation that is done says, where the files and the channels are told: the file of this name says these cases; the status is 0 exactly
+-- where each reply that they have is the one on the graph of the tables with the inserts before it; and the text of what is found was added to
+-- the screen
+pub record IsValidateInShort (files : Files) (folder name : List ℕ) (status : ℕ) (old new : Written) : Type 0 where
+  pub graph : List Row
+  pub dataset : IsDataset at_first (held_in folder files) graph
+  pub cases : List CaseAt
+  pub said : AreCases graph (files name) cases
+  pub exactly : (status ≡ 0) ↔ AreRight graph cases
+  pub tally : Tally
+  pub found : IsTally graph (files name) tally
+  pub screen : new.screen ≡ old.screen ++ tally_text tally
+
+-- status 0 or 1 of `validate` says that
+abbrev pub ValidateInShort : Type 0
+ValidateInShort =
+    (words : List (List ℕ)) (files : Files) (fixed : Option ℕ) (folder name : List ℕ) (status : ℕ) (old new : Written)
+    → IsLineOf words (Validate folder name) → (status ≡ 0) ⊎ (status ≡ 1) → HasWritten (Some old) (Some new) (IsAnswer words (Some files) fixed status)
+    → IsValidateInShort files folder name status old new

@@ -1,12 +1,19 @@
 -- What a call of the program answers and writes.
 use Rattle.std.specs.Prelude.{◌≡◌, ℕ, ◌+◌, List, [], ◌∷◌, ◌++◌, length, Option, ◌⊎◌}
 use Rattle.serde_json.specs.Written.{compact_text}
+use Rattle.snb_audit.specs.LogFiles.{IsLogOf}
+use Rattle.snb_audit.specs.VerdictTexts.{verdict_status, verdict_text}
+use Rattle.snb_auditor.specs.declared.verdict.Verdict.{Verdict}
+use Rattle.snb_auditor.specs.Verdicts.{IsVerdict}
 use Rattle.snb_base.specs.Outbox.{Written}
+use Rattle.snb_checker.specs.declared.text.Tally.{Tally}
+use Rattle.snb_checker.specs.CasesFile.{IsTally}
+use Rattle.snb_checker.specs.CheckTexts.{tally_status, tally_text}
 use Rattle.snb_base.specs.Shelf.{Files}
 use Rattle.snb_input.specs.FirstOf.{FirstOf, NoneOf}
 use Rattle.snb_input.specs.Walk.{Held}
 use Rattle.snb_loader.specs.Dataset.{IsDataset}
-use Rattle.snb_plan.specs.Plans.{Plan, queries_in, updates_in}
+use Rattle.snb_plan.specs.Plans.{Plan, queries_in, schedule_of, updates_in}
 use Rattle.snb_reads.specs.declared.cell.Cell.{Cell}
 use Rattle.snb_reads.specs.Replies.{IsReply}
 use Rattle.snb_replay.specs.Replay.{all_rows}
@@ -24,7 +31,7 @@ use Rattle.snb_validation.specs.ReplyData.{reply_data}
 use Rattle.snb_workers.specs.declared.done.Answered.{Answered}
 use Rattle.snb_workers.specs.Runs.{HasRun}
 use Rattle.snb_words.specs.declared.command.Command.{Command}
-use Rattle.snb_words.specs.declared.command.Command.TheVariants.{Check, Run, Read}
+use Rattle.snb_words.specs.declared.command.Command.TheVariants.{Audit, Check, Run, Read, Validate}
 use Rattle.snb_words.specs.Commands.{IsLineOf, IsOtherLine}
 use Rattle.snb_tool.specs.Inputs.{Found, IsFoundTold, IsInput, at_first, checks_of}
 use Rattle.snb_tool.specs.Output.{on_screen}
@@ -72,6 +79,33 @@ pub record IsRun (held : Held) (workers ratio : ℕ) (frequencies : FrequencyTab
   pub input : IsInput held ratio frequencies graph plan
   pub left : IsLeft workers graph plan fixed texts
 
+-- nothing is wrong with the files of a plan, these bytes are a log that says so many workers and a history, and the history has this verdict on
+-- the plan
+pub record IsJudged (held : Held) (beside : Option (List ℕ)) (ratio : ℕ) (frequencies : FrequencyTable) (verdict : Verdict) : Type 0 where
+  pub graph : List Row
+  pub plan : Plan
+  pub input : IsInput held ratio frequencies graph plan
+  pub workers : ℕ
+  pub history : List Event
+  pub log : IsLogOf beside workers history
+  pub judged : IsVerdict (schedule_of plan) workers history verdict
+
+-- the status and the text tell a verdict on the history of the log
+pub record TellsVerdict (held : Held) (beside : Option (List ℕ)) (ratio : ℕ) (frequencies : FrequencyTable) (status : ℕ) (texts : Written) : Type 0 where
+  pub verdict : Verdict
+  pub judged : IsJudged held beside ratio frequencies verdict
+  pub status_is : status ≡ verdict_status verdict
+  pub shown : texts ≡ on_screen (verdict_text verdict)
+
+-- nothing is wrong with the tables and the file of cases, and the status and the text tell what is found over the cases on the graph of the tables
+pub record IsValidated (held : Held) (beside : Option (List ℕ)) (status : ℕ) (texts : Written) : Type 0 where
+  pub graph : List Row
+  pub dataset : IsDataset at_first held graph
+  pub tally : Tally
+  pub found : IsTally graph beside tally
+  pub status_is : status ≡ tally_status tally
+  pub shown : texts ≡ on_screen (tally_text tally)
+
 -- the line of a reply: its JSON text, and a line feed
 abbrev pub reply_line : List (List (List Cell)) → List ℕ
 reply_line reply = compact_text (reply_data reply) ++ 10 ∷ []
@@ -88,6 +122,8 @@ pub record IsRead (held : Held) (query : Query) (texts : Written) : Type 0 where
 abbrev pub IsDone : Command → Found → Option ℕ → ℕ → Written → Type 0
 IsDone (Check folder frequencies) found fixed status texts = (status ≡ 0) × IsChecked found.held frequencies texts
 IsDone (Run folder workers ratio frequencies) found fixed status texts = (status ≡ 0) × IsRun found.held workers ratio frequencies fixed texts
+IsDone (Audit folder log ratio frequencies) found fixed status texts = TellsVerdict found.held found.beside ratio frequencies status texts
+IsDone (Validate folder cases) found fixed status texts = IsValidated found.held found.beside status texts
 IsDone (Read folder query) found fixed status texts = (status ≡ 0) × IsRead found.held query texts
 
 -- the status and the texts of a command that is refused: what is wrong first is shown

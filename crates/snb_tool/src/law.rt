@@ -1,7 +1,10 @@
 //! Laws of what the program answers. The functions only cite other laws; their contracts are the laws.
 
-ghost use Rattle.snb_tool.specs.Laws.{AnswersHaveStatus, RefusalIsOne, RefusedOrNot, RunInShort};
+ghost use Rattle.snb_tool.specs.Laws.{AnswersHaveStatus, AuditInShort, RefusalIsOne, RefusedOrNot, RunInShort, ValidateInShort};
 
+use snb_audit::law::one_log_refusal;
+use snb_auditor::law::{accepted_exactly, verdict_is_one};
+use snb_checker::law::one_cases_refusal;
 use snb_loader::law::{one_dataset, one_lanes, one_params};
 use snb_plan::law::plan_is_one;
 use snb_words::law::one_command;
@@ -15,9 +18,11 @@ pub fn refusal_is_one()
     one_lanes();
     one_params();
     plan_is_one();
+    one_log_refusal();
+    one_cases_refusal();
 }
 
-/// A status to which texts belong is 0, 2 or 3.
+/// A status to which texts belong is 0, 1, 2 or 3.
 pub fn answers_have_status()
     ensures { AnswersHaveStatus }
 {}
@@ -30,4 +35,25 @@ pub fn run_in_short()
     ensures { RunInShort }
 {
     one_command();
+}
+
+/// Where the files and the screen are told, status 0 or 1 of `audit` says: the log of this name says so many
+/// workers and one history, and the status is 0 exactly if that history is legal and complete on the plan of
+/// the files and at least 95 of 100 operations are on time.
+pub fn audit_in_short()
+    ensures { AuditInShort }
+{
+    one_command();
+    accepted_exactly();
+    verdict_is_one();
+}
+
+/// Where the files and the screen are told, status 0 or 1 of `validate` says: the file of this name says some
+/// cases, and the status is 0 exactly if each reply that they have is the one on the graph of the tables with
+/// the inserts before it.
+pub fn validate_in_short()
+    ensures { ValidateInShort }
+{
+    one_command();
+    one_cases_refusal();
 }

@@ -1,6 +1,7 @@
 //! The one call that does all that the program does.
 #![tactic(auto)]
 
+mod audit;
 mod check;
 mod deliver;
 mod input;
@@ -9,3 +10,4 @@ mod read;
 mod run;
 mod show;
 pub mod tool;
+mod validate;

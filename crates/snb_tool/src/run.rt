@@ -3,6 +3,8 @@
 ghost use Rattle.std.specs.Prelude.{◌≡◌, ◌≤◌, IfOk};
 ghost use Rattle.snb_plan.specs.Closed.{IsClosed};
 ghost use Rattle.snb_plan.specs.Plans.{updates_in};
+ghost use Rattle.snb_runlog.specs.Writing.{AreTimed};
+ghost use Rattle.snb_schema.specs.declared.limits.TheConstants.{MAX_WORKERS};
 ghost use Rattle.snb_tables.specs.Graphs.{HoldsKey};
 ghost use Rattle.snb_tables.specs.Soundness.{Sound};
 ghost use Rattle.snb_words.specs.declared.command.Command.TheVariants.{Run};
@@ -20,11 +22,11 @@ use snb_base::shelf::Shelf;
 use snb_input::load::Load;
 use snb_plan::plan::Plan;
 use snb_ratio::ratio::Ratio;
+use snb_runlog::write::write_log;
 use snb_schema::frequencies::Frequencies;
 use snb_texts::answers::answer_lines;
 use snb_texts::counts::summary_lines;
 use snb_texts::final_lines::final_lines;
-use snb_texts::log_lines::log_lines;
 use snb_workers::run::{Outcome, run_alone};
 use std::alloc::{AllocError, Global};
 use std::sync::Wait;
@@ -36,9 +38,13 @@ fn texts_of(
     plan: &Plan,
     outcome: Outcome,
 ) -> Result<Output, AllocError>
+    requires some { 1 ≤ workers }
+    requires few { workers ≤ MAX_WORKERS }
+    requires timed { AreTimed outcome.events.items }
     ensures { IfOk result (λ output. AreTexts workers plan.now outcome (bytes_of output)) }
 {
-    let log = log_lines(alloc, workers, &outcome.events)?;
+    let mut log = Vec::new(alloc);
+    write_log(workers, &outcome.events, &mut log)?;
     let answers = answer_lines(alloc, &outcome.replies)?;
     let finals = final_lines(alloc, &outcome.graph)?;
     let updates = plan.updates();
@@ -63,6 +69,7 @@ fn run_output<R: Wait, C: Clock, G: Gate>(
     gate: &G,
 ) -> Result<Output, AllocError>
     requires workers { 1 ≤ workers }
+    requires few { workers ≤ MAX_WORKERS }
     requires closed { IsClosed (HoldsKey input.graph) (updates_in input.plan) }
     requires sound { Sound input.graph }
     ensures { IfOk result (λ output. IsLeft workers input.graph input.plan (C.fixed clock.now) (bytes_of output)) }
@@ -85,6 +92,7 @@ pub fn run<R: AllocGlobal + Wait, S: Shelf, O: Outbox, C: Clock, G: Gate>(
     gate: &G,
 ) -> u8
     requires workers { 1 ≤ workers }
+    requires few { workers ≤ MAX_WORKERS }
     ensures ends { Ends (IsCommandAnswer (Run folder.now workers ratio frequencies))
         (seen (S.contents shelf.old) (C.fixed clock.now) (S.faults shelf.old) (O.faults out.old) (O.written out.old) (O.ready out.old))
         (seen (S.contents shelf.new) (C.fixed clock.now) (S.faults shelf.new) (O.faults out.new) (O.written out.new) (O.ready out.new)) result }

@@ -11,11 +11,13 @@ ghost use Rattle.snb_tool.specs.Outcome.{IsAnswer, IsCommandAnswer, IsDoneAnswer
 ghost use Rattle.snb_tool.specs.Output.{HasBegun, HasWritten};
 ghost use Rattle.snb_tool.specs.Outside.{Ends, IsReadOnly, seen};
 
+use crate::audit::audit;
 use crate::check::check;
 use crate::law::{answers_have_status, refusal_is_one};
 use crate::read::read;
 use crate::run::run;
 use crate::show::show_as;
+use crate::validate::validate;
 use snb_base::clock::Clock;
 use snb_base::gate::Gate;
 use snb_base::outbox::Outbox;
@@ -65,6 +67,23 @@ fn obey<R: AllocGlobal + Wait, S: Shelf, O: Outbox, C: Clock, G: Gate>(
             clock,
             gate,
         ),
+        Command::Audit {
+            folder,
+            log,
+            ratio,
+            frequencies,
+        } => audit(
+            rt.alloc(),
+            shelf,
+            folder.as_str(),
+            log.as_str(),
+            *ratio,
+            *frequencies,
+            out,
+        ),
+        Command::Validate { folder, cases } => {
+            validate(rt.alloc(), shelf, folder.as_str(), cases.as_str(), out)
+        }
         Command::Read { folder, query } => read(rt.alloc(), shelf, folder.as_str(), query, out),
     }
 }
@@ -101,9 +120,19 @@ fn answer<R: AllocGlobal + Wait, S: Shelf, O: Outbox, C: Clock, G: Gate>(
 ///   the updates before it in its lane add.
 /// - `run DIR --workers N` reads the same, runs the plan of N workers, 1 to 8, and writes the log, the
 ///   answers, the final graph and the summary on their channels. One worker does all so far.
-/// - Both take the option `--freq L`, where L has `q:f` for complex queries q and their frequencies f, by
-///   rising q and with commas between; without it nothing is read. `run` takes `--ratio R`, by which its
-///   due times are stretched; it is 1 without it.
+/// - `audit DIR LOG` reads the same, then the log of a run of that plan, and shows the verdict on it: the
+///   first event that doesn't fit those before it, with the first rule that it breaks and two values; else
+///   the worker that halted first; else the least operation that isn't finished; else how many operations
+///   there are and how many of them were on time, started at most 1000 milliseconds after they were due: it
+///   is accepted where these are at least 95 of 100. The log is a file of its own, and its path isn't taken
+///   from `DIR`.
+/// - `validate DIR CASES` reads the tables, then a file of cases, which are inserts and reads with the
+///   replies that are due. Each read is answered on the tables with the inserts of the cases before it. It
+///   shows how many reads there are where all replies are those that are due, and else the first that
+///   isn't, with its line, the one that is due and the one that is given.
+/// - `check`, `run` and `audit` take the option `--freq L`, where L has `q:f` for complex queries q and their frequencies f,
+///   by rising q and with commas between; without it no read is planned. `run` and `audit` take
+///   `--ratio R`, by which due times are stretched; it is 1 without it.
 /// - `read DIR KIND P1 P2 P3` reads the tables and shows the reply to one read: its answer, and those of
 ///   the short reads that follow. KIND is `IS1` to `IS7`, `IC1`, `IC2`, `IC7`, `IC8`, `IC9`, `IC11` or
 ///   `IC13`, with as many parameters as it has: an id of a person or a message for a short read, of a
@@ -118,7 +147,10 @@ fn answer<R: AllocGlobal + Wait, S: Shelf, O: Outbox, C: Clock, G: Gate>(
 ///
 /// Answers the exit status:
 ///
-/// - 0: done, and all texts are written whole.
+/// - 0: done, and all texts are written whole; of `audit`, the log is accepted; of `validate`, no reply
+///   differs.
+/// - 1: of `audit` and `validate` alone: the log isn't accepted, or a reply differs, and why is on the
+///   screen.
 /// - 2: the words are no line of the program's; nothing was read, and the usage is on the screen.
 /// - 3: the first thing that is wrong with the files is on the screen, and nothing was run.
 /// - 4: the shelf failed; nothing was written.

@@ -1,11 +1,11 @@
 -- Facts on the lines of commands.
-use Rattle.std.proofs.Common.{◌≡◌, ℕ, List, length, Option, Some, None, Result, Ok, Err, OnErr, sym, subst, ap, ◌∙◌, arith, codes}
+use Rattle.std.proofs.Common.{◌≡◌, ℕ, List, length, Option, Some, None, Result, Ok, Err, OnErr, sym, subst, ap, ◌∙◌, arith, codes, get_or}
 use Rattle.std.specs.Option.{IfSome, MatchOption}
 use Rattle.snb_ratio.specs.Ratios.{OneRatio}
 use Rattle.snb_schema.specs.Frequencies.{FrequenciesAreOne, FrequencyTable}
 use Rattle.snb_schema.specs.declared.query.Query.{Query}
 use Rattle.snb_words.specs.declared.command.Command.{Command}
-use Rattle.snb_words.specs.declared.command.Command.TheVariants.{Check, Run, Read}
+use Rattle.snb_words.specs.declared.command.Command.TheVariants.{Check, Run, Audit, Validate, Read}
 use Rattle.snb_words.specs.declared.options.Options.{Options}
 use Rattle.snb_fields.specs.Laws.{OneList}
 use Rattle.snb_words.specs.Commands.{AreOf, IsLineOf, IsOtherLine, IsReadOf, IsRunnable}
@@ -42,6 +42,8 @@ runnable words None none = tt
 runnable words (Some (Check folder table)) line = tt
 runnable words (Some (Run folder workers ratio table)) line =
     subst (λ (o : Option ℕ). IfSome o IsNumberOfWorkers) line.are.is_said.1 (say_workers no_options line.line.options line.said line.line.say tt)
+runnable words (Some (Audit folder log ratio table)) line = tt
+runnable words (Some (Validate folder cases)) line = tt
 runnable words (Some (Read folder query)) line = tt
 
 -- a name is that of one command
@@ -49,18 +51,40 @@ pub only_check : (command : Command) (plain : List (List ℕ)) (said : Options) 
     → ¬ AreOf command (codes "check") plain said
 only_check (Check folder table) plain said none are = none folder table are
 only_check (Run folder workers ratio table) plain said none are = let e = ap length are.named in absurd (omega (arith, e))
+only_check (Audit folder log ratio table) plain said none are = let e = ap (λ (t : List ℕ). get_or t 0 0) are.named in absurd (omega (arith, e))
+only_check (Validate folder cases) plain said none are = let e = ap length are.named in absurd (omega (arith, e))
 only_check (Read folder query) plain said none are = let e = ap length are.named in absurd (omega (arith, e))
 
 pub only_run : (command : Command) (plain : List (List ℕ)) (said : Options)
     → ((folder : List ℕ) (workers ratio : ℕ) (table : FrequencyTable) → ¬ AreOf (Run folder workers ratio table) (codes "run") plain said) → ¬ AreOf command (codes "run") plain said
 only_run (Check folder table) plain said none are = let e = ap length are.named in absurd (omega (arith, e))
 only_run (Run folder workers ratio table) plain said none are = none folder workers ratio table are
+only_run (Audit folder log ratio table) plain said none are = let e = ap length are.named in absurd (omega (arith, e))
+only_run (Validate folder cases) plain said none are = let e = ap length are.named in absurd (omega (arith, e))
 only_run (Read folder query) plain said none are = let e = ap length are.named in absurd (omega (arith, e))
+
+pub only_audit : (command : Command) (plain : List (List ℕ)) (said : Options)
+    → ((folder log : List ℕ) (ratio : ℕ) (table : FrequencyTable) → ¬ AreOf (Audit folder log ratio table) (codes "audit") plain said) → ¬ AreOf command (codes "audit") plain said
+only_audit (Check folder table) plain said none are = let e = ap (λ (t : List ℕ). get_or t 0 0) are.named in absurd (omega (arith, e))
+only_audit (Run folder workers ratio table) plain said none are = let e = ap length are.named in absurd (omega (arith, e))
+only_audit (Audit folder log ratio table) plain said none are = none folder log ratio table are
+only_audit (Validate folder cases) plain said none are = let e = ap length are.named in absurd (omega (arith, e))
+only_audit (Read folder query) plain said none are = let e = ap length are.named in absurd (omega (arith, e))
+
+pub only_validate : (command : Command) (plain : List (List ℕ)) (said : Options)
+    → ((folder cases : List ℕ) → ¬ AreOf (Validate folder cases) (codes "validate") plain said) → ¬ AreOf command (codes "validate") plain said
+only_validate (Check folder table) plain said none are = let e = ap length are.named in absurd (omega (arith, e))
+only_validate (Run folder workers ratio table) plain said none are = let e = ap length are.named in absurd (omega (arith, e))
+only_validate (Audit folder log ratio table) plain said none are = let e = ap length are.named in absurd (omega (arith, e))
+only_validate (Validate folder cases) plain said none are = none folder cases are
+only_validate (Read folder query) plain said none are = let e = ap length are.named in absurd (omega (arith, e))
 
 pub only_read : (command : Command) (plain : List (List ℕ)) (said : Options) → ((folder : List ℕ) (query : Query) → ¬ AreOf (Read folder query) (codes "read") plain said)
     → ¬ AreOf command (codes "read") plain said
 only_read (Check folder table) plain said none are = let e = ap length are.named in absurd (omega (arith, e))
 only_read (Run folder workers ratio table) plain said none are = let e = ap length are.named in absurd (omega (arith, e))
+only_read (Audit folder log ratio table) plain said none are = let e = ap length are.named in absurd (omega (arith, e))
+only_read (Validate folder cases) plain said none are = let e = ap length are.named in absurd (omega (arith, e))
 only_read (Read folder query) plain said none are = none folder query are
 
 -- the parts of a line are those of one command
@@ -71,6 +95,8 @@ parts_one list name plain said (Check f s) (Check g t) x y =
     let tables : s ≡ t = x.is_said.1 ∙ sym y.is_said.1 in
     λ i. Check (folders i) (tables i)
 parts_one list name plain said (Check f s) (Run g m b t) x y = let e = ap length (sym x.named ∙ y.named) in absurd (omega (arith, e))
+parts_one list name plain said (Check f s) (Audit g k b t) x y = let e = ap (λ (t : List ℕ). get_or t 0 0) (sym x.named ∙ y.named) in absurd (omega (arith, e))
+parts_one list name plain said (Check f s) (Validate g k) x y = let e = ap length (sym x.named ∙ y.named) in absurd (omega (arith, e))
 parts_one list name plain said (Check f s) (Read g r) x y = let e = ap length (sym x.named ∙ y.named) in absurd (omega (arith, e))
 parts_one list name plain said (Run f n a s) (Check g t) x y = let e = ap length (sym x.named ∙ y.named) in absurd (omega (arith, e))
 parts_one list name plain said (Run f n a s) (Run g m b t) x y =
@@ -81,9 +107,33 @@ parts_one list name plain said (Run f n a s) (Run g m b t) x y =
     let ratios : a ≡ b = x.is_said.2 ∙ sym y.is_said.2 in
     let tables : s ≡ t = x.is_said.3 ∙ sym y.is_said.3 in
     λ i. Run (folders i) (workers i) (ratios i) (tables i)
+parts_one list name plain said (Run f n a s) (Audit g k b t) x y = let e = ap length (sym x.named ∙ y.named) in absurd (omega (arith, e))
+parts_one list name plain said (Run f n a s) (Validate g k) x y = let e = ap length (sym x.named ∙ y.named) in absurd (omega (arith, e))
 parts_one list name plain said (Run f n a s) (Read g r) x y = let e = ap length (sym x.named ∙ y.named) in absurd (omega (arith, e))
+parts_one list name plain said (Audit f l a s) (Check g t) x y = let e = ap (λ (t : List ℕ). get_or t 0 0) (sym x.named ∙ y.named) in absurd (omega (arith, e))
+parts_one list name plain said (Audit f l a s) (Run g m b t) x y = let e = ap length (sym x.named ∙ y.named) in absurd (omega (arith, e))
+parts_one list name plain said (Audit f l a s) (Audit g k b t) x y =
+    let e = sym x.is_said.0 ∙ y.is_said.0 in
+    let folders : f ≡ g = cc in
+    let logs : l ≡ k = cc in
+    let ratios : a ≡ b = x.is_said.1 ∙ sym y.is_said.1 in
+    let tables : s ≡ t = x.is_said.2 ∙ sym y.is_said.2 in
+    λ i. Audit (folders i) (logs i) (ratios i) (tables i)
+parts_one list name plain said (Audit f l a s) (Validate g k) x y = let e = ap length (sym x.named ∙ y.named) in absurd (omega (arith, e))
+parts_one list name plain said (Audit f l a s) (Read g r) x y = let e = ap length (sym x.named ∙ y.named) in absurd (omega (arith, e))
+parts_one list name plain said (Validate f l) (Check g t) x y = let e = ap length (sym x.named ∙ y.named) in absurd (omega (arith, e))
+parts_one list name plain said (Validate f l) (Run g m b t) x y = let e = ap length (sym x.named ∙ y.named) in absurd (omega (arith, e))
+parts_one list name plain said (Validate f l) (Audit g k b t) x y = let e = ap length (sym x.named ∙ y.named) in absurd (omega (arith, e))
+parts_one list name plain said (Validate f l) (Validate g k) x y =
+    let e = sym x.is_said ∙ y.is_said in
+    let folders : f ≡ g = cc in
+    let files : l ≡ k = cc in
+    λ i. Validate (folders i) (files i)
+parts_one list name plain said (Validate f l) (Read g r) x y = let e = ap length (sym x.named ∙ y.named) in absurd (omega (arith, e))
 parts_one list name plain said (Read f r) (Check g t) x y = let e = ap length (sym x.named ∙ y.named) in absurd (omega (arith, e))
 parts_one list name plain said (Read f r) (Run g m b t) x y = let e = ap length (sym x.named ∙ y.named) in absurd (omega (arith, e))
+parts_one list name plain said (Read f r) (Audit g k b t) x y = let e = ap length (sym x.named ∙ y.named) in absurd (omega (arith, e))
+parts_one list name plain said (Read f r) (Validate g k) x y = let e = ap length (sym x.named ∙ y.named) in absurd (omega (arith, e))
 parts_one list name plain said (Read f r) (Read g s) x y =
     let e = sym x.is_said.2 ∙ y.is_said.2 in
     let folders : f ≡ g = cc in

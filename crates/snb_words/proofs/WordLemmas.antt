@@ -14,3 +14,10 @@ pub single_word : (ws : List (Bor (List ℕ))) (d : Bor (List ℕ)) → 1 ≤ le
 single_word [] d l h = absurd (omega arith)
 single_word (p ∷ []) d l h = refl
 single_word (p ∷ q ∷ ws) d l h = absurd (omega (arith, h))
+
+-- two words alone, by their places
+pub word_pair : (ws : List (Bor (List ℕ))) (d : Bor (List ℕ)) → 2 ≤ length ws → length ws < 3 → texts_of ws ≡ (get_or ws 0 d).now ∷ (get_or ws 1 d).now ∷ []
+word_pair [] d l h = absurd (omega arith)
+word_pair (p ∷ []) d l h = absurd (omega arith)
+word_pair (p ∷ q ∷ []) d l h = refl
+word_pair (p ∷ q ∷ r ∷ ws) d l h = absurd (omega (arith, h))

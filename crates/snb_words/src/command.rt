@@ -36,6 +36,24 @@ pub enum Command {
         /// How often each complex query is asked.
         frequencies: Frequencies,
     },
+    /// `audit DIR LOG`, with `--ratio R` and `--freq L` or without.
+    Audit {
+        /// The folder.
+        folder: Text,
+        /// The file of the log.
+        log: Text,
+        /// By how much the due times are stretched.
+        ratio: Ratio,
+        /// How often each complex query is asked.
+        frequencies: Frequencies,
+    },
+    /// `validate DIR CASES`.
+    Validate {
+        /// The folder.
+        folder: Text,
+        /// The file of the cases.
+        cases: Text,
+    },
     /// `read DIR KIND`, with the parameters of the read.
     Read {
         /// The folder.
@@ -58,6 +76,16 @@ impl Drop for Command {
                 ratio: _,
                 frequencies: _,
             } => {}
+            Command::Audit {
+                folder: _,
+                log: _,
+                ratio: _,
+                frequencies: _,
+            } => {}
+            Command::Validate {
+                folder: _,
+                cases: _,
+            } => {}
             Command::Read {
                 folder: _,
                 query: _,
@@ -66,7 +94,7 @@ impl Drop for Command {
     }
 }
 
-// The options of `check`, of `run`, and those that `run` needs.
+// The options of `check`, of `run` and of `audit`, and those that `run` needs.
 const OF_CHECK: [OptionName; 1] = [OptionName::Frequencies];
 
 const OF_RUN: [OptionName; 3] = [
@@ -74,6 +102,8 @@ const OF_RUN: [OptionName; 3] = [
     OptionName::Ratio,
     OptionName::Frequencies,
 ];
+
+const OF_AUDIT: [OptionName; 2] = [OptionName::Ratio, OptionName::Frequencies];
 
 const NEEDED_BY_RUN: [OptionName; 1] = [OptionName::Workers];
 
@@ -113,6 +143,44 @@ fn run_of(alloc: Global, plain: &[&str], said: Options) -> Result<Option<Command
             workers,
             ratio: said.ratio_or_one(),
             frequencies: said.frequencies_or_none(),
+        })),
+        _ => Ok(None),
+    }
+}
+
+// The audit that the plain words and the options say, or None where they say none.
+fn audit_of(alloc: Global, plain: &[&str], said: Options) -> Result<Option<Command>, AllocError>
+    ensures found { IfOk result (λ found. MatchOption found ((command : AnyCommand) → ¬ AreOf command (codes "audit") (texts_of plain.now) said)
+        (λ command. AreOf command (codes "audit") (texts_of plain.now) said)) }
+    ensures memory { OnErr result ((command : AnyCommand) × AreOf command (codes "audit") (texts_of plain.now) said) }
+{
+    if !said.are_suited(&OF_AUDIT, &[]) {
+        return Ok(None);
+    }
+    match plain {
+        [folder, log] => Ok(Some(Command::Audit {
+            folder: Text::from_str(alloc, folder)?,
+            log: Text::from_str(alloc, log)?,
+            ratio: said.ratio_or_one(),
+            frequencies: said.frequencies_or_none(),
+        })),
+        _ => Ok(None),
+    }
+}
+
+// The validation that the plain words and the options say, or None where they say none.
+fn validate_of(alloc: Global, plain: &[&str], said: Options) -> Result<Option<Command>, AllocError>
+    ensures found { IfOk result (λ found. MatchOption found ((command : AnyCommand) → ¬ AreOf command (codes "validate") (texts_of plain.now) said)
+        (λ command. AreOf command (codes "validate") (texts_of plain.now) said)) }
+    ensures memory { OnErr result ((command : AnyCommand) × AreOf command (codes "validate") (texts_of plain.now) said) }
+{
+    if !said.are_suited(&[], &[]) {
+        return Ok(None);
+    }
+    match plain {
+        [folder, cases] => Ok(Some(Command::Validate {
+            folder: Text::from_str(alloc, folder)?,
+            cases: Text::from_str(alloc, cases)?,
         })),
         _ => Ok(None),
     }
@@ -158,6 +226,8 @@ pub fn command_of(alloc: Global, words: &[&str]) -> Result<Option<Command>, Allo
     match line.name {
         "check" => check_of(alloc, line.plain, line.said),
         "run" => run_of(alloc, line.plain, line.said),
+        "audit" => audit_of(alloc, line.plain, line.said),
+        "validate" => validate_of(alloc, line.plain, line.said),
         "read" => read_of(alloc, line.plain, line.said),
         _ => Ok(None),
     }

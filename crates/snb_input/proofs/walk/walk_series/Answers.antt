@@ -9,7 +9,7 @@ use Rattle.snb_input.proofs.walk.walk_series.Goals as goal
 
 pub loop-part-init : goal.loop-part-init
 loop-part-init g c = record {
-  along = λ start looked k. along_first (format_of g.G.Grammar.language g.P.Taker.grammar_of g.P.Taker.rules) g.P.Taker.heard (g.S.Shelf.contents c.args.shelf.now) c.args.folder.now c.args.series start looked c.args.walk k;
+  along = λ begun start looked k. along_first (format_of g.G.Grammar.language g.P.Taker.grammar_of g.P.Taker.limit (g.P.Taker.own begun) g.P.Taker.bare) (g.P.Taker.heard begun) (g.S.Shelf.contents c.args.shelf.now) c.args.folder.now c.args.series start looked c.args.walk k;
   bytes = search rules;
   rows = search rules;
   same = search rules;
@@ -18,55 +18,55 @@ loop-part-init g c = record {
 
 pub returns-in-Err-clause-answer : goal.returns-in-Err-clause-answer
 returns-in-Err-clause-answer g c =
-    λ start looked k.
-    let a = c.loop-part.invariant.along start looked k in
-    along_err (format_of g.G.Grammar.language g.P.Taker.grammar_of g.P.Taker.rules) g.P.Taker.heard (g.S.Shelf.contents c.args.shelf.now) c.args.folder.now c.args.series start looked c.loop-part.part c.loop-part.needed c.loop-part.so_far c.in-Err.load a (search rules) c.requires.few
-    (subst (λ (z : Option Files). IsLook (format_of g.G.Grammar.language g.P.Taker.grammar_of g.P.Taker.rules) g.P.Taker.heard z c.args.folder.now (file_at c.args.series c.loop-part.part) c.loop-part.needed start (looked ++ a.ls) (Err c.in-Err.load)) c.loop-part.invariant.same (c.in-Err.ensures.answer start (looked ++ a.ls) a.walked))
+    λ begun start looked k.
+    let a = c.loop-part.invariant.along begun start looked k in
+    along_err (format_of g.G.Grammar.language g.P.Taker.grammar_of g.P.Taker.limit (g.P.Taker.own begun) g.P.Taker.bare) (g.P.Taker.heard begun) (g.S.Shelf.contents c.args.shelf.now) c.args.folder.now c.args.series start looked c.loop-part.part c.loop-part.needed c.loop-part.so_far c.in-Err.load a (search rules) c.requires.few
+    (subst (λ (z : Option Files). IsLook (format_of g.G.Grammar.language g.P.Taker.grammar_of g.P.Taker.limit (g.P.Taker.own begun) g.P.Taker.bare) (g.P.Taker.heard begun) z c.args.folder.now (file_at c.args.series c.loop-part.part) c.loop-part.needed start (looked ++ a.ls) (Err c.in-Err.load)) c.loop-part.invariant.same (c.in-Err.ensures.answer begun start (looked ++ a.ls) a.walked))
 
 pub returns-in-Ok-Absent-clause-answer : goal.returns-in-Ok-Absent-clause-answer
 returns-in-Ok-Absent-clause-answer g c =
-    λ start looked k.
-    let a = c.loop-part.invariant.along start looked k in
-    let h = subst (λ (z : Looked g.row.P.Denot). IsLook (format_of g.G.Grammar.language g.P.Taker.grammar_of g.P.Taker.rules) g.P.Taker.heard (g.S.Shelf.contents c.args.shelf.now) c.args.folder.now (file_at c.args.series c.loop-part.part) c.loop-part.needed start (looked ++ a.ls) (Ok z)) c.in-Ok-Absent.field-0-is
-    (subst (λ (z : Option Files). IsLook (format_of g.G.Grammar.language g.P.Taker.grammar_of g.P.Taker.rules) g.P.Taker.heard z c.args.folder.now (file_at c.args.series c.loop-part.part) c.loop-part.needed start (looked ++ a.ls) (Ok c.in-Ok-Absent.field-0)) c.loop-part.invariant.same (c.in-Ok-Absent.ensures.answer start (looked ++ a.ls) a.walked)) in
-    along_absent (format_of g.G.Grammar.language g.P.Taker.grammar_of g.P.Taker.rules) g.P.Taker.heard (g.S.Shelf.contents c.args.shelf.now) c.args.folder.now c.args.series start looked c.loop-part.part (first_role c.loop-part.needed) c.loop-part.so_far a c.in-Ok-Absent.walk (search rules) c.requires.few h.0 h.1
+    λ begun start looked k.
+    let a = c.loop-part.invariant.along begun start looked k in
+    let h = subst (λ (z : Looked g.row.P.Denot). IsLook (format_of g.G.Grammar.language g.P.Taker.grammar_of g.P.Taker.limit (g.P.Taker.own begun) g.P.Taker.bare) (g.P.Taker.heard begun) (g.S.Shelf.contents c.args.shelf.now) c.args.folder.now (file_at c.args.series c.loop-part.part) c.loop-part.needed start (looked ++ a.ls) (Ok z)) c.in-Ok-Absent.field-0-is
+    (subst (λ (z : Option Files). IsLook (format_of g.G.Grammar.language g.P.Taker.grammar_of g.P.Taker.limit (g.P.Taker.own begun) g.P.Taker.bare) (g.P.Taker.heard begun) z c.args.folder.now (file_at c.args.series c.loop-part.part) c.loop-part.needed start (looked ++ a.ls) (Ok c.in-Ok-Absent.field-0)) c.loop-part.invariant.same (c.in-Ok-Absent.ensures.answer begun start (looked ++ a.ls) a.walked)) in
+    along_absent (format_of g.G.Grammar.language g.P.Taker.grammar_of g.P.Taker.limit (g.P.Taker.own begun) g.P.Taker.bare) (g.P.Taker.heard begun) (g.S.Shelf.contents c.args.shelf.now) c.args.folder.now c.args.series start looked c.loop-part.part (first_role c.loop-part.needed) c.loop-part.so_far a c.in-Ok-Absent.walk (search rules) c.requires.few h.0 h.1
 
 pub loop-part-preserved : goal.loop-part-preserved
 loop-part-preserved g c = record {
   along =
-      λ start looked k.
-      let a = c.loop-part.invariant.along start looked k in
-      let h = subst (λ (z : Looked g.row.P.Denot). IsLook (format_of g.G.Grammar.language g.P.Taker.grammar_of g.P.Taker.rules) g.P.Taker.heard (g.S.Shelf.contents c.args.shelf.now) c.args.folder.now (file_at c.args.series c.loop-part.part) c.loop-part.needed start (looked ++ a.ls) (Ok z)) c.in-Ok-Whole.field-0-is
-      (subst (λ (z : Option Files). IsLook (format_of g.G.Grammar.language g.P.Taker.grammar_of g.P.Taker.rules) g.P.Taker.heard z c.args.folder.now (file_at c.args.series c.loop-part.part) c.loop-part.needed start (looked ++ a.ls) (Ok c.in-Ok-Whole.field-0)) c.loop-part.invariant.same (c.in-Ok-Whole.ensures.answer start (looked ++ a.ls) a.walked)) in
-      along_more (format_of g.G.Grammar.language g.P.Taker.grammar_of g.P.Taker.rules) g.P.Taker.heard (g.S.Shelf.contents c.args.shelf.now) c.args.folder.now c.args.series start looked c.loop-part.part (first_role c.loop-part.needed) c.loop-part.so_far a h.0 c.in-Ok-Whole.walk (search rules) h.1 h.2;
-  bytes = (subst (λ (z : Looked g.row.P.Denot). IsLookedWithin g.P.Taker.rules.limit z) c.in-Ok-Whole.field-0-is c.in-Ok-Whole.ensures.within).0;
-  rows = (subst (λ (z : Looked g.row.P.Denot). IsLookedWithin g.P.Taker.rules.limit z) c.in-Ok-Whole.field-0-is c.in-Ok-Whole.ensures.within).1;
+      λ begun start looked k.
+      let a = c.loop-part.invariant.along begun start looked k in
+      let h = subst (λ (z : Looked g.row.P.Denot). IsLook (format_of g.G.Grammar.language g.P.Taker.grammar_of g.P.Taker.limit (g.P.Taker.own begun) g.P.Taker.bare) (g.P.Taker.heard begun) (g.S.Shelf.contents c.args.shelf.now) c.args.folder.now (file_at c.args.series c.loop-part.part) c.loop-part.needed start (looked ++ a.ls) (Ok z)) c.in-Ok-Whole.field-0-is
+      (subst (λ (z : Option Files). IsLook (format_of g.G.Grammar.language g.P.Taker.grammar_of g.P.Taker.limit (g.P.Taker.own begun) g.P.Taker.bare) (g.P.Taker.heard begun) z c.args.folder.now (file_at c.args.series c.loop-part.part) c.loop-part.needed start (looked ++ a.ls) (Ok c.in-Ok-Whole.field-0)) c.loop-part.invariant.same (c.in-Ok-Whole.ensures.answer begun start (looked ++ a.ls) a.walked)) in
+      along_more (format_of g.G.Grammar.language g.P.Taker.grammar_of g.P.Taker.limit (g.P.Taker.own begun) g.P.Taker.bare) (g.P.Taker.heard begun) (g.S.Shelf.contents c.args.shelf.now) c.args.folder.now c.args.series start looked c.loop-part.part (first_role c.loop-part.needed) c.loop-part.so_far a h.0 c.in-Ok-Whole.walk (search rules) h.1 h.2;
+  bytes = (subst (λ (z : Looked g.row.P.Denot). IsLookedWithin g.P.Taker.limit z) c.in-Ok-Whole.field-0-is c.in-Ok-Whole.ensures.within).0;
+  rows = (subst (λ (z : Looked g.row.P.Denot). IsLookedWithin g.P.Taker.limit z) c.in-Ok-Whole.field-0-is c.in-Ok-Whole.ensures.within).1;
   same = search rules;
   later = search rules;
 }
 
 pub returns-in-Ok-true-clause-answer : goal.returns-in-Ok-true-clause-answer
 returns-in-Ok-true-clause-answer g c =
-    λ start looked k.
-    let a = c.loop-part.invariant.along start looked k in
+    λ begun start looked k.
+    let a = c.loop-part.invariant.along begun start looked k in
     let h = subst (λ (z : Bool). IsPeek (g.S.Shelf.contents c.args.shelf.now) c.args.folder.now (file_at c.args.series c.args.series.most) z) c.in-Ok-true.field-0-test
     (subst (λ (z : Option Files). IsPeek z c.args.folder.now (file_at c.args.series c.args.series.most) c.in-Ok-true.field-0) c.loop-part.invariant.same c.in-Ok-true.ensures.told) in
     let full : c.loop-part.part ≡ c.args.series.most = omega arith in
-    along_over (format_of g.G.Grammar.language g.P.Taker.grammar_of g.P.Taker.rules) g.P.Taker.heard (g.S.Shelf.contents c.args.shelf.now) c.args.folder.now c.args.series start looked c.loop-part.part (first_role c.loop-part.needed) c.loop-part.so_far a h.0 c.in-Some.what c.in-Some.is full c.requires.few
+    along_over (format_of g.G.Grammar.language g.P.Taker.grammar_of g.P.Taker.limit (g.P.Taker.own begun) g.P.Taker.bare) (g.P.Taker.heard begun) (g.S.Shelf.contents c.args.shelf.now) c.args.folder.now c.args.series start looked c.loop-part.part (first_role c.loop-part.needed) c.loop-part.so_far a h.0 c.in-Some.what c.in-Some.is full c.requires.few
     (subst (λ n. IsFileTold (g.S.Shelf.contents c.args.shelf.now) c.args.folder.now (file_at c.args.series n) (Some h.0)) (sym full) h.1)
 
 pub returns-in-Ok-false-clause-answer : goal.returns-in-Ok-false-clause-answer
 returns-in-Ok-false-clause-answer g c =
-    λ start looked k.
-    let a = c.loop-part.invariant.along start looked k in
+    λ begun start looked k.
+    let a = c.loop-part.invariant.along begun start looked k in
     let h = subst (λ (z : Bool). IsPeek (g.S.Shelf.contents c.args.shelf.now) c.args.folder.now (file_at c.args.series c.args.series.most) z) c.in-Ok-false.field-0-test
     (subst (λ (z : Option Files). IsPeek z c.args.folder.now (file_at c.args.series c.args.series.most) c.in-Ok-false.field-0) c.loop-part.invariant.same c.in-Ok-false.ensures.told) in
     let full : c.loop-part.part ≡ c.args.series.most = omega arith in
-    along_end (format_of g.G.Grammar.language g.P.Taker.grammar_of g.P.Taker.rules) g.P.Taker.heard (g.S.Shelf.contents c.args.shelf.now) c.args.folder.now c.args.series start looked c.loop-part.part (first_role c.loop-part.needed) c.loop-part.so_far a c.in-Some.what c.in-Some.is full c.requires.few
+    along_end (format_of g.G.Grammar.language g.P.Taker.grammar_of g.P.Taker.limit (g.P.Taker.own begun) g.P.Taker.bare) (g.P.Taker.heard begun) (g.S.Shelf.contents c.args.shelf.now) c.args.folder.now c.args.series start looked c.loop-part.part (first_role c.loop-part.needed) c.loop-part.so_far a c.in-Some.what c.in-Some.is full c.requires.few
     (subst (λ n. IsFileTold (g.S.Shelf.contents c.args.shelf.now) c.args.folder.now (file_at c.args.series n) None) (sym full) h)
 
 pub returns-in_default-clause-answer : goal.returns-in_default-clause-answer
 returns-in_default-clause-answer g c =
-    λ start looked k.
-    along_last (format_of g.G.Grammar.language g.P.Taker.grammar_of g.P.Taker.rules) g.P.Taker.heard (g.S.Shelf.contents c.args.shelf.now) c.args.folder.now c.args.series start looked c.loop-part.part (first_role c.loop-part.needed) c.loop-part.so_far (c.loop-part.invariant.along start looked k) c.in_default.is
+    λ begun start looked k.
+    along_last (format_of g.G.Grammar.language g.P.Taker.grammar_of g.P.Taker.limit (g.P.Taker.own begun) g.P.Taker.bare) (g.P.Taker.heard begun) (g.S.Shelf.contents c.args.shelf.now) c.args.folder.now c.args.series start looked c.loop-part.part (first_role c.loop-part.needed) c.loop-part.so_far (c.loop-part.invariant.along begun start looked k) c.in_default.is
     (omega arith) c.requires.few

@@ -11,11 +11,11 @@ use Rattle.snb_input.proofs.walk.walk_series.Given as goal
 abbrev pub invariant-loop-part : goal.invariant-loop-part
 invariant-loop-part g l = record {
   along :
-      (start : Before) (looked : List Look)
-      → Walked (format_of g.G.Grammar.language g.P.Taker.grammar_of g.P.Taker.rules) g.P.Taker.heard start looked l.fn.walk
-      → Along (format_of g.G.Grammar.language g.P.Taker.grammar_of g.P.Taker.rules) g.P.Taker.heard (g.S.Shelf.contents l.fn.shelf) l.folder l.series start looked l.part (first_role l.needed) l.so_far;
+      (begun : g.row.P.Denot) (start : Before) (looked : List Look)
+      → Walked (format_of g.G.Grammar.language g.P.Taker.grammar_of g.P.Taker.limit (g.P.Taker.own begun) g.P.Taker.bare) (g.P.Taker.heard begun) start looked l.fn.walk
+      → Along (format_of g.G.Grammar.language g.P.Taker.grammar_of g.P.Taker.limit (g.P.Taker.own begun) g.P.Taker.bare) (g.P.Taker.heard begun) (g.S.Shelf.contents l.fn.shelf) l.folder l.series start looked l.part (first_role l.needed) l.so_far;
   bytes : l.so_far.used.bytes ≤ MAX_BYTES;
-  rows : IsUnder g.P.Taker.rules.limit l.so_far.used.rows;
+  rows : IsUnder g.P.Taker.limit l.so_far.used.rows;
   same : g.S.Shelf.contents l.shelf ≡ g.S.Shelf.contents l.fn.shelf;
   later : g.S.Shelf.faults l.fn.shelf ≤ g.S.Shelf.faults l.shelf;
 }

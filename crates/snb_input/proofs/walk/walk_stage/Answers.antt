@@ -12,8 +12,8 @@ pub loop-series-init : goal.loop-series-init
 loop-series-init g c = record {
   staged =
       λ fresh.
-      staged_first (format_of g.G.Grammar.language g.P.Taker.grammar_of g.P.Taker.rules) g.P.Taker.heard (g.S.Shelf.contents c.args.shelf.now) c.args.folder.now c.args.stage.now (before c.args.used) (record { used = c.args.used; taker = c.args.taker }) c.requires.rising
-      (walked_first (format_of g.G.Grammar.language g.P.Taker.grammar_of g.P.Taker.rules) g.P.Taker.heard c.args.used c.args.taker fresh);
+      staged_first (format_of g.G.Grammar.language g.P.Taker.grammar_of g.P.Taker.limit (g.P.Taker.own c.args.taker) g.P.Taker.bare) (g.P.Taker.heard c.args.taker) (g.S.Shelf.contents c.args.shelf.now) c.args.folder.now c.args.stage.now (before c.args.used) (record { used = c.args.used; taker = c.args.taker }) c.requires.rising
+      (walked_first (format_of g.G.Grammar.language g.P.Taker.grammar_of g.P.Taker.limit (g.P.Taker.own c.args.taker) g.P.Taker.bare) (g.P.Taker.heard c.args.taker) c.args.used c.args.taker fresh);
   bytes = search rules;
   rows = search rules;
   same = search rules;
@@ -28,9 +28,9 @@ returns-in-Err-clause-answer g c =
     λ fresh.
     let next = next_series c.args.stage.now c.loop-series.series-index (search rules) in
     let one : Series = get_or c.args.stage.now c.loop-series.series-index no_series in
-    let k = subst (λ (left : List Series). Staged (format_of g.G.Grammar.language g.P.Taker.grammar_of g.P.Taker.rules) g.P.Taker.heard (g.S.Shelf.contents c.args.shelf.now) c.args.folder.now c.args.stage.now (before c.args.used) left c.loop-series.so_far) next (c.loop-series.invariant.staged fresh) in
-    staged_err (format_of g.G.Grammar.language g.P.Taker.grammar_of g.P.Taker.rules) g.P.Taker.heard (g.S.Shelf.contents c.args.shelf.now) c.args.folder.now c.args.stage.now (before c.args.used) one (drop (c.loop-series.series-index + 1) c.args.stage.now) c.loop-series.so_far c.in-Err.load k
-    (subst (λ (z : Option Files). IsSeries (format_of g.G.Grammar.language g.P.Taker.grammar_of g.P.Taker.rules) g.P.Taker.heard z c.args.folder.now one (before c.args.used) k.ls (Err c.in-Err.load)) c.loop-series.invariant.same (c.in-Err.ensures.answer (before c.args.used) k.ls k.walked))
+    let k = subst (λ (left : List Series). Staged (format_of g.G.Grammar.language g.P.Taker.grammar_of g.P.Taker.limit (g.P.Taker.own c.args.taker) g.P.Taker.bare) (g.P.Taker.heard c.args.taker) (g.S.Shelf.contents c.args.shelf.now) c.args.folder.now c.args.stage.now (before c.args.used) left c.loop-series.so_far) next (c.loop-series.invariant.staged fresh) in
+    staged_err (format_of g.G.Grammar.language g.P.Taker.grammar_of g.P.Taker.limit (g.P.Taker.own c.args.taker) g.P.Taker.bare) (g.P.Taker.heard c.args.taker) (g.S.Shelf.contents c.args.shelf.now) c.args.folder.now c.args.stage.now (before c.args.used) one (drop (c.loop-series.series-index + 1) c.args.stage.now) c.loop-series.so_far c.in-Err.load k
+    (subst (λ (z : Option Files). IsSeries (format_of g.G.Grammar.language g.P.Taker.grammar_of g.P.Taker.limit (g.P.Taker.own c.args.taker) g.P.Taker.bare) (g.P.Taker.heard c.args.taker) z c.args.folder.now one (before c.args.used) k.ls (Err c.in-Err.load)) c.loop-series.invariant.same (c.in-Err.ensures.answer c.args.taker (before c.args.used) k.ls k.walked))
 
 pub loop-series-preserved : goal.loop-series-preserved
 loop-series-preserved g c = record {
@@ -38,9 +38,9 @@ loop-series-preserved g c = record {
       λ fresh.
       let next = next_series c.args.stage.now c.loop-series.series-index (search rules) in
       let one : Series = get_or c.args.stage.now c.loop-series.series-index no_series in
-      let k = subst (λ (left : List Series). Staged (format_of g.G.Grammar.language g.P.Taker.grammar_of g.P.Taker.rules) g.P.Taker.heard (g.S.Shelf.contents c.args.shelf.now) c.args.folder.now c.args.stage.now (before c.args.used) left c.loop-series.so_far) next (c.loop-series.invariant.staged fresh) in
-      staged_more (format_of g.G.Grammar.language g.P.Taker.grammar_of g.P.Taker.rules) g.P.Taker.heard (g.S.Shelf.contents c.args.shelf.now) c.args.folder.now c.args.stage.now (before c.args.used) one (drop (c.loop-series.series-index + 1) c.args.stage.now) c.loop-series.so_far c.in-Ok.walk k
-      (subst (λ (z : Option Files). IsSeries (format_of g.G.Grammar.language g.P.Taker.grammar_of g.P.Taker.rules) g.P.Taker.heard z c.args.folder.now one (before c.args.used) k.ls (Ok c.in-Ok.walk)) c.loop-series.invariant.same (c.in-Ok.ensures.answer (before c.args.used) k.ls k.walked));
+      let k = subst (λ (left : List Series). Staged (format_of g.G.Grammar.language g.P.Taker.grammar_of g.P.Taker.limit (g.P.Taker.own c.args.taker) g.P.Taker.bare) (g.P.Taker.heard c.args.taker) (g.S.Shelf.contents c.args.shelf.now) c.args.folder.now c.args.stage.now (before c.args.used) left c.loop-series.so_far) next (c.loop-series.invariant.staged fresh) in
+      staged_more (format_of g.G.Grammar.language g.P.Taker.grammar_of g.P.Taker.limit (g.P.Taker.own c.args.taker) g.P.Taker.bare) (g.P.Taker.heard c.args.taker) (g.S.Shelf.contents c.args.shelf.now) c.args.folder.now c.args.stage.now (before c.args.used) one (drop (c.loop-series.series-index + 1) c.args.stage.now) c.loop-series.so_far c.in-Ok.walk k
+      (subst (λ (z : Option Files). IsSeries (format_of g.G.Grammar.language g.P.Taker.grammar_of g.P.Taker.limit (g.P.Taker.own c.args.taker) g.P.Taker.bare) (g.P.Taker.heard c.args.taker) z c.args.folder.now one (before c.args.used) k.ls (Ok c.in-Ok.walk)) c.loop-series.invariant.same (c.in-Ok.ensures.answer c.args.taker (before c.args.used) k.ls k.walked));
   bytes = search rules;
   rows = search rules;
   same = search rules;
@@ -50,5 +50,5 @@ loop-series-preserved g c = record {
 pub returns-clause-answer : goal.returns-clause-answer
 returns-clause-answer g c =
     λ fresh.
-    staged_end (format_of g.G.Grammar.language g.P.Taker.grammar_of g.P.Taker.rules) g.P.Taker.heard (g.S.Shelf.contents c.args.shelf.now) c.args.folder.now c.args.stage.now (before c.args.used) c.loop-series.so_far
-    (subst (λ (left : List Series). Staged (format_of g.G.Grammar.language g.P.Taker.grammar_of g.P.Taker.rules) g.P.Taker.heard (g.S.Shelf.contents c.args.shelf.now) c.args.folder.now c.args.stage.now (before c.args.used) left c.loop-series.so_far) (drop_all c.loop-series.series-index c.args.stage.now (search rules)) (c.loop-series.invariant.staged fresh))
+    staged_end (format_of g.G.Grammar.language g.P.Taker.grammar_of g.P.Taker.limit (g.P.Taker.own c.args.taker) g.P.Taker.bare) (g.P.Taker.heard c.args.taker) (g.S.Shelf.contents c.args.shelf.now) c.args.folder.now c.args.stage.now (before c.args.used) c.loop-series.so_far
+    (subst (λ (left : List Series). Staged (format_of g.G.Grammar.language g.P.Taker.grammar_of g.P.Taker.limit (g.P.Taker.own c.args.taker) g.P.Taker.bare) (g.P.Taker.heard c.args.taker) (g.S.Shelf.contents c.args.shelf.now) c.args.folder.now c.args.stage.now (before c.args.used) left c.loop-series.so_far) (drop_all c.loop-series.series-index c.args.stage.now (search rules)) (c.loop-series.invariant.staged fresh))

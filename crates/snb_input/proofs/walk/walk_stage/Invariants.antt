@@ -10,10 +10,10 @@ use Rattle.snb_input.proofs.walk.walk_stage.Given as goal
 abbrev pub invariant-loop-series : goal.invariant-loop-series
 invariant-loop-series g l = record {
   staged :
-      g.P.Taker.heard l.fn.taker [] []
-      → Staged (format_of g.G.Grammar.language g.P.Taker.grammar_of g.P.Taker.rules) g.P.Taker.heard (g.S.Shelf.contents l.fn.shelf) l.folder l.stage (before l.fn.used) (drop l.series-index l.stage) l.so_far;
+      (g.P.Taker.heard l.fn.taker) l.fn.taker [] []
+      → Staged (format_of g.G.Grammar.language g.P.Taker.grammar_of g.P.Taker.limit (g.P.Taker.own l.fn.taker) g.P.Taker.bare) (g.P.Taker.heard l.fn.taker) (g.S.Shelf.contents l.fn.shelf) l.folder l.stage (before l.fn.used) (drop l.series-index l.stage) l.so_far;
   bytes : l.so_far.used.bytes ≤ MAX_BYTES;
-  rows : IsUnder g.P.Taker.rules.limit l.so_far.used.rows;
+  rows : IsUnder g.P.Taker.limit l.so_far.used.rows;
   same : g.S.Shelf.contents l.shelf ≡ g.S.Shelf.contents l.fn.shelf;
   later : g.S.Shelf.faults l.fn.shelf ≤ g.S.Shelf.faults l.shelf;
 }

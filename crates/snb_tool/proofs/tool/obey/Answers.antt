@@ -3,7 +3,7 @@ use Rattle.snb_words.specs.Commands.{IsRunnable}
 use Rattle.snb_tool.proofs.tool.obey.Goals as goal
 
 pub run-requires : goal.run-requires
-run-requires g c = record { workers = (subst IsRunnable c.in-Run.is c.requires).0 }
+run-requires g c = (let runnable = subst IsRunnable c.in-Run.is c.requires in record { workers = runnable.0; few = runnable.1 })
 
 pub returns-in-Check-clause-ends : goal.returns-in-Check-clause-ends
 returns-in-Check-clause-ends g c = rw (c.in-Check.is, ← c.as_str.ensures) (c.check.ensures.ends (g.C.Clock.fixed c.args.clock.now))
@@ -13,3 +13,9 @@ returns-in-Run-clause-ends g c = rw (c.in-Run.is, ← c.as_str-in-Run.ensures) c
 
 pub returns-in-Read-clause-ends : goal.returns-in-Read-clause-ends
 returns-in-Read-clause-ends g c = rw (c.in-Read.is, ← c.as_str-in-Read.ensures) (c.read.ensures.ends (g.C.Clock.fixed c.args.clock.now))
+
+pub returns-in-Audit-clause-ends : goal.returns-in-Audit-clause-ends
+returns-in-Audit-clause-ends g c = rw (c.in-Audit.is, ← c.as_str-in-Audit.ensures, ← c.as_str-in-Audit-2.ensures) (c.audit.ensures.ends (g.C.Clock.fixed c.args.clock.now))
+
+pub returns-in-Validate-clause-ends : goal.returns-in-Validate-clause-ends
+returns-in-Validate-clause-ends g c = rw (c.in-Validate.is, ← c.as_str-in-Validate.ensures, ← c.as_str-in-Validate-2.ensures) (c.validate.ensures.ends (g.C.Clock.fixed c.args.clock.now))

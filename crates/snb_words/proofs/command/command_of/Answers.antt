@@ -37,6 +37,30 @@ returns-in-run-clause-runnable c = IfOk-weaker c.run_of.result _ _
     (subst (λ (n : List ℕ). IsLine (texts_of c.args.words.now) n (texts_of c.in-Some.line.plain.now) c.in-Some.line.said) c.in-run.is c.in-Some.ensures) found are))
     c.run_of.ensures.found
 
+pub returns-in-audit-clause-is_line : goal.returns-in-audit-clause-is_line
+returns-in-audit-clause-is_line c = IfOk-weaker c.audit_of.result _ _
+    (λ found are. by_parts c.one_ratio.ensures c.frequencies_are_one.ensures (texts_of c.args.words.now) (codes "audit") (texts_of c.in-Some.line.plain.now) c.in-Some.line.said
+    (subst (λ (n : List ℕ). IsLine (texts_of c.args.words.now) n (texts_of c.in-Some.line.plain.now) c.in-Some.line.said) c.in-audit.is c.in-Some.ensures) found are)
+    c.audit_of.ensures.found
+
+pub returns-in-audit-clause-memory : goal.returns-in-audit-clause-memory
+returns-in-audit-clause-memory c = on_err_weaker c.audit_of.result
+    (not_other (texts_of c.args.words.now) (codes "audit") (texts_of c.in-Some.line.plain.now) c.in-Some.line.said
+    (subst (λ (n : List ℕ). IsLine (texts_of c.args.words.now) n (texts_of c.in-Some.line.plain.now) c.in-Some.line.said) c.in-audit.is c.in-Some.ensures))
+    c.audit_of.ensures.memory
+
+pub returns-in-validate-clause-is_line : goal.returns-in-validate-clause-is_line
+returns-in-validate-clause-is_line c = IfOk-weaker c.validate_of.result _ _
+    (λ found are. by_parts c.one_ratio.ensures c.frequencies_are_one.ensures (texts_of c.args.words.now) (codes "validate") (texts_of c.in-Some.line.plain.now) c.in-Some.line.said
+    (subst (λ (n : List ℕ). IsLine (texts_of c.args.words.now) n (texts_of c.in-Some.line.plain.now) c.in-Some.line.said) c.in-validate.is c.in-Some.ensures) found are)
+    c.validate_of.ensures.found
+
+pub returns-in-validate-clause-memory : goal.returns-in-validate-clause-memory
+returns-in-validate-clause-memory c = on_err_weaker c.validate_of.result
+    (not_other (texts_of c.args.words.now) (codes "validate") (texts_of c.in-Some.line.plain.now) c.in-Some.line.said
+    (subst (λ (n : List ℕ). IsLine (texts_of c.args.words.now) n (texts_of c.in-Some.line.plain.now) c.in-Some.line.said) c.in-validate.is c.in-Some.ensures))
+    c.validate_of.ensures.memory
+
 pub returns-in-read-clause-is_line : goal.returns-in-read-clause-is_line
 returns-in-read-clause-is_line c = IfOk-weaker c.read_of.result _ _
     (λ found are. by_parts c.one_ratio.ensures c.frequencies_are_one.ensures (texts_of c.args.words.now) (codes "read") (texts_of c.in-Some.line.plain.now) c.in-Some.line.said

@@ -1,0 +1,78 @@
+-- What is known of an event once some rules were tried.
+use Rattle.std.proofs.Common.{◌≡◌, ℕ, suc, ◌<◌, length, cond, inl, inr, sym, ap, ◌∙◌, subst, refl, arith, eqb, Option, Some}
+use Rattle.std.proofs.lemmas.Bool.{cases_lt}
+use Rattle.snb_schema.specs.declared.event.Event.{Event}
+use Rattle.snb_schema.specs.Rules.{Rule, V1, V2, V3, V4, V5, V6, V7, V8, V9, number, Obeys, Fits}
+use Rattle.snb_schema.specs.Violation.{told_at}
+use Rattle.snb_book.specs.Kept.{Kept}
+use Rattle.snb_auditor.specs.declared.verdict.Violation.{Violation}
+use Rattle.snb_auditor.specs.declared.auditor.Values.{Values}
+use Rattle.snb_auditor.specs.Judging.{Judges}
+
+-- the rule of a number
+rule_of : ℕ → Rule
+rule_of n =
+    cond (eqb n 1) V1 (cond (eqb n 2) V2 (cond (eqb n 3) V3 (cond (eqb n 4) V4 (cond (eqb n 5) V5 (cond (eqb n 6) V6 (cond (eqb n 7) V7 (cond (eqb n 8) V8 V9)))))))
+
+rule_of-number : (r : Rule) → rule_of (number r) ≡ r
+unfolding rule_of
+rule_of-number V1 = refl
+rule_of-number V2 = refl
+rule_of-number V3 = refl
+rule_of-number V4 = refl
+rule_of-number V5 = refl
+rule_of-number V6 = refl
+rule_of-number V7 = refl
+rule_of-number V8 = refl
+rule_of-number V9 = refl
+
+pub number-same : (q r : Rule) → number q ≡ number r → q ≡ r
+number-same q r e = sym (rule_of-number q) ∙ ap rule_of e ∙ rule_of-number r
+
+-- the event obeys the rules whose numbers are below n
+abbrev pub Passes : Kept → Event → ℕ → Type 0
+Passes b e n = (q : Rule) → number q < n → Obeys b.schedule b.workers b.history e q
+
+pub passes_none : (b : Kept) (e : Event) → Passes b e 1
+passes_none b e V1 lt = absurd (omega arith)
+passes_none b e V2 lt = absurd (omega arith)
+passes_none b e V3 lt = absurd (omega arith)
+passes_none b e V4 lt = absurd (omega arith)
+passes_none b e V5 lt = absurd (omega arith)
+passes_none b e V6 lt = absurd (omega arith)
+passes_none b e V7 lt = absurd (omega arith)
+passes_none b e V8 lt = absurd (omega arith)
+passes_none b e V9 lt = absurd (omega arith)
+
+-- one rule more
+pub passes_more : (b : Kept) (e : Event) (r : Rule) → Passes b e (number r) → Obeys b.schedule b.workers b.history e r → Passes b e (suc (number r))
+passes_more b e r passes obeys q lt =
+    elim (cases_lt (number q) (number r)) [
+      | inl below ↦ passes q below
+      | inr here ↦ subst (λ (x : Rule). Obeys b.schedule b.workers b.history e x) (number-same r q (omega arith)) obeys
+    ]
+
+number-bound : (r : Rule) → number r < 10
+number-bound V1 = omega arith
+number-bound V2 = omega arith
+number-bound V3 = omega arith
+number-bound V4 = omega arith
+number-bound V5 = omega arith
+number-bound V6 = omega arith
+number-bound V7 = omega arith
+number-bound V8 = omega arith
+number-bound V9 = omega arith
+
+-- an event that obeys all fits
+pub passes_all : (b : Kept) (e : Event) → Passes b e 10 → Fits b.schedule b.workers b.history e
+passes_all b e passes = record { obeys = λ q. passes q (number-bound q) }
+
+-- the violation of the first rule that doesn't hold
+abbrev pub violation_of : Kept → Rule → Values → Violation
+violation_of b r v = record { event = length b.history; rule = number r; needs = v.needs; found = v.found }
+
+pub breaks_at : (b : Kept) (e : Event) (r : Rule) (v : Values) (given : Option Violation) → given ≡ Some (violation_of b r v) → Passes b e (number r)
+    → (¬ Obeys b.schedule b.workers b.history e r) → record { needs = v.needs; found = v.found } ≡ told_at b.schedule b.workers b.history e r → Judges b e given
+breaks_at b e r v given is passes broken values =
+    subst (λ (o : Option Violation). Judges b e o) (sym is)
+    (record { place = refl; first = r; numbered = refl; breaks = record { broken = broken; before = passes; values_are = values } })

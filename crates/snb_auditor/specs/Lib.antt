@@ -1,0 +1,4 @@
+pub mod Verdicts
+pub mod Audits
+pub mod VerdictLaws
+pub mod Judging

@@ -1,0 +1,7 @@
+mod ValueFacts
+mod ReplyFacts
+mod OneFacts
+mod KindFacts
+mod AskFacts
+mod CaseFacts
+mod LawFacts

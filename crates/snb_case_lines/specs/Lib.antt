@@ -1,0 +1,7 @@
+pub mod Values
+pub mod Parameters
+pub mod Replies
+pub mod CellColumns
+pub mod Cases
+pub mod CaseFile
+pub mod Laws

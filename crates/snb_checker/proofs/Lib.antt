@@ -1,0 +1,6 @@
+mod Answering
+mod CasesFacts
+mod Inserting
+mod LawFacts
+mod Refusing
+mod Telling

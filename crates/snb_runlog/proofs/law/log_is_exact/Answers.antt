@@ -1,0 +1,5 @@
+use Rattle.snb_runlog.proofs.EventFacts.{exact}
+use Rattle.snb_runlog.proofs.law.log_is_exact.Goals as goal
+
+pub returns : goal.returns
+returns c = exact

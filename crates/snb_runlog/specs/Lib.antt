@@ -1,0 +1,4 @@
+pub mod Columns
+pub mod Laws
+pub mod Lines
+pub mod Writing

@@ -1,0 +1,8 @@
+//! The log of a run as text, both ways: one table of columns, by which lines are written and read.
+#![tactic(auto)]
+
+pub mod columns;
+pub mod head;
+pub mod law;
+pub mod reader;
+pub mod write;

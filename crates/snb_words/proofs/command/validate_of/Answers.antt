@@ -1,0 +1,19 @@
+use Rattle.std.proofs.Common.{refl, [], slice_index_or}
+use Rattle.snb_words.specs.declared.command.Command.TheVariants.{Validate}
+use Rattle.snb_words.proofs.CommandLemmas.{on_err}
+use Rattle.snb_words.proofs.WordLemmas.{word_pair}
+use Rattle.snb_words.proofs.command.validate_of.Goals as goal
+
+pub returns-in_err-from_str-in-len2-clause-memory : goal.returns-in_err-from_str-in-len2-clause-memory
+returns-in_err-from_str-in-len2-clause-memory c =
+    on_err c.from_residual.result (
+      Validate (slice_index_or c.args.plain.now 0 (record { ref_ptr = (0, 0); now = [] })).now (slice_index_or c.args.plain.now 1 (record { ref_ptr = (0, 0); now = [] })).now,
+      record { named = refl; suited = c.if-not-are_suited.ensures.0 refl; is_said = word_pair c.args.plain.now (record { ref_ptr = (0, 0); now = [] }) c.in-len2.len_at_least c.in-len2.len_below },
+    )
+
+pub returns-in_err-from_str-in-len2-2-clause-memory : goal.returns-in_err-from_str-in-len2-2-clause-memory
+returns-in_err-from_str-in-len2-2-clause-memory c =
+    on_err c.from_residual-in_err-from_str-in-len2-2.result (
+      Validate (slice_index_or c.args.plain.now 0 (record { ref_ptr = (0, 0); now = [] })).now (slice_index_or c.args.plain.now 1 (record { ref_ptr = (0, 0); now = [] })).now,
+      record { named = refl; suited = c.if-not-are_suited.ensures.0 refl; is_said = word_pair c.args.plain.now (record { ref_ptr = (0, 0); now = [] }) c.in-len2.len_at_least c.in-len2.len_below },
+    )
