@@ -6,7 +6,7 @@ ghost use Rattle.snb_schema.specs.declared.refusal.Missing.{Missing as MissingNo
 ghost use Rattle.snb_tables.specs.Graphs.{HasGained};
 ghost use Rattle.snb_schema.specs.Inserts.{rows_of as rows_of_op};
 ghost use Rattle.snb_tables.specs.Soundness.{Held, Sound};
-ghost use Rattle.snb_inserts.specs.Applying.{HasLine, IsDuplicate, IsFirstMissing};
+ghost use Rattle.snb_inserts.specs.Applying.{HasLine, IsDuplicate, IsFirstMissing, IsWelcome};
 
 use crate::applied::Applied;
 use crate::law::inserts_are_kept;
@@ -16,7 +16,7 @@ use crate::taken::is_taken;
 use snb_graph::graph::Graph;
 use snb_schema::op::Op;
 use snb_store::insert::Insert;
-use std::alloc::Global;
+use std::alloc::{AllocError, Global};
 
 /// Adds the rows of an insert: a node with its edges and words, or one edge. `Missing` names the
 /// first node that the insert refers to, in the order of its fields, and that isn't held.
@@ -53,5 +53,26 @@ pub fn apply(alloc: Global, graph: &mut Graph, op: &Op) -> Result<(), Applied>
         Err(Insert::Memory) => Err(Applied::Memory),
         // Where the graph's references are held, the rows are new, since the insert's key is.
         Err(Insert::Duplicate) => Err(Applied::Duplicate),
+    }
+}
+
+/// Adds the rows of an insert that finds all that it refers to and whose keys are new. The one error is want
+/// of memory, after which the graph is as it was.
+/// The conditions: some line of an update stream is the insert's; the graph is sound; and it holds all that
+/// the insert refers to, and no key that it takes.
+pub fn apply_welcome(alloc: Global, graph: &mut Graph, op: &Op) -> Result<(), AllocError>
+    requires line { HasLine op.now }
+    requires sound { Sound graph.old }
+    requires welcome { IsWelcome graph.old op.now }
+    ensures gained { OnOk result (HasGained graph.old (rows_of_op op.now) graph.new) }
+    ensures sound { OnOk result (Sound graph.new) }
+    ensures err { OnErr result (graph.new ≡ graph.old) }
+{
+    match apply(alloc, graph, op) {
+        Ok(()) => Ok(()),
+        Err(Applied::Memory) => Err(AllocError),
+        // All that the insert refers to is held, and none of the keys that it takes is.
+        Err(Applied::Missing { .. }) => unreachable!(),
+        Err(Applied::Duplicate) => unreachable!(),
     }
 }

@@ -10,3 +10,4 @@ pub mod Agreement
 pub mod Laws
 pub mod Prefixes
 pub mod OneInsert
+pub mod InOrder

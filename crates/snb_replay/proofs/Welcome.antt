@@ -35,10 +35,10 @@ finished_more : (g h : List Event) (k : ℕ) → finished g k ≡ true → finis
 finished_more g h k f = let a = list_any-append (finishes k) g h in grind arith
 
 -- what a legal history says of an operation that somebody has in hand
-record IsOpen (s : Schedule) (g : List Event) (k : ℕ) : Type 0 where
-  unfinished : finished g k ≡ false
-  cleared : (step_of s k).dependent ≡ true → (j : ℕ) → (step_of s j).dependency ≡ true → (step_of s j).t ≤ (step_of s k).t_d → finished g j ≡ true
-  turn : IsInForum s k → (j : ℕ) → j < k → (step_of s j).lane ≡ (step_of s k).lane → finished g j ≡ true
+pub record IsOpen (s : Schedule) (g : List Event) (k : ℕ) : Type 0 where
+  pub unfinished : finished g k ≡ false
+  pub cleared : (step_of s k).dependent ≡ true → (j : ℕ) → (step_of s j).dependency ≡ true → (step_of s j).t ≤ (step_of s k).t_d → finished g j ≡ true
+  pub turn : IsInForum s k → (j : ℕ) → j < k → (step_of s j).lane ≡ (step_of s k).lane → finished g j ≡ true
 
 is_open : (s : Schedule) (workers : ℕ) (g : List Event) (k worker : ℕ) → IsLegal s workers g → hand g worker ≡ Some k → IsOpen s g k
 is_open s workers g k worker legal held =
@@ -101,7 +101,7 @@ module _ {base : List Row} {plan : Plan} {g : List Event} {graph : List Row} (r 
   ]
 
   -- so it is welcome
-  welcome_here : IsWelcome graph u.line.op
+  pub welcome_here : IsWelcome graph u.line.op
   welcome_here = (
     λ i d within. there (get_or (refs_of u.line.op) i d) (Contains-get_or (refs_of u.line.op) i d within) ((closed_at (HoldsKey base) plan k u r.closed at).met i d within),
     λ held. free held.0 held.1 held.2,

@@ -9,7 +9,7 @@ use Rattle.snb_tables.specs.Soundness.{Sound}
 use Rattle.snb_plan.specs.Closed.{IsClosed}
 use Rattle.snb_plan.specs.Plans.{IsOfStreams, Plan, schedule_of, updates_in}
 use Rattle.snb_inserts.specs.Applying.{IsWelcome}
-use Rattle.snb_replay.specs.Replay.{IsAfter, IsFinal, finished_insert}
+use Rattle.snb_replay.specs.Replay.{IsAfter, IsBefore, IsFinal, finished_insert, insert_at}
 
 -- the plan is one of lanes of streams, and its updates are closed over the base
 pub record IsReplayed (base : List Row) (plan : Plan) : Type 0 where
@@ -21,6 +21,13 @@ abbrev pub WelcomeInTurn : Type 0
 WelcomeInTurn =
     (base : List Row) (plan : Plan) (workers : ℕ) (g : List Event) (e : Event) (op : Op) (graph : List Row) → IsReplayed base plan
     → IsLegal (schedule_of plan) workers (g ++ e ∷ []) → finished_insert plan e ≡ Some op → IsAfter base plan g graph → IsWelcome graph op
+
+-- in the order of their numbers, which is the merged order of the streams, each insert of such a plan finds all that it refers to, and its
+-- keys are new, after those of smaller number
+abbrev pub WelcomeInOrder : Type 0
+WelcomeInOrder =
+    (base : List Row) (plan : Plan) (k : ℕ) (op : Op) (graph : List Row) → IsReplayed base plan → insert_at plan k ≡ Some op
+    → IsBefore base plan k graph → IsWelcome graph op
 
 -- after a legal, complete history the graph is that of all inserts
 abbrev pub CompleteIsFinal : Type 0

@@ -1,5 +1,5 @@
 -- What a graph is after a history of a plan: the inserts that are finished, in the order of their Finish events.
-use Rattle.std.specs.Prelude.{ℕ, List, Option, Some, None, filter_map, slice_get}
+use Rattle.std.specs.Prelude.{ℕ, List, Option, Some, None, filter_map, slice_get, take}
 use Rattle.std.specs.List.{flat_map}
 use Rattle.snb_schema.specs.declared.event.Event.{Event}
 use Rattle.snb_schema.specs.declared.event.Event.TheVariants.{Start, Finish, Halt}
@@ -44,6 +44,14 @@ all_inserts plan = filter_map (λ (o : Operation). insert_in (Some o)) plan.oper
 abbrev pub all_rows : Plan → List Row
 all_rows plan = flat_map rows_of (all_inserts plan)
 
+-- the inserts of smaller number than this, in the order of their operations
+abbrev pub inserts_before : Plan → ℕ → List Op
+inserts_before plan k = filter_map (λ (o : Operation). insert_in (Some o)) (take k plan.operations)
+
+-- and their rows
+abbrev pub rows_before : Plan → ℕ → List Row
+rows_before plan k = flat_map rows_of (inserts_before plan k)
+
 -- the graph has the rows of the base, and those of each insert that is finished
 abbrev pub IsAfter : List Row → Plan → List Event → List Row → Type 0
 IsAfter base plan h graph = HasGained base (rows_in plan h) graph
@@ -51,3 +59,7 @@ IsAfter base plan h graph = HasGained base (rows_in plan h) graph
 -- the graph has the rows of the base, and those of each insert of the plan
 abbrev pub IsFinal : List Row → Plan → List Row → Type 0
 IsFinal base plan graph = HasGained base (all_rows plan) graph
+
+-- the graph has the rows of the base, and those of each insert of smaller number than this
+abbrev pub IsBefore : List Row → Plan → ℕ → List Row → Type 0
+IsBefore base plan k graph = HasGained base (rows_before plan k) graph

@@ -1,6 +1,6 @@
 //! Laws of replay. The function only cites laws of histories, graphs and inserts; its contract is the law.
 
-ghost use Rattle.snb_replay.specs.Laws.{CompleteIsFinal, HistoriesAgree, PrefixesAreSound, WelcomeInTurn};
+ghost use Rattle.snb_replay.specs.Laws.{CompleteIsFinal, HistoriesAgree, PrefixesAreSound, WelcomeInOrder, WelcomeInTurn};
 
 use snb_inserts::law::inserts_are_kept;
 use snb_schema::law::{once_each, prefix_is_legal};
@@ -23,3 +23,10 @@ pub fn replay_is_welcome()
     new_rows_are_gained();
     inserts_are_kept();
 }
+
+/// In the order of the numbers of a plan whose updates are closed over a base, which is the merged order of
+/// its streams, each insert finds all that it refers to in the graph that has the base and the inserts of
+/// smaller number, and its keys are new there.
+pub fn order_is_welcome()
+    ensures { WelcomeInOrder }
+{}

@@ -12,7 +12,7 @@ use Rattle.snb_order.proofs.Laws.{chosen}
 use Rattle.snb_replies.specs.Columns.{HasColumns, HaveColumns}
 
 -- what each thing shows has a property, so all rows have it
-zip_rows : {X : Type 0} (Shows : X → List Cell → Type 0) (P : List Cell → Type 0) → ((x : X) (cells : List Cell) → Shows x cells → P cells) → (xs : List X) (rows : List (List Cell))
+pub zip_rows : {X : Type 0} (Shows : X → List Cell → Type 0) (P : List Cell → Type 0) → ((x : X) (cells : List Cell) → Shows x cells → P cells) → (xs : List X) (rows : List (List Cell))
     → AllZip Shows xs rows → All P rows
 zip_rows Shows P each [] [] z = λ k d lt. absurd (omega (arith, lt))
 zip_rows Shows P each [] (row ∷ rows) z = absurd z
@@ -20,7 +20,7 @@ zip_rows Shows P each (x ∷ xs) [] z = absurd z
 zip_rows Shows P each (x ∷ xs) (row ∷ rows) z = All-cons P row rows (each x row z.0) (zip_rows Shows P each xs rows z.1)
 
 -- and so have those of an answer
-rows_have : {X : Type 0} (counted : List X) (Shows : X → List Cell → Type 0) (order : List Way) (cut : Cut) (answer : List (List Cell)) (P : List Cell → Type 0)
+pub rows_have : {X : Type 0} (counted : List X) (Shows : X → List Cell → Type 0) (order : List Way) (cut : Cut) (answer : List (List Cell)) (P : List Cell → Type 0)
     → ((x : X) (cells : List Cell) → Shows x cells → P cells) → Answers counted Shows order cut answer → All P answer
 rows_have counted Shows order cut answer P each a = chosen P (by order) cut a.rows answer (zip_rows Shows P each counted a.rows a.shown) a.first
 

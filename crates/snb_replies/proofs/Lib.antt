@@ -7,3 +7,4 @@ pub mod OneSent
 pub mod OneShort
 pub mod OneThings
 pub mod Ties
+pub mod YearFacts

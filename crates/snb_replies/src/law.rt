@@ -1,6 +1,6 @@
-//! A law of replies. The function does nothing; its contract is the law.
+//! Laws of replies. The functions do nothing; their contracts are the laws.
 
-ghost use Rattle.snb_replies.specs.Laws.{OneAnswer, OneReply};
+ghost use Rattle.snb_replies.specs.Laws.{AnswersHaveColumns, AnswersHaveYears, OneAnswer, OneReply};
 
 use snb_base::text::Text;
 use snb_order::law::first_is_one;
@@ -17,3 +17,9 @@ pub fn one_reply()
     first_is_one::<(Text, u32, Text)>();
     sound_graphs();
 }
+
+/// Each row of an answer has the columns of its query, and the years in it are years that a table can have.
+pub fn answers_have_columns()
+    ensures columns { AnswersHaveColumns }
+    ensures years { AnswersHaveYears }
+{}

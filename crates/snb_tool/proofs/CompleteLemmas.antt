@@ -8,16 +8,16 @@ use Rattle.snb_input.specs.Walk.{Held, IsHeldTold}
 use Rattle.snb_schema.specs.declared.refusal.Refusal.{Refusal}
 use Rattle.snb_schema.specs.Frequencies.{FrequencyTable}
 use Rattle.snb_words.specs.declared.command.Command.{Command}
-use Rattle.snb_words.specs.declared.command.Command.TheVariants.{Audit, Check, Run, Read, Validate}
+use Rattle.snb_words.specs.declared.command.Command.TheVariants.{Audit, Check, Expect, Run, Read, Validate}
 use Rattle.snb_words.specs.Commands.{IsLineOf}
 use Rattle.snb_words.specs.Laws.{WordsAreOne}
 use Rattle.snb_tool.specs.Inputs.{at_first, Found, IsFine, IsFoundTold, IsWrong}
 use Rattle.snb_audit.specs.LogFiles.{IsLogOf}
 use Rattle.snb_case_lines.specs.declared.case.CaseAt.{CaseAt}
 use Rattle.snb_checker.specs.declared.difference.Difference.{Difference}
-use Rattle.snb_checker.specs.CasesFile.{AreCases, IsTally}
+use Rattle.snb_checker.specs.CasesFile.{IsTally}
 use Rattle.snb_checker.specs.Checks.{AreRight, Finds}
-use Rattle.snb_checker.specs.CheckTexts.{outcome_status, tally_status, tally_text}
+use Rattle.snb_checker.specs.CheckTexts.{outcome_status, tally_status}
 use Rattle.snb_checker.specs.Laws.{FindingIsOne}
 use Rattle.snb_loader.specs.Dataset.{IsDataset}
 use Rattle.snb_audit.specs.VerdictTexts.{verdict_status}
@@ -61,6 +61,7 @@ done_low : (command : Command) (found : Found) (fixed : Option ℕ) (status : �
 done_low (Check folder table) found fixed status texts d = inl d.0
 done_low (Run folder workers ratio table) found fixed status texts d = inl d.0
 done_low (Audit folder log ratio table) found fixed status texts d = low_by status (verdict_status d.verdict) d.status_is (verdict_low d.verdict)
+done_low (Expect folder table) found fixed status texts d = inl d.0
 done_low (Validate folder cases) found fixed status texts d = low_by status (tally_status d.tally) d.status_is (outcome_low d.tally.first)
 done_low (Read folder query) found fixed status texts d = inl d.0
 
@@ -144,11 +145,11 @@ module _ (one : WordsAreOne) (words : List (List ℕ)) (old new : Outside) (resu
 -- ---- a run in short
 
 -- the files of a folder that a shelf tells
-told_files : (folder : List ℕ) (files : Files) (held : Held) → IsHeldTold (Some files) folder held → ◌≡◌ {A = Held} held (held_in folder files)
+pub told_files : (folder : List ℕ) (files : Files) (held : Held) → IsHeldTold (Some files) folder held → ◌≡◌ {A = Held} held (held_in folder files)
 told_files folder files held told = λ i file. told file i
 
 -- what was added to told channels
-added : (old new texts : Written) → Wrote (Some old) (Some new) texts → new ≡ joined old texts
+pub added : (old new texts : Written) → Wrote (Some old) (Some new) texts → new ≡ joined old texts
 added old new texts w = cc
 
 in_short : (files : Files) (fixed : Option ℕ) (folder : List ℕ) (workers ratio : ℕ) (table : FrequencyTable) (old new texts : Written) (found : Found)

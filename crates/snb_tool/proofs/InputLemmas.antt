@@ -33,7 +33,7 @@ use Rattle.snb_schema.specs.QueryLists.{QueryLists}
 use Rattle.snb_tables.specs.Graphs.{HoldsKey}
 use Rattle.snb_tables.specs.Soundness.{Sound}
 use Rattle.snb_words.specs.declared.command.Command.{Command}
-use Rattle.snb_words.specs.declared.command.Command.TheVariants.{Audit, Check, Run, Read, Validate}
+use Rattle.snb_words.specs.declared.command.Command.TheVariants.{Audit, Check, Expect, Run, Read, Validate}
 use Rattle.snb_tool.specs.declared.input.Input.{Input}
 use Rattle.snb_audit.specs.Audited.{IsAuditAnswer}
 use Rattle.snb_audit.specs.LogFiles.{log_checks}
@@ -130,6 +130,7 @@ once one each (Read folder query) found = each.dataset at_first found.held
 once one each (Check folder table) found = plan_once one 1000000 table found.held each
 once one each (Run folder workers ratio table) found = plan_once one ratio table found.held each
 once one each (Audit folder log ratio table) found = once_append (plan_checks ratio table found.held) (log_checks found.beside) (plan_once one ratio table found.held each) (each.log found.beside)
+once one each (Expect folder table) found = plan_once one 1000000 table found.held each
 once one each (Validate folder cases) found =
     once_append (dataset_checks at_first found.held) (AreBadCases found.held found.beside ∷ []) (each.dataset at_first found.held)
     (once_single (AreBadCases found.held found.beside) (bad_cases_once one each found.held found.beside))
@@ -393,6 +394,12 @@ module _ (contents : Option Files) (folder log : List ℕ) (ratio : ℕ) (table 
 
 -- ---- of `validate`
 
+-- a file of cases with which nothing is wrong over one graph of the tables isn't refused over any
+pub not_bad : DatasetIsOne → CasesRefusedOrNot → (held : Held) (beside : Option (List ℕ)) (graph : List Row) → IsDataset at_first held graph → NoneOf (cases_checks graph beside)
+    → (r : Refusal) → ¬ AreBadCases held beside r
+not_bad one law held beside graph dataset clean r a =
+    law graph beside r (subst (λ (g : List Row). FirstOf (cases_checks g beside) r) (one at_first held a.graph graph a.dataset dataset) a.refused) clean
+
 module _ (contents : Option Files) (folder cases : List ℕ) (used : Used) where
   pub tally_no_dataset : (load : Load) → IsDatasetAnswer contents folder nothing_used used (Err load) → IsTallyAnswer contents folder cases (Err load)
   tally_no_dataset (Refused r) h =
@@ -400,12 +407,6 @@ module _ (contents : Option Files) (folder cases : List ℕ) (used : Used) where
       (h.0, b.0, h.1, b.1, first_anyway (dataset_checks at_first h.0) (AreBadCases h.0 b.0 ∷ []) r h.2)
   tally_no_dataset ReadFault h = tt
   tally_no_dataset Memory h = tt
-
-  -- a file of cases with which nothing is wrong over one graph of the tables isn't refused over any
-  not_bad : DatasetIsOne → CasesRefusedOrNot → (held : Held) (beside : Option (List ℕ)) (graph : List Row) → IsDataset at_first held graph → NoneOf (cases_checks graph beside)
-      → (r : Refusal) → ¬ AreBadCases held beside r
-  not_bad one law held beside graph dataset clean r a =
-      law graph beside r (subst (λ (g : List Row). FirstOf (cases_checks g beside) r) (one at_first held a.graph graph a.dataset dataset) a.refused) clean
 
   pub tallied : DatasetIsOne → CasesRefusedOrNot → (graph : List Row) (result : Result Tally Load) → IsDatasetAnswer contents folder nothing_used used (Ok graph)
       → IsCasesAnswer contents cases graph result → IsTallyAnswer contents folder cases result

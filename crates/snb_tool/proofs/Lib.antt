@@ -2,3 +2,5 @@ pub mod CompleteLemmas
 pub mod InputLemmas
 pub mod OutcomeLemmas
 pub mod Writing
+pub mod ExpectLemmas
+pub mod ValidLemmas

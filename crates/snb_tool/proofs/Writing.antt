@@ -174,32 +174,61 @@ stopped_in_finals whole log answers finals n old first second new l a f c d e = 
   continued _ Final (take n finals) old second new (continued _ Answers answers old first second (begun Log log old first c) d) e,
 )
 
--- all but the screen's text is whole, and that was begun
-pub stopped_in_screen : (whole : Written) (log answers finals screen : List ℕ) (n : ℕ) (old first second third new : Option Written)
-    → [] ≡ whole.cases
+-- the log, the answers and the final text are whole, and the cases were begun
+pub stopped_in_cases : (whole : Written) (log answers finals cases : List ℕ) (n : ℕ) (old first second third new : Option Written)
     → log ≡ whole.log
     → answers ≡ whole.answers
     → finals ≡ whole.finals
-    → screen ≡ whole.screen
+    → cases ≡ whole.cases
     → first ≡ option_map (λ w. appended w Log log) old
     → second ≡ option_map (λ w. appended w Answers answers) first
     → third ≡ option_map (λ w. appended w Final finals) second
-    → new ≡ option_map (λ w. appended w Screen (take n screen)) third
+    → new ≡ option_map (λ w. appended w Cases (take n cases)) third
     → HasFront whole old new
-stopped_in_screen whole log answers finals screen n old first second third new none l a f s b c d e = (
-  appended (appended (appended (appended nothing Log log) Answers answers) Final finals) Screen (take n screen),
+stopped_in_cases whole log answers finals cases n old first second third new l a f s b c d e = (
+  appended (appended (appended (appended nothing Log log) Answers answers) Final finals) Cases (take n cases),
   record {
     log = prefix-whole log _ l;
     answers = prefix-whole answers _ a;
     finals = prefix-whole finals _ f;
-    cases = prefix-none _;
-    screen = prefix-take n screen _ s;
+    cases = prefix-take n cases _ s;
+    screen = prefix-none _;
     after_log = inl l;
     after_answers = inl a;
     after_finals = inl f;
-    after_cases = inl none;
+    after_cases = inr refl;
   },
-  continued _ Screen (take n screen) old third new (continued _ Final finals old second third (continued _ Answers answers old first second (begun Log log old first b) c) d) e,
+  continued _ Cases (take n cases) old third new (continued _ Final finals old second third (continued _ Answers answers old first second (begun Log log old first b) c) d) e,
+)
+
+-- all but the screen's text is whole, and that was begun
+pub stopped_in_screen : (whole : Written) (log answers finals cases screen : List ℕ) (n : ℕ) (old first second third fourth new : Option Written)
+    → log ≡ whole.log
+    → answers ≡ whole.answers
+    → finals ≡ whole.finals
+    → cases ≡ whole.cases
+    → screen ≡ whole.screen
+    → first ≡ option_map (λ w. appended w Log log) old
+    → second ≡ option_map (λ w. appended w Answers answers) first
+    → third ≡ option_map (λ w. appended w Final finals) second
+    → fourth ≡ option_map (λ w. appended w Cases cases) third
+    → new ≡ option_map (λ w. appended w Screen (take n screen)) fourth
+    → HasFront whole old new
+stopped_in_screen whole log answers finals cases screen n old first second third fourth new l a f s t b c d e g = (
+  appended (appended (appended (appended (appended nothing Log log) Answers answers) Final finals) Cases cases) Screen (take n screen),
+  record {
+    log = prefix-whole log _ l;
+    answers = prefix-whole answers _ a;
+    finals = prefix-whole finals _ f;
+    cases = prefix-whole cases _ s;
+    screen = prefix-take n screen _ t;
+    after_log = inl l;
+    after_answers = inl a;
+    after_finals = inl f;
+    after_cases = inl s;
+  },
+  continued _ Screen (take n screen) old fourth new
+      (continued _ Cases cases old third fourth (continued _ Final finals old second third (continued _ Answers answers old first second (begun Log log old first b) c) d) e) g,
 )
 
 -- the screen's text alone was begun

@@ -30,14 +30,16 @@ use Rattle.snb_texts.specs.Answers.{answers_text}
 use Rattle.snb_plan.specs.declared.plan.PlanFault.{PlanFault}
 use Rattle.snb_plan.specs.declared.plan.PlanFault.TheVariants as plan_faults
 use Rattle.snb_plan.specs.Closed.{IsClosed, IsFirstWrong}
-use Rattle.snb_plan.specs.Plans.{IsPlan, Plan, queries_in, read_count, updates_in}
+use Rattle.snb_plan.specs.Plans.{IsOfStreams, IsPlan, Plan, queries_in, read_count, updates_in}
 use Rattle.snb_workers.specs.declared.run.Outcome.{Outcome as RunOutcome}
 use Rattle.snb_tool.specs.declared.deliver.Output.{Output}
 use Rattle.snb_tool.specs.declared.input.Input.{Input}
+use Rattle.snb_case_lines.specs.declared.case.Case.{Case}
 use Rattle.snb_checker.specs.declared.text.Tally.{Tally}
+use Rattle.snb_expect.specs.Expected.{AreExpected, AreReadBack, HaveWords}
 use Rattle.snb_checker.specs.CasesFile.{IsTally}
 use Rattle.snb_tool.specs.Inputs.{AreBadCases, IsInput, at_first, plan_checks}
-use Rattle.snb_tool.specs.Outcome.{IsJudged, reply_line}
+use Rattle.snb_tool.specs.Outcome.{IsJudged, expected_texts, reply_line}
 use Rattle.snb_tool.specs.Output.{HasBegun, Wrote, on_screen}
 
 -- a text is shown whole, with this status; or a front of it, where the outbox failed, which wasn't sure of all of it
@@ -98,7 +100,16 @@ AreTexts workers plan o texts = texts ≡ record {
 
 -- the bytes of each channel
 abbrev pub bytes_of : Output → Written
-bytes_of o = record { screen = o.screen.items; log = o.log.items; answers = o.answers.items; finals = o.finals.items; cases = [] }
+bytes_of o = record { screen = o.screen.items; log = o.log.items; answers = o.answers.items; finals = o.finals.items; cases = o.cases.items }
+
+-- the texts are those of the cases of the input's plan over its dataset; where words spell the parameters of the plan's queries, each case is
+-- read from its line
+pub record AreCasesOf (input : Input) (texts : Written) : Type 0 where
+  pub streams : IsOfStreams input.plan
+  pub cases : List Case
+  pub are : AreExpected input.graph input.plan cases
+  pub read_back : HaveWords (queries_in input.plan) → AreReadBack cases
+  pub shown : texts ≡ expected_texts input.plan cases
 
 -- the line is that of the reply to the query on a graph
 pub record IsReplyLine (graph : List Row) (query : Query) (line : List ℕ) : Type 0 where

@@ -1,15 +1,18 @@
 -- Laws of what the commands answer.
-use Rattle.std.specs.Prelude.{◌≡◌, ℕ, ◌⊎◌, ◌↔◌, ◌++◌, List, Option, Some}
+use Rattle.std.specs.Prelude.{◌≡◌, ◌≤◌, ℕ, ◌⊎◌, ◌↔◌, ◌++◌, List, length, Option, Some}
 use Rattle.snb_audit.specs.LogFiles.{IsLogOf}
 use Rattle.snb_audit.specs.VerdictTexts.{verdict_text}
 use Rattle.snb_auditor.specs.declared.verdict.Verdict.{Verdict}
 use Rattle.snb_auditor.specs.Verdicts.{IsTimelyRun, IsVerdict}
 use Rattle.snb_base.specs.Outbox.{Written}
+use Rattle.snb_case_lines.specs.declared.case.Case.{Case}
 use Rattle.snb_case_lines.specs.declared.case.CaseAt.{CaseAt}
 use Rattle.snb_checker.specs.declared.text.Tally.{Tally}
 use Rattle.snb_checker.specs.CasesFile.{AreCases, IsTally}
 use Rattle.snb_checker.specs.CheckTexts.{tally_text}
 use Rattle.snb_checker.specs.Checks.{AreRight}
+use Rattle.snb_expect.specs.CaseTexts.{cases_text, count_text}
+use Rattle.snb_expect.specs.Expected.{AreExpected, AreReadBack}
 use Rattle.snb_loader.specs.Dataset.{IsDataset}
 use Rattle.snb_base.specs.Shelf.{Files}
 use Rattle.snb_input.specs.Files.{held_in}
@@ -17,6 +20,8 @@ use Rattle.snb_input.specs.FirstOf.{FirstOf, NoneOf}
 use Rattle.snb_plan.specs.Plans.{Plan, schedule_of}
 use Rattle.snb_replay.specs.Replay.{IsFinal}
 use Rattle.snb_schema.specs.declared.event.Event.{Event}
+use Rattle.snb_schema.specs.declared.file.FileId.{FileId}
+use Rattle.snb_schema.specs.declared.limits.TheConstants.{MAX_BYTES}
 use Rattle.snb_schema.specs.declared.refusal.Refusal.{Refusal}
 use Rattle.snb_schema.specs.declared.row.Row.{Row}
 use Rattle.snb_schema.specs.Frequencies.{FrequencyTable}
@@ -25,11 +30,11 @@ use Rattle.snb_schema.specs.RunTexts.{log_text}
 use Rattle.snb_tables.specs.FinalText.{final_text}
 use Rattle.snb_texts.specs.Answers.{answers_text}
 use Rattle.snb_words.specs.declared.command.Command.{Command}
-use Rattle.snb_words.specs.declared.command.Command.TheVariants.{Audit, Run, Validate}
+use Rattle.snb_words.specs.declared.command.Command.TheVariants.{Audit, Expect, Run, Validate}
 use Rattle.snb_words.specs.Commands.{IsLineOf}
 use Rattle.snb_workers.specs.declared.done.Answered.{Answered}
 use Rattle.snb_workers.specs.Runs.{AreReplies}
-use Rattle.snb_tool.specs.Inputs.{Found, IsInput, at_first, checks_of}
+use Rattle.snb_tool.specs.Inputs.{Found, IsFine, IsInput, at_first, checks_of}
 use Rattle.snb_tool.specs.Outcome.{IsAnswer}
 use Rattle.snb_tool.specs.Output.{HasWritten}
 
@@ -113,3 +118,32 @@ ValidateInShort =
     (words : List (List ℕ)) (files : Files) (fixed : Option ℕ) (folder name : List ℕ) (status : ℕ) (old new : Written)
     → IsLineOf words (Validate folder name) → (status ≡ 0) ⊎ (status ≡ 1) → HasWritten (Some old) (Some new) (IsAnswer words (Some files) fixed status)
     → IsValidateInShort files folder name status old new
+
+-- what `expect` that is done has added to the channels, where the files and the channels are told: the cases of the plan of the files, each
+-- insert and each query with its reply on the dataset with the inserts of smaller number, and how many operations there are; and each case is
+-- read from its line
+pub record IsExpectInShort (files : Files) (folder : List ℕ) (frequencies : FrequencyTable) (old new : Written) : Type 0 where
+  pub graph : List Row
+  pub plan : Plan
+  pub input : IsInput (held_in folder files) 1000000 frequencies graph plan
+  pub cases : List Case
+  pub are : AreExpected graph plan cases
+  pub read_back : AreReadBack cases
+  pub text : new.cases ≡ old.cases ++ cases_text cases
+  pub screen : new.screen ≡ old.screen ++ count_text (length plan.operations)
+
+-- status 0 of `expect` says that
+abbrev pub ExpectInShort : Type 0
+ExpectInShort =
+    (words : List (List ℕ)) (files : Files) (fixed : Option ℕ) (folder : List ℕ) (frequencies : FrequencyTable) (old new : Written)
+    → IsLineOf words (Expect folder frequencies) → HasWritten (Some old) (Some new) (IsAnswer words (Some files) fixed 0)
+    → IsExpectInShort files folder frequencies old new
+
+-- the cases that `expect` wrote of a folder are right for `validate`: where the file of a name has them, at most `MAX_BYTES` bytes, and the
+-- folder's files are what they were, nothing is wrong with what `validate` finds, and it is done with status 0
+abbrev pub ExpectedIsValid : Type 0
+ExpectedIsValid =
+    (words others : List (List ℕ)) (files after : Files) (fixed later : Option ℕ) (folder name : List ℕ) (frequencies : FrequencyTable) (texts : Written)
+    → IsLineOf words (Expect folder frequencies) → IsAnswer words (Some files) fixed 0 texts → length texts.cases ≤ MAX_BYTES
+    → IsLineOf others (Validate folder name) → after name ≡ Some texts.cases → ((file : FileId) → held_in folder after file ≡ held_in folder files file)
+    → IsFine (Some after) (Validate folder name) × ((status : ℕ) (shown : Written) → IsAnswer others (Some after) later status shown → status ≡ 0)

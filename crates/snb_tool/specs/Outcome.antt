@@ -6,6 +6,7 @@ use Rattle.snb_audit.specs.VerdictTexts.{verdict_status, verdict_text}
 use Rattle.snb_auditor.specs.declared.verdict.Verdict.{Verdict}
 use Rattle.snb_auditor.specs.Verdicts.{IsVerdict}
 use Rattle.snb_base.specs.Outbox.{Written}
+use Rattle.snb_case_lines.specs.declared.case.Case.{Case}
 use Rattle.snb_checker.specs.declared.text.Tally.{Tally}
 use Rattle.snb_checker.specs.CasesFile.{IsTally}
 use Rattle.snb_checker.specs.CheckTexts.{tally_status, tally_text}
@@ -13,7 +14,9 @@ use Rattle.snb_base.specs.Shelf.{Files}
 use Rattle.snb_input.specs.FirstOf.{FirstOf, NoneOf}
 use Rattle.snb_input.specs.Walk.{Held}
 use Rattle.snb_loader.specs.Dataset.{IsDataset}
-use Rattle.snb_plan.specs.Plans.{Plan, queries_in, schedule_of, updates_in}
+use Rattle.snb_expect.specs.CaseTexts.{cases_text, count_text}
+use Rattle.snb_expect.specs.Expected.{AreExpected, AreReadBack}
+use Rattle.snb_plan.specs.Plans.{IsOfStreams, Plan, queries_in, schedule_of, updates_in}
 use Rattle.snb_reads.specs.declared.cell.Cell.{Cell}
 use Rattle.snb_reads.specs.Replies.{IsReply}
 use Rattle.snb_replay.specs.Replay.{all_rows}
@@ -31,7 +34,7 @@ use Rattle.snb_validation.specs.ReplyData.{reply_data}
 use Rattle.snb_workers.specs.declared.done.Answered.{Answered}
 use Rattle.snb_workers.specs.Runs.{HasRun}
 use Rattle.snb_words.specs.declared.command.Command.{Command}
-use Rattle.snb_words.specs.declared.command.Command.TheVariants.{Audit, Check, Run, Read, Validate}
+use Rattle.snb_words.specs.declared.command.Command.TheVariants.{Audit, Check, Expect, Run, Read, Validate}
 use Rattle.snb_words.specs.Commands.{IsLineOf, IsOtherLine}
 use Rattle.snb_tool.specs.Inputs.{Found, IsFoundTold, IsInput, at_first, checks_of}
 use Rattle.snb_tool.specs.Output.{on_screen}
@@ -97,6 +100,23 @@ pub record TellsVerdict (held : Held) (beside : Option (List ℕ)) (ratio : ℕ)
   pub status_is : status ≡ verdict_status verdict
   pub shown : texts ≡ on_screen (verdict_text verdict)
 
+-- the two texts of the cases of a plan: the cases, and how many operations there are
+abbrev pub expected_texts : Plan → List Case → Written
+expected_texts plan cases =
+    record { screen = count_text (length plan.operations); log = []; answers = []; finals = []; cases = cases_text cases }
+
+-- nothing is wrong with the files, and the texts are those of the cases of their plan, one of lanes of streams, over their dataset: each insert,
+-- and each query with its reply on the dataset with the inserts of smaller number; and each case is read from its line
+pub record IsExpected (held : Held) (frequencies : FrequencyTable) (texts : Written) : Type 0 where
+  pub graph : List Row
+  pub plan : Plan
+  pub input : IsInput held 1000000 frequencies graph plan
+  pub streams : IsOfStreams plan
+  pub cases : List Case
+  pub are : AreExpected graph plan cases
+  pub read_back : AreReadBack cases
+  pub shown : texts ≡ expected_texts plan cases
+
 -- nothing is wrong with the tables and the file of cases, and the status and the text tell what is found over the cases on the graph of the tables
 pub record IsValidated (held : Held) (beside : Option (List ℕ)) (status : ℕ) (texts : Written) : Type 0 where
   pub graph : List Row
@@ -123,6 +143,7 @@ abbrev pub IsDone : Command → Found → Option ℕ → ℕ → Written → Typ
 IsDone (Check folder frequencies) found fixed status texts = (status ≡ 0) × IsChecked found.held frequencies texts
 IsDone (Run folder workers ratio frequencies) found fixed status texts = (status ≡ 0) × IsRun found.held workers ratio frequencies fixed texts
 IsDone (Audit folder log ratio frequencies) found fixed status texts = TellsVerdict found.held found.beside ratio frequencies status texts
+IsDone (Expect folder frequencies) found fixed status texts = (status ≡ 0) × IsExpected found.held frequencies texts
 IsDone (Validate folder cases) found fixed status texts = IsValidated found.held found.beside status texts
 IsDone (Read folder query) found fixed status texts = (status ≡ 0) × IsRead found.held query texts
 

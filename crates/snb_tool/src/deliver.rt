@@ -14,6 +14,7 @@ pub struct Output {
     pub log: Vec<u8>,
     pub answers: Vec<u8>,
     pub finals: Vec<u8>,
+    pub cases: Vec<u8>,
     pub screen: Vec<u8>,
 }
 
@@ -23,6 +24,7 @@ impl Drop for Output {
             log: _,
             answers: _,
             finals: _,
+            cases: _,
             screen: _,
         } = self;
     }
@@ -52,8 +54,8 @@ fn write_all<O: Outbox>(out: &mut O, channel: Channel, bytes: &[u8]) -> Result<(
     Ok(())
 }
 
-/// Writes the log, the answers, the final text and the screen's, in this order, until the outbox
-/// fails.
+/// Writes the log, the answers, the final text, the cases and the screen's text, in this order, until the
+/// outbox fails.
 pub fn deliver<O: Outbox>(out: &mut O, output: &Output) -> Result<(), WriteFault>
     ensures ok { OnOk result (O.written out.new ≡ option_map (λ w. joined w (bytes_of output.now)) (O.written out.old)) }
     ensures err { OnErr result ((part : Bytes) × IsWrittenSoFar part (bytes_of output.now) × (O.written out.new ≡ option_map (λ w. joined w part) (O.written out.old))) }
@@ -68,6 +70,9 @@ pub fn deliver<O: Outbox>(out: &mut O, output: &Output) -> Result<(), WriteFault
         return Err(fault);
     }
     if let Err(fault) = write_all(out, Channel::Final, &output.finals) {
+        return Err(fault);
+    }
+    if let Err(fault) = write_all(out, Channel::Cases, &output.cases) {
         return Err(fault);
     }
     write_all(out, Channel::Screen, &output.screen)

@@ -41,6 +41,16 @@ impl Drop for Input {
     }
 }
 
+impl Input {
+    /// The dataset and the plan.
+    pub fn into_parts(self) -> (Graph, Plan)
+        ensures { (result.0 ≡ self.graph) × (result.1 ≡ self.plan) }
+    {
+        let Input { graph, plan } = self;
+        (graph, plan)
+    }
+}
+
 // A fault of a plan as one of an input.
 fn load_of(fault: PlanFault) -> Load
     ensures { result ≡ load_for fault }

@@ -1,10 +1,11 @@
 //! Laws of what the program answers. The functions only cite other laws; their contracts are the laws.
 
-ghost use Rattle.snb_tool.specs.Laws.{AnswersHaveStatus, AuditInShort, RefusalIsOne, RefusedOrNot, RunInShort, ValidateInShort};
+ghost use Rattle.snb_tool.specs.Laws.{AnswersHaveStatus, AuditInShort, ExpectInShort, ExpectedIsValid, RefusalIsOne, RefusedOrNot, RunInShort, ValidateInShort};
 
 use snb_audit::law::one_log_refusal;
 use snb_auditor::law::{accepted_exactly, verdict_is_one};
 use snb_checker::law::one_cases_refusal;
+use snb_expect_laws::law::expected_cases_are_right;
 use snb_loader::law::{one_dataset, one_lanes, one_params};
 use snb_plan::law::plan_is_one;
 use snb_words::law::one_command;
@@ -56,4 +57,27 @@ pub fn validate_in_short()
 {
     one_command();
     one_cases_refusal();
+}
+
+/// Where the files and the channels are told, status 0 of `expect` says: the cases of the plan of the files
+/// over their dataset were added to the cases, each insert, and each query with its reply on the dataset with
+/// the inserts of smaller number; each is read from its line.
+pub fn expect_in_short()
+    ensures { ExpectInShort }
+{
+    one_command();
+}
+
+/// `validate` answers 0 to what `expect` wrote: where the files are told, the text that status 0 of `expect`
+/// adds to the cases has at most `MAX_BYTES` bytes, and stands in a file while the folder's files are what they
+/// were, then nothing is wrong with what `validate` of the folder and that file finds, and what it answers has
+/// status 0. So by the contract of `snb`, where nothing fails and memory suffices, `validate` ends with 0.
+pub fn expected_is_valid()
+    ensures { ExpectedIsValid }
+{
+    one_command();
+    refusal_is_one();
+    one_dataset();
+    one_cases_refusal();
+    expected_cases_are_right();
 }

@@ -4,6 +4,7 @@
 mod audit;
 mod check;
 mod deliver;
+mod expect;
 mod input;
 pub mod law;
 mod read;

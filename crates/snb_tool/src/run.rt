@@ -55,6 +55,7 @@ fn texts_of(
         log,
         answers,
         finals,
+        cases: Vec::new(alloc),
         screen,
     })
 }

@@ -13,6 +13,7 @@ ghost use Rattle.snb_tool.specs.Outside.{Ends, IsReadOnly, seen};
 
 use crate::audit::audit;
 use crate::check::check;
+use crate::expect::expect;
 use crate::law::{answers_have_status, refusal_is_one};
 use crate::read::read;
 use crate::run::run;
@@ -81,6 +82,10 @@ fn obey<R: AllocGlobal + Wait, S: Shelf, O: Outbox, C: Clock, G: Gate>(
             *frequencies,
             out,
         ),
+        Command::Expect {
+            folder,
+            frequencies,
+        } => expect(rt.alloc(), shelf, folder.as_str(), *frequencies, out),
         Command::Validate { folder, cases } => {
             validate(rt.alloc(), shelf, folder.as_str(), cases.as_str(), out)
         }
@@ -126,13 +131,16 @@ fn answer<R: AllocGlobal + Wait, S: Shelf, O: Outbox, C: Clock, G: Gate>(
 ///   there are and how many of them were on time, started at most 1000 milliseconds after they were due: it
 ///   is accepted where these are at least 95 of 100. The log is a file of its own, and its path isn't taken
 ///   from `DIR`.
+/// - `expect DIR` reads what `check` reads, and writes the cases of the plan, a file by which `validate` checks
+///   the replies of a database: a line for each operation in the order of their numbers, with the insert, or
+///   with the query and the reply to it on the dataset with the inserts before it. It shows how many there are.
 /// - `validate DIR CASES` reads the tables, then a file of cases, which are inserts and reads with the
 ///   replies that are due. Each read is answered on the tables with the inserts of the cases before it. It
 ///   shows how many reads there are where all replies are those that are due, and else the first that
 ///   isn't, with its line, the one that is due and the one that is given.
-/// - `check`, `run` and `audit` take the option `--freq L`, where L has `q:f` for complex queries q and their frequencies f,
-///   by rising q and with commas between; without it no read is planned. `run` and `audit` take
-///   `--ratio R`, by which due times are stretched; it is 1 without it.
+/// - `check`, `run`, `audit` and `expect` take the option `--freq L`, where L has `q:f` for complex queries q and
+///   their frequencies f, by rising q and with commas between; without it no read is planned. `run` and `audit`
+///   take `--ratio R`, by which due times are stretched; it is 1 without it.
 /// - `read DIR KIND P1 P2 P3` reads the tables and shows the reply to one read: its answer, and those of
 ///   the short reads that follow. KIND is `IS1` to `IS7`, `IC1`, `IC2`, `IC7`, `IC8`, `IC9`, `IC11` or
 ///   `IC13`, with as many parameters as it has: an id of a person or a message for a short read, of a
@@ -155,7 +163,7 @@ fn answer<R: AllocGlobal + Wait, S: Shelf, O: Outbox, C: Clock, G: Gate>(
 /// - 3: the first thing that is wrong with the files is on the screen, and nothing was run.
 /// - 4: the shelf failed; nothing was written.
 /// - 5: the outbox failed. Each channel has a prefix of its text, and in the order log, answers,
-///   final text, screen nothing follows a text that isn't whole.
+///   final text, cases, screen nothing follows a text that isn't whole.
 /// - 6: memory didn't suffice; nothing was written.
 ///
 /// The formats and the order of the operations are those of the Social Network Benchmark's

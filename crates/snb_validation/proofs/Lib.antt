@@ -1,2 +1,3 @@
 mod ReplyFacts
 mod TextFacts
+pub mod Laws

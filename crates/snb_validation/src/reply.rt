@@ -1,10 +1,12 @@
 //! Replies as JSON, by `serde_json`.
 
-ghost use Rattle.std.specs.Prelude.{◌≡◌, ◌++◌, Some, OnOk, OnErr, IfOk, map};
+ghost use Rattle.std.specs.Prelude.{◌≡◌, ◌<◌, ◌^◌, ◌++◌, Some, OnOk, OnErr, IfOk, map};
+ghost use Rattle.std.specs.List.{AllByRecursion};
 ghost use Rattle.serde_json.specs.Data.{string};
 ghost use Rattle.serde_json.specs.Read.{read};
 ghost use Rattle.serde_json.specs.View.{view};
 ghost use Rattle.serde_json.specs.Written.{compact_text};
+ghost use Rattle.snb_validation.specs.Laws.{AreOfTypes, IsOfType};
 ghost use Rattle.snb_validation.specs.ReplyData.{array_of, cell_data, reply_data, stay_data};
 
 use serde_json::Value;
@@ -31,8 +33,10 @@ pub fn reply_text(reply: &Reply, to: &mut Vec<u8>) -> Result<(), AllocError>
     Ok(())
 }
 
-fn reply_value(alloc: Global, reply: &Reply) -> Result<Value, AllocError>
-    ensures { IfOk result (λ v. view v ≡ reply_data reply.now) }
+/// The value of a reply, whose numbers are of 64 bits with a sign, and the years of its stays of 32.
+pub fn reply_value(alloc: Global, reply: &Reply) -> Result<Value, AllocError>
+    ensures value { IfOk result (λ v. view v ≡ reply_data reply.now) }
+    ensures types { OnOk result (AreOfTypes reply.now) }
 {
     let mut values = Vec::new(alloc);
     'answers: for answer in reply.as_slice() {
@@ -42,7 +46,8 @@ fn reply_value(alloc: Global, reply: &Reply) -> Result<Value, AllocError>
 }
 
 fn answer_value(alloc: Global, answer: &Answer) -> Result<Value, AllocError>
-    ensures { IfOk result (λ v. view v ≡ array_of (array_of cell_data) answer.now) }
+    ensures value { IfOk result (λ v. view v ≡ array_of (array_of cell_data) answer.now) }
+    ensures types { OnOk result (AllByRecursion (AllByRecursion IsOfType) answer.now) }
 {
     let mut values = Vec::new(alloc);
     'rows: for row in answer.as_slice() {
@@ -52,7 +57,8 @@ fn answer_value(alloc: Global, answer: &Answer) -> Result<Value, AllocError>
 }
 
 fn row_value(alloc: Global, row: &AnswerRow) -> Result<Value, AllocError>
-    ensures { IfOk result (λ v. view v ≡ array_of cell_data row.now) }
+    ensures value { IfOk result (λ v. view v ≡ array_of cell_data row.now) }
+    ensures types { OnOk result (AllByRecursion IsOfType row.now) }
 {
     let mut values = Vec::new(alloc);
     'cells: for cell in row.as_slice() {
@@ -62,7 +68,8 @@ fn row_value(alloc: Global, row: &AnswerRow) -> Result<Value, AllocError>
 }
 
 fn cell_value(alloc: Global, cell: &Cell) -> Result<Value, AllocError>
-    ensures { IfOk result (λ v. view v ≡ cell_data cell.now) }
+    ensures value { IfOk result (λ v. view v ≡ cell_data cell.now) }
+    ensures types { OnOk result (IsOfType cell.now) }
 {
     match cell {
         Cell::Number { value } => Ok(Value::from(*value)),
@@ -84,7 +91,8 @@ fn texts_value(alloc: Global, texts: &[Text]) -> Result<Vec<Value>, AllocError>
 }
 
 fn stays_value(alloc: Global, stays: &[(Text, u32, Text)]) -> Result<Vec<Value>, AllocError>
-    ensures { IfOk result (λ v. map view v.items ≡ map stay_data stays.now) }
+    ensures values { IfOk result (λ v. map view v.items ≡ map stay_data stays.now) }
+    ensures types { OnOk result (AllByRecursion (λ s. s.1 < 2 ^ 32) stays.now) }
 {
     let mut values = Vec::new(alloc);
     'stays: for stay in stays {
@@ -94,7 +102,8 @@ fn stays_value(alloc: Global, stays: &[(Text, u32, Text)]) -> Result<Vec<Value>,
 }
 
 fn stay_value(alloc: Global, stay: &(Text, u32, Text)) -> Result<Value, AllocError>
-    ensures { IfOk result (λ v. view v ≡ stay_data stay.now) }
+    ensures value { IfOk result (λ v. view v ≡ stay_data stay.now) }
+    ensures types { OnOk result (stay.now.1 < 2 ^ 32) }
 {
     let name = Value::try_from_str(alloc, stay.0.as_str())?;
     let year = Value::from(stay.1);

@@ -5,10 +5,10 @@ use Rattle.snb_ratio.specs.Ratios.{OneRatio}
 use Rattle.snb_schema.specs.Frequencies.{FrequenciesAreOne, FrequencyTable}
 use Rattle.snb_schema.specs.declared.query.Query.{Query}
 use Rattle.snb_words.specs.declared.command.Command.{Command}
-use Rattle.snb_words.specs.declared.command.Command.TheVariants.{Check, Run, Audit, Validate, Read}
+use Rattle.snb_words.specs.declared.command.Command.TheVariants.{Check, Run, Audit, Expect, Validate, Read}
 use Rattle.snb_words.specs.declared.options.Options.{Options}
 use Rattle.snb_fields.specs.Laws.{OneList}
-use Rattle.snb_words.specs.Commands.{AreOf, IsLineOf, IsOtherLine, IsReadOf, IsRunnable}
+use Rattle.snb_words.specs.Commands.{AreOf, IsLineOf, IsOtherLine, IsReadOf, IsRunnable, form_of}
 use Rattle.snb_words.specs.Laws.{WordsAreOne}
 use Rattle.snb_words.specs.Options.{no_options}
 use Rattle.snb_words.specs.Words.{IsLine}
@@ -43,105 +43,112 @@ runnable words (Some (Check folder table)) line = tt
 runnable words (Some (Run folder workers ratio table)) line =
     subst (λ (o : Option ℕ). IfSome o IsNumberOfWorkers) line.are.is_said.1 (say_workers no_options line.line.options line.said line.line.say tt)
 runnable words (Some (Audit folder log ratio table)) line = tt
+runnable words (Some (Expect folder table)) line = tt
 runnable words (Some (Validate folder cases)) line = tt
 runnable words (Some (Read folder query)) line = tt
 
--- a name is that of one command
-pub only_check : (command : Command) (plain : List (List ℕ)) (said : Options) → ((folder : List ℕ) (table : FrequencyTable) → ¬ AreOf (Check folder table) (codes "check") plain said)
-    → ¬ AreOf command (codes "check") plain said
-only_check (Check folder table) plain said none are = none folder table are
-only_check (Run folder workers ratio table) plain said none are = let e = ap length are.named in absurd (omega (arith, e))
-only_check (Audit folder log ratio table) plain said none are = let e = ap (λ (t : List ℕ). get_or t 0 0) are.named in absurd (omega (arith, e))
-only_check (Validate folder cases) plain said none are = let e = ap length are.named in absurd (omega (arith, e))
-only_check (Read folder query) plain said none are = let e = ap length are.named in absurd (omega (arith, e))
+-- what holds of each command of a name holds of the one whose name it is
+module _ (P : Command → Type 0) where
+  pub at_check : ((folder : List ℕ) (table : FrequencyTable) → P (Check folder table)) → (command : Command) → codes "check" ≡ (form_of command).name → P command
+  at_check each (Check folder table) named = each folder table
+  at_check each (Run folder workers ratio table) named = let e = ap length named in absurd (omega (arith, e))
+  at_check each (Audit folder log ratio table) named = let e = ap (λ (t : List ℕ). get_or t 0 0) named in absurd (omega (arith, e))
+  at_check each (Expect folder table) named = let e = ap length named in absurd (omega (arith, e))
+  at_check each (Validate folder cases) named = let e = ap length named in absurd (omega (arith, e))
+  at_check each (Read folder query) named = let e = ap length named in absurd (omega (arith, e))
 
-pub only_run : (command : Command) (plain : List (List ℕ)) (said : Options)
-    → ((folder : List ℕ) (workers ratio : ℕ) (table : FrequencyTable) → ¬ AreOf (Run folder workers ratio table) (codes "run") plain said) → ¬ AreOf command (codes "run") plain said
-only_run (Check folder table) plain said none are = let e = ap length are.named in absurd (omega (arith, e))
-only_run (Run folder workers ratio table) plain said none are = none folder workers ratio table are
-only_run (Audit folder log ratio table) plain said none are = let e = ap length are.named in absurd (omega (arith, e))
-only_run (Validate folder cases) plain said none are = let e = ap length are.named in absurd (omega (arith, e))
-only_run (Read folder query) plain said none are = let e = ap length are.named in absurd (omega (arith, e))
+  pub at_run : ((folder : List ℕ) (workers ratio : ℕ) (table : FrequencyTable) → P (Run folder workers ratio table)) → (command : Command) → codes "run" ≡ (form_of command).name → P command
+  at_run each (Check folder table) named = let e = ap length named in absurd (omega (arith, e))
+  at_run each (Run folder workers ratio table) named = each folder workers ratio table
+  at_run each (Audit folder log ratio table) named = let e = ap length named in absurd (omega (arith, e))
+  at_run each (Expect folder table) named = let e = ap length named in absurd (omega (arith, e))
+  at_run each (Validate folder cases) named = let e = ap length named in absurd (omega (arith, e))
+  at_run each (Read folder query) named = let e = ap length named in absurd (omega (arith, e))
 
-pub only_audit : (command : Command) (plain : List (List ℕ)) (said : Options)
-    → ((folder log : List ℕ) (ratio : ℕ) (table : FrequencyTable) → ¬ AreOf (Audit folder log ratio table) (codes "audit") plain said) → ¬ AreOf command (codes "audit") plain said
-only_audit (Check folder table) plain said none are = let e = ap (λ (t : List ℕ). get_or t 0 0) are.named in absurd (omega (arith, e))
-only_audit (Run folder workers ratio table) plain said none are = let e = ap length are.named in absurd (omega (arith, e))
-only_audit (Audit folder log ratio table) plain said none are = none folder log ratio table are
-only_audit (Validate folder cases) plain said none are = let e = ap length are.named in absurd (omega (arith, e))
-only_audit (Read folder query) plain said none are = let e = ap length are.named in absurd (omega (arith, e))
+  pub at_audit : ((folder log : List ℕ) (ratio : ℕ) (table : FrequencyTable) → P (Audit folder log ratio table)) → (command : Command) → codes "audit" ≡ (form_of command).name → P command
+  at_audit each (Check folder table) named = let e = ap (λ (t : List ℕ). get_or t 0 0) named in absurd (omega (arith, e))
+  at_audit each (Run folder workers ratio table) named = let e = ap length named in absurd (omega (arith, e))
+  at_audit each (Audit folder log ratio table) named = each folder log ratio table
+  at_audit each (Expect folder table) named = let e = ap length named in absurd (omega (arith, e))
+  at_audit each (Validate folder cases) named = let e = ap length named in absurd (omega (arith, e))
+  at_audit each (Read folder query) named = let e = ap length named in absurd (omega (arith, e))
 
-pub only_validate : (command : Command) (plain : List (List ℕ)) (said : Options)
-    → ((folder cases : List ℕ) → ¬ AreOf (Validate folder cases) (codes "validate") plain said) → ¬ AreOf command (codes "validate") plain said
-only_validate (Check folder table) plain said none are = let e = ap length are.named in absurd (omega (arith, e))
-only_validate (Run folder workers ratio table) plain said none are = let e = ap length are.named in absurd (omega (arith, e))
-only_validate (Audit folder log ratio table) plain said none are = let e = ap length are.named in absurd (omega (arith, e))
-only_validate (Validate folder cases) plain said none are = none folder cases are
-only_validate (Read folder query) plain said none are = let e = ap length are.named in absurd (omega (arith, e))
+  pub at_expect : ((folder : List ℕ) (table : FrequencyTable) → P (Expect folder table)) → (command : Command) → codes "expect" ≡ (form_of command).name → P command
+  at_expect each (Check folder table) named = let e = ap length named in absurd (omega (arith, e))
+  at_expect each (Run folder workers ratio table) named = let e = ap length named in absurd (omega (arith, e))
+  at_expect each (Audit folder log ratio table) named = let e = ap length named in absurd (omega (arith, e))
+  at_expect each (Expect folder table) named = each folder table
+  at_expect each (Validate folder cases) named = let e = ap length named in absurd (omega (arith, e))
+  at_expect each (Read folder query) named = let e = ap length named in absurd (omega (arith, e))
 
-pub only_read : (command : Command) (plain : List (List ℕ)) (said : Options) → ((folder : List ℕ) (query : Query) → ¬ AreOf (Read folder query) (codes "read") plain said)
-    → ¬ AreOf command (codes "read") plain said
-only_read (Check folder table) plain said none are = let e = ap length are.named in absurd (omega (arith, e))
-only_read (Run folder workers ratio table) plain said none are = let e = ap length are.named in absurd (omega (arith, e))
-only_read (Audit folder log ratio table) plain said none are = let e = ap length are.named in absurd (omega (arith, e))
-only_read (Validate folder cases) plain said none are = let e = ap length are.named in absurd (omega (arith, e))
-only_read (Read folder query) plain said none are = none folder query are
+  pub at_validate : ((folder cases : List ℕ) → P (Validate folder cases)) → (command : Command) → codes "validate" ≡ (form_of command).name → P command
+  at_validate each (Check folder table) named = let e = ap length named in absurd (omega (arith, e))
+  at_validate each (Run folder workers ratio table) named = let e = ap length named in absurd (omega (arith, e))
+  at_validate each (Audit folder log ratio table) named = let e = ap length named in absurd (omega (arith, e))
+  at_validate each (Expect folder table) named = let e = ap length named in absurd (omega (arith, e))
+  at_validate each (Validate folder cases) named = each folder cases
+  at_validate each (Read folder query) named = let e = ap length named in absurd (omega (arith, e))
+
+  pub at_read : ((folder : List ℕ) (query : Query) → P (Read folder query)) → (command : Command) → codes "read" ≡ (form_of command).name → P command
+  at_read each (Check folder table) named = let e = ap length named in absurd (omega (arith, e))
+  at_read each (Run folder workers ratio table) named = let e = ap length named in absurd (omega (arith, e))
+  at_read each (Audit folder log ratio table) named = let e = ap length named in absurd (omega (arith, e))
+  at_read each (Expect folder table) named = let e = ap length named in absurd (omega (arith, e))
+  at_read each (Validate folder cases) named = let e = ap length named in absurd (omega (arith, e))
+  at_read each (Read folder query) named = each folder query
 
 -- the parts of a line are those of one command
 parts_one : OneList → (name : List ℕ) (plain : List (List ℕ)) (said : Options) (c d : Command) → AreOf c name plain said → AreOf d name plain said → c ≡ d
-parts_one list name plain said (Check f s) (Check g t) x y =
+parts_one list name plain said (Check f s) d x y = at_check (λ (d : Command). AreOf d name plain said → Check f s ≡ d)
+    (λ g t y.
     let e = sym x.is_said.0 ∙ y.is_said.0 in
     let folders : f ≡ g = cc in
     let tables : s ≡ t = x.is_said.1 ∙ sym y.is_said.1 in
-    λ i. Check (folders i) (tables i)
-parts_one list name plain said (Check f s) (Run g m b t) x y = let e = ap length (sym x.named ∙ y.named) in absurd (omega (arith, e))
-parts_one list name plain said (Check f s) (Audit g k b t) x y = let e = ap (λ (t : List ℕ). get_or t 0 0) (sym x.named ∙ y.named) in absurd (omega (arith, e))
-parts_one list name plain said (Check f s) (Validate g k) x y = let e = ap length (sym x.named ∙ y.named) in absurd (omega (arith, e))
-parts_one list name plain said (Check f s) (Read g r) x y = let e = ap length (sym x.named ∙ y.named) in absurd (omega (arith, e))
-parts_one list name plain said (Run f n a s) (Check g t) x y = let e = ap length (sym x.named ∙ y.named) in absurd (omega (arith, e))
-parts_one list name plain said (Run f n a s) (Run g m b t) x y =
+    λ i. Check (folders i) (tables i))
+    d (sym x.named ∙ y.named) y
+parts_one list name plain said (Run f n a s) d x y = at_run (λ (d : Command). AreOf d name plain said → Run f n a s ≡ d)
+    (λ g m b t y.
     let e = sym x.is_said.0 ∙ y.is_said.0 in
     let folders : f ≡ g = cc in
     let counts = sym x.is_said.1 ∙ y.is_said.1 in
     let workers : n ≡ m = cc in
     let ratios : a ≡ b = x.is_said.2 ∙ sym y.is_said.2 in
     let tables : s ≡ t = x.is_said.3 ∙ sym y.is_said.3 in
-    λ i. Run (folders i) (workers i) (ratios i) (tables i)
-parts_one list name plain said (Run f n a s) (Audit g k b t) x y = let e = ap length (sym x.named ∙ y.named) in absurd (omega (arith, e))
-parts_one list name plain said (Run f n a s) (Validate g k) x y = let e = ap length (sym x.named ∙ y.named) in absurd (omega (arith, e))
-parts_one list name plain said (Run f n a s) (Read g r) x y = let e = ap length (sym x.named ∙ y.named) in absurd (omega (arith, e))
-parts_one list name plain said (Audit f l a s) (Check g t) x y = let e = ap (λ (t : List ℕ). get_or t 0 0) (sym x.named ∙ y.named) in absurd (omega (arith, e))
-parts_one list name plain said (Audit f l a s) (Run g m b t) x y = let e = ap length (sym x.named ∙ y.named) in absurd (omega (arith, e))
-parts_one list name plain said (Audit f l a s) (Audit g k b t) x y =
+    λ i. Run (folders i) (workers i) (ratios i) (tables i))
+    d (sym x.named ∙ y.named) y
+parts_one list name plain said (Audit f l a s) d x y = at_audit (λ (d : Command). AreOf d name plain said → Audit f l a s ≡ d)
+    (λ g k b t y.
     let e = sym x.is_said.0 ∙ y.is_said.0 in
     let folders : f ≡ g = cc in
     let logs : l ≡ k = cc in
     let ratios : a ≡ b = x.is_said.1 ∙ sym y.is_said.1 in
     let tables : s ≡ t = x.is_said.2 ∙ sym y.is_said.2 in
-    λ i. Audit (folders i) (logs i) (ratios i) (tables i)
-parts_one list name plain said (Audit f l a s) (Validate g k) x y = let e = ap length (sym x.named ∙ y.named) in absurd (omega (arith, e))
-parts_one list name plain said (Audit f l a s) (Read g r) x y = let e = ap length (sym x.named ∙ y.named) in absurd (omega (arith, e))
-parts_one list name plain said (Validate f l) (Check g t) x y = let e = ap length (sym x.named ∙ y.named) in absurd (omega (arith, e))
-parts_one list name plain said (Validate f l) (Run g m b t) x y = let e = ap length (sym x.named ∙ y.named) in absurd (omega (arith, e))
-parts_one list name plain said (Validate f l) (Audit g k b t) x y = let e = ap length (sym x.named ∙ y.named) in absurd (omega (arith, e))
-parts_one list name plain said (Validate f l) (Validate g k) x y =
+    λ i. Audit (folders i) (logs i) (ratios i) (tables i))
+    d (sym x.named ∙ y.named) y
+parts_one list name plain said (Expect f s) d x y = at_expect (λ (d : Command). AreOf d name plain said → Expect f s ≡ d)
+    (λ g t y.
+    let e = sym x.is_said.0 ∙ y.is_said.0 in
+    let folders : f ≡ g = cc in
+    let tables : s ≡ t = x.is_said.1 ∙ sym y.is_said.1 in
+    λ i. Expect (folders i) (tables i))
+    d (sym x.named ∙ y.named) y
+parts_one list name plain said (Validate f l) d x y = at_validate (λ (d : Command). AreOf d name plain said → Validate f l ≡ d)
+    (λ g k y.
     let e = sym x.is_said ∙ y.is_said in
     let folders : f ≡ g = cc in
     let files : l ≡ k = cc in
-    λ i. Validate (folders i) (files i)
-parts_one list name plain said (Validate f l) (Read g r) x y = let e = ap length (sym x.named ∙ y.named) in absurd (omega (arith, e))
-parts_one list name plain said (Read f r) (Check g t) x y = let e = ap length (sym x.named ∙ y.named) in absurd (omega (arith, e))
-parts_one list name plain said (Read f r) (Run g m b t) x y = let e = ap length (sym x.named ∙ y.named) in absurd (omega (arith, e))
-parts_one list name plain said (Read f r) (Audit g k b t) x y = let e = ap length (sym x.named ∙ y.named) in absurd (omega (arith, e))
-parts_one list name plain said (Read f r) (Validate g k) x y = let e = ap length (sym x.named ∙ y.named) in absurd (omega (arith, e))
-parts_one list name plain said (Read f r) (Read g s) x y =
+    λ i. Validate (folders i) (files i))
+    d (sym x.named ∙ y.named) y
+parts_one list name plain said (Read f r) d x y = at_read (λ (d : Command). AreOf d name plain said → Read f r ≡ d)
+    (λ g s y.
     let e = sym x.is_said.2 ∙ y.is_said.2 in
     let folders : f ≡ g = cc in
     let words : x.is_said.0 ≡ y.is_said.0 = cc in
     let parameters : x.is_said.1 ≡ y.is_said.1 = cc in
     let reads = one_read list x.is_said.0 x.is_said.1 r s x.is_said.3
     (subst (λ (k : List ℕ). IsReadOf k x.is_said.1 s) (sym words) (subst (λ (ps : List (List ℕ)). IsReadOf y.is_said.0 ps s) (sym parameters) y.is_said.3)) in
-    λ i. Read (folders i) (reads i)
+    λ i. Read (folders i) (reads i))
+    d (sym x.named ∙ y.named) y
 
 pub one_command : OneRatio → FrequenciesAreOne → OneList → WordsAreOne
 one_command ratios tables list words c d x y =

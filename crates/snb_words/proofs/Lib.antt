@@ -2,5 +2,10 @@ mod CommandLemmas
 mod LineLemmas
 mod OneRead
 mod OptionLemmas
+mod PartLemmas
 mod ReadLemmas
+mod ReadTaken
+mod TakenLemmas
+mod TakenLines
+mod WalkFacts
 mod WordLemmas

@@ -22,7 +22,7 @@ table_one pairs a b p q = λ i. record {
 }
 
 -- a word says the frequencies of one table
-says_one : FrequenciesAreOne → (word : List ℕ) (a b : FrequencyTable) → SaysFrequencies word a → SaysFrequencies word b → a ≡ b
+pub says_one : FrequenciesAreOne → (word : List ℕ) (a b : FrequencyTable) → SaysFrequencies word a → SaysFrequencies word b → a ≡ b
 says_one law word a b p q = table_one p.0 a b p.2 (subst (HasFrequencies b) (law word q.0 p.0 q.1 p.1) q.2)
 
 -- a table in which no query has a frequency is the one of none

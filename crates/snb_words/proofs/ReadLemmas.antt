@@ -12,7 +12,7 @@ use Rattle.snb_words.specs.declared.command.Command.{Command}
 use Rattle.snb_words.specs.declared.options.Options.{Options}
 use Rattle.snb_words.specs.Commands.{AreOf, IsReadOf}
 use Rattle.snb_words.specs.Words.{texts_of}
-use Rattle.snb_words.proofs.CommandLemmas.{only_read}
+use Rattle.snb_words.proofs.CommandLemmas.{at_read}
 
 -- fields that spell values are as many as their columns
 spelled_long : (cs : List Column) (xs : List (List ℕ)) (vs : List Value) → SpellsAll cs xs vs → length xs ≡ length cs
@@ -37,7 +37,7 @@ one_to_three (queries.Ic9 person max_date) = (omega arith, omega arith)
 one_to_three (queries.Ic11 person country year) = (omega arith, omega arith)
 one_to_three (queries.Ic13 from to) = (omega arith, omega arith)
 
-few_parameters : (kind : List ℕ) (parameters : List (List ℕ)) (query : Query) → IsReadOf kind parameters query → (1 ≤ length parameters) × (length parameters < 4)
+pub few_parameters : (kind : List ℕ) (parameters : List (List ℕ)) (query : Query) → IsReadOf kind parameters query → (1 ≤ length parameters) × (length parameters < 4)
 few_parameters kind parameters query r =
     subst (λ (n : ℕ). (1 ≤ n) × (n < 4)) (sym (spelled_long (parameter_columns (kind_of query)) parameters (parameter_values query) r.1)) (one_to_three query)
 
@@ -73,9 +73,9 @@ no_date_second kind x y (inr k) none (queries.Ic13 from to) r = let e = ap lengt
 
 -- plain words that are fewer than a read has
 pub too_short : (ws : List (Bor (List ℕ))) (said : Options) → length ws < 2 → (command : Command) → ¬ AreOf command (codes "read") (texts_of ws) said
-too_short ws said few command are = only_read command (texts_of ws) said
+too_short ws said few command are = at_read (λ c. ¬ AreOf c (codes "read") (texts_of ws) said)
     (λ folder query read.
     let same = length-map ws (λ (word : Bor (List ℕ)). word.now) in
     let e = ap length read.is_said.2 in
     omega (arith, few, same, e))
-    are
+    command are.named are

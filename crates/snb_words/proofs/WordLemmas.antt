@@ -1,5 +1,5 @@
 -- Facts on words.
-use Rattle.std.proofs.Common.{◌≡◌, ℕ, ◌-◌, ◌<◌, ◌≤◌, List, [], ◌∷◌, length, get_or, take, drop, refl, sym, arith, Bor}
+use Rattle.std.proofs.Common.{◌≡◌, ℕ, ◌-◌, ◌≤◌, List, [], ◌∷◌, length, get_or, take, drop, sym, arith, Bor}
 use Rattle.std.proofs.lemmas.List.{take_rest}
 use Rattle.snb_words.specs.Words.{texts_of}
 
@@ -8,16 +8,3 @@ pub two_words : (ws : List (Bor (List ℕ))) (d : Bor (List ℕ)) → 2 ≤ leng
 two_words [] d l = absurd (omega arith)
 two_words (p ∷ []) d l = absurd (omega arith)
 two_words (p ∷ q ∷ ws) d l = λ i. p.now ∷ q.now ∷ texts_of (sym (take_rest (p ∷ q ∷ ws) 2) i)
-
--- one word, by its place
-pub single_word : (ws : List (Bor (List ℕ))) (d : Bor (List ℕ)) → 1 ≤ length ws → length ws < 2 → texts_of ws ≡ (get_or ws 0 d).now ∷ []
-single_word [] d l h = absurd (omega arith)
-single_word (p ∷ []) d l h = refl
-single_word (p ∷ q ∷ ws) d l h = absurd (omega (arith, h))
-
--- two words alone, by their places
-pub word_pair : (ws : List (Bor (List ℕ))) (d : Bor (List ℕ)) → 2 ≤ length ws → length ws < 3 → texts_of ws ≡ (get_or ws 0 d).now ∷ (get_or ws 1 d).now ∷ []
-word_pair [] d l h = absurd (omega arith)
-word_pair (p ∷ []) d l h = absurd (omega arith)
-word_pair (p ∷ q ∷ []) d l h = refl
-word_pair (p ∷ q ∷ r ∷ ws) d l h = absurd (omega (arith, h))

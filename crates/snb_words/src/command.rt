@@ -1,13 +1,15 @@
 //! The commands of the program, read off the words of a line.
 
-ghost use Rattle.std.specs.Prelude.{IfOk, IfSome, MatchOption, OnErr, codes};
+ghost use Rattle.std.specs.Prelude.{◌↔◌, IfOk, IfSome, IsTrue, MatchOption, OnErr, codes};
 ghost use Rattle.snb_words.specs.declared.command.Command.{Command as AnyCommand};
 ghost use Rattle.snb_words.specs.Commands.{AreOf, IsLineOf, IsOtherLine, IsRunnable};
+ghost use Rattle.snb_words.specs.Taken.{IsLineBy};
 ghost use Rattle.snb_words.specs.Words.{texts_of};
 
-use crate::line::line_of;
+use crate::line::{Line, line_of};
 use crate::options::{OptionName, Options};
-use crate::reads::query_of;
+use crate::reads::is_read;
+use crate::taken::{matches_in, options_in, query_in, text_at};
 use snb_base::text::Text;
 use snb_ratio::law::one_ratio;
 use snb_ratio::ratio::Ratio;
@@ -47,6 +49,13 @@ pub enum Command {
         /// How often each complex query is asked.
         frequencies: Frequencies,
     },
+    /// `expect DIR`, with `--freq L` or without.
+    Expect {
+        /// The folder.
+        folder: Text,
+        /// How often each complex query is asked.
+        frequencies: Frequencies,
+    },
     /// `validate DIR CASES`.
     Validate {
         /// The folder.
@@ -82,6 +91,10 @@ impl Drop for Command {
                 ratio: _,
                 frequencies: _,
             } => {}
+            Command::Expect {
+                folder: _,
+                frequencies: _,
+            } => {}
             Command::Validate {
                 folder: _,
                 cases: _,
@@ -94,7 +107,7 @@ impl Drop for Command {
     }
 }
 
-// The options of `check`, of `run` and of `audit`, and those that `run` needs.
+// The options of `check` and `expect`, of `run` and of `audit`, and those that `run` needs.
 const OF_CHECK: [OptionName; 1] = [OptionName::Frequencies];
 
 const OF_RUN: [OptionName; 3] = [
@@ -107,103 +120,128 @@ const OF_AUDIT: [OptionName; 2] = [OptionName::Ratio, OptionName::Frequencies];
 
 const NEEDED_BY_RUN: [OptionName; 1] = [OptionName::Workers];
 
-// The check that the plain words and the options say, or None where they say none.
-fn check_of(alloc: Global, plain: &[&str], said: Options) -> Result<Option<Command>, AllocError>
-    ensures found { IfOk result (λ found. MatchOption found ((command : AnyCommand) → ¬ AreOf command (codes "check") (texts_of plain.now) said)
-        (λ command. AreOf command (codes "check") (texts_of plain.now) said)) }
-    ensures memory { OnErr result ((command : AnyCommand) × AreOf command (codes "check") (texts_of plain.now) said) }
+// Whether the parts of a line are those of a read.
+fn is_read_line(alloc: Global, line: &Line<'_, '_>) -> bool
+    ensures { IsTrue result ↔ ((command : AnyCommand) × AreOf command (codes "read") (texts_of line.now.plain.now) line.now.said) }
 {
-    if !said.are_suited(&OF_CHECK, &[]) {
-        return Ok(None);
+    if !line.said.are_suited(&[], &[]) {
+        return false;
     }
-    match plain {
-        [folder] => Ok(Some(Command::Check {
-            folder: Text::from_str(alloc, folder)?,
-            frequencies: said.frequencies_or_none(),
-        })),
-        _ => Ok(None),
+    match line.plain {
+        [_, kind, parameters @ ..] => is_read(alloc, kind, parameters),
+        _ => false,
     }
 }
 
-// The run that the plain words and the options say, or None where they say none.
-fn run_of(alloc: Global, plain: &[&str], said: Options) -> Result<Option<Command>, AllocError>
-    ensures found { IfOk result (λ found. MatchOption found ((command : AnyCommand) → ¬ AreOf command (codes "run") (texts_of plain.now) said)
-        (λ command. AreOf command (codes "run") (texts_of plain.now) said)) }
-    ensures memory { OnErr result ((command : AnyCommand) × AreOf command (codes "run") (texts_of plain.now) said) }
+// Whether the parts of a line are those of a command.
+fn is_command(alloc: Global, line: &Line<'_, '_>) -> bool
+    ensures { IsTrue result ↔ ((command : AnyCommand) × AreOf command line.now.name.now (texts_of line.now.plain.now) line.now.said) }
 {
-    if !said.are_suited(&OF_RUN, &NEEDED_BY_RUN) {
-        return Ok(None);
+    match line.name {
+        "check" => line.suits(1, &OF_CHECK, &[]),
+        "run" => line.suits(1, &OF_RUN, &NEEDED_BY_RUN),
+        "audit" => line.suits(2, &OF_AUDIT, &[]),
+        "expect" => line.suits(1, &OF_CHECK, &[]),
+        "validate" => line.suits(2, &[], &[]),
+        "read" => is_read_line(alloc, line),
+        _ => false,
     }
+}
+
+// The check that the words say.
+fn take_check(alloc: Global, words: &[&str]) -> Result<Command, AllocError>
+    requires { IsLineBy (codes "check") (texts_of words.now) }
+    ensures { IfOk result (IsLineOf (texts_of words.now)) }
+{
+    let matches = matches_in(alloc, &["folder"], &["freq"], words)?;
+    Ok(Command::Check {
+        folder: text_at(alloc, &matches, "folder")?,
+        frequencies: options_in(&matches).frequencies_or_none(),
+    })
+}
+
+// The run that the words say.
+fn take_run(alloc: Global, words: &[&str]) -> Result<Command, AllocError>
+    requires { IsLineBy (codes "run") (texts_of words.now) }
+    ensures { IfOk result (IsLineOf (texts_of words.now)) }
+{
+    let matches = matches_in(alloc, &["folder"], &["workers", "ratio", "freq"], words)?;
+    let said = options_in(&matches);
     let Some(workers) = said.workers else {
-        return Ok(None);
+        unreachable!()
     };
-    match plain {
-        [folder] => Ok(Some(Command::Run {
-            folder: Text::from_str(alloc, folder)?,
-            workers,
-            ratio: said.ratio_or_one(),
-            frequencies: said.frequencies_or_none(),
-        })),
-        _ => Ok(None),
-    }
+    Ok(Command::Run {
+        folder: text_at(alloc, &matches, "folder")?,
+        workers,
+        ratio: said.ratio_or_one(),
+        frequencies: said.frequencies_or_none(),
+    })
 }
 
-// The audit that the plain words and the options say, or None where they say none.
-fn audit_of(alloc: Global, plain: &[&str], said: Options) -> Result<Option<Command>, AllocError>
-    ensures found { IfOk result (λ found. MatchOption found ((command : AnyCommand) → ¬ AreOf command (codes "audit") (texts_of plain.now) said)
-        (λ command. AreOf command (codes "audit") (texts_of plain.now) said)) }
-    ensures memory { OnErr result ((command : AnyCommand) × AreOf command (codes "audit") (texts_of plain.now) said) }
+// The audit that the words say.
+fn take_audit(alloc: Global, words: &[&str]) -> Result<Command, AllocError>
+    requires { IsLineBy (codes "audit") (texts_of words.now) }
+    ensures { IfOk result (IsLineOf (texts_of words.now)) }
 {
-    if !said.are_suited(&OF_AUDIT, &[]) {
-        return Ok(None);
-    }
-    match plain {
-        [folder, log] => Ok(Some(Command::Audit {
-            folder: Text::from_str(alloc, folder)?,
-            log: Text::from_str(alloc, log)?,
-            ratio: said.ratio_or_one(),
-            frequencies: said.frequencies_or_none(),
-        })),
-        _ => Ok(None),
-    }
+    let matches = matches_in(alloc, &["folder", "log"], &["ratio", "freq"], words)?;
+    let said = options_in(&matches);
+    Ok(Command::Audit {
+        folder: text_at(alloc, &matches, "folder")?,
+        log: text_at(alloc, &matches, "log")?,
+        ratio: said.ratio_or_one(),
+        frequencies: said.frequencies_or_none(),
+    })
 }
 
-// The validation that the plain words and the options say, or None where they say none.
-fn validate_of(alloc: Global, plain: &[&str], said: Options) -> Result<Option<Command>, AllocError>
-    ensures found { IfOk result (λ found. MatchOption found ((command : AnyCommand) → ¬ AreOf command (codes "validate") (texts_of plain.now) said)
-        (λ command. AreOf command (codes "validate") (texts_of plain.now) said)) }
-    ensures memory { OnErr result ((command : AnyCommand) × AreOf command (codes "validate") (texts_of plain.now) said) }
+// The `expect` that the words say.
+fn take_expect(alloc: Global, words: &[&str]) -> Result<Command, AllocError>
+    requires { IsLineBy (codes "expect") (texts_of words.now) }
+    ensures { IfOk result (IsLineOf (texts_of words.now)) }
 {
-    if !said.are_suited(&[], &[]) {
-        return Ok(None);
-    }
-    match plain {
-        [folder, cases] => Ok(Some(Command::Validate {
-            folder: Text::from_str(alloc, folder)?,
-            cases: Text::from_str(alloc, cases)?,
-        })),
-        _ => Ok(None),
-    }
+    let matches = matches_in(alloc, &["folder"], &["freq"], words)?;
+    Ok(Command::Expect {
+        folder: text_at(alloc, &matches, "folder")?,
+        frequencies: options_in(&matches).frequencies_or_none(),
+    })
 }
 
-// The read that the plain words and the options say, or None where they say none.
-fn read_of(alloc: Global, plain: &[&str], said: Options) -> Result<Option<Command>, AllocError>
-    ensures found { IfOk result (λ found. MatchOption found ((command : AnyCommand) → ¬ AreOf command (codes "read") (texts_of plain.now) said)
-        (λ command. AreOf command (codes "read") (texts_of plain.now) said)) }
-    ensures memory { OnErr result ((command : AnyCommand) × AreOf command (codes "read") (texts_of plain.now) said) }
+// The validation that the words say.
+fn take_validate(alloc: Global, words: &[&str]) -> Result<Command, AllocError>
+    requires { IsLineBy (codes "validate") (texts_of words.now) }
+    ensures { IfOk result (IsLineOf (texts_of words.now)) }
 {
-    if !said.are_suited(&[], &[]) {
-        return Ok(None);
-    }
-    match plain {
-        [folder, kind, parameters @ ..] => match query_of(alloc, kind, parameters)? {
-            Some(query) => Ok(Some(Command::Read {
-                folder: Text::from_str(alloc, folder)?,
-                query,
-            })),
-            None => Ok(None),
-        },
-        _ => Ok(None),
+    let matches = matches_in(alloc, &["folder", "cases"], &[], words)?;
+    Ok(Command::Validate {
+        folder: text_at(alloc, &matches, "folder")?,
+        cases: text_at(alloc, &matches, "cases")?,
+    })
+}
+
+// The read that the words say.
+fn take_read(alloc: Global, words: &[&str]) -> Result<Command, AllocError>
+    requires { IsLineBy (codes "read") (texts_of words.now) }
+    ensures { IfOk result (IsLineOf (texts_of words.now)) }
+{
+    let places = ["folder", "kind", "first", "second", "third"];
+    let matches = matches_in(alloc, &places, &[], words)?;
+    let folder = text_at(alloc, &matches, "folder")?;
+    let query = query_in(alloc, &matches)?;
+    Ok(Command::Read { folder, query })
+}
+
+// The command of this name that the words say, as `clap` takes them apart.
+fn take(alloc: Global, name: &str, words: &[&str]) -> Result<Command, AllocError>
+    requires { IsLineBy name.now (texts_of words.now) }
+    ensures { IfOk result (IsLineOf (texts_of words.now)) }
+{
+    match name {
+        "check" => take_check(alloc, words),
+        "run" => take_run(alloc, words),
+        "audit" => take_audit(alloc, words),
+        "expect" => take_expect(alloc, words),
+        "validate" => take_validate(alloc, words),
+        "read" => take_read(alloc, words),
+        _ => unreachable!(),
     }
 }
 
@@ -223,12 +261,8 @@ pub fn command_of(alloc: Global, words: &[&str]) -> Result<Option<Command>, Allo
     let Some(line) = line_of(words) else {
         return Ok(None);
     };
-    match line.name {
-        "check" => check_of(alloc, line.plain, line.said),
-        "run" => run_of(alloc, line.plain, line.said),
-        "audit" => audit_of(alloc, line.plain, line.said),
-        "validate" => validate_of(alloc, line.plain, line.said),
-        "read" => read_of(alloc, line.plain, line.said),
-        _ => Ok(None),
+    if !is_command(alloc, &line) {
+        return Ok(None);
     }
+    Ok(Some(take(alloc, line.name, words)?))
 }

@@ -6,3 +6,4 @@ pub mod law;
 mod line;
 pub mod options;
 mod reads;
+mod taken;

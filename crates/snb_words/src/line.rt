@@ -1,11 +1,11 @@
 //! The name, the plain words and the options of a command line.
 
-ghost use Rattle.std.specs.Prelude.{ℕ, ◌<◌, ◌≤◌, ◌↔◌, List, length, slice_index_or, take, All, IsTrue, MatchOption};
+ghost use Rattle.std.specs.Prelude.{◌≡◌, ℕ, ◌<◌, ◌≤◌, ◌↔◌, List, length, slice_index_or, take, All, IsTrue, MatchOption};
 ghost use Rattle.std.specs.Borrow.{Bor};
 ghost use Rattle.snb_words.specs.declared.options.Options.{Options as AnyOptions};
 ghost use Rattle.snb_words.specs.Words.{IsLine, IsPlainWord, texts_of};
 
-use crate::options::{Options, options_of};
+use crate::options::{OptionName, Options, options_of};
 
 /// The parts of a command line.
 #[derive(Clone, Copy)]
@@ -16,6 +16,17 @@ pub struct Line<'w, 'a> {
     pub plain: &'w [&'a str],
     /// What the options say that follow them.
     pub said: Options,
+}
+
+impl Line<'_, '_> {
+    ghost use Rattle.snb_words.specs.Options.{AreSuited};
+
+    /// Whether it has so many plain words, and its options are suited.
+    pub fn suits(&self, places: usize, admitted: &[OptionName], needed: &[OptionName]) -> bool
+        ensures { IsTrue result ↔ ((length self.now.plain.now ≡ places) × AreSuited admitted.now needed.now self.now.said) }
+    {
+        self.plain.len() == places && self.said.are_suited(admitted, needed)
+    }
 }
 
 // Whether the word isn't empty and doesn't begin with `-`.

@@ -6,7 +6,7 @@ ghost use Rattle.snb_ratio.specs.Ratios.{SpellsRatio};
 ghost use Rattle.snb_schema.specs.declared.limits.TheConstants.{MAX_WORKERS};
 ghost use Rattle.snb_schema.specs.Frequencies.{FrequencyTable};
 ghost use Rattle.snb_words.specs.declared.options.Options.{Options as AnyOptions};
-ghost use Rattle.snb_words.specs.Options.{Adds, AreSuited, IsGiven, Say, SaysFrequencies, frequencies_of, no_frequencies, no_options, ratio_of};
+ghost use Rattle.snb_words.specs.Options.{Adds, AreSuited, IsGiven, Say, SaysFrequencies, frequencies_of, no_options, ratio_of as ratio_said};
 ghost use Rattle.snb_words.specs.Words.{texts_of};
 
 use snb_base::number::read_number;
@@ -76,7 +76,7 @@ impl Options {
 
     /// The ratio, which is 1 where none is given.
     pub fn ratio_or_one(&self) -> Ratio
-        ensures { result ≡ ratio_of self.now }
+        ensures { result ≡ ratio_said self.now }
     {
         self.ratio.unwrap_or(Ratio::one())
     }
@@ -85,7 +85,7 @@ impl Options {
     pub fn frequencies_or_none(&self) -> Frequencies
         ensures { result ≡ frequencies_of self.now }
     {
-        self.frequencies.unwrap_or(no_frequencies())
+        self.frequencies.unwrap_or(Frequencies::none())
     }
 }
 
@@ -101,8 +101,8 @@ fn is_among(names: &[OptionName], name: OptionName) -> bool
     false
 }
 
-// The number of workers that the word says, or None.
-fn workers_of(word: &str) -> Option<u32>
+/// The number of workers that the word says, or None.
+pub fn workers_of(word: &str) -> Option<u32>
     ensures { MatchOption result ((n : ℕ) → Num word.now n MAX_WORKERS → 1 ≤ n → ⊥) (λ n. Num word.now n MAX_WORKERS × (1 ≤ n)) }
 {
     let number = read_number(word.as_bytes(), u64::from(MAX_WORKERS))?;
@@ -112,8 +112,15 @@ fn workers_of(word: &str) -> Option<u32>
     Some(number as u32)
 }
 
-// The frequencies that the word says, or None.
-fn frequencies_of(word: &str) -> Option<Frequencies>
+/// The ratio that the word says, or None.
+pub fn ratio_of(word: &str) -> Option<Ratio>
+    ensures { MatchOption result ((n : ℕ) → ¬ SpellsRatio word.now n) (SpellsRatio word.now) }
+{
+    Ratio::read(word.as_bytes())
+}
+
+/// The frequencies that the word says, or None.
+pub fn frequencies_of(word: &str) -> Option<Frequencies>
     ensures { MatchOption result ((table : FrequencyTable) → ¬ SaysFrequencies word.now table) (SaysFrequencies word.now) }
 {
     Frequencies::read(word.as_bytes())
@@ -135,7 +142,7 @@ fn with_option(old: Options, name: &str, value: &str) -> Option<Options>
             if old.ratio.is_some() {
                 return None;
             }
-            let ratio = Some(Ratio::read(value.as_bytes())?);
+            let ratio = Some(ratio_of(value)?);
             Some(Options { ratio, ..old })
         }
         "--freq" => {
@@ -172,11 +179,4 @@ pub fn options_of(words: &[&str]) -> Option<Options>
         frequencies: None,
     };
     with_options(none, words)
-}
-
-// The frequencies where there are none.
-fn no_frequencies() -> Frequencies
-    ensures { result ≡ no_frequencies }
-{
-    Frequencies::none()
 }

@@ -1,6 +1,6 @@
 //! The words of a read.
 
-ghost use Rattle.std.specs.Prelude.{[], ◌∷◌, IfOk, MatchOption, OnErr};
+ghost use Rattle.std.specs.Prelude.{[], ◌∷◌, ◌↔◌, IfOk, IsTrue, MatchOption, OnErr};
 ghost use Rattle.snb_schema.specs.declared.query.Query.{Query as AnyQuery};
 ghost use Rattle.snb_words.specs.Commands.{IsReadOf};
 ghost use Rattle.snb_words.specs.Words.{texts_of};
@@ -108,5 +108,15 @@ pub fn query_of(alloc: Global, kind: &str, parameters: &[&str]) -> Result<Option
         [first, second] => read_of_two(alloc, kind, first, second),
         [first, second, third] => read_of_three(alloc, kind, first, second, third),
         _ => Ok(None),
+    }
+}
+
+/// Whether the words are the kind and the parameters of a read. Memory runs out of a read alone.
+pub fn is_read(alloc: Global, kind: &str, parameters: &[&str]) -> bool
+    ensures { IsTrue result ↔ ((query : AnyQuery) × IsReadOf kind.now (texts_of parameters.now) query) }
+{
+    match query_of(alloc, kind, parameters) {
+        Ok(found) => found.is_some(),
+        Err(_) => true,
     }
 }

@@ -23,12 +23,6 @@ use Rattle.snb_replay.specs.Replay.{finished_insert, insert_at, insert_in}
 use Rattle.snb_replay.proofs.Laws.{after_none, after_some}
 use Rattle.snb_workers.specs.Replicas.{HasTaken, HasTakenSome, IfFinish, MayTake, StandsFor, Taken}
 
--- where all references are held, none is missing
-pub none_missing : (g : List Row) (refs : List Missing) (node : Missing) → All (IsThere g) refs → IsFirstMissing g refs node → ⊥
-none_missing g refs node all first =
-    first.lacking (All-contains (IsThere g) refs node all
-    (subst (λ (rs : List Missing). Contains rs node) first.splits (Contains-append_right first.before (node ∷ first.after) node (contains_here node first.after))))
-
 -- ---- the line of an insert
 
 -- an operation that inserts a line has its insert

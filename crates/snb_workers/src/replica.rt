@@ -3,25 +3,22 @@
 ghost use Rattle.std.specs.Prelude.{◌≡◌, ℕ, ◌<◌, ◌∷◌, [], List, length, IfOk, MatchOption, None, OnOk, OnErr, Some};
 ghost use Rattle.snb_schema.specs.declared.event.Event.{Event as AnyEvent};
 ghost use Rattle.snb_schema.specs.declared.row.Row.{Row};
-ghost use Rattle.snb_schema.specs.Inserts.{rows_of};
-ghost use Rattle.snb_tables.specs.Graphs.{HasGained, IsGraph};
 ghost use Rattle.snb_tables.specs.Soundness.{Sound};
-ghost use Rattle.snb_inserts.specs.Applying.{HasLine, IsWelcome};
+ghost use Rattle.snb_inserts.specs.Applying.{HasLine};
 ghost use Rattle.snb_plan.specs.Plans.{IsOfStreams};
 ghost use Rattle.snb_reads.specs.Replies.{IsReply};
 ghost use Rattle.snb_replay.specs.Replay.{finished_insert};
 ghost use Rattle.snb_workers.specs.Replicas.{HasTaken, HasTakenSome, IfFinish, MayTake};
 
 use snb_graph::graph::Graph;
-use snb_inserts::applied::Applied;
-use snb_inserts::apply::apply;
+use snb_inserts::apply::apply_welcome;
 use snb_plan::plan::{Plan, Task};
 use snb_reads::reply::Reply;
 use snb_replay::law::replay_is_welcome;
 use snb_replies::reply::answer;
 use snb_schema::event::Event;
 use snb_schema::law::{legal_is_short, prefix_is_legal};
-use snb_schema::op::{Line, Op};
+use snb_schema::op::Line;
 use snb_schema::query::Query;
 use std::alloc::{AllocError, Global};
 use std::marker::Model;
@@ -62,24 +59,6 @@ fn finished_line<'a>(plan: &'a Plan, event: &Event) -> Option<&'a Line>
             Task::Ask { .. } => None,
         },
         _ => None,
-    }
-}
-
-// Adds the rows of an insert that finds all that it refers to and whose keys are new.
-fn add_rows(alloc: Global, graph: &mut Graph, op: &Op) -> Result<(), AllocError>
-    requires line { HasLine op.now }
-    requires sound { Sound graph.old }
-    requires welcome { IsWelcome graph.old op.now }
-    ensures gained { OnOk result (HasGained graph.old (rows_of op.now) graph.new) }
-    ensures sound { OnOk result (Sound graph.new) }
-    ensures err { OnErr result (graph.new ≡ graph.old) }
-{
-    match apply(alloc, graph, op) {
-        Ok(()) => Ok(()),
-        Err(Applied::Memory) => Err(AllocError),
-        // All that the insert refers to is held, and none of the keys that it takes is.
-        Err(Applied::Missing { .. }) => unreachable!(),
-        Err(Applied::Duplicate) => unreachable!(),
     }
 }
 
@@ -130,7 +109,7 @@ impl Replica {
         legal_is_short();
         plan.schedule().steps();
         if let Some(line) = finished_line(plan, event) {
-            add_rows(alloc, &mut self.graph, &line.op)?;
+            apply_welcome(alloc, &mut self.graph, &line.op)?;
         }
         self.front += 1;
         Ok(())

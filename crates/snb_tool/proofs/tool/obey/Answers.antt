@@ -19,3 +19,6 @@ returns-in-Audit-clause-ends g c = rw (c.in-Audit.is, ← c.as_str-in-Audit.ensu
 
 pub returns-in-Validate-clause-ends : goal.returns-in-Validate-clause-ends
 returns-in-Validate-clause-ends g c = rw (c.in-Validate.is, ← c.as_str-in-Validate.ensures, ← c.as_str-in-Validate-2.ensures) (c.validate.ensures.ends (g.C.Clock.fixed c.args.clock.now))
+
+pub returns-in-Expect-clause-ends : goal.returns-in-Expect-clause-ends
+returns-in-Expect-clause-ends g c = rw (c.in-Expect.is, ← c.as_str-in-Expect.ensures) (c.expect.ensures.ends (g.C.Clock.fixed c.args.clock.now))

@@ -1,5 +1,4 @@
 use Rattle.std.proofs.Common.{ℕ, subst, sym, ◌∙◌}
-use Rattle.snb_base.specs.Outbox.{Written}
 use Rattle.snb_schema.specs.ScreenTexts.{refusal_text}
 use Rattle.snb_words.specs.declared.command.Command.TheVariants.{Validate}
 use Rattle.snb_tool.specs.Outcome.{IsCommandAnswer}

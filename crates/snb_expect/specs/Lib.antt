@@ -1,0 +1,3 @@
+pub mod CaseTexts
+pub mod Expected
+pub mod Writing

@@ -1,0 +1,4 @@
+//! Laws of the cases of a plan.
+#![tactic(auto)]
+
+pub mod law;

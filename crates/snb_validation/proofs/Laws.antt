@@ -1,0 +1,13 @@
+-- What other crates may cite of this one: a reply has no float, and nests five deep.
+use Rattle.std.proofs.Common.{◌≡◌, ◌≤◌, List, false}
+use Rattle.serde_json.specs.Data.{depth}
+use Rattle.serde_json.specs.Written.{has_float}
+use Rattle.snb_reads.specs.declared.cell.Cell.{Cell}
+use Rattle.snb_validation.specs.ReplyData.{reply_data}
+use Rattle.snb_validation.proofs.ReplyFacts
+
+pub reply_plain : (r : List (List (List Cell))) → has_float (reply_data r) ≡ false
+reply_plain = ReplyFacts.reply_plain
+
+pub reply_low : (r : List (List (List Cell))) → depth (reply_data r) ≤ 5
+reply_low = ReplyFacts.reply_low
