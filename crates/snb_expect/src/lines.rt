@@ -66,7 +66,7 @@ fn ask_value(alloc: Global, query: &Query, reply: &Reply) -> Result<Value, Alloc
 }
 
 /// Appends the line of an insert's case, which is read as that case. Want of memory leaves the bytes as
-/// they were.
+/// they were. The condition: some line of an update stream is the insert's.
 pub fn put_insert(alloc: Global, line: &Line, to: &mut Vec<u8>) -> Result<(), AllocError>
     requires { IsOfLine line.now }
     ensures ok { OnOk result (to.new.items ≡ to.old.items ++ case_line (insert_case line.now)) }

@@ -54,7 +54,7 @@ fn line_command<'a>(
 }
 
 /// What `clap` finds in the words of an accepted line, by the names of its places and options. The
-/// error is want of memory.
+/// error is want of memory. The condition: `clap` takes these words for these places and options.
 pub fn matches_in<'a>(
     alloc: Global,
     places: &[&'a str],
@@ -75,7 +75,7 @@ pub fn matches_in<'a>(
     }
 }
 
-/// The text that stands at a place. The error is want of memory.
+/// The text that stands at a place. The error is want of memory. The condition: one stands there.
 pub fn text_at(alloc: Global, matches: &ArgMatches<'_>, place: &str) -> Result<Text, AllocError>
     requires { IsSome (first_value (found_of matches.now) place.now) }
     ensures { IfOk result (λ text. first_value (found_of matches.now) place.now ≡ Some text) }
@@ -110,7 +110,8 @@ fn made(found: Result<Option<Query>, AllocError>) -> Result<Query, AllocError>
     }
 }
 
-/// The read whose kind and parameters were found. The error is want of memory.
+/// The read whose kind and parameters were found. The error is want of memory. The condition: those of a
+/// read were found.
 pub fn query_in(alloc: Global, matches: &ArgMatches<'_>) -> Result<Query, AllocError>
     requires { (query : AnyQuery) × IsReadFound (first_value (found_of matches.now)) query }
     ensures { IfOk result (λ made. (query : AnyQuery) → IsReadFound (first_value (found_of matches.now)) query → made ≡ query) }
