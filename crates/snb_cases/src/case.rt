@@ -134,6 +134,9 @@ pub struct Wanted {
     pub texts: Texts,
     /// What is noted of the clock, the gate and the shelf, where that is compared.
     pub story: Option<Vec<u8>>,
+    /// What an audit of the log must show, where the log is audited. Then the text of the log and that of the
+    /// answers aren't compared.
+    pub audit: Option<Vec<u8>>,
 }
 
 impl Drop for Wanted {
@@ -142,6 +145,7 @@ impl Drop for Wanted {
             status: _,
             texts: _,
             story: _,
+            audit: _,
         } = self;
     }
 }
@@ -203,6 +207,7 @@ impl Case {
                 status: NO_STATUS,
                 texts: Texts::new(alloc),
                 story: None,
+                audit: None,
             },
         }
     }

@@ -31,6 +31,8 @@ enum Place {
     On { channel: Channel },
     // What must be noted of the clock, the gate and the shelf.
     Story,
+    // What an audit of the log must show.
+    Audit,
 }
 
 // How far the table is read.
@@ -133,10 +135,11 @@ impl Reader {
             }
             Place::Story => {
                 let case = self.case.as_mut().ok_or(Flaw::NoCase)?;
-                match &mut case.wanted.story {
-                    Some(story) => change.apply(story),
-                    None => Err(Flaw::NoPlace),
-                }
+                change_wanted(&mut case.wanted.story, change)
+            }
+            Place::Audit => {
+                let case = self.case.as_mut().ok_or(Flaw::NoCase)?;
+                change_wanted(&mut case.wanted.audit, change)
             }
         }
     }
@@ -257,6 +260,15 @@ impl Reader {
         self.fill(rest)
     }
 
+    // Begins what an audit of the log must show.
+    fn begin_audit(&mut self, rest: &str) -> Result<(), Flaw> {
+        let alloc = self.alloc;
+        let case = self.case.as_mut().ok_or(Flaw::NoCase)?;
+        case.wanted.audit = Some(Vec::new(alloc));
+        self.place = Place::Audit;
+        self.fill(rest)
+    }
+
     // Lets the lines belong to a file or a channel of the case that is there already.
     fn go_to(&mut self, name: &str) -> Result<(), Flaw> {
         let case = self.case.as_ref().ok_or(Flaw::NoCase)?;
@@ -363,9 +375,18 @@ impl Reader {
             }
             "file" => self.begin_file(rest),
             "story" => self.begin_story(rest),
+            "audit" => self.begin_audit(rest),
             "change" => self.go_to(rest),
             _ => self.take_setting(word, rest),
         }
+    }
+}
+
+// Makes a change of a text that not every case wants.
+fn change_wanted(text: &mut Option<Vec<u8>>, change: Change<'_>) -> Result<(), Flaw> {
+    match text {
+        Some(text) => change.apply(text),
+        None => Err(Flaw::NoPlace),
     }
 }
 
@@ -437,7 +458,7 @@ fn set_room(case: &mut Case, rest: &str) -> Result<(), Flaw> {
     Ok(())
 }
 
-// Sets the status that must come. From here on nothing is wanted on any channel, and no story.
+// Sets the status that must come. From here on nothing is wanted on any channel, no story and no audit.
 fn set_status(alloc: Global, case: &mut Case, rest: &str) -> Result<(), Flaw> {
     let status = number_of(rest)?;
     match u8::try_from(status) {
@@ -446,6 +467,7 @@ fn set_status(alloc: Global, case: &mut Case, rest: &str) -> Result<(), Flaw> {
     }
     case.wanted.texts = Texts::new(alloc);
     case.wanted.story = None;
+    case.wanted.audit = None;
     Ok(())
 }
 

@@ -1,5 +1,5 @@
 -- The shelf and the outbox that a case is tried over.
-use Rattle.std.specs.Prelude.{ℕ, List, map, min, string_bytes}
+use Rattle.std.specs.Prelude.{ℕ, List, [], ◌∷◌, ◌++◌, map, min, string_bytes}
 use Rattle.snb_base.specs.MemoryOutbox.{Sheets}
 use Rattle.snb_base.specs.MemoryShelf.{Held}
 use Rattle.snb_base.specs.Outbox.{Rooms, nothing}
@@ -16,6 +16,15 @@ abbrev pub shelf_at_first : Case → Held
 shelf_at_first case = record {
   files = held case.files.items;
   failing = case.failing_reads.items;
+  calls = 0;
+  faults = 0;
+}
+
+-- the shelf has the files of the case and one more, no call of `read` was made, and none fails
+abbrev pub shelf_with_one_more : Case → List ℕ → List ℕ → Held
+shelf_with_one_more case path bytes = record {
+  files = held case.files.items ++ (path, bytes) ∷ [];
+  failing = [];
   calls = 0;
   faults = 0;
 }

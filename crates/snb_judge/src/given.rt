@@ -27,7 +27,8 @@ impl Notes {
 
 /// A clock that shows the given moments one after another, the last of them from then on, and a gate that
 /// lets everybody pass. What is done to them is noted: `now MOMENT`, `rest UNTIL`, `held WORKER OP` and
-/// `done WORKER OP`, a line each. A note for which there is no memory is missing.
+/// `done WORKER OP`, a line each. A note for which there is no memory is missing, and so is that of a thread
+/// while another one notes; to that thread the clock shows the last moment.
 pub struct Given<'a> {
     moments: &'a [u64],
     notes: Mutex<Notes>,
@@ -54,14 +55,14 @@ impl<'a> Given<'a> {
         }
     }
 
-    // The next moment, which is noted.
+    // The next moment, which is noted; the last one while another thread notes.
     fn next_moment(&self) -> u64 {
+        let last = self.moments.last().copied().unwrap_or(0);
         let Some(mut notes) = self.notes.try_lock() else {
-            return 0;
+            return last;
         };
-        let place = notes.shown.min(self.moments.len().saturating_sub(1));
+        let moment = self.moments.get(notes.shown).copied().unwrap_or(last);
         notes.shown = notes.shown.saturating_add(1);
-        let moment = self.moments.get(place).copied().unwrap_or(0);
         let _ = writeln!(notes.text, "now {moment}");
         moment
     }

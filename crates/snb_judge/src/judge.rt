@@ -1,7 +1,8 @@
 //! Whether what came is what is wanted, and what differs.
 
-ghost use Rattle.std.specs.Prelude.{◌≡◌, ◌≤◌, ◌<◌, ◌↔◌, length, IfOk, IsTrue};
-ghost use Rattle.snb_judge.specs.Judgement.{IsAsWanted, IsToldAsWanted, wanted_on};
+ghost use Rattle.std.specs.Prelude.{◌≡◌, ◌≤◌, ◌<◌, ◌↔◌, [], length, IfOk, IsTrue};
+ghost use Rattle.snb_base.specs.Outbox.{bytes_on};
+ghost use Rattle.snb_judge.specs.Judgement.{AreAsWanted, AreAsWantedInAudit, IsAsWanted, IsAuditedAsWanted, IsToldAsWanted, on_screen, wanted_on};
 ghost use Rattle.snb_judge.specs.declared.judge.Verdict.TheVariants.{AsWanted};
 
 use snb_base::memory_outbox::MemoryOutbox;
@@ -10,9 +11,43 @@ use snb_cases::case::{Texts, Wanted};
 use snb_cases::escape::shown;
 use std::alloc::{AllocError, Global};
 
+// The line that begins all answers.
+const ANSWERS_HEAD: &[u8] = b"answers|1\n";
+
+/// What came of one call.
+pub struct Came {
+    pub status: u8,
+    pub out: MemoryOutbox,
+    pub story: String,
+}
+
+impl Drop for Came {
+    fn drop(self) {
+        let Came {
+            status: _,
+            out: _,
+            story: _,
+        } = self;
+    }
+}
+
+/// What came of a case: of its call, and of the audit of the log that the call left, where one is wanted.
+pub struct Tried {
+    pub call: Came,
+    pub audit: Option<Came>,
+}
+
+impl Drop for Tried {
+    fn drop(self) {
+        let Tried { call: _, audit: _ } = self;
+    }
+}
+
 /// What is said of a case.
 pub enum Verdict {
-    /// The status, the text of each channel and the story, where one is wanted, are the wanted ones.
+    /// The status, the text of each channel and the story, where one is wanted, are the wanted ones; but
+    /// where an audit is wanted the log is one on which it ends with 0 and shows the wanted text, and the
+    /// answers have their first line.
     AsWanted,
     /// One of them isn't; `how` says which, and what came.
     Differs { how: String },
@@ -28,7 +63,7 @@ impl Drop for Verdict {
 }
 
 // Whether each channel has its text.
-fn are_as_wanted(texts: &Texts, out: &MemoryOutbox) -> bool
+fn are_all_as_wanted(texts: &Texts, out: &MemoryOutbox) -> bool
     ensures { IsTrue result ↔ (out.now.written ≡ wanted_on texts.now) }
 {
     out.bytes(Channel::Log) == texts.log.as_slice()
@@ -36,6 +71,55 @@ fn are_as_wanted(texts: &Texts, out: &MemoryOutbox) -> bool
         && out.bytes(Channel::Final) == texts.finals.as_slice()
         && out.bytes(Channel::Screen) == texts.screen.as_slice()
         && out.bytes(Channel::Cases) == texts.cases.as_slice()
+}
+
+// Whether each channel but the log and the answers has its text, and the answers their first line.
+fn are_as_wanted_in_audit(texts: &Texts, out: &MemoryOutbox) -> bool
+    ensures { IsTrue result ↔ AreAsWantedInAudit texts.now out.now.written }
+{
+    out.bytes(Channel::Screen) == texts.screen.as_slice()
+        && out.bytes(Channel::Answers).starts_with(ANSWERS_HEAD)
+        && out.bytes(Channel::Final) == texts.finals.as_slice()
+        && out.bytes(Channel::Cases) == texts.cases.as_slice()
+}
+
+// Whether each channel has what is wanted there.
+fn are_as_wanted(wanted: &Wanted, out: &MemoryOutbox) -> bool
+    ensures { IsTrue result ↔ AreAsWanted wanted.now out.now.written }
+{
+    match &wanted.audit {
+        Some(_) => are_as_wanted_in_audit(&wanted.texts, out),
+        None => are_all_as_wanted(&wanted.texts, out),
+    }
+}
+
+// Whether nothing is on the channel.
+fn is_bare(out: &MemoryOutbox, channel: Channel) -> bool
+    ensures { IsTrue result ↔ (bytes_on out.now.written channel ≡ []) }
+{
+    out.bytes(channel).is_empty()
+}
+
+// Whether this text is on the screen, and nothing on the other channels.
+fn shows_alone(out: &MemoryOutbox, text: &[u8]) -> bool
+    ensures { IsTrue result ↔ (out.now.written ≡ on_screen text.now) }
+{
+    out.bytes(Channel::Screen) == text
+        && is_bare(out, Channel::Log)
+        && is_bare(out, Channel::Answers)
+        && is_bare(out, Channel::Final)
+        && is_bare(out, Channel::Cases)
+}
+
+// Whether the audit is the wanted one, where one is wanted.
+fn is_audited_as_wanted(wanted: &Wanted, audit: &Option<Came>) -> bool
+    ensures { IsTrue result ↔ IsAuditedAsWanted wanted.now.audit audit.now }
+{
+    match (&wanted.audit, audit) {
+        (Some(text), Some(came)) => came.status == 0 && shows_alone(&came.out, text.as_slice()),
+        (Some(_), None) => false,
+        (None, _) => true,
+    }
 }
 
 // Whether the story is the wanted one, where one is wanted.
@@ -48,11 +132,15 @@ fn is_told_as_wanted(wanted: &Wanted, story: &[u8]) -> bool
     }
 }
 
-// Whether the status, the text of each channel and the story are the wanted ones.
-fn is_as_wanted(wanted: &Wanted, status: u8, out: &MemoryOutbox, story: &[u8]) -> bool
-    ensures { IsTrue result ↔ IsAsWanted wanted.now status out.now.written story.now }
+// Whether the status, the channels, the story and the audit are the wanted ones.
+fn is_as_wanted(wanted: &Wanted, tried: &Tried) -> bool
+    ensures { IsTrue result ↔ IsAsWanted wanted.now tried.now }
 {
-    status == wanted.status && are_as_wanted(&wanted.texts, out) && is_told_as_wanted(wanted, story)
+    let call = &tried.call;
+    call.status == wanted.status
+        && are_as_wanted(wanted, &call.out)
+        && is_told_as_wanted(wanted, call.story.as_bytes())
+        && is_audited_as_wanted(wanted, &tried.audit)
 }
 
 // How many bytes both begin with.
@@ -133,16 +221,14 @@ fn difference_of_statuses(alloc: Global, wanted: u8, came: u8) -> Result<String,
     format!(in alloc; "status: wanted {wanted}, came {came}")
 }
 
-// What differs.
-fn difference(
+// Says of each channel that is compared with its text what differs.
+fn put_differences(
     alloc: Global,
     wanted: &Wanted,
-    status: u8,
     out: &MemoryOutbox,
-    story: &[u8],
-) -> Result<String, AllocError> {
+    how: &mut String,
+) -> Result<(), AllocError> {
     let texts = &wanted.texts;
-    let mut how = difference_of_statuses(alloc, wanted.status, status)?;
     for (channel, name, text) in [
         (Channel::Log, "log", &texts.log),
         (Channel::Answers, "answers", &texts.answers),
@@ -150,27 +236,59 @@ fn difference(
         (Channel::Screen, "screen", &texts.screen),
         (Channel::Cases, "cases", &texts.cases),
     ] {
-        put_difference(alloc, name, text.as_slice(), out.bytes(channel), &mut how)?;
+        if wanted.audit.is_none() || !matches!(channel, Channel::Log | Channel::Answers) {
+            put_difference(alloc, name, text.as_slice(), out.bytes(channel), how)?;
+        }
     }
-    if let Some(wanted) = &wanted.story {
-        put_difference(alloc, "story", wanted.as_slice(), story, &mut how)?;
+    Ok(())
+}
+
+// Says of an audit, which must show this text, what differs.
+fn put_audit_difference(
+    alloc: Global,
+    text: &[u8],
+    tried: &Tried,
+    how: &mut String,
+) -> Result<(), AllocError> {
+    let head = first_line(tried.call.out.bytes(Channel::Answers));
+    put_difference(alloc, "answers", ANSWERS_HEAD, head, how)?;
+    match &tried.audit {
+        Some(came) => {
+            let status = came.status;
+            write!(how, "; the audit ended with {status}")?;
+            put_difference(alloc, "audit", text, came.out.bytes(Channel::Screen), how)
+        }
+        None => how.push_str("; no audit"),
+    }
+}
+
+// What differs.
+fn difference(alloc: Global, wanted: &Wanted, tried: &Tried) -> Result<String, AllocError> {
+    let call = &tried.call;
+    let mut how = difference_of_statuses(alloc, wanted.status, call.status)?;
+    put_differences(alloc, wanted, &call.out, &mut how)?;
+    if let Some(text) = &wanted.audit {
+        put_audit_difference(alloc, text.as_slice(), tried, &mut how)?;
+    }
+    if let Some(story) = &wanted.story {
+        put_difference(
+            alloc,
+            "story",
+            story.as_slice(),
+            call.story.as_bytes(),
+            &mut how,
+        )?;
     }
     Ok(how)
 }
 
-/// What is said of a case of which this status, these bytes and this story came.
-pub fn verdict_on(
-    alloc: Global,
-    wanted: &Wanted,
-    status: u8,
-    out: &MemoryOutbox,
-    story: &[u8],
-) -> Result<Verdict, AllocError>
-    ensures { IfOk result (λ verdict. (verdict ≡ AsWanted) ↔ IsAsWanted wanted.now status out.now.written story.now) }
+/// What is said of a case of which this came.
+pub fn verdict_on(alloc: Global, wanted: &Wanted, tried: &Tried) -> Result<Verdict, AllocError>
+    ensures { IfOk result (λ verdict. (verdict ≡ AsWanted) ↔ IsAsWanted wanted.now tried.now) }
 {
-    if is_as_wanted(wanted, status, out, story) {
+    if is_as_wanted(wanted, tried) {
         return Ok(Verdict::AsWanted);
     }
-    let how = difference(alloc, wanted, status, out, story)?;
+    let how = difference(alloc, wanted, tried)?;
     Ok(Verdict::Differs { how })
 }

@@ -6,3 +6,4 @@ pub mod case_shelf;
 pub mod given;
 pub mod judge;
 pub mod outside;
+pub mod words;

@@ -3,7 +3,7 @@
 ghost use Rattle.std.specs.Prelude.{◌≡◌, [], IfOk, is_some};
 ghost use Rattle.snb_base.specs.MemoryShelf.{file_of};
 ghost use Rattle.snb_base.specs.Outbox.{nothing};
-ghost use Rattle.snb_judge.specs.Outside.{held, shelf_at_first, rooms_at_first, outbox_at_first};
+ghost use Rattle.snb_judge.specs.Outside.{held, shelf_at_first, shelf_with_one_more, rooms_at_first, outbox_at_first};
 
 use snb_base::memory_outbox::MemoryOutbox;
 use snb_base::memory_shelf::MemoryShelf;
@@ -51,8 +51,28 @@ pub fn shelf_of(alloc: Global, case: &Case) -> Result<MemoryShelf, Flaw>
     Ok(shelf)
 }
 
-// An outbox with these rooms, as far as they are ample, which never fails.
-fn outbox_with(alloc: Global, rooms: Rooms) -> Result<MemoryOutbox, Flaw>
+/// A shelf with the files of the case and one more, which never fails. An error means that one file is there
+/// twice, or want of memory.
+pub fn shelf_beside(
+    alloc: Global,
+    case: &Case,
+    path: &str,
+    bytes: &[u8],
+) -> Result<MemoryShelf, Flaw>
+    ensures { IfOk result (λ shelf. shelf ≡ shelf_with_one_more case.now path.now bytes.now) }
+{
+    let files = case.files.as_slice();
+    if is_held(files, path) {
+        return Err(Flaw::FileTwice);
+    }
+    let mut shelf = shelf_with(alloc, files)?;
+    shelf.add(path, bytes)?;
+    Ok(shelf)
+}
+
+/// An empty outbox with these rooms, as far as they are ample, which never fails. An error means want of
+/// memory.
+pub fn outbox_with(alloc: Global, rooms: Rooms) -> Result<MemoryOutbox, Flaw>
     ensures { IfOk result (λ out. out ≡ record { written = nothing; rooms = rooms_at_first rooms; failing = []; calls = 0; faults = 0 }) }
 {
     let most = Rooms::AMPLE;

@@ -16,6 +16,7 @@ use std::io::{ErrorKind, Print};
 use std::process::ExitCode;
 use std::rt::{Clock, Files};
 use std::sync::Wait;
+use std::thread::Threads;
 
 // The words after the program's name. Where one of them isn't UTF-8 there are none: the program
 // accepts no such word, and it doesn't accept a line without words either.
@@ -33,7 +34,7 @@ fn read_words<R: Env + AllocGlobal>(rt: &R) -> Result<Vec<String>, AllocError> {
 }
 
 // The status of the call on these words, or want of memory before it.
-fn run<R: AllocGlobal + Clock + Env + Files + Print + Sync + Wait>(
+fn run<R: AllocGlobal + Clock + Env + Files + Print + Sync + Threads + Wait>(
     rt: &R,
 ) -> Result<u8, AllocError> {
     let owned = read_words(rt)?;

@@ -27,9 +27,11 @@ use snb_schema::frequencies::Frequencies;
 use snb_texts::answers::answer_lines;
 use snb_texts::counts::summary_lines;
 use snb_texts::final_lines::final_lines;
-use snb_workers::run::{Outcome, run_alone};
+use snb_workers::crew::run_workers;
+use snb_workers::run::Outcome;
 use std::alloc::{AllocError, Global};
 use std::sync::Wait;
+use std::thread::Threads;
 
 // The texts of a run by so many workers.
 fn texts_of(
@@ -60,8 +62,8 @@ fn texts_of(
     })
 }
 
-// Runs the plan, and makes the texts of the run.
-fn run_output<R: Wait, C: Clock, G: Gate>(
+// Runs the plan by so many workers, and makes the texts of the run.
+fn run_output<R: Threads + Wait + Sync, C: Clock + Sync, G: Gate + Sync>(
     rt: &R,
     alloc: Global,
     workers: u32,
@@ -75,13 +77,20 @@ fn run_output<R: Wait, C: Clock, G: Gate>(
     requires sound { Sound input.graph }
     ensures { IfOk result (λ output. IsLeft workers input.graph input.plan (C.fixed clock.now) (bytes_of output)) }
 {
-    let outcome = run_alone(rt, alloc, &input.plan, &input.graph, clock, gate)?;
+    let outcome = run_workers(rt, alloc, &input.plan, &input.graph, workers, clock, gate)?;
     texts_of(alloc, workers, &input.plan, outcome)
 }
 
-/// Reads the tables, the streams and the parameter files of a folder, runs their plan, writes the texts of
-/// the run, and gives the status; or shows what is wrong with the files first. One worker does all.
-pub fn run<R: AllocGlobal + Wait, S: Shelf, O: Outbox, C: Clock, G: Gate>(
+/// Reads the tables, the streams and the parameter files of a folder, runs their plan by so many workers,
+/// each in a thread of its own, writes the texts of the run, and gives the status; or shows what is wrong with
+/// the files first.
+pub fn run<
+    R: AllocGlobal + Threads + Wait + Sync,
+    S: Shelf,
+    O: Outbox,
+    C: Clock + Sync,
+    G: Gate + Sync,
+>(
     rt: &R,
     shelf: &mut S,
     folder: &str,

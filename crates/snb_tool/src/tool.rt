@@ -26,21 +26,21 @@ use snb_base::shelf::Shelf;
 use snb_words::command::{Command, command_of};
 use snb_words::law::one_command;
 use std::sync::Wait;
+use std::thread::Threads;
 
 /// What is shown for words that aren't a line of the program's.
 const USAGE: &str =
     "usage: snb COMMAND, where COMMAND is check, run, audit, expect, validate, read or trial\n";
 
 // Does what a command says, and gives the status.
-fn obey<R: AllocGlobal + Wait, S: Shelf, O: Outbox, C: Clock, G: Gate>(
-    rt: &R,
-    command: &Command,
-    shelf: &mut S,
-    out: &mut O,
-    clock: &C,
-    gate: &G,
-) -> u8
-    requires { IsRunnable command.now }
+fn obey<
+    R: AllocGlobal + Threads + Wait + Sync,
+    S: Shelf,
+    O: Outbox,
+    C: Clock + Sync,
+    G: Gate + Sync,
+>(rt: &R, command: &Command, shelf: &mut S, out: &mut O, clock: &C, gate: &G) -> u8
+    requires runnable { IsRunnable command.now }
     ensures ends { Ends (IsCommandAnswer command.now)
         (seen (S.contents shelf.old) (C.fixed clock.now) (S.faults shelf.old) (O.faults out.old) (O.written out.old) (O.ready out.old))
         (seen (S.contents shelf.new) (C.fixed clock.now) (S.faults shelf.new) (O.faults out.new) (O.written out.new) (O.ready out.new)) result }
@@ -94,14 +94,13 @@ fn obey<R: AllocGlobal + Wait, S: Shelf, O: Outbox, C: Clock, G: Gate>(
 }
 
 // Answers words.
-fn answer<R: AllocGlobal + Wait, S: Shelf, O: Outbox, C: Clock, G: Gate>(
-    rt: &R,
-    words: &[&str],
-    shelf: &mut S,
-    out: &mut O,
-    clock: &C,
-    gate: &G,
-) -> u8
+fn answer<
+    R: AllocGlobal + Threads + Wait + Sync,
+    S: Shelf,
+    O: Outbox,
+    C: Clock + Sync,
+    G: Gate + Sync,
+>(rt: &R, words: &[&str], shelf: &mut S, out: &mut O, clock: &C, gate: &G) -> u8
     ensures ends { Ends (IsAnswer (texts_of words.now))
         (seen (S.contents shelf.old) (C.fixed clock.now) (S.faults shelf.old) (O.faults out.old) (O.written out.old) (O.ready out.old))
         (seen (S.contents shelf.new) (C.fixed clock.now) (S.faults shelf.new) (O.faults out.new) (O.written out.new) (O.ready out.new)) result }
@@ -123,8 +122,8 @@ fn answer<R: AllocGlobal + Wait, S: Shelf, O: Outbox, C: Clock, G: Gate>(
 ///   many updates and reads the plan. The updates must be closed over the dataset: each has new keys, and
 ///   each finds the nodes that it refers to there, among the persons added up to its t_d, or among what
 ///   the updates before it in its lane add.
-/// - `run DIR --workers N` reads the same, runs the plan of N workers, 1 to 8, and writes the log, the
-///   answers, the final graph and the summary on their channels. One worker does all so far.
+/// - `run DIR --workers N` reads the same, runs the plan by N workers, 1 to 8, each in a thread of its own, and
+///   writes the log, the answers, the final graph and the summary on their channels.
 /// - `audit DIR LOG` reads the same, then the log of a run of that plan, and shows the verdict on it: the
 ///   first event that doesn't fit those before it, with the first rule that it breaks and two values; else
 ///   the worker that halted first; else the least operation that isn't finished; else how many operations
@@ -168,14 +167,13 @@ fn answer<R: AllocGlobal + Wait, S: Shelf, O: Outbox, C: Clock, G: Gate>(
 ///
 /// The formats and the order of the operations are those of the Social Network Benchmark's
 /// Interactive workload, version 1 (Erling et al., SIGMOD 2015).
-pub fn snb<R: AllocGlobal + Wait, S: Shelf, O: Outbox, C: Clock + Sync, G: Gate + Sync>(
-    rt: &R,
-    words: &[&str],
-    shelf: &mut S,
-    out: &mut O,
-    clock: &C,
-    gate: &G,
-) -> u8
+pub fn snb<
+    R: AllocGlobal + Threads + Wait + Sync,
+    S: Shelf,
+    O: Outbox,
+    C: Clock + Sync,
+    G: Gate + Sync,
+>(rt: &R, words: &[&str], shelf: &mut S, out: &mut O, clock: &C, gate: &G) -> u8
     ensures answered { HasWritten (O.written out.old) (O.written out.new) (IsAnswer (texts_of words.now) (S.contents shelf.old) (C.fixed clock.now) result)
         ⊎ ((result ≡ 4) ⊎ ((result ≡ 5) ⊎ (result ≡ 6))) }
     ensures read_fault { result ≡ 4 → Rose (S.faults shelf.old) (S.faults shelf.new) × (O.written out.new ≡ O.written out.old) }

@@ -12,6 +12,7 @@ use snb_judge::judge::Verdict;
 use std::io;
 use std::process::ExitCode;
 use std::sync::Wait;
+use std::thread::Threads;
 
 // What came of the table: each case had its verdict, or the table or a case couldn't be used.
 #[derive(Clone, Copy)]
@@ -21,7 +22,10 @@ enum Ending {
 }
 
 // Tries each case and prints its line, and at the end how many there were and how many were as wanted.
-fn tell_cases<R: AllocGlobal + Print + Wait>(rt: &R, cases: &[Case]) -> io::Result<Ending> {
+fn tell_cases<R: AllocGlobal + Print + Threads + Wait + Sync>(
+    rt: &R,
+    cases: &[Case],
+) -> io::Result<Ending> {
     let mut right: usize = 0;
     for case in cases {
         let name = case.name.as_str();
@@ -43,7 +47,9 @@ fn tell_cases<R: AllocGlobal + Print + Wait>(rt: &R, cases: &[Case]) -> io::Resu
 }
 
 // Reads the table, and tries its cases if all of its lines are fine.
-fn tell_table<R: AllocGlobal + Input + Print + Wait>(rt: &R) -> io::Result<Ending> {
+fn tell_table<R: AllocGlobal + Input + Print + Threads + Wait + Sync>(
+    rt: &R,
+) -> io::Result<Ending> {
     let text = io::read_to_string(rt.alloc(), rt.reader())?;
     match read_cases(rt.alloc(), text.as_str()) {
         Ok(cases) => tell_cases(rt, &cases),

@@ -1,5 +1,5 @@
 -- Facts on the lines of commands.
-use Rattle.std.proofs.Common.{◌≡◌, ℕ, List, length, Option, Some, None, Result, Ok, Err, OnErr, sym, subst, ap, ◌∙◌, arith, codes, get_or}
+use Rattle.std.proofs.Common.{◌≡◌, ℕ, List, Option, Some, None, Result, Ok, Err, OnErr, sym, subst, ◌∙◌, rules, codes}
 use Rattle.std.specs.Option.{IfSome, MatchOption}
 use Rattle.snb_ratio.specs.Ratios.{OneRatio}
 use Rattle.snb_schema.specs.Frequencies.{FrequenciesAreOne, FrequencyTable}
@@ -13,7 +13,7 @@ use Rattle.snb_words.specs.Laws.{WordsAreOne}
 use Rattle.snb_words.specs.Options.{no_options}
 use Rattle.snb_words.specs.Words.{IsLine}
 use Rattle.snb_words.proofs.LineLemmas.{line_one}
-use Rattle.snb_words.proofs.OneRead.{one_read}
+use Rattle.snb_words.proofs.ReadLemmas.{one_read}
 use Rattle.snb_words.proofs.OptionLemmas.{IsNumberOfWorkers, say_workers}
 
 -- what holds anyway holds where there is an error
@@ -50,95 +50,30 @@ runnable words (Some (Read folder query)) line = tt
 -- what holds of each command of a name holds of the one whose name it is
 module _ (P : Command → Type 0) where
   pub at_check : ((folder : List ℕ) (table : FrequencyTable) → P (Check folder table)) → (command : Command) → codes "check" ≡ (form_of command).name → P command
-  at_check each (Check folder table) named = each folder table
-  at_check each (Run folder workers ratio table) named = let e = ap length named in absurd (omega (arith, e))
-  at_check each (Audit folder log ratio table) named = let e = ap (λ (t : List ℕ). get_or t 0 0) named in absurd (omega (arith, e))
-  at_check each (Expect folder table) named = let e = ap length named in absurd (omega (arith, e))
-  at_check each (Validate folder cases) named = let e = ap length named in absurd (omega (arith, e))
-  at_check each (Read folder query) named = let e = ap length named in absurd (omega (arith, e))
+  at_check each command named = search rules
 
   pub at_run : ((folder : List ℕ) (workers ratio : ℕ) (table : FrequencyTable) → P (Run folder workers ratio table)) → (command : Command) → codes "run" ≡ (form_of command).name → P command
-  at_run each (Check folder table) named = let e = ap length named in absurd (omega (arith, e))
-  at_run each (Run folder workers ratio table) named = each folder workers ratio table
-  at_run each (Audit folder log ratio table) named = let e = ap length named in absurd (omega (arith, e))
-  at_run each (Expect folder table) named = let e = ap length named in absurd (omega (arith, e))
-  at_run each (Validate folder cases) named = let e = ap length named in absurd (omega (arith, e))
-  at_run each (Read folder query) named = let e = ap length named in absurd (omega (arith, e))
+  at_run each command named = search rules
 
   pub at_audit : ((folder log : List ℕ) (ratio : ℕ) (table : FrequencyTable) → P (Audit folder log ratio table)) → (command : Command) → codes "audit" ≡ (form_of command).name → P command
-  at_audit each (Check folder table) named = let e = ap (λ (t : List ℕ). get_or t 0 0) named in absurd (omega (arith, e))
-  at_audit each (Run folder workers ratio table) named = let e = ap length named in absurd (omega (arith, e))
-  at_audit each (Audit folder log ratio table) named = each folder log ratio table
-  at_audit each (Expect folder table) named = let e = ap length named in absurd (omega (arith, e))
-  at_audit each (Validate folder cases) named = let e = ap length named in absurd (omega (arith, e))
-  at_audit each (Read folder query) named = let e = ap length named in absurd (omega (arith, e))
+  at_audit each command named = search rules
 
   pub at_expect : ((folder : List ℕ) (table : FrequencyTable) → P (Expect folder table)) → (command : Command) → codes "expect" ≡ (form_of command).name → P command
-  at_expect each (Check folder table) named = let e = ap length named in absurd (omega (arith, e))
-  at_expect each (Run folder workers ratio table) named = let e = ap length named in absurd (omega (arith, e))
-  at_expect each (Audit folder log ratio table) named = let e = ap length named in absurd (omega (arith, e))
-  at_expect each (Expect folder table) named = each folder table
-  at_expect each (Validate folder cases) named = let e = ap length named in absurd (omega (arith, e))
-  at_expect each (Read folder query) named = let e = ap length named in absurd (omega (arith, e))
+  at_expect each command named = search rules
 
   pub at_validate : ((folder cases : List ℕ) → P (Validate folder cases)) → (command : Command) → codes "validate" ≡ (form_of command).name → P command
-  at_validate each (Check folder table) named = let e = ap length named in absurd (omega (arith, e))
-  at_validate each (Run folder workers ratio table) named = let e = ap length named in absurd (omega (arith, e))
-  at_validate each (Audit folder log ratio table) named = let e = ap length named in absurd (omega (arith, e))
-  at_validate each (Expect folder table) named = let e = ap length named in absurd (omega (arith, e))
-  at_validate each (Validate folder cases) named = each folder cases
-  at_validate each (Read folder query) named = let e = ap length named in absurd (omega (arith, e))
+  at_validate each command named = search rules
 
   pub at_read : ((folder : List ℕ) (query : Query) → P (Read folder query)) → (command : Command) → codes "read" ≡ (form_of command).name → P command
-  at_read each (Check folder table) named = let e = ap length named in absurd (omega (arith, e))
-  at_read each (Run folder workers ratio table) named = let e = ap length named in absurd (omega (arith, e))
-  at_read each (Audit folder log ratio table) named = let e = ap length named in absurd (omega (arith, e))
-  at_read each (Expect folder table) named = let e = ap length named in absurd (omega (arith, e))
-  at_read each (Validate folder cases) named = let e = ap length named in absurd (omega (arith, e))
-  at_read each (Read folder query) named = each folder query
+  at_read each command named = search rules
 
 -- the parts of a line are those of one command
 parts_one : OneList → (name : List ℕ) (plain : List (List ℕ)) (said : Options) (c d : Command) → AreOf c name plain said → AreOf d name plain said → c ≡ d
-parts_one list name plain said (Check f s) d x y = at_check (λ (d : Command). AreOf d name plain said → Check f s ≡ d)
-    (λ g t y.
-    let e = sym x.is_said.0 ∙ y.is_said.0 in
-    let folders : f ≡ g = cc in
-    let tables : s ≡ t = x.is_said.1 ∙ sym y.is_said.1 in
-    λ i. Check (folders i) (tables i))
-    d (sym x.named ∙ y.named) y
-parts_one list name plain said (Run f n a s) d x y = at_run (λ (d : Command). AreOf d name plain said → Run f n a s ≡ d)
-    (λ g m b t y.
-    let e = sym x.is_said.0 ∙ y.is_said.0 in
-    let folders : f ≡ g = cc in
-    let counts = sym x.is_said.1 ∙ y.is_said.1 in
-    let workers : n ≡ m = cc in
-    let ratios : a ≡ b = x.is_said.2 ∙ sym y.is_said.2 in
-    let tables : s ≡ t = x.is_said.3 ∙ sym y.is_said.3 in
-    λ i. Run (folders i) (workers i) (ratios i) (tables i))
-    d (sym x.named ∙ y.named) y
-parts_one list name plain said (Audit f l a s) d x y = at_audit (λ (d : Command). AreOf d name plain said → Audit f l a s ≡ d)
-    (λ g k b t y.
-    let e = sym x.is_said.0 ∙ y.is_said.0 in
-    let folders : f ≡ g = cc in
-    let logs : l ≡ k = cc in
-    let ratios : a ≡ b = x.is_said.1 ∙ sym y.is_said.1 in
-    let tables : s ≡ t = x.is_said.2 ∙ sym y.is_said.2 in
-    λ i. Audit (folders i) (logs i) (ratios i) (tables i))
-    d (sym x.named ∙ y.named) y
-parts_one list name plain said (Expect f s) d x y = at_expect (λ (d : Command). AreOf d name plain said → Expect f s ≡ d)
-    (λ g t y.
-    let e = sym x.is_said.0 ∙ y.is_said.0 in
-    let folders : f ≡ g = cc in
-    let tables : s ≡ t = x.is_said.1 ∙ sym y.is_said.1 in
-    λ i. Expect (folders i) (tables i))
-    d (sym x.named ∙ y.named) y
-parts_one list name plain said (Validate f l) d x y = at_validate (λ (d : Command). AreOf d name plain said → Validate f l ≡ d)
-    (λ g k y.
-    let e = sym x.is_said ∙ y.is_said in
-    let folders : f ≡ g = cc in
-    let files : l ≡ k = cc in
-    λ i. Validate (folders i) (files i))
-    d (sym x.named ∙ y.named) y
+parts_one list name plain said (Check f s) d x y = at_check (λ (d : Command). AreOf d name plain said → Check f s ≡ d) (λ g t y. cc) d (sym x.named ∙ y.named) y
+parts_one list name plain said (Run f n a s) d x y = at_run (λ (d : Command). AreOf d name plain said → Run f n a s ≡ d) (λ g m b t y. cc) d (sym x.named ∙ y.named) y
+parts_one list name plain said (Audit f l a s) d x y = at_audit (λ (d : Command). AreOf d name plain said → Audit f l a s ≡ d) (λ g k b t y. cc) d (sym x.named ∙ y.named) y
+parts_one list name plain said (Expect f s) d x y = at_expect (λ (d : Command). AreOf d name plain said → Expect f s ≡ d) (λ g t y. cc) d (sym x.named ∙ y.named) y
+parts_one list name plain said (Validate f l) d x y = at_validate (λ (d : Command). AreOf d name plain said → Validate f l ≡ d) (λ g k y. cc) d (sym x.named ∙ y.named) y
 parts_one list name plain said (Read f r) d x y = at_read (λ (d : Command). AreOf d name plain said → Read f r ≡ d)
     (λ g s y.
     let e = sym x.is_said.2 ∙ y.is_said.2 in

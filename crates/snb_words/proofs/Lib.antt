@@ -1,6 +1,5 @@
 mod CommandLemmas
 mod LineLemmas
-mod OneRead
 mod OptionLemmas
 mod PartLemmas
 mod ReadLemmas

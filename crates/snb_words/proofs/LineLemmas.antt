@@ -1,6 +1,6 @@
 -- Facts on the parts of a line.
 use Rattle.std.proofs.Common.{◌≡◌, ℕ, ◌-◌, ◌<◌, ◌≤◌, zero, suc, List, [], ◌∷◌, ◌++◌, length, get_or, All, take, drop, refl, sym, subst, ap, ◌∙◌, inl, inr, arith, Bor}
-use Rattle.std.proofs.lemmas.List.{map-append, take-append-drop, take_rest}
+use Rattle.std.proofs.lemmas.List.{map-append, take-append-drop}
 use Rattle.std.proofs.lemmas.List.Elements.{All-head, All-tail, All-map}
 use Rattle.snb_ratio.specs.Ratios.{OneRatio}
 use Rattle.snb_schema.specs.Frequencies.{FrequenciesAreOne}
@@ -8,6 +8,7 @@ use Rattle.snb_words.specs.declared.options.Options.{Options}
 use Rattle.snb_words.specs.Options.{Adds, Say, no_options}
 use Rattle.snb_words.specs.Words.{IsLine, IsPlainWord, texts_of}
 use Rattle.snb_words.proofs.OptionLemmas.{say_one}
+use Rattle.snb_words.proofs.WordLemmas.{headed}
 
 -- words that begin with no plain word
 abbrev pub BeginApart : List (List ℕ) → Type 0
@@ -80,8 +81,7 @@ begin_apart (suc n) (w ∷ ws) h = begin_apart n ws (λ d l. h d (omega (arith, 
 
 -- a word, by its place, and those that follow it
 one_word : (ws : List (Bor (List ℕ))) (d : Bor (List ℕ)) → 1 ≤ length ws → texts_of ws ≡ (get_or ws 0 d).now ∷ texts_of (take (length ws - 1) (drop 1 ws))
-one_word [] d l = absurd (omega arith)
-one_word (p ∷ ws) d l = λ i. p.now ∷ texts_of (sym (take_rest (p ∷ ws) 1) i)
+one_word ws d l = ap texts_of (headed ws d l)
 
 module _ (ws : List (Bor (List ℕ))) (d : Bor (List ℕ)) (n : ℕ) (some : 1 ≤ length ws) (plain : All (λ (w : Bor (List ℕ)). IsPlainWord w.now) (take n (take (length ws - 1) (drop 1 ws)))) where
   -- words that are a line

@@ -1,5 +1,5 @@
 -- Facts on the options of a command line.
-use Rattle.std.proofs.Common.{◌≡◌, ℕ, ◌≤◌, false, List, [], ◌∷◌, length, Contains, IsTrue, Option, Some, None, sym, subst, ap, ◌∙◌, inl, inr, arith, codes}
+use Rattle.std.proofs.Common.{◌≡◌, ℕ, ◌≤◌, false, List, [], ◌∷◌, Contains, IsTrue, Option, Some, None, sym, subst, ap, ◌∙◌, inl, inr, codes, rules}
 use Rattle.std.specs.Option.{IfSome, MatchOption}
 use Rattle.snb_ratio.specs.Ratios.{OneRatio, SpellsRatio}
 use Rattle.snb_schema.specs.declared.limits.TheConstants.{MAX_WORKERS}
@@ -29,27 +29,17 @@ says_one law word a b p q = table_one p.0 a b p.2 (subst (HasFrequencies b) (law
 pub no_table : (table : FrequencyTable) → ((q : ℕ) → frequency_at table q ≡ 0) → table ≡ no_frequencies
 no_table table p = λ i. record { one = p 1 i; two = p 2 i; seven = p 7 i; eight = p 8 i; nine = p 9 i; eleven = p 11 i; thirteen = p 13 i }
 
--- the names of the options are three
-workers_ratio : (name : List ℕ) → name ≡ codes "--workers" → name ≡ codes "--ratio" → ⊥
-workers_ratio name p q = let e = ap length (sym p ∙ q) in omega (arith, e)
-
-workers_frequencies : (name : List ℕ) → name ≡ codes "--workers" → name ≡ codes "--freq" → ⊥
-workers_frequencies name p q = let e = ap length (sym p ∙ q) in omega (arith, e)
-
-ratio_frequencies : (name : List ℕ) → name ≡ codes "--ratio" → name ≡ codes "--freq" → ⊥
-ratio_frequencies name p q = let e = ap length (sym p ∙ q) in omega (arith, e)
-
 module _ (ratios : OneRatio) (tables : FrequenciesAreOne) where
   -- two words add one option
   pub adds_one : (old : Options) (name value : List ℕ) (a b : Options) → Adds old name value a → Adds old name value b → a ≡ b
   adds_one old name value a b (inl (p, none, (n, s, least, is))) (inl (q, nil, (m, t, less, are))) = is ∙ ap (λ (k : ℕ). record old { workers = Some k }) (s.value ∙ sym t.value) ∙ sym are
-  adds_one old name value a b (inl p) (inr (inl q)) = absurd (workers_ratio name p.0 q.0)
-  adds_one old name value a b (inl p) (inr (inr q)) = absurd (workers_frequencies name p.0 q.0)
-  adds_one old name value a b (inr (inl p)) (inl q) = absurd (workers_ratio name q.0 p.0)
+  adds_one old name value a b (inl p) (inr (inl q)) = cc
+  adds_one old name value a b (inl p) (inr (inr q)) = cc
+  adds_one old name value a b (inr (inl p)) (inl q) = cc
   adds_one old name value a b (inr (inl (p, none, (n, s, is)))) (inr (inl (q, nil, (m, t, are)))) = is ∙ ap (λ (k : ℕ). record old { ratio = Some k }) (ratios value n m s t) ∙ sym are
-  adds_one old name value a b (inr (inl p)) (inr (inr q)) = absurd (ratio_frequencies name p.0 q.0)
-  adds_one old name value a b (inr (inr p)) (inl q) = absurd (workers_frequencies name q.0 p.0)
-  adds_one old name value a b (inr (inr p)) (inr (inl q)) = absurd (ratio_frequencies name q.0 p.0)
+  adds_one old name value a b (inr (inl p)) (inr (inr q)) = cc
+  adds_one old name value a b (inr (inr p)) (inl q) = cc
+  adds_one old name value a b (inr (inr p)) (inr (inl q)) = cc
   adds_one old name value a b (inr (inr (p, none, (f, s, is)))) (inr (inr (q, nil, (g, t, are)))) =
       is ∙ ap (λ (k : FrequencyTable). record old { frequencies = Some k }) (says_one tables value f g s t) ∙ sym are
 
@@ -78,14 +68,14 @@ no_say old words name value rest e none more say =
 
 -- what is no ratio is no value of that option, and what says no frequencies none of that
 pub no_ratio : (old : Options) (name value : List ℕ) → name ≡ codes "--ratio" → ((n : ℕ) → ¬ SpellsRatio value n) → (more : Options) → ¬ Adds old name value more
-no_ratio old name value e none more (inl p) = workers_ratio name p.0 e
 no_ratio old name value e none more (inr (inl p)) = none p.2.0 p.2.1
-no_ratio old name value e none more (inr (inr p)) = ratio_frequencies name e p.0
+no_ratio old name value e none more (inl p) = cc
+no_ratio old name value e none more (inr (inr p)) = cc
 
 pub no_says : (old : Options) (name value : List ℕ) → name ≡ codes "--freq" → ((table : FrequencyTable) → ¬ SaysFrequencies value table) → (more : Options) → ¬ Adds old name value more
-no_says old name value e none more (inl p) = workers_frequencies name p.0 e
-no_says old name value e none more (inr (inl p)) = ratio_frequencies name p.0 e
 no_says old name value e none more (inr (inr p)) = none p.2.0 p.2.1
+no_says old name value e none more (inl p) = cc
+no_says old name value e none more (inr (inl p)) = cc
 
 -- ---- the workers of a run
 
@@ -94,9 +84,7 @@ abbrev pub IsNumberOfWorkers : ℕ → Type 0
 IsNumberOfWorkers n = (1 ≤ n) × (n ≤ MAX_WORKERS)
 
 adds_workers : (old : Options) (name value : List ℕ) (new : Options) → Adds old name value new → IfSome old.workers IsNumberOfWorkers → IfSome new.workers IsNumberOfWorkers
-adds_workers old name value new (inl (p, none, (n, s, least, is))) h = subst (λ (o : Options). IfSome o.workers IsNumberOfWorkers) (sym is) (least, s.small)
-adds_workers old name value new (inr (inl (p, none, (n, s, is)))) h = subst (λ (o : Options). IfSome o.workers IsNumberOfWorkers) (sym is) h
-adds_workers old name value new (inr (inr (p, none, (n, s, is)))) h = subst (λ (o : Options). IfSome o.workers IsNumberOfWorkers) (sym is) h
+adds_workers old name value new p h = search rules
 
 pub say_workers : (old : Options) (words : List (List ℕ)) (new : Options) → Say old words new → IfSome old.workers IsNumberOfWorkers → IfSome new.workers IsNumberOfWorkers
 say_workers old [] new p h = subst (λ (o : Options). IfSome o.workers IsNumberOfWorkers) p h

@@ -1,62 +1,75 @@
 -- The words of reads, as `clap` takes them apart.
-use Rattle.std.proofs.Common.{◌≡◌, ◌<◌, ◌++◌, List, [], ◌∷◌, length, true, Option, Some, None, Result, Ok, Err, IfOk, All, refl, sym, subst, ap, ◌∙◌, inl, arith, codes, map}
-use Rattle.std.proofs.lemmas.List.{append-nil}
+use Rattle.std.proofs.Common.{◌≡◌, ◌<◌, ◌≤◌, ◌++◌, ℕ, zero, suc, List, [], ◌∷◌, length, get_or, take, Bor, true, Option, Some, None, All, refl, sym, subst, ap, ◌∙◌, inl, arith, codes, map}
+use Rattle.std.proofs.lemmas.List.{append-nil, take_all}
 use Rattle.std.proofs.lemmas.List.Elements.{All-head, All-tail}
-use Rattle.std.specs.Option.{IsSome, MatchOption}
-use Rattle.std.specs.Prelude.{slice_get}
+use Rattle.snb_schema.specs.declared.column.Column.{Column}
+use Rattle.snb_schema.specs.declared.column.Value.{Value}
 use Rattle.snb_schema.specs.declared.query.Query.{Query}
+use Rattle.snb_schema.specs.declared.read_kind.ReadKind.{ReadKind}
+use Rattle.snb_schema.specs.Columns.{SpellsAll}
+use Rattle.snb_schema.specs.ReadKinds.{kind_of, parameter_columns, parameter_values}
+use Rattle.std.specs.Option.{option_map}
 use Rattle.clap.specs.Simple.{App, Shape, built, matches_of}
 use Rattle.clap.specs.Takes.{takes}
 use Rattle.clap.specs.Walk.{Text, first_of, nothing_held, walk_from}
 use Rattle.snb_words.specs.declared.command.Command.TheVariants.{Read}
 use Rattle.snb_words.specs.Commands.{IsLineOf, IsReadOf}
-use Rattle.snb_words.specs.Taken.{IsLineBy, IsReadFound, line_app}
+use Rattle.snb_words.specs.Taken.{AreValuesFound, IsLineBy, IsReadFound, IsValueFound, line_app, query_by}
 use Rattle.snb_words.specs.Words.{IsPlainWord}
 use Rattle.snb_words.proofs.CommandLemmas.{at_read}
-use Rattle.snb_words.proofs.ReadLemmas.{few_parameters}
-use Rattle.snb_words.proofs.TakenLemmas.{no_options_said, same_word}
+use Rattle.snb_words.proofs.ReadLemmas.{few_parameters, query_back}
+use Rattle.snb_words.proofs.TakenLemmas.{as_found, no_options_said}
 use Rattle.snb_words.proofs.TakenLines.{plain_by, words_by}
 use Rattle.snb_words.proofs.WalkFacts.{Given, IsBuilt, IsPlaced, Runs, after, ends, finds, first, placed, to_row, value_of}
 
--- what says each read that there is says one where there is one
-pub some_read : {E : Type 0} (P : Query → Type 0) (r : Result (Option Query) E) → IfOk r (λ found. MatchOption found ((query : Query) → ¬ P query) P) → (query : Query) → P query → IfOk r IsSome
-some_read P (Ok None) none query p = absurd (none query p)
-some_read P (Ok (Some found)) is query p = refl
-some_read P (Err e) h query p = tt
+-- the places of the parameters
+abbrev pub read_places : List Text
+read_places = codes "first" ∷ codes "second" ∷ codes "third" ∷ []
 
-single : (ps : List Text) (f : Text) → Some f ≡ slice_get ps 0 → None ≡ slice_get ps 1 → ps ≡ f ∷ []
-single [] f a b = absurd cc
-single (p ∷ []) f a b = cc
-single (p ∷ q ∷ ps) f a b = absurd cc
+-- these words are the first that were found
+abbrev Begin : List Text → List (Option Text) → Type 0
+Begin [] found = Unit {0}
+Begin (w ∷ ws) [] = ⊥
+Begin (w ∷ ws) (word ∷ found) = (word ≡ Some w) × Begin ws found
 
-pair : (ps : List Text) (f s : Text) → Some f ≡ slice_get ps 0 → Some s ≡ slice_get ps 1 → None ≡ slice_get ps 2 → ps ≡ f ∷ s ∷ []
-pair [] f s a b d = absurd cc
-pair (p ∷ []) f s a b d = absurd cc
-pair (p ∷ q ∷ []) f s a b d = cc
-pair (p ∷ q ∷ r ∷ ps) f s a b d = absurd cc
+-- and so the values that they spell are found
+all_found : (cs : List Column) (ws : List Text) (found : List (Option Text)) (vs : List Value) → Begin ws found → SpellsAll cs ws vs → AreValuesFound cs found vs
+all_found [] [] found [] begin s = tt
+all_found (c ∷ cs) (w ∷ ws) (word ∷ found) (v ∷ vs) begin s =
+    (subst (λ (word : Option Text). IsValueFound c word v) (sym begin.0) (v, s.0, refl), all_found cs ws found vs begin.1 s.1)
+all_found cs (w ∷ ws) [] vs begin s = absurd begin
+all_found cs ws found vs begin s = absurd s
 
-triple : (ps : List Text) (f s t : Text) → Some f ≡ slice_get ps 0 → Some s ≡ slice_get ps 1 → Some t ≡ slice_get ps 2 → length ps < 4 → ps ≡ f ∷ s ∷ t ∷ []
-triple [] f s t a b d few = absurd cc
-triple (p ∷ []) f s t a b d few = absurd cc
-triple (p ∷ q ∷ []) f s t a b d few = absurd cc
-triple (p ∷ q ∷ r ∷ []) f s t a b d few = cc
-triple (p ∷ q ∷ r ∷ o ∷ ps) f s t a b d few = absurd (omega (arith, few))
+-- what is found for one of the columns
+found_at : (cs : List Column) (words : List (Option (Bor Text))) (vs : List Value) → AreValuesFound cs (map (option_map (λ w. w.now)) words) vs → (i : ℕ) (c : Column) (v : Value) → i < length cs
+    → IsValueFound (get_or cs i c) (option_map (λ w. w.now) (get_or words i None)) (get_or vs i v)
+found_at (d ∷ cs) (word ∷ words) (w ∷ vs) s zero c v l = s.0
+found_at (d ∷ cs) (word ∷ words) (w ∷ vs) s (suc i) c v l = found_at cs words vs s.1 i c v (omega arith)
+found_at [] words vs s i c v l = absurd (omega arith)
+found_at cs words vs s i c v l = absurd s
 
-module _ (word_of : Text → Option Text) (query : Query) (found : IsReadFound word_of query) (kind f : Text) (k : Some kind ≡ word_of (codes "kind")) (a : Some f ≡ word_of (codes "first")) where
-  -- the read of as many parameters as were found
-  of_these : (ps : List Text) → found.parameters ≡ ps → IsReadOf kind ps query
-  of_these ps e =
-      subst (λ (w : Text). IsReadOf w ps query) (sym (same_word kind found.kind (k ∙ found.named))) (subst (λ (t : List Text). IsReadOf found.kind t query) e found.read)
+-- there are as many values as columns
+values_long : (cs : List Column) (found : List (Option Text)) (vs : List Value) → AreValuesFound cs found vs → length vs ≡ length cs
+values_long [] found [] s = refl
+values_long (c ∷ cs) (word ∷ found) (v ∷ vs) s = ap suc (values_long cs found vs s.1)
+values_long cs found vs s = absurd s
 
-  pub of_one : None ≡ word_of (codes "second") → IsReadOf kind (f ∷ []) query
-  of_one b = of_these (f ∷ []) (single found.parameters f (a ∙ found.first) (b ∙ found.second))
+module _ (word_of : Text → Option Text) (query : Query) (read : IsReadFound word_of query) (kind : ReadKind) (alike : kind ≡ kind_of query) (columns : List Column) (are : columns ≡ parameter_columns kind) where
+  of_columns : AreValuesFound columns (map word_of read_places) (parameter_values query)
+  of_columns = rw (are, alike) read.parameters
 
-  pub of_two : (s : Text) → Some s ≡ word_of (codes "second") → None ≡ word_of (codes "third") → IsReadOf kind (f ∷ s ∷ []) query
-  of_two s b d = of_these (f ∷ s ∷ []) (pair found.parameters f s (a ∙ found.first) (b ∙ found.second) (d ∙ found.third))
+  -- the word of a column spells its value
+  pub value_found : (words : List (Option (Bor Text))) → map (option_map (λ w. w.now)) words ≡ map word_of read_places → (i : ℕ) (c : Column) → i < length columns → (v : Value)
+      → IsValueFound (get_or columns i c) (option_map (λ w. w.now) (get_or words i None)) (get_or (parameter_values query) i v)
+  value_found words same i c l v =
+      found_at columns words (parameter_values query) (subst (λ (found : List (Option Text)). AreValuesFound columns found (parameter_values query)) (sym same) of_columns) i c v l
 
-  pub of_three : (s t : Text) → Some s ≡ word_of (codes "second") → Some t ≡ word_of (codes "third") → IsReadOf kind (f ∷ s ∷ t ∷ []) query
-  of_three s t b d =
-      of_these (f ∷ s ∷ t ∷ []) (triple found.parameters f s t (a ∙ found.first) (b ∙ found.second) (d ∙ found.third) (few_parameters found.kind found.parameters query found.read).1)
+  pub as_long : length (parameter_values query) ≡ length columns
+  as_long = values_long columns (map word_of read_places) (parameter_values query) of_columns
+
+  -- and of the values of all columns the read is made
+  pub read_made : (i : ℕ) (values : List Value) → length columns ≤ i → values ≡ take i (parameter_values query) → query_by kind values ≡ query
+  read_made i values l e = rw (e, take_all i (parameter_values query) (let long = as_long in omega arith), alike) (query_back query)
 
 -- ---- the line of a read
 
@@ -96,22 +109,16 @@ module _ (name folder kind : Text) (query : Query) where
   base = (codes "folder", folder) ∷ (codes "kind", kind) ∷ []
 
   taken_by : (ps : List Text) (given : Given) → IsReadOf kind ps query → Runs shape (walk_from nothing_held) (folder ∷ kind ∷ ps) given → value_of (codes "folder") given ≡ Some folder
-      → value_of (codes "kind") given ≡ Some kind → value_of (codes "first") given ≡ slice_get ps 0 → value_of (codes "second") given ≡ slice_get ps 1 → value_of (codes "third") given ≡ slice_get ps 2
-      → IsReadTaken (name ∷ folder ∷ kind ∷ ps) folder query
-  taken_by ps given read runs f k a b d =
+      → value_of (codes "kind") given ≡ Some kind → Begin ps (map (λ n. value_of n given) read_places) → IsReadTaken (name ∷ folder ∷ kind ∷ ps) folder query
+  taken_by ps given read runs f k begin =
       let all = finds read_app shape read_built name (folder ∷ kind ∷ ps) given runs in
       record {
         takes = all.takes;
         at_folder = all.value (codes "folder") ∙ f;
-        found = record {
-          kind = kind;
-          parameters = ps;
-          named = all.value (codes "kind") ∙ k;
-          first = all.value (codes "first") ∙ a;
-          second = all.value (codes "second") ∙ b;
-          third = all.value (codes "third") ∙ d;
-          read = read;
-        };
+        found = as_found (λ g. IsReadFound g query) (λ n. first_of n (matches_of read_app (name ∷ folder ∷ kind ∷ ps))) (λ n. value_of n given) all.value (record {
+          kind = rw k (kind_of query, read.0, refl);
+          parameters = all_found (parameter_columns (kind_of query)) ps (map (λ n. value_of n given) read_places) (parameter_values query) begin read.1;
+        });
       }
 
   -- the folder, the kind and the first parameter, and then the others
@@ -129,19 +136,19 @@ module _ (name folder kind : Text) (query : Query) where
 
   taken_read : (ps : List Text) → IsReadOf kind ps query → All IsPlainWord (folder ∷ kind ∷ ps) → IsReadTaken (name ∷ folder ∷ kind ∷ ps) folder query
   taken_read [] read plain = let few = few_parameters kind [] query read in absurd (omega (arith, few.0))
-  taken_read (a ∷ []) read plain = taken_by (a ∷ []) _ read (three a [] _ plain (ends shape refl 4 base (codes "first") a (inl (3, at3)) refl)) refl refl refl refl refl
+  taken_read (a ∷ []) read plain = taken_by (a ∷ []) _ read (three a [] _ plain (ends shape refl 4 base (codes "first") a (inl (3, at3)) refl)) refl refl (refl, tt)
   taken_read (a ∷ b ∷ []) read plain =
       let rest = others a (b ∷ []) plain in
       taken_by (a ∷ b ∷ []) _ read (three a (b ∷ []) _ plain
       (placed shape refl 4 base (codes "first") a b (codes "second") [] _ (inl (3, at3)) refl (All-head IsPlainWord b [] rest) at4
-      (ends shape refl 5 (base ++ (codes "first", a) ∷ []) (codes "second") b (inl (4, at4)) refl))) refl refl refl refl refl
+      (ends shape refl 5 (base ++ (codes "first", a) ∷ []) (codes "second") b (inl (4, at4)) refl))) refl refl (refl, (refl, tt))
   taken_read (a ∷ b ∷ d ∷ []) read plain =
       let rest = others a (b ∷ d ∷ []) plain in
       taken_by (a ∷ b ∷ d ∷ []) _ read (three a (b ∷ d ∷ []) _ plain
       (placed shape refl 4 base (codes "first") a b (codes "second") (d ∷ []) _ (inl (3, at3)) refl (All-head IsPlainWord b (d ∷ []) rest) at4
       (placed shape refl 5 (base ++ (codes "first", a) ∷ []) (codes "second") b d (codes "third") [] _ (inl (4, at4)) refl
       (All-head IsPlainWord d [] (All-tail IsPlainWord b (d ∷ []) rest)) at5
-      (ends shape refl 6 (base ++ (codes "first", a) ∷ (codes "second", b) ∷ []) (codes "third") d (inl (5, at5)) refl)))) refl refl refl refl refl
+      (ends shape refl 6 (base ++ (codes "first", a) ∷ (codes "second", b) ∷ []) (codes "third") d (inl (5, at5)) refl)))) refl refl (refl, (refl, (refl, tt)))
   taken_read (a ∷ b ∷ d ∷ e ∷ ps) read plain = let few = few_parameters kind (a ∷ b ∷ d ∷ e ∷ ps) query read in absurd (omega (arith, few.1))
 
 pub read_line : (words : List Text) → IsLineBy (codes "read") words → (folder : Text) × (query : Query) × IsLineOf words (Read folder query) × IsReadTaken words folder query
@@ -157,15 +164,3 @@ read_line words (command, named, line) = at_read (λ c. IsLineOf words c → (fo
       subst (λ (ws : List Text). IsReadTaken ws folder query) (sym are) (taken_read line.name folder said.0 query said.1 said.3 (plain_by words (Read folder query) line plain said.2)),
     ))
     command named line
-
--- what is found by equal means is found
-pub found_read : (f g : Text → Option Text) → ((n : Text) → f n ≡ g n) → (query : Query) → IsReadFound g query → IsReadFound f query
-found_read f g same query found = record {
-  kind = found.kind;
-  parameters = found.parameters;
-  named = same (codes "kind") ∙ found.named;
-  first = same (codes "first") ∙ found.first;
-  second = same (codes "second") ∙ found.second;
-  third = same (codes "third") ∙ found.third;
-  read = found.read;
-}

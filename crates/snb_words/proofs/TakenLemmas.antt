@@ -1,8 +1,7 @@
 -- Facts on the words of accepted lines, as `clap` takes them apart.
-use Rattle.std.proofs.Common.{add-one, ◌≡◌, ◌≤◌, ℕ, ◌+◌, ◌<◌, ◌++◌, ◌==◌, ◌&&◌, Bool, List, [], ◌∷◌, length, take, get_or, Bor, true, false, Option, Some, None, refl, sym, subst, ap, ◌∙◌, inl, inr, arith, map, codes}
+use Rattle.std.proofs.Common.{◌≡◌, ◌≤◌, ℕ, ◌+◌, ◌<◌, ◌++◌, ◌==◌, ◌&&◌, Bool, List, [], ◌∷◌, length, take, get_or, Bor, true, false, Option, Some, None, refl, sym, subst, ap, ◌∙◌, inl, inr, arith, rules, map, codes}
 use Rattle.std.proofs.lemmas.Bool.{cases_Bool}
-use Rattle.std.proofs.lemmas.List.{append-nil, append_assoc, map-append}
-use Rattle.std.proofs.Math.Seq.{take-suc}
+use Rattle.std.proofs.lemmas.List.{append-nil, append_assoc, map-append, take_more}
 use Rattle.std.specs.Option.{MatchOption, is_some, option_map}
 use Rattle.std.specs.List.{onto_first, slice_split}
 use Rattle.std.specs.Str.{bytes_eq}
@@ -183,15 +182,7 @@ one_option seen old more name value found (inr (inr (p, none, (table, says, is))
 
 -- an option that is given stays given
 still_given : (o : OptionName) (old more : Options) (name value : Text) → Adds old name value more → IsGiven old o → IsGiven more o
-still_given Workers old more name value (inl p) h = rw p.2.3 refl
-still_given Workers old more name value (inr (inl p)) h = rw p.2.2 h
-still_given Workers old more name value (inr (inr p)) h = rw p.2.2 h
-still_given Ratio old more name value (inl p) h = rw p.2.3 h
-still_given Ratio old more name value (inr (inl p)) h = rw p.2.2 refl
-still_given Ratio old more name value (inr (inr p)) h = rw p.2.2 h
-still_given Frequencies old more name value (inl p) h = rw p.2.3 h
-still_given Frequencies old more name value (inr (inl p)) h = rw p.2.2 h
-still_given Frequencies old more name value (inr (inr p)) h = rw p.2.2 refl
+still_given o old more name value p h = search rules
 
 given_at_end : (o : OptionName) (words : List Text) (old said : Options) → Say old words said → IsGiven old o → IsGiven said o
 given_at_end o [] old said say h = subst (λ (x : Options). IsGiven x o) say h
@@ -249,7 +240,11 @@ option_added places options name = ap (λ (rules : List Rule). record (line_app 
 
 -- the texts of the words so far, and of one more
 pub texts_more : (ws : List (Bor (List ℕ))) (i : ℕ) (d : Bor (List ℕ)) → i < length ws → texts_of (take (i + 1) ws) ≡ texts_of (take i ws) ++ (get_or ws i d).now ∷ []
-texts_more ws i d l = ap (λ (n : ℕ). texts_of (take n ws)) (add-one i) ∙ ap texts_of (take-suc ws i d l) ∙ map-append (λ (w : Bor (List ℕ)). w.now) (take i ws) (get_or ws i d ∷ [])
+texts_more ws i d l = ap texts_of (take_more ws i d l) ∙ map-append (λ (w : Bor (List ℕ)). w.now) (take i ws) (get_or ws i d ∷ [])
+
+-- what is so of what is found by equal means is so
+pub as_found : (P : (Text → Option Text) → Type 0) (f g : Text → Option Text) → ((n : Text) → f n ≡ g n) → P g → P f
+as_found P f g same found = subst P (λ i n. sym (same n) i) found
 
 -- what is found is there
 pub is_there : (o : Option Text) (word : Text) → o ≡ Some word → is_some o ≡ true

@@ -121,20 +121,20 @@ const OF_AUDIT: [OptionName; 2] = [OptionName::Ratio, OptionName::Frequencies];
 const NEEDED_BY_RUN: [OptionName; 1] = [OptionName::Workers];
 
 // Whether the parts of a line are those of a read.
-fn is_read_line(alloc: Global, line: &Line<'_, '_>) -> bool
+fn is_read_line(line: &Line<'_, '_>) -> bool
     ensures { IsTrue result ↔ ((command : AnyCommand) × AreOf command (codes "read") (texts_of line.now.plain.now) line.now.said) }
 {
     if !line.said.are_suited(&[], &[]) {
         return false;
     }
     match line.plain {
-        [_, kind, parameters @ ..] => is_read(alloc, kind, parameters),
+        [_, kind, parameters @ ..] => is_read(kind, parameters),
         _ => false,
     }
 }
 
 // Whether the parts of a line are those of a command.
-fn is_command(alloc: Global, line: &Line<'_, '_>) -> bool
+fn is_command(line: &Line<'_, '_>) -> bool
     ensures { IsTrue result ↔ ((command : AnyCommand) × AreOf command line.now.name.now (texts_of line.now.plain.now) line.now.said) }
 {
     match line.name {
@@ -143,7 +143,7 @@ fn is_command(alloc: Global, line: &Line<'_, '_>) -> bool
         "audit" => line.suits(2, &OF_AUDIT, &[]),
         "expect" => line.suits(1, &OF_CHECK, &[]),
         "validate" => line.suits(2, &[], &[]),
-        "read" => is_read_line(alloc, line),
+        "read" => is_read_line(line),
         _ => false,
     }
 }
@@ -261,7 +261,7 @@ pub fn command_of(alloc: Global, words: &[&str]) -> Result<Option<Command>, Allo
     let Some(line) = line_of(words) else {
         return Ok(None);
     };
-    if !is_command(alloc, &line) {
+    if !is_command(&line) {
         return Ok(None);
     }
     Ok(Some(take(alloc, line.name, words)?))

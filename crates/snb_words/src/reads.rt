@@ -1,122 +1,98 @@
 //! The words of a read.
 
-ghost use Rattle.std.specs.Prelude.{[], ◌∷◌, ◌↔◌, IfOk, IsTrue, MatchOption, OnErr};
+ghost use Rattle.std.specs.Prelude.{◌≡◌, ◌↔◌, List, IsTrue};
+ghost use Rattle.std.specs.List.{AllByRecursion};
+ghost use Rattle.snb_schema.specs.declared.column.Value.{Value as AnyValue};
 ghost use Rattle.snb_schema.specs.declared.query.Query.{Query as AnyQuery};
+ghost use Rattle.snb_schema.specs.Columns.{Spells, SpellsAll};
 ghost use Rattle.snb_words.specs.Commands.{IsReadOf};
+ghost use Rattle.snb_words.specs.Taken.{IsParameter, query_by};
 ghost use Rattle.snb_words.specs.Words.{texts_of};
 
 use snb_base::number::read_number;
-use snb_base::text::Text;
 use snb_clock::date::read_date;
-use snb_schema::limits::{MAX_ID, MAX_YEAR};
+use snb_fields::law::taken_again;
+use snb_fields::values::Values;
+use snb_schema::column::Column;
 use snb_schema::query::Query;
-use std::alloc::{AllocError, Global};
+use snb_schema::read_kind::ReadKind;
 
-// The read of this kind with an id, or None where there is none.
-fn read_of_one(kind: &str, id: &str) -> Option<Query>
-    ensures { MatchOption result ((query : AnyQuery) → ¬ IsReadOf kind.now (id.now ∷ []) query) (IsReadOf kind.now (id.now ∷ [])) }
+// Whether the word spells a value of the column. The condition: a parameter may have the column.
+fn is_spelled(column: Column, word: &str) -> bool
+    requires { IsParameter column }
+    ensures { IsTrue result ↔ ((value : AnyValue) × Spells column word.now value) }
 {
-    let id = read_number(id.as_bytes(), MAX_ID)?;
-    match kind {
-        "IS1" => Some(Query::Is1 { person: id }),
-        "IS2" => Some(Query::Is2 { person: id }),
-        "IS3" => Some(Query::Is3 { person: id }),
-        "IS4" => Some(Query::Is4 { message: id }),
-        "IS5" => Some(Query::Is5 { message: id }),
-        "IS6" => Some(Query::Is6 { message: id }),
-        "IS7" => Some(Query::Is7 { message: id }),
-        "IC7" => Some(Query::Ic7 { person: id }),
-        "IC8" => Some(Query::Ic8 { person: id }),
-        _ => None,
+    let word = word.as_bytes();
+    match column {
+        Column::Number { most } => read_number(word, most).is_some(),
+        Column::Small { most } => read_number(word, u64::from(most)).is_some(),
+        Column::Date => read_date(word).is_some(),
+        Column::Words => true,
+        _ => unreachable!(),
     }
 }
 
-// The read of this kind with an id and a text, a date or an id, or None where there is none.
-fn read_of_two(
-    alloc: Global,
-    kind: &str,
-    first: &str,
-    second: &str,
-) -> Result<Option<Query>, AllocError>
-    ensures found { IfOk result (λ found. MatchOption found ((query : AnyQuery) → ¬ IsReadOf kind.now (first.now ∷ second.now ∷ []) query)
-        (IsReadOf kind.now (first.now ∷ second.now ∷ []))) }
-    ensures memory { OnErr result ((query : AnyQuery) × IsReadOf kind.now (first.now ∷ second.now ∷ []) query) }
+// Whether there is a word for each column, and it spells a value of the column. The condition:
+// parameters may have the columns.
+fn are_spelled(columns: &[Column], words: &[&str]) -> bool
+    requires { AllByRecursion IsParameter columns.now }
+    ensures { IsTrue result ↔ ((values : List AnyValue) × SpellsAll columns.now (texts_of words.now) values) }
 {
-    let Some(person) = read_number(first.as_bytes(), MAX_ID) else {
-        return Ok(None);
-    };
-    match kind {
-        "IC1" => {
-            let first_name = Text::from_str(alloc, second)?;
-            Ok(Some(Query::Ic1 { person, first_name }))
-        }
-        "IC2" => match read_date(second.as_bytes()) {
-            Some(max_date) => Ok(Some(Query::Ic2 { person, max_date })),
-            None => Ok(None),
+    match columns {
+        [] => words.is_empty(),
+        [column, columns @ ..] => match words {
+            [] => false,
+            [word, words @ ..] => is_spelled(*column, word) && are_spelled(columns, words),
         },
-        "IC9" => match read_date(second.as_bytes()) {
-            Some(max_date) => Ok(Some(Query::Ic9 { person, max_date })),
-            None => Ok(None),
-        },
-        "IC13" => match read_number(second.as_bytes(), MAX_ID) {
-            Some(to) => Ok(Some(Query::Ic13 { from: person, to })),
-            None => Ok(None),
-        },
-        _ => Ok(None),
     }
 }
 
-// The read of this kind with an id, a text and a year, or None where there is none.
-fn read_of_three(
-    alloc: Global,
-    kind: &str,
-    first: &str,
-    second: &str,
-    third: &str,
-) -> Result<Option<Query>, AllocError>
-    ensures found { IfOk result (λ found. MatchOption found ((query : AnyQuery) → ¬ IsReadOf kind.now (first.now ∷ second.now ∷ third.now ∷ []) query)
-        (IsReadOf kind.now (first.now ∷ second.now ∷ third.now ∷ []))) }
-    ensures memory { OnErr result ((query : AnyQuery) × IsReadOf kind.now (first.now ∷ second.now ∷ third.now ∷ []) query) }
-{
-    match kind {
-        "IC11" => {}
-        _ => return Ok(None),
-    }
-    let Some(person) = read_number(first.as_bytes(), MAX_ID) else {
-        return Ok(None);
-    };
-    let Some(year) = read_number(third.as_bytes(), u64::from(MAX_YEAR)) else {
-        return Ok(None);
-    };
-    let country = Text::from_str(alloc, second)?;
-    Ok(Some(Query::Ic11 {
-        person,
-        country,
-        year: year as u32,
-    }))
-}
-
-/// The read of this kind with these parameters, or None where there is none. The error is want of memory.
-pub fn query_of(alloc: Global, kind: &str, parameters: &[&str]) -> Result<Option<Query>, AllocError>
-    ensures found { IfOk result (λ found. MatchOption found ((query : AnyQuery) → ¬ IsReadOf kind.now (texts_of parameters.now) query)
-        (IsReadOf kind.now (texts_of parameters.now))) }
-    ensures memory { OnErr result ((query : AnyQuery) × IsReadOf kind.now (texts_of parameters.now) query) }
-{
-    match parameters {
-        [] => Ok(None),
-        [only] => Ok(read_of_one(kind, only)),
-        [first, second] => read_of_two(alloc, kind, first, second),
-        [first, second, third] => read_of_three(alloc, kind, first, second, third),
-        _ => Ok(None),
-    }
-}
-
-/// Whether the words are the kind and the parameters of a read. Memory runs out of a read alone.
-pub fn is_read(alloc: Global, kind: &str, parameters: &[&str]) -> bool
+/// Whether the words are the kind and the parameters of a read. Takes no memory.
+pub fn is_read(kind: &str, parameters: &[&str]) -> bool
     ensures { IsTrue result ↔ ((query : AnyQuery) × IsReadOf kind.now (texts_of parameters.now) query) }
 {
-    match query_of(alloc, kind, parameters) {
-        Ok(found) => found.is_some(),
-        Err(_) => true,
+    taken_again();
+    match ReadKind::of_word(kind) {
+        Some(kind) => are_spelled(kind.columns(), parameters),
+        None => false,
+    }
+}
+
+/// The read of this kind that has these values.
+pub fn query_of(kind: ReadKind, values: &mut Values) -> Query
+    ensures { result ≡ query_by kind values.old }
+{
+    let id = values.number();
+    match kind {
+        ReadKind::Is1 => Query::Is1 { person: id },
+        ReadKind::Is2 => Query::Is2 { person: id },
+        ReadKind::Is3 => Query::Is3 { person: id },
+        ReadKind::Is4 => Query::Is4 { message: id },
+        ReadKind::Is5 => Query::Is5 { message: id },
+        ReadKind::Is6 => Query::Is6 { message: id },
+        ReadKind::Is7 => Query::Is7 { message: id },
+        ReadKind::Ic1 => Query::Ic1 {
+            person: id,
+            first_name: values.text(),
+        },
+        ReadKind::Ic2 => Query::Ic2 {
+            person: id,
+            max_date: values.number(),
+        },
+        ReadKind::Ic7 => Query::Ic7 { person: id },
+        ReadKind::Ic8 => Query::Ic8 { person: id },
+        ReadKind::Ic9 => Query::Ic9 {
+            person: id,
+            max_date: values.number(),
+        },
+        ReadKind::Ic11 => Query::Ic11 {
+            person: id,
+            country: values.text(),
+            year: values.small(),
+        },
+        ReadKind::Ic13 => Query::Ic13 {
+            from: id,
+            to: values.number(),
+        },
     }
 }

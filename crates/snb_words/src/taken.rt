@@ -1,11 +1,13 @@
 //! The words of an accepted line, taken apart by `clap`.
 
-ghost use Rattle.std.specs.Prelude.{◌≡◌, ℕ, List, [], Option, Some, Ok, IfOk, IsSome, codes, false, true};
+ghost use Rattle.std.specs.Prelude.{◌≡◌, ℕ, List, [], Some, IfOk, IsSome, codes, false, option_map, true};
 ghost use Rattle.clap.specs.Takes.{takes};
 ghost use Rattle.clap.specs.Words.{app_of, first_of, first_value, found_of, matches_of, rule_of};
+ghost use Rattle.snb_schema.specs.declared.column.Value.{Value as AnyValue};
 ghost use Rattle.snb_schema.specs.declared.query.Query.{Query as AnyQuery};
+ghost use Rattle.snb_schema.specs.declared.read_kind.ReadKind.{ReadKind as AnyKind};
 ghost use Rattle.snb_words.specs.declared.options.Options.{Options as AnyOptions};
-ghost use Rattle.snb_words.specs.Taken.{AreFound, IsReadFound, line_app, option_rule};
+ghost use Rattle.snb_words.specs.Taken.{AreFound, IsKindFound, IsReadFound, IsValueFound, line_app, option_rule};
 ghost use Rattle.snb_words.specs.Words.{texts_of};
 
 use crate::options::{Options, frequencies_of, ratio_of, workers_of};
@@ -14,9 +16,13 @@ use clap::error::ErrorKind;
 use clap::{Arg, ArgMatches, Command};
 use snb_base::text::Text;
 use snb_fields::law::one_value;
+use snb_fields::read::read_value;
+use snb_fields::values::Values;
 use snb_ratio::law::one_ratio;
+use snb_schema::column::{Column, Value};
 use snb_schema::law::frequencies_are_one;
 use snb_schema::query::Query;
+use snb_schema::read_kind::ReadKind;
 use std::alloc::{AllocError, Global};
 
 // The command that has these places.
@@ -99,13 +105,30 @@ pub fn options_in(matches: &ArgMatches<'_>) -> Options
     }
 }
 
-// The read that is made, which is one. The error is want of memory.
-fn made(found: Result<Option<Query>, AllocError>) -> Result<Query, AllocError>
-    requires { IfOk found IsSome }
-    ensures { IfOk result (λ query. found ≡ Ok (Some query)) }
+// The kind of a read that was found. The condition: one was.
+fn kind_in(matches: &ArgMatches<'_>) -> ReadKind
+    requires { (kind : AnyKind) × IsKindFound (first_value (found_of matches.now)) kind }
+    ensures { (kind : AnyKind) → IsKindFound (first_value (found_of matches.now)) kind → result ≡ kind }
 {
-    match found? {
-        Some(query) => Ok(query),
+    let Some(word) = matches.get_str("kind") else {
+        unreachable!()
+    };
+    match ReadKind::of_word(word) {
+        Some(kind) => kind,
+        None => unreachable!(),
+    }
+}
+
+// The value that the word spells in a column. The error is want of memory. The condition: there is a word
+// that spells one.
+fn value_of(alloc: Global, column: Column, word: Option<&str>) -> Result<Value, AllocError>
+    requires { (value : AnyValue) × IsValueFound column (option_map (λ w. w.now) word) value }
+    ensures { IfOk result (λ made. (value : AnyValue) → IsValueFound column (option_map (λ w. w.now) word.entry) value → made ≡ value) }
+{
+    one_value();
+    let Some(word) = word else { unreachable!() };
+    match read_value(alloc, column, word.as_bytes())? {
+        Some(value) => Ok(value),
         None => unreachable!(),
     }
 }
@@ -116,18 +139,16 @@ pub fn query_in(alloc: Global, matches: &ArgMatches<'_>) -> Result<Query, AllocE
     requires { (query : AnyQuery) × IsReadFound (first_value (found_of matches.now)) query }
     ensures { IfOk result (λ made. (query : AnyQuery) → IsReadFound (first_value (found_of matches.now)) query → made ≡ query) }
 {
-    one_value();
-    let Some(kind) = matches.get_str("kind") else {
-        unreachable!()
-    };
-    let Some(first) = matches.get_str("first") else {
-        unreachable!()
-    };
-    let Some(second) = matches.get_str("second") else {
-        return made(query_of(alloc, kind, &[first]));
-    };
-    match matches.get_str("third") {
-        None => made(query_of(alloc, kind, &[first, second])),
-        Some(third) => made(query_of(alloc, kind, &[first, second, third])),
+    let kind = kind_in(matches);
+    let columns = kind.columns();
+    let words = [
+        matches.get_str("first"),
+        matches.get_str("second"),
+        matches.get_str("third"),
+    ];
+    let mut values = Vec::new(alloc);
+    for i in 0..columns.len() {
+        values.push(value_of(alloc, columns[i], words[i])?)?;
     }
+    Ok(query_of(kind, &mut Values::new(alloc, values)))
 }

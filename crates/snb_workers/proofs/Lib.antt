@@ -3,3 +3,10 @@ pub mod PlanSteps
 pub mod TurnEvents
 pub mod TurnLemmas
 pub mod TurnReplies
+pub mod WorkCalls
+pub mod WorkEvents
+pub mod WorkFollow
+pub mod WorkLemmas
+pub mod Gathered
+pub mod CrewEvents
+pub mod CrewRuns

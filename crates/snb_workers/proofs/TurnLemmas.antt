@@ -27,8 +27,8 @@ use Rattle.snb_workers.specs.declared.done.Answered.{Answered}
 use Rattle.snb_workers.specs.Replicas.{StandsFor, Taken}
 use Rattle.snb_workers.specs.Runs.{AreAt, AreReplies, HasRun}
 use Rattle.snb_workers.specs.Turns.{HasStarted, IsBehind, IsBookOf, IsServed, IsUnderWay}
-use Rattle.snb_workers.proofs.TurnEvents.{all_done, behind_more, free_after, next_at, of_more, running_after}
-use Rattle.snb_workers.proofs.TurnReplies.{answered_at_finish, answered_at_start, front_is, none_replied}
+use Rattle.snb_workers.proofs.TurnEvents.{all_done, behind_more, free_after, next_at, of_more, running_after, start_within}
+use Rattle.snb_workers.proofs.TurnReplies.{answered_at_finish, answered_at_start, front_is, fronts_within, none_replied}
 
 -- a legal history of a book of the plan and of one worker
 legal_of : (plan : Plan) (b : Kept) (h : List Event) → IsBookOf plan b → IsLegal b.schedule b.workers h → IsLegal (schedule_of plan) 1 h
@@ -110,7 +110,7 @@ module _ (plan : Plan) (fixed : Option ℕ) (base : List Row) (b : Kept) (r : Ta
 
   -- no reply is to it
   pub is_new : All (λ other. other.op ≢ ticket.op) replies
-  is_new = none_replied base plan begun.before ticket.op replies begun.way.legal begun.way.answered (starts.obeys V2).fresh
+  is_new = none_replied base plan 1 begun.before begun.before begun.before ticket.op replies begun.way.legal (λ e c. c) begun.way.answered (starts.obeys V2).fresh
 
   -- the replica is behind by its Start
   pub behind_start : IsBehind plan b.history r base
@@ -122,7 +122,8 @@ module _ (plan : Plan) (fixed : Option ℕ) (base : List Row) (b : Kept) (r : Ta
     served_front =
         subst (λ (s : Schedule). IsFront s b.history ticket.op front) (sym begun.book.schedule)
         (subst (λ (h : List Event). IsFront (schedule_of plan) h ticket.op front) (sym begun.start)
-        (front_is base plan begun.before ticket.op ticket.worker begun.at front caught replies new begun.way.streams (subst (λ (h : List Event). StandsFor base plan h caught) begun.start stands) served))
+        (front_is base plan (begun.before ++ start ∷ []) ticket.op front caught replies new begun.way.streams (start_within begun.before ticket.op ticket.worker begun.at)
+        (λ query asks. subst (λ (h : List Event). StandsFor base plan h caught) begun.start stands) served))
 
     module _ (after : Kept) (now : ℕ) (same : after ≡ record b { history = b.history ++ Finish ticket.op ticket.worker (moment_after b.history now) front ∷ [] })
         (legal : IsLegal after.schedule after.workers after.history) where
@@ -139,14 +140,18 @@ module _ (plan : Plan) (fixed : Option ℕ) (base : List Row) (b : Kept) (r : Ta
       pub behind_finish : IsBehind plan after.history caught base
       behind_finish = behind_more base plan b.history after.history end caught stands begun.way.closed history (legal_of plan after after.history book legal)
 
-      -- the reads are answered, that of the operation too
+      -- the reads before the operation are answered
+      answered_then : AreReplies base plan b.history b.history replies
+      answered_then =
+          subst (λ (h : List Event). AreReplies base plan h h replies) (sym begun.start)
+          (answered_at_start base plan begun.before begun.before (start ∷ []) ticket.op ticket.worker begun.at replies (fronts_within base plan begun.before replies begun.way.legal begun.way.answered) begun.way.answered)
+
+      -- and then that of the operation too
       answered : AllPairs (λ one other. one.op < other.op) new → AreReplies base plan after.history after.history new
       answered rise =
           subst (λ (h : List Event). AreReplies base plan h h new) (sym history)
-          (answered_at_finish base plan b.history ticket.op ticket.worker (moment_after b.history now) front caught replies new begun.legal stands
-          (subst (λ (h : List Event). AreReplies base plan h h replies) (sym begun.start)
-          (answered_at_start base plan begun.before ticket.op ticket.worker begun.at replies begun.way.legal begun.way.answered))
-          rise served)
+          (answered_at_finish base plan b.history b.history (end ∷ []) ticket.op ticket.worker (moment_after b.history now) front caught replies new
+          (fronts_within base plan b.history replies begun.legal answered_then) (λ query asks. stands) answered_then rise served)
 
       whole : after.history ≡ (begun.before ++ start ∷ []) ++ end ∷ []
       whole = history ∙ ap (λ (h : List Event). h ++ end ∷ []) begun.start

@@ -1,16 +1,17 @@
 -- Facts on the replies to the reads of a history.
-use Rattle.std.proofs.Common.{◌≡◌, ◌≢◌, ◌∙◌, ℕ, ◌<◌, List, [], ◌∷◌, ◌++◌, length, take, false, Some, inl, inr, refl, sym, ap, subst, arith}
+use Rattle.std.proofs.Common.{◌≡◌, ◌≢◌, ◌∙◌, ℕ, ◌<◌, ◌≤◌, List, [], ◌∷◌, ◌++◌, length, take, false, Some, inl, inr, refl, sym, ap, subst, arith}
 use Rattle.std.specs.Prelude.{All, AllPairs, Contains, slice_get}
+use Rattle.std.specs.List.{position_or_len}
 use Rattle.std.proofs.lemmas.List.{take-append-le}
 use Rattle.std.proofs.lemmas.List.Elements.{All-append, All-cons, All-drop, All-take, Contains-append_cases, Contains-append_left, Contains-append_right, Contains-push, Contains-push_cases}
 use Rattle.std.proofs.lemmas.Option.{same_Some}
 use Rattle.std.proofs.Math.Seq.{drop-append_seam, take-append_seam}
-use Rattle.snb_base.proofs.Laws.{contains_here, contains_there}
+use Rattle.snb_base.proofs.Laws.{contains_cases, contains_here, contains_there}
 use Rattle.snb_schema.specs.declared.event.Event.{Event}
 use Rattle.snb_schema.specs.declared.event.Event.TheVariants.{Start, Finish}
 use Rattle.snb_schema.specs.declared.query.Query.{Query}
 use Rattle.snb_schema.specs.declared.row.Row.{Row}
-use Rattle.snb_schema.specs.History.{started}
+use Rattle.snb_schema.specs.History.{started, starts}
 use Rattle.snb_schema.specs.Rules.{IsFront, IsLegal}
 use Rattle.snb_plan.specs.Plans.{Ask, Insert, IsOfStreams, Operation, Plan, Work, schedule_of}
 use Rattle.snb_reads.specs.Replies.{IsReply}
@@ -21,12 +22,12 @@ use Rattle.snb_workers.specs.Replicas.{StandsFor, Taken}
 use Rattle.snb_workers.specs.Runs.{AreReplies, Asks, IsAnswered}
 use Rattle.snb_workers.specs.Turns.{IsDone, IsServed}
 use Rattle.snb_workers.proofs.PlanSteps.{ask_is_query, insert_is_no_query}
-use Rattle.snb_workers.proofs.TurnEvents.{front_within, start_within, was_started}
+use Rattle.snb_workers.proofs.TurnEvents.{front_within, was_started}
 
 -- ---- one reply more
 
 -- the replies that were there are there
-still_there : (one : Answered) (old new : List Answered) (a : Answered) → HasAdded one old new → Contains old a → Contains new a
+pub still_there : (one : Answered) (old new : List Answered) (a : Answered) → HasAdded one old new → Contains old a → Contains new a
 still_there one old new a added c =
     subst (λ (xs : List Answered). Contains xs a) (sym added.are)
     (elim (Contains-append_cases added.before added.after a (subst (λ (xs : List Answered). Contains xs a) added.were c)) [
@@ -35,7 +36,7 @@ still_there one old new a added c =
     ])
 
 -- and so is the one that was added
-added_there : (one : Answered) (old new : List Answered) → HasAdded one old new → Contains new one
+pub added_there : (one : Answered) (old new : List Answered) → HasAdded one old new → Contains new one
 added_there one old new added =
     subst (λ (xs : List Answered). Contains xs one) (sym added.are) (Contains-append_right added.before (one ∷ added.after) one (contains_here one added.after))
 
@@ -50,78 +51,97 @@ all_added P one old new added all is =
 -- ---- longer histories
 
 -- a reply stays one when events follow
-stays_answered : (base : List Row) (plan : Plan) (h more : List Event) (a : Answered) → IsLegal (schedule_of plan) 1 h → IsAnswered base plan h h a → IsAnswered base plan (h ++ more) (h ++ more) a
-stays_answered base plan h more a legal is =
+stays_answered : (base : List Row) (plan : Plan) (finishes h events more : List Event) (a : Answered) → a.front ≤ length h → IsAnswered base plan finishes h a → IsAnswered base plan (finishes ++ events) (h ++ more) a
+stays_answered base plan finishes h events more a within is =
     record {
       worker = is.worker;
       at = is.at;
-      finished = Contains-append_left h more (Finish a.op is.worker is.at a.front) is.finished;
+      finished = Contains-append_left finishes events (Finish a.op is.worker is.at a.front) is.finished;
       query = is.query;
       asks = is.asks;
       graph = is.graph;
-      after = subst (λ (g : List Event). IsAfter base plan g is.graph) (sym (take-append-le a.front h more (front_within (schedule_of plan) 1 h legal a.op is.worker is.at a.front is.finished))) is.after;
+      after = subst (λ (g : List Event). IsAfter base plan g is.graph) (sym (take-append-le a.front h more within)) is.after;
       replies = is.replies;
     }
 
-all_stay : (base : List Row) (plan : Plan) (h more : List Event) (replies : List Answered) → IsLegal (schedule_of plan) 1 h → All (IsAnswered base plan h h) replies → All (IsAnswered base plan (h ++ more) (h ++ more)) replies
-all_stay base plan h more replies legal each k d lt = stays_answered base plan h more _ legal (each k d lt)
+-- the fronts of replies lie within a history
+abbrev pub AreWithin : List Event → List Answered → Type 0
+AreWithin h replies = All (λ a. a.front ≤ length h) replies
 
--- a Start changes no replies
-pub answered_at_start : (base : List Row) (plan : Plan) (h : List Event) (op worker at : ℕ) (replies : List Answered) → IsLegal (schedule_of plan) 1 h → AreReplies base plan h h replies →
-    AreReplies base plan (h ++ Start op worker at ∷ []) (h ++ Start op worker at ∷ []) replies
-answered_at_start base plan h op worker at replies legal are =
+all_stay : (base : List Row) (plan : Plan) (finishes h events more : List Event) (replies : List Answered) → AreWithin h replies → All (IsAnswered base plan finishes h) replies →
+    All (IsAnswered base plan (finishes ++ events) (h ++ more)) replies
+all_stay base plan finishes h events more replies within each k d lt = stays_answered base plan finishes h events more _ (within k d lt) (each k d lt)
+
+-- so it is where all the events of a legal history are meant
+pub fronts_within : (base : List Row) (plan : Plan) (h : List Event) (replies : List Answered) → IsLegal (schedule_of plan) 1 h → AreReplies base plan h h replies → AreWithin h replies
+fronts_within base plan h replies legal are k d lt = (let is = are.each k d lt in front_within (schedule_of plan) 1 h legal _ is.worker is.at _ is.finished)
+
+-- events without a Finish change no replies
+pub answered_more : (base : List Row) (plan : Plan) (finishes h events more : List Event) (replies : List Answered) → AreWithin h replies →
+    ((k w moment front : ℕ) → ¬ Contains events (Finish k w moment front)) → AreReplies base plan finishes h replies → AreReplies base plan (finishes ++ events) (h ++ more) replies
+answered_more base plan finishes h events more replies within none are =
     record {
       rise = are.rise;
-      each = all_stay base plan h (Start op worker at ∷ []) replies legal are.each;
-      all = λ k w moment front query c asks. are.all k w moment front query (before k w moment front c) asks;
+      each = all_stay base plan finishes h events more replies within are.each;
+      all = λ k w moment front query c asks. elim (Contains-append_cases finishes events (Finish k w moment front) c) [
+        | inl there ↦ are.all k w moment front query there asks
+        | inr late ↦ absurd (none k w moment front late)
+      ];
     }
+
+-- a Start changes no replies
+pub answered_at_start : (base : List Row) (plan : Plan) (finishes h more : List Event) (op worker at : ℕ) (replies : List Answered) → AreWithin h replies → AreReplies base plan finishes h replies →
+    AreReplies base plan (finishes ++ Start op worker at ∷ []) (h ++ more) replies
+answered_at_start base plan finishes h more op worker at replies within are = answered_more base plan finishes h (Start op worker at ∷ []) more replies within none are
   where
-    before : (k w moment front : ℕ) → Contains (h ++ Start op worker at ∷ []) (Finish k w moment front) → Contains h (Finish k w moment front)
-    before k w moment front c = elim (Contains-push_cases h (Start op worker at) (Finish k w moment front) c) [ inl there ↦ there | inr same ↦ absurd cc ]
+    none : (k w moment front : ℕ) → ¬ Contains (Start op worker at ∷ []) (Finish k w moment front)
+    none k w moment front c = elim (contains_cases (Start op worker at) [] (Finish k w moment front) c) [ inl same ↦ absurd cc | inr past ↦ (let l = past.1 in absurd (omega arith)) ]
 
 -- no reply is to an operation that hasn't started
-pub none_replied : (base : List Row) (plan : Plan) (h : List Event) (op : ℕ) (replies : List Answered) → IsLegal (schedule_of plan) 1 h → AreReplies base plan h h replies → started h op ≡ false →
-    All (λ other. other.op ≢ op) replies
-none_replied base plan h op replies legal are fresh k d lt same =
+pub none_replied : (base : List Row) (plan : Plan) (workers : ℕ) (finishes g h : List Event) (op : ℕ) (replies : List Answered) → IsLegal (schedule_of plan) workers h → ((e : Event) → Contains finishes e → Contains h e) →
+    AreReplies base plan finishes g replies → started h op ≡ false → All (λ other. other.op ≢ op) replies
+none_replied base plan workers finishes g h op replies legal there are fresh k d lt same =
     let is = are.each k d lt in
-    let begun = was_started (schedule_of plan) 1 h legal _ is.worker is.at _ is.finished in
+    let begun = was_started (schedule_of plan) workers h legal _ is.worker is.at _ (there (Finish _ is.worker is.at _) is.finished) in
     let none = ap (started h) same in
     cc
 
 -- ---- the Finish of an operation that was served
 
-module _ (base : List Row) (plan : Plan) (h : List Event) (op worker at front : ℕ) (r : Taken) (old new : List Answered) (legal : IsLegal (schedule_of plan) 1 h) (stands : StandsFor base plan h r)
-    (are : AreReplies base plan h h old) (rise : AllPairs (λ one other. one.op < other.op) new) (o : Operation) (here : slice_get plan.operations op ≡ Some o) where
+module _ (base : List Row) (plan : Plan) (finishes h more : List Event) (op worker at front : ℕ) (r : Taken) (old new : List Answered) (within : AreWithin h old)
+    (stands : (query : Query) → Asks plan op query → StandsFor base plan h r) (are : AreReplies base plan finishes h old) (rise : AllPairs (λ one other. one.op < other.op) new)
+    (o : Operation) (here : slice_get plan.operations op ≡ Some o) where
   abbrev longer : List Event
-  longer = h ++ Finish op worker at front ∷ []
+  longer = finishes ++ Finish op worker at front ∷ []
 
   -- one operation does one thing
   works : (query : Query) → Asks plan op query → o.work ≡ Ask query
   works query asks = ap (λ (x : Operation). x.work) (same_Some o asks.0 (sym here ∙ asks.1)) ∙ asks.2
 
   -- the reply to the read
-  one_answered : (query : Query) (a : Answered) → o.work ≡ Ask query → front ≡ r.front → a.op ≡ op → a.front ≡ front → IsReply r.graph query a.reply → IsAnswered base plan longer longer a
+  one_answered : (query : Query) (a : Answered) → o.work ≡ Ask query → front ≡ r.front → a.op ≡ op → a.front ≡ front → IsReply r.graph query a.reply → IsAnswered base plan longer (h ++ more) a
   one_answered query a asked seen number told reply =
-      let size : a.front ≡ length h = told ∙ (seen ∙ stands.front) in
+      let holds : StandsFor base plan h r = stands query (o, here, asked) in
+      let size : a.front ≡ length h = told ∙ (seen ∙ holds.front) in
       let e : Finish op worker at front ≡ Finish a.op worker at a.front = cc in
       record {
         worker = worker;
         at = at;
-        finished = subst (Contains longer) e (Contains-push h (Finish op worker at front));
+        finished = subst (Contains longer) e (Contains-push finishes (Finish op worker at front));
         query = query;
         asks = (o, subst (λ (k : ℕ). slice_get plan.operations k ≡ Some o) (sym number) here, asked);
         graph = r.graph;
-        after = subst (λ (g : List Event). IsAfter base plan g r.graph) (sym (ap (λ (n : ℕ). take n longer) size ∙ take-append_seam h (Finish op worker at front ∷ []))) stands.after;
+        after = subst (λ (g : List Event). IsAfter base plan g r.graph) (sym (ap (λ (n : ℕ). take n (h ++ more)) size ∙ take-append_seam h more)) holds.after;
         replies = reply;
       }
 
   -- by what was done
-  answered_by : (work : Work) → o.work ≡ work → IsDone op r old new front work → AreReplies base plan longer longer new
+  answered_by : (work : Work) → o.work ≡ work → IsDone op r old new front work → AreReplies base plan longer (h ++ more) new
   answered_by (Insert line) inserts done =
       record {
         rise = rise;
-        each = subst (All (IsAnswered base plan longer longer)) (sym done.1) (all_stay base plan h (Finish op worker at front ∷ []) old legal are.each);
-        all = λ k w moment seen query c asks. elim (Contains-push_cases h (Finish op worker at front) (Finish k w moment seen) c) [
+        each = subst (All (IsAnswered base plan longer (h ++ more))) (sym done.1) (all_stay base plan finishes h (Finish op worker at front ∷ []) more old within are.each);
+        all = λ k w moment seen query c asks. elim (Contains-push_cases finishes (Finish op worker at front) (Finish k w moment seen) c) [
           | inl there ↦ (
               let found = are.all k w moment seen query there asks in
               (found.0, subst (λ (xs : List Answered). Contains xs found.0) (sym done.1) found.1, found.2))
@@ -136,27 +156,37 @@ module _ (base : List Row) (plan : Plan) (h : List Event) (op worker at front : 
       let added : HasAdded a old new = done.1.4 in
       record {
         rise = rise;
-        each = all_added (IsAnswered base plan longer longer) a old new added (all_stay base plan h (Finish op worker at front ∷ []) old legal are.each)
+        each = all_added (IsAnswered base plan longer (h ++ more)) a old new added (all_stay base plan finishes h (Finish op worker at front ∷ []) more old within are.each)
             (one_answered query a asked done.0 done.1.1 done.1.2 done.1.3);
-        all = λ k w moment seen other c asks. elim (Contains-push_cases h (Finish op worker at front) (Finish k w moment seen) c) [
+        all = λ k w moment seen other c asks. elim (Contains-push_cases finishes (Finish op worker at front) (Finish k w moment seen) c) [
           | inl there ↦ (let found = are.all k w moment seen other there asks in (found.0, still_there a old new found.0 added found.1, found.2))
           | inr same ↦ (let number : op ≡ k = cc in (a, added_there a old new added, done.1.1 ∙ number))
         ];
       }
 
-pub answered_at_finish : (base : List Row) (plan : Plan) (h : List Event) (op worker at front : ℕ) (r : Taken) (old new : List Answered) → IsLegal (schedule_of plan) 1 h → StandsFor base plan h r →
-    AreReplies base plan h h old → AllPairs (λ one other. one.op < other.op) new → IsServed plan op r old new front → AreReplies base plan (h ++ Finish op worker at front ∷ []) (h ++ Finish op worker at front ∷ []) new
-answered_at_finish base plan h op worker at front r old new legal stands are rise served =
-    answered_by base plan h op worker at front r old new legal stands are rise served.0 served.1 served.0.work refl served.2
+-- the replies are those to the reads that are finished then, whatever else has happened in between
+pub answered_at_finish : (base : List Row) (plan : Plan) (finishes h more : List Event) (op worker at front : ℕ) (r : Taken) (old new : List Answered) → AreWithin h old →
+    ((query : Query) → Asks plan op query → StandsFor base plan h r) → AreReplies base plan finishes h old → AllPairs (λ one other. one.op < other.op) new → IsServed plan op r old new front →
+    AreReplies base plan (finishes ++ Finish op worker at front ∷ []) (h ++ more) new
+answered_at_finish base plan finishes h more op worker at front r old new within stands are rise served =
+    answered_by base plan finishes h more op worker at front r old new within stands are rise served.0 served.1 served.0.work refl served.2
 
 -- ---- the front of the Finish
 
--- a read's front is the replica's, which has taken the operation's Start, and an insert's is 0
-pub front_is : (base : List Row) (plan : Plan) (h : List Event) (op worker at front : ℕ) (r : Taken) (old new : List Answered) → IsOfStreams plan → StandsFor base plan (h ++ Start op worker at ∷ []) r →
-    IsServed plan op r old new front → IsFront (schedule_of plan) (h ++ Start op worker at ∷ []) op front
-front_is base plan h op worker at front r old new streams stands served = by served.0 served.1 served.0.work refl served.2
+-- the replies are answered no later than the replica
+pub fronts_served : (plan : Plan) (op front : ℕ) (r : Taken) (old new : List Answered) → All (λ a. a.front ≤ r.front) old → IsServed plan op r old new front → All (λ a. a.front ≤ r.front) new
+fronts_served plan op front r old new low served = by served.0.work served.2
   where
-    by : (o : Operation) → slice_get plan.operations op ≡ Some o → (work : Work) → o.work ≡ work → IsDone op r old new front work → IsFront (schedule_of plan) (h ++ Start op worker at ∷ []) op front
+    by : (work : Work) → IsDone op r old new front work → All (λ a. a.front ≤ r.front) new
+    by (Insert line) done = subst (All (λ a. a.front ≤ r.front)) (sym done.1) low
+    by (Ask query) done = (let told = done.1.2 in let is = done.0 in all_added (λ a. a.front ≤ r.front) done.1.0 old new done.1.4 low (omega arith))
+
+-- a read's front is the replica's, which has taken the operation's Start, and an insert's is 0
+pub front_is : (base : List Row) (plan : Plan) (h : List Event) (op front : ℕ) (r : Taken) (old new : List Answered) → IsOfStreams plan → position_or_len (starts op) h < length h →
+    ((query : Query) → Asks plan op query → StandsFor base plan h r) → IsServed plan op r old new front → IsFront (schedule_of plan) h op front
+front_is base plan h op front r old new streams begun stands served = by served.0 served.1 served.0.work refl served.2
+  where
+    by : (o : Operation) → slice_get plan.operations op ≡ Some o → (work : Work) → o.work ≡ work → IsDone op r old new front work → IsFront (schedule_of plan) h op front
     by o here (Insert line) is done =
         record {
           of_read = λ read. absurd (let none = insert_is_no_query plan op o line streams here is in cc);
@@ -164,6 +194,6 @@ front_is base plan h op worker at front r old new streams stands served = by ser
         }
     by o here (Ask query) is done =
         record {
-          of_read = λ read. let size : front ≡ length (h ++ Start op worker at ∷ []) = done.0 ∙ stands.front in let lt = start_within h op worker at in (omega (arith, size, lt), omega (arith, size));
+          of_read = λ read. let holds : StandsFor base plan h r = stands query (o, here, is) in let size : front ≡ length h = done.0 ∙ holds.front in (omega arith, omega arith);
           of_insert = λ insert. absurd (let some = ask_is_query plan op o query streams here is in cc);
         }

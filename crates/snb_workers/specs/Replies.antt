@@ -1,5 +1,5 @@
 -- One reply more among replies that are by rising operation.
-use Rattle.std.specs.Prelude.{◌≡◌, ◌∷◌, ◌++◌, List}
+use Rattle.std.specs.Prelude.{◌≡◌, ◌⊎◌, ◌∷◌, ◌++◌, List, Any, Contains}
 use Rattle.snb_workers.specs.declared.done.Answered.{Answered}
 
 -- the reply stands among those that were there
@@ -8,3 +8,9 @@ pub record HasAdded (one : Answered) (old new : List Answered) : Type 0 where
   pub after : List Answered
   pub were : old ≡ before ++ after
   pub are : new ≡ before ++ one ∷ after
+
+-- there is a reply to its operation, and beside it those that were there
+pub record HasOne (one : Answered) (old new : List Answered) : Type 0 where
+  pub each : (a : Answered) → Contains new a → Contains old a ⊎ (a ≡ one)
+  pub kept : (a : Answered) → Contains old a → Contains new a
+  pub there : Any (λ other. other.op ≡ one.op) new

@@ -1,8 +1,8 @@
 //! The replies to the reads of a run.
 
-ghost use Rattle.std.specs.Prelude.{◌≡◌, ◌≢◌, ℕ, ◌<◌, ◌≤◌, [], All, AllPairs, OnOk, OnErr, length, slice_index_or};
+ghost use Rattle.std.specs.Prelude.{◌≡◌, ◌≢◌, ℕ, ◌<◌, ◌≤◌, [], All, AllPairs, Any, Contains, IfOk, MatchBool, OnOk, OnErr, length, slice_index_or};
 ghost use Rattle.snb_workers.specs.declared.done.Answered.{Answered as AnyAnswered};
-ghost use Rattle.snb_workers.specs.Replies.{HasAdded};
+ghost use Rattle.snb_workers.specs.Replies.{HasAdded, HasOne};
 
 use snb_reads::reply::Reply;
 use std::alloc::{AllocError, Global};
@@ -96,5 +96,44 @@ impl Done {
         let place = self.place_of(one.op);
         self.items.insert(place, one)?;
         Ok(())
+    }
+
+    // Whether there is a reply to the operation.
+    fn has(&self, op: u32) -> bool
+        ensures { MatchBool result (Any (λ other. other.op ≡ op) self.now) (All (λ other. other.op ≢ op) self.now) }
+    {
+        let place = self.place_of(op);
+        place > 0 && self.items[place - 1].op == op
+    }
+
+    // Adds a reply, where there is none to its operation. Want of memory leaves all as it was.
+    fn add_new(&mut self, one: Answered) -> Result<(), AllocError>
+        ensures { OnOk result (HasOne one self.old self.new) }
+    {
+        if self.has(one.op) {
+            return Ok(());
+        }
+        self.add(one)
+    }
+
+    /// These replies, by rising operation; of several to one operation, one.
+    pub fn of(alloc: Global, mut items: Vec<Answered>) -> Result<Done, AllocError>
+        ensures each { IfOk result (λ done. All (λ one. Contains items.items one) done) }
+        ensures all { IfOk result (λ done. All (λ one. Any (λ other. other.op ≡ one.op) done) items.items) }
+    {
+        items.sort_unstable_by_key(|one| one.op);
+        let mut done = Done::new(alloc);
+        for one in items {
+            done.add_new(one)?;
+        }
+        Ok(done)
+    }
+
+    /// The replies, by rising operation. Takes no memory.
+    pub fn into_items(self) -> Vec<Answered>
+        ensures { result.items ≡ self }
+    {
+        let Done { items } = self;
+        items
     }
 }

@@ -2,6 +2,8 @@
 //! finish them.
 #![tactic(auto)]
 
+pub mod crew;
 pub mod done;
 pub mod replica;
 pub mod run;
+pub mod work;

@@ -45,13 +45,13 @@ impl Drop for Outcome {
 
 // Whether there may be more to do.
 #[derive(Clone, Copy)]
-enum Turn {
+pub(crate) enum Turn {
     More,
     Over,
 }
 
-// The replica takes what has happened in the book since.
-fn catch_up(
+/// The replica takes what has happened in the book since.
+pub(crate) fn catch_up(
     alloc: Global,
     plan: &Plan,
     book: &Book,
@@ -66,7 +66,7 @@ fn catch_up(
 
 // Answers the operation from the replica, if it is a read, and keeps its reply. Gives the front of its
 // Finish.
-fn serve(
+pub(crate) fn serve(
     alloc: Global,
     plan: &Plan,
     replica: &Replica,

@@ -6,7 +6,7 @@ use Rattle.snb_tool.proofs.run.run_output.Goals as goal
 pub returns : goal.returns
 returns g c =
     IfOk-weaker c.texts_of.result _ _
-    (λ output shown. run_shown c.args.workers c.args.input (g.C.Clock.fixed c.args.clock.now) c.in_ok-outcome.outcome (bytes_of output) (c.in_ok-outcome.ensures.ran c.args.workers c.requires.workers) shown)
+    (λ output shown. run_shown c.args.workers c.args.input (g.C.Clock.fixed c.args.clock.now) c.in_ok-outcome.outcome (bytes_of output) c.in_ok-outcome.ensures.ran shown)
     c.texts_of.ensures
 
 pub texts_of-requires : goal.texts_of-requires
@@ -15,5 +15,5 @@ texts_of-requires g c = record {
   few = c.requires.few;
   timed =
       run_timed c.args.workers c.args.input.plan (g.C.Clock.fixed c.args.clock.now) c.args.input.graph c.in_ok-outcome.outcome.events.items c.in_ok-outcome.outcome.replies c.in_ok-outcome.outcome.graph
-      (c.in_ok-outcome.ensures.ran c.args.workers c.requires.workers);
+      c.in_ok-outcome.ensures.ran;
 }

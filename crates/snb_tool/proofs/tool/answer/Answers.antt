@@ -6,9 +6,6 @@ use Rattle.snb_tool.specs.Outside.{OutOfMemory}
 use Rattle.snb_tool.proofs.OutcomeLemmas.{ends_weaker, shows_ends}
 use Rattle.snb_tool.proofs.tool.answer.Goals as goal
 
-pub obey-requires : goal.obey-requires
-obey-requires g c = rw c.in-Ok-Some.field-0-is at c.in-Ok-Some.ensures.runnable
-
 pub returns-in-Ok-Some-clause-ends : goal.returns-in-Ok-Some-clause-ends
 returns-in-Ok-Some-clause-ends g c =
     ends_weaker (IsCommandAnswer c.in-Ok-Some.command) _ _ (IsAnswer (texts_of c.args.words.now)) _

@@ -2,8 +2,11 @@ use Rattle.std.proofs.Common.{subst}
 use Rattle.snb_words.specs.Commands.{IsRunnable}
 use Rattle.snb_tool.proofs.tool.obey.Goals as goal
 
-pub run-requires : goal.run-requires
-run-requires g c = (let runnable = subst IsRunnable c.in-Run.is c.requires in record { workers = runnable.0; few = runnable.1 })
+pub run-requires-clause-workers : goal.run-requires-clause-workers
+run-requires-clause-workers g c = λ κs lives. (subst IsRunnable c.in-Run.is c.requires.runnable).0
+
+pub run-requires-clause-few : goal.run-requires-clause-few
+run-requires-clause-few g c = λ κs lives. (subst IsRunnable c.in-Run.is c.requires.runnable).1
 
 pub returns-in-Check-clause-ends : goal.returns-in-Check-clause-ends
 returns-in-Check-clause-ends g c = rw (c.in-Check.is, ← c.as_str.ensures) (c.check.ensures.ends (g.C.Clock.fixed c.args.clock.now))

@@ -1,8 +1,8 @@
 use Rattle.std.proofs.Common.{◌∙◌, codes, refl, sym}
-use Rattle.clap.specs.Words.{first_value, found_of}
+use Rattle.snb_words.specs.Taken.{AreFound}
 use Rattle.snb_words.specs.Words.{texts_of}
-use Rattle.snb_words.proofs.TakenLemmas.{is_there, same_word}
-use Rattle.snb_words.proofs.TakenLines.{found_by, check_line}
+use Rattle.snb_words.proofs.TakenLemmas.{as_found, is_there, same_word}
+use Rattle.snb_words.proofs.TakenLines.{check_line}
 use Rattle.snb_words.proofs.command.take_check.Goals as goal
 
 pub matches_in-requires : goal.matches_in-requires
@@ -17,5 +17,5 @@ pub returns : goal.returns
 returns c =
     let line = check_line (texts_of c.args.words.now) c.requires in
     let folder = same_word c.in_ok-text_at.field-0 line.0 (sym c.in_ok-text_at.ensures ∙ c.in_ok-matches.ensures (codes "folder") ∙ line.3.text (codes "folder") line.0 refl) in
-    let said = c.options_in.ensures line.1 (found_by (first_value (found_of c.in_ok-matches.matches)) _ c.in_ok-matches.ensures line.1 line.3.found) in
+    let said = c.options_in.ensures line.1 (as_found (λ g. AreFound g line.1) _ _ c.in_ok-matches.ensures line.3.found) in
     rw (folder, c.frequencies_or_none.ensures, said) line.2

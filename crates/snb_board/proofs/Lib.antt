@@ -1,0 +1,7 @@
+pub mod Events
+pub mod Parts
+pub mod Keeps
+pub mod Turns
+pub mod Joins
+pub mod Calls
+pub mod Closing

@@ -1,0 +1,60 @@
+//! What each step on the table tells. These types are for the proofs alone.
+
+ghost use Rattle.snb_board.specs.Views.{took, counted_one, raised, loaded, passed, minting, newcomer, gathered, spent_view};
+
+use crate::view::View;
+use atomic_table::{Join, Play, Split};
+use snb_book::book::Book;
+
+/// The turn is taken, and the slot with it.
+pub struct Take;
+
+impl Play<Option<Book>, View> for Take {
+    ghost then = { took };
+}
+
+/// An event is counted.
+pub struct Count;
+
+impl Play<Option<Book>, View> for Count {
+    ghost then = { counted_one };
+}
+
+/// The completion time is published.
+pub struct Raise;
+
+impl Play<Option<Book>, View> for Raise {
+    ghost then = { raised };
+}
+
+/// The published completion time is read.
+pub struct Load;
+
+impl Play<Option<Book>, View> for Load {
+    ghost then = { loaded };
+}
+
+/// The turn is passed, and the slot with it.
+pub struct Pass;
+
+impl Play<Option<Book>, View> for Pass {
+    ghost then = { passed };
+}
+
+/// A seat is made.
+pub struct Mint;
+
+impl Split<View> for Mint {
+    ghost left = { minting };
+
+    ghost right = { newcomer };
+}
+
+/// A seat takes in what another one has seen.
+pub struct Gather;
+
+impl Join<View> for Gather {
+    ghost both = { gathered };
+
+    ghost spent = { spent_view };
+}

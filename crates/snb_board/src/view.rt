@@ -1,0 +1,52 @@
+//! What seats know, for the proofs alone, and the table that they step on.
+
+use atomic_table::{Seat, Shared, TableRule};
+use snb_book::book::Book;
+use snb_schema::event::Event;
+use snb_schema::schedule::Schedule;
+use std::collections::LinkedList;
+use std::snapshot::Snapshot;
+
+/// What one seat knows: its worker's number, a beginning of the history, and one more than the greatest
+/// completion time that it was told. No value of it is made.
+pub struct Part {
+    pub worker: u32,
+    pub seen: LinkedList<Event>,
+    pub told: u64,
+}
+
+/// Where a view is in a turn: it has none, it has the turn and the book, it has counted an event, or it
+/// has published its completion time.
+pub enum Phase {
+    Idle,
+    Holding,
+    Counted,
+    Raised,
+}
+
+/// A view: the own part first, then those of the seats that were joined. No value of it is made.
+pub struct View {
+    pub phase: Phase,
+    pub schedule: Schedule,
+    pub workers: u32,
+    /// The count of seats made. The first view alone has it, and others have 0.
+    pub made: u32,
+    pub parts: LinkedList<Part>,
+}
+
+/// The rule of the table.
+pub struct Rule;
+
+impl TableRule<Option<Book>, View, Snapshot<Book>> for Rule {
+    ghost use Rattle.snb_board.specs.Views.{IsRuled, first_view};
+
+    ghost holds = { λ _. IsRuled };
+
+    ghost first = { λ key. first_view key.value };
+}
+
+/// The words and the slot, which threads share.
+pub type Top = Shared<Option<Book>, View, Snapshot<Book>, Rule>;
+
+/// What a seat steps on them with.
+pub type Place = Seat<Option<Book>, View>;

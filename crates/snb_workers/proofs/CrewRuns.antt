@@ -1,0 +1,307 @@
+-- What a run of several workers comes to.
+use Rattle.std.proofs.Common.{◌≡◌, ◌∙◌, ℕ, zero, suc, ◌<◌, ◌≤◌, List, [], ◌∷◌, ◌++◌, length, map, take, get_or, true, false, Option, Some, None, inl, inr, refl, sym, ap, subst, arith, append-nil, length-append}
+use Rattle.std.specs.Prelude.{All, AllPairs, Any, Contains, Result, Ok, Err, slice_get}
+use Rattle.std.specs.List.{flat_map}
+use Rattle.std.specs.List.Sorted.{IsPermutation}
+use Rattle.std.specs.Option.{IfSome}
+use Rattle.std.specs.Result.{IfOk, IsOk}
+use Rattle.std.proofs.lemmas.Bool.{cases_lt}
+use Rattle.std.proofs.lemmas.List.{get_or-map, get_or_default, length-map, take-append-le}
+use Rattle.std.proofs.lemmas.List.Sorted.{IsPermutation-refl}
+use Rattle.std.proofs.lemmas.List.Elements.{Contains-append_left, Contains-append_right, Contains-append_cases}
+use mathlib.Core.List.{IsPrefix}
+use Rattle.snb_schema.specs.declared.event.Event.{Event}
+use Rattle.snb_schema.specs.declared.event.Event.TheVariants.{Finish}
+use Rattle.snb_schema.specs.declared.limits.TheConstants.{MAX_WORKERS}
+use Rattle.snb_schema.specs.declared.row.Row.{Row}
+use Rattle.snb_schema.specs.History.{finishes, halted, halts, hand, is_by, started, starts}
+use Rattle.snb_schema.specs.Laws.{HandIsOwn, PrefixIsLegal}
+use Rattle.snb_schema.specs.Rules.{IsComplete, IsLegal}
+use Rattle.snb_schema.specs.Schedule.{Schedule, IsOperation}
+use Rattle.snb_tables.specs.Graphs.{HoldsKey, IsGraph}
+use Rattle.snb_tables.specs.Soundness.{Sound}
+use Rattle.snb_board.specs.Boards.{AreAll, AreMadeBy, AreSeats, IsPartOf, Site, Sitting, events_of, mine, sitting, time_below}
+use Rattle.snb_plan.specs.Closed.{IsClosed}
+use Rattle.snb_plan.specs.Plans.{Plan, schedule_of, updates_in}
+use Rattle.snb_replay.specs.Laws.{CompleteIsFinal}
+use Rattle.snb_replay.specs.Replay.{IsAfter, IsFinal}
+use Rattle.snb_workers.specs.declared.crew.Left.{Left}
+use Rattle.snb_workers.specs.declared.crew.Post.{Post}
+use Rattle.snb_workers.specs.declared.done.Answered.{Answered}
+use Rattle.snb_workers.specs.Crews.{AllLeave, IsReady, Leaves, replies_in, replies_of}
+use Rattle.snb_workers.specs.Replicas.{StandsFor, Taken}
+use Rattle.snb_workers.specs.Runs.{AreAt, AreReplies, HasRun, IsAnswered}
+use Rattle.snb_workers.specs.Turns.{IsBehind}
+use Rattle.snb_workers.specs.Works.{AreTimely, HasWorked, IsFollowing, IsFree}
+use Rattle.snb_workers.proofs.CrewEvents.{all_at, any_prefix, none_of, seen_there}
+use Rattle.snb_base.proofs.Laws.{contains_cases, contains_here}
+use Rattle.snb_workers.proofs.Gathered.{all_from, of_all}
+use Rattle.snb_workers.proofs.TurnEvents.{all_done, front_within}
+use Rattle.snb_workers.proofs.WorkEvents.{prefix-trans}
+use Rattle.snb_reads.proofs.Laws.{in_filter}
+
+-- a worker's seat and replica at first
+abbrev pub fresh : Site → ℕ → Sitting
+fresh z k = sitting z k [] (time_below 0)
+
+abbrev pub opening : List Row → Taken
+opening base = record { graph = base; front = 0 }
+
+abbrev pub post_of : Site → List Row → ℕ → Post
+post_of z base k = record { seat = fresh z k; replica = opening base }
+
+-- a replica of the base follows what nobody has seen
+pub follows_at_first : (base : List Row) (plan : Plan) → IsGraph base → IsClosed (HoldsKey base) (updates_in plan) → IsFollowing base plan [] (opening base)
+follows_at_first base plan graph closed = record {
+  closed = closed;
+  taken = [];
+  begins = ([], refl);
+  stands = record { after = record { graph = graph; rows = subst (IsPermutation base) (sym (append-nil base)) (IsPermutation-refl base) }; front = refl };
+}
+
+seat_at : (posts : List Post) (k : ℕ) (d : Post) (s : Sitting) → slice_get (map (λ (p : Post). p.seat) posts) k ≡ Some s → (get_or posts k d).seat ≡ s
+seat_at [] k d s e = absurd (cc)
+seat_at (p ∷ ps) zero d s e = cc
+seat_at (p ∷ ps) (suc k) d s e = seat_at ps k d s e
+
+module _ (z : Site) (base : List Row) (posts : List Post) (seats : List Sitting) (made : AreSeats z seats) (theirs : map (λ (p : Post). p.seat) posts ≡ seats) (replicas : All (λ (p : Post). p.replica ≡ opening base) posts) where
+  pub many_posts : length posts ≡ z.workers
+  many_posts = sym (length-map posts (λ (p : Post). p.seat)) ∙ ap length theirs ∙ made.0
+
+  pub post_is : (k : ℕ) (d : Post) → k < z.workers → get_or posts k d ≡ post_of z base k
+  post_is k d lt =
+      let seat : (get_or posts k d).seat ≡ fresh z k = seat_at posts k d (fresh z k) (ap (λ l. slice_get l k) theirs ∙ made.1 k lt) in
+      let replica : (get_or posts k d).replica ≡ opening base = replicas k d (let n = many_posts in omega arith) in
+      λ i. record { seat = seat i; replica = replica i }
+
+  pub ready : (plan : Plan) → IsGraph base → IsClosed (HoldsKey base) (updates_in plan) → (k : ℕ) (d : Post) → k < length posts → IsReady plan z (get_or posts k d)
+  ready plan graph closed k d lt =
+      subst (IsReady plan z) (sym (post_is k d (let n = many_posts in omega arith)))
+      record { site = refl; free = record { empty = refl; running = refl }; base = base; follows = follows_at_first base plan graph closed }
+
+-- what an answer that is Ok has
+of_ok : {E : Type 0} (r : Result (List Answered) E) (P : List Answered → Type 0) → IsOk r → IfOk r P → P (replies_of r)
+of_ok (Ok replies) P is p = p
+of_ok (Err e) P is p = absurd (cc)
+
+contains_pieces : (lefts : List Left) (left : Left) (a : Answered) → Contains lefts left → Contains (replies_in left) a → Contains (flat_map replies_in lefts) a
+contains_pieces [] left a c there = absurd (let lt : c.0 < 0 = c.1 in omega arith)
+contains_pieces (x ∷ lefts) left a c there = elim (contains_cases x lefts left c) [
+  | inl same ↦ Contains-append_left (replies_in x) (flat_map replies_in lefts) a (subst (λ (l : Left). Contains (replies_in l) a) (sym same) there)
+  | inr later ↦ Contains-append_right (replies_in x) (flat_map replies_in lefts) a (contains_pieces lefts left a later there)
+]
+
+in_piece : (lefts : List Left) (a : Answered) → Contains (flat_map replies_in lefts) a → (k : ℕ) × (k < length lefts) × ((d : Left) → Contains (replies_in (get_or lefts k d)) a)
+in_piece [] a c = absurd (let lt : c.0 < 0 = c.1 in omega arith)
+in_piece (x ∷ lefts) a c = elim (Contains-append_cases (replies_in x) (flat_map replies_in lefts) a c) [
+  | inl here ↦ (0, omega arith, λ d. here)
+  | inr there ↦ (let p = in_piece lefts a there in (suc p.0, omega (arith, p.1), p.2))
+]
+
+-- a reply on a beginning of a history is one on the whole
+answered_whole : (base : List Row) (plan : Plan) (workers : ℕ) (finishes seen h : List Event) (a : Answered) → IsPrefix seen h → IsLegal (schedule_of plan) workers seen → ((e : Event) → Contains finishes e → Contains seen e)
+    → IsAnswered base plan finishes seen a → IsAnswered base plan h h a
+answered_whole base plan workers finishes seen h a pre legal within is =
+    let there = within (Finish a.op is.worker is.at a.front) is.finished in
+    let front : a.front ≤ length seen = front_within (schedule_of plan) workers seen legal a.op is.worker is.at a.front there in
+    let same : take a.front h ≡ take a.front seen = ap (take a.front) (sym pre.1) ∙ take-append-le a.front seen pre.0 front in
+    record {
+      worker = is.worker;
+      at = is.at;
+      finished = subst (λ (l : List Event). Contains l (Finish a.op is.worker is.at a.front)) pre.1 (Contains-append_left seen pre.0 (Finish a.op is.worker is.at a.front) there);
+      query = is.query;
+      asks = is.asks;
+      graph = is.graph;
+      after = subst (λ (l : List Event). IsAfter base plan l is.graph) (sym same) is.after;
+      replies = is.replies;
+    }
+
+module _
+    (plan : Plan) (fixed : Option ℕ) (base : List Row) (z : Site) (posts : List Post) (seats : List Sitting) (lefts : List Left) (h : List Event)
+    (made : AreSeats z seats) (theirs : map (λ (p : Post). p.seat) posts ≡ seats) (replicas : All (λ (p : Post). p.replica ≡ opening base) posts)
+    (graph : IsGraph base) (closed : IsClosed (HoldsKey base) (updates_in plan)) (planned : z.schedule ≡ schedule_of plan)
+    (all : AllLeave plan fixed posts lefts) (had : All (λ (left : Left). IsOk left.replies) lefts)
+  where
+    pub many_lefts : length lefts ≡ z.workers
+    many_lefts = all.many ∙ many_posts z base posts seats made theirs replicas
+
+    leaves : (k : ℕ) (e : Left) → k < z.workers → Leaves plan fixed (post_of z base k) (get_or lefts k e)
+    leaves k e lt =
+        let d : Post = post_of z base k in
+        subst (λ (p : Post). Leaves plan fixed p (get_or lefts k e)) (post_is z base posts seats made theirs replicas k d lt) (all.each k d e (let n = many_posts z base posts seats made theirs replicas in omega arith))
+
+    worked : (k : ℕ) (e : Left) → k < z.workers → HasWorked plan (fresh z k) (get_or lefts k e).seat (opening base) (get_or lefts k e).replica (replies_in (get_or lefts k e))
+    worked k e lt = of_ok (get_or lefts k e).replies (HasWorked plan (fresh z k) (get_or lefts k e).seat (opening base) (get_or lefts k e).replica) (had k e (let n = many_lefts in omega arith)) (leaves k e lt).ok
+
+    -- what stands for a worker that there is not
+    abbrev nobody : Left
+    nobody = record { seat = fresh z 0; replica = opening base; replies = Ok [] }
+
+    -- what worker k has left
+    abbrev left : ℕ → Left
+    left k = get_or lefts k nobody
+
+    seat_is : (given : List Sitting) → given ≡ map (λ (l : Left). l.seat) lefts → (k : ℕ) (d : Sitting) → k < z.workers → get_or given k d ≡ (left k).seat
+    seat_is given is k d low =
+        let n = many_lefts in
+        ap (λ (xs : List Sitting). get_or xs k d) is ∙ get_or-map (λ (l : Left). l.seat) lefts k nobody d (omega arith)
+
+    many_seats : (given : List Sitting) → given ≡ map (λ (l : Left). l.seat) lefts → length given ≡ z.workers
+    many_seats given is = ap length is ∙ (length-map lefts (λ (l : Left). l.seat) ∙ many_lefts)
+
+    -- the seats of all workers are among them
+    pub are_all : (given : List Sitting) → given ≡ map (λ (l : Left). l.seat) lefts → AreAll z given
+    are_all given is = record {
+      theirs = λ k d lt.
+          let low : k < z.workers = (let n = many_seats given is in omega arith) in
+          ap (λ (s : Sitting). s.site) (seat_is given is k d low) ∙ (leaves k nobody low).later.site;
+      each = λ k low. (
+        k,
+        (left k).seat,
+        (let n = many_seats given is in omega arith),
+        seat_is given is k (left k).seat low,
+        (leaves k nobody low).later.worker,
+      );
+    }
+
+    module _
+        (given : List Sitting) (is : given ≡ map (λ (l : Left). l.seat) lefts) (hand_own : HandIsOwn) (prefix : PrefixIsLegal) (legal : IsLegal (schedule_of plan) z.workers h)
+        (parts : All (IsPartOf z.schedule h) given) (by_them : AreMadeBy given h) (some : 0 < z.workers)
+      where
+        part : (k : ℕ) → k < z.workers → IsPartOf z.schedule h (left k).seat
+        part k low = subst (IsPartOf z.schedule h) (seat_is given is k (left k).seat low) (parts k (left k).seat (let n = many_seats given is in omega arith))
+
+        -- of each worker the history has what its seat knows
+        theirs_in : (k : ℕ) → k < z.workers → events_of k h ≡ mine (left k).seat
+        theirs_in k low = subst (λ (w : ℕ). events_of w h ≡ mine (left k).seat) (leaves k nobody low).later.worker (part k low).mine
+
+        low_author : (k : ℕ) (d : Event) → k < length h → (s : ℕ) × (s < z.workers) × (is_by s (get_or h k d) ≡ true)
+        low_author k d lt =
+            let any = by_them k d lt in
+            let low : any.0 < z.workers = (let n = many_seats given is in let m : any.0 < length given = any.2 in omega arith) in
+            let same : (left any.0).seat ≡ any.1 = sym (seat_is given is any.0 any.1 low) ∙ any.3 in
+            let worker : any.1.worker ≡ any.0 = ap (λ (s : Sitting). s.worker) (sym same) ∙ (leaves any.0 nobody low).later.worker in
+            (any.0, low, subst (λ (w : ℕ). is_by w (get_or h k d) ≡ true) worker any.4)
+
+        nobody_else : (w : ℕ) → z.workers ≤ w → events_of w h ≡ []
+        nobody_else w high = none_of z.workers w h low_author high
+
+        free_seat : (k : ℕ) (low : k < z.workers) → IsFree (left k).seat
+        free_seat k low = (worked k nobody low).free
+
+        pub empty : (w : ℕ) → hand h w ≡ None
+        empty w = sym (hand_own h w).0 ∙ elim (cases_lt w z.workers) [
+          | inl low ↦ ap (λ (l : List Event). hand l w) (theirs_in w low) ∙ subst (λ (n : ℕ). hand (mine (left w).seat) n ≡ None) (leaves w nobody low).later.worker (free_seat w low).empty
+          | inr high ↦ ap (λ (l : List Event). hand l w) (nobody_else w high)
+        ]
+
+        pub running : (w : ℕ) → halted h w ≡ false
+        running w = sym (hand_own h w).1 ∙ elim (cases_lt w z.workers) [
+          | inl low ↦ ap (λ (l : List Event). halted l w) (theirs_in w low) ∙ subst (λ (n : ℕ). halted (mine (left w).seat) n ≡ false) (leaves w nobody low).later.worker (free_seat w low).running
+          | inr high ↦ ap (λ (l : List Event). halted l w) (nobody_else w high)
+        ]
+
+        all_started : (k : ℕ) → IsOperation (schedule_of plan) k → started h k ≡ true
+        all_started k within = elim ((worked 0 nobody some).over) [
+          | inl each ↦ (
+              let here : IsOperation (left 0).seat.site.schedule k = subst (λ (s : Schedule). IsOperation s k) (sym planned ∙ sym (ap (λ (x : Site). x.schedule) (leaves 0 nobody some).later.site)) within in
+              any_prefix (starts k) (left 0).seat.seen h (part 0 some).seen (each k here))
+          | inr (w, off, stopped) ↦ absurd (let at = any_prefix (halts w) (left 0).seat.seen h (part 0 some).seen stopped in let runs = running w in cc)
+        ]
+
+        pub complete : IsComplete (schedule_of plan) h
+        complete = all_done (schedule_of plan) z.workers h legal empty running all_started
+
+        -- an event of the history stands in what the seat of its worker has seen
+        in_seat : (g rest : List Event) (e : Event) → g ++ e ∷ rest ≡ h → (k : ℕ) × (k < z.workers) × (is_by k e ≡ true) × ((after : List Event) × (g ++ e ∷ after ≡ (left k).seat.seen))
+        in_seat g rest e at =
+            let size : length h ≡ length (g ++ e ∷ rest) = ap length (sym at) in
+            let lt : length g < length h = (let n = length-append g (e ∷ rest) in omega arith) in
+            let who = low_author (length g) e lt in
+            let here : get_or h (length g) e ≡ e = ap (λ (l : List Event). get_or l (length g) e) (sym at) ∙ at_seam g e rest in
+            let own : is_by who.0 e ≡ true = subst (λ (x : Event). is_by who.0 x ≡ true) here who.2 in
+            let same : events_of who.0 h ≡ events_of who.0 (left who.0).seat.seen = theirs_in who.0 who.1 ∙ ap (λ (w : ℕ). events_of w (left who.0).seat.seen) (leaves who.0 nobody who.1).later.worker in
+            (who.0, who.1, own, seen_there who.0 (left who.0).seat.seen h g e rest (part who.0 who.1).seen same own at)
+          where
+            at_seam : (g : List Event) (e : Event) (rest : List Event) → get_or (g ++ e ∷ rest) (length g) e ≡ e
+            at_seam [] e rest = refl
+            at_seam (x ∷ g) e rest = at_seam g e rest
+
+        pub moments : AreAt fixed h
+        moments = by_clock fixed (λ k low. (leaves k nobody low).timely)
+          where
+            by_clock : (fixed : Option ℕ) → ((k : ℕ) → k < z.workers → IfSome fixed (λ now. AreTimely now k 0 (left k).seat.seen)) → AreAt fixed h
+            by_clock None timely = tt
+            by_clock (Some now) timely = all_at now h (λ g rest e at has.
+                let there = in_seat g rest e at in
+                timely there.0 there.1 g there.3.0 e there.3.1 (omega arith) there.2 has)
+
+        module _ (base_follows : IsFollowing base plan [] (opening base)) (replies all_replies : List Answered) (gathered : all_replies ≡ flat_map replies_in lefts)
+            (each : All (λ (a : Answered). Contains all_replies a) replies) (every : All (λ (a : Answered). Any (λ (other : Answered). other.op ≡ a.op) replies) all_replies) (rise : AllPairs (λ (one other : Answered). one.op < other.op) replies)
+          where
+            seat_replies : (k : ℕ) (low : k < z.workers) → AreReplies base plan (mine (left k).seat) (left k).seat.seen (replies_in (left k))
+            seat_replies k low = (worked k nobody low).answered base base_follows
+
+            seen_legal : (k : ℕ) (low : k < z.workers) → IsLegal (schedule_of plan) z.workers (left k).seat.seen
+            seen_legal k low = prefix (schedule_of plan) z.workers (left k).seat.seen (part k low).seen.0 (subst (IsLegal (schedule_of plan) z.workers) (sym (part k low).seen.1) legal)
+
+            pub answered : AreReplies base plan h h replies
+            answered = record {
+              rise = rise;
+              each = all_from (IsAnswered base plan h h) replies (λ a c.
+                  let there : Contains (flat_map replies_in lefts) a = subst (λ (xs : List Answered). Contains xs a) gathered (of_all (λ (x : Answered). Contains all_replies x) replies a each c) in
+                  let piece = in_piece lefts a there in
+                  let low : piece.0 < z.workers = (let n = many_lefts in let m : piece.0 < length lefts = piece.1 in omega arith) in
+                  let own = of_all (IsAnswered base plan (mine (left piece.0).seat) (left piece.0).seat.seen) (replies_in (left piece.0)) a (seat_replies piece.0 low).each (piece.2 nobody) in
+                  answered_whole base plan z.workers (mine (left piece.0).seat) (left piece.0).seat.seen h a (part piece.0 low).seen (seen_legal piece.0 low)
+                  (λ e c. ((in_filter (is_by (left piece.0).seat.worker) (left piece.0).seat.seen e).0 c).0) own);
+              all = λ op worker at front query c asks.
+                  let e : Event = Finish op worker at front in
+                  let split = split_here h c.0 e c.1 c.2 in
+                  let there = in_seat (take c.0 h) split.0 e split.1 in
+                  let k : ℕ = there.0 in
+                  let low : k < z.workers = there.1 in
+                  let seen : Contains (left k).seat.seen e = subst (λ (l : List Event). Contains l e) there.3.1 (Contains-append_right (take c.0 h) (e ∷ there.3.0) e (contains_here e there.3.0)) in
+                  let own : Contains (mine (left k).seat) e = (in_filter (is_by (left k).seat.worker) (left k).seat.seen e).1 (seen, subst (λ (w : ℕ). is_by w e ≡ true) (sym (leaves k nobody low).later.worker) there.2) in
+                  let found = (seat_replies k low).all op worker at front query own asks in
+                  let whole : Contains all_replies found.0 = subst (λ (xs : List Answered). Contains xs found.0) (sym gathered)
+                  (contains_pieces lefts (left k) found.0 (k, (let n = many_lefts in omega arith), get_or_default lefts k (left k) nobody (let n = many_lefts in omega arith)) found.1) in
+                  let one = of_all (λ (a : Answered). Any (λ (other : Answered). other.op ≡ a.op) replies) all_replies found.0 every whole in
+                  (one.1, (one.0, one.2, one.3), one.4 ∙ found.2);
+            }
+              where
+                split_here : (h : List Event) (k : ℕ) (e : Event) → k < length h → get_or h k e ≡ e → (rest : List Event) × (take k h ++ e ∷ rest ≡ h)
+                split_here [] k e lt is = absurd (omega arith)
+                split_here (x ∷ h) zero e lt is = (h, ap (λ (y : Event). y ∷ h) (sym is))
+                split_here (x ∷ h) (suc k) e lt is = let s = split_here h k e (omega arith) is in (s.0, ap (λ (l : List Event). x ∷ l) s.1)
+
+            -- the replica of one of them is behind the whole history
+            pub behind : (one : Taken) → Any (λ (l : Left). l.replica ≡ one) lefts → z.workers ≤ MAX_WORKERS → IsBehind plan h one base
+            behind one any few =
+                let k : ℕ = any.0 in
+                let low : k < z.workers = (let n = many_lefts in let m : k < length lefts = any.2 in omega arith) in
+                let same : left k ≡ any.1 = get_or_default lefts k nobody any.1 any.2 ∙ any.3 in
+                let follows = (leaves k nobody low).follows base base_follows in
+                let pre = prefix-trans follows.taken (left k).seat.seen h follows.begins (part k low).seen in (
+                  follows.taken,
+                  pre.0,
+                  pre.1,
+                  record {
+                    stands = subst (StandsFor base plan follows.taken) (ap (λ (l : Left). l.replica) same ∙ any.4) follows.stands;
+                    closed = closed;
+                    workers = z.workers;
+                    few = few;
+                    legal = subst (IsLegal (schedule_of plan) z.workers) (sym pre.1) legal;
+                  },
+                )
+
+            -- and brought to the end it makes the outcome of a run
+            pub crew_has_run : (new : Taken) (final : List Row) → CompleteIsFinal → StandsFor base plan h new → final ≡ new.graph → Sound final → HasRun z.workers plan fixed base h replies final
+            crew_has_run new final law stands same sound = record {
+              legal = legal;
+              complete = complete;
+              moments = moments;
+              answered = answered;
+              final = subst (IsFinal base plan) (sym same) (law base plan z.workers h new.graph legal complete stands.after);
+              sound = sound;
+            }
