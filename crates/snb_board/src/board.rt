@@ -148,7 +148,8 @@ impl Board {
     }
 
     /// Claims an operation for the seat's worker, as `Book::claim` does at the history that is found,
-    /// where the clock shows `now`. The ticket of a `Go` is then in the worker's hand.
+    /// where the clock shows `now`. The ticket of a `Go` is then in the worker's hand. The seat is one of
+    /// this board's.
     pub fn claim<R: Wait>(&self, rt: &R, seat: &mut Seat, now: u64) -> Claim
         requires { seat.old.site ≡ self.now }
         ensures call { HasClaimed seat.old seat.new now result }
@@ -163,7 +164,8 @@ impl Board {
     }
 
     /// Finishes the operation of a ticket that the seat's worker has in hand, as `Book::finish` does at
-    /// the history that is found, where the clock shows `now`. The worker hasn't halted.
+    /// the history that is found, where the clock shows `now`. The seat is one of this board's, and its
+    /// worker hasn't halted.
     ///
     /// `front` is 0 of an insert, and of a read a number of events that the seat has seen: greater than
     /// the number of its Start. That another worker has halted doesn't hinder it.
@@ -182,7 +184,7 @@ impl Board {
     }
 
     /// Appends the Halt of the seat's worker, which hasn't halted before: from then on every claim, of
-    /// whichever worker, is `Halted`.
+    /// whichever worker, is `Halted`. The seat is one of this board's.
     pub fn halt<R: Wait>(&self, rt: &R, seat: &mut Seat)
         requires board { seat.old.site ≡ self.now }
         requires acts { halted (mine seat.old) seat.old.worker ≡ false }
@@ -196,6 +198,7 @@ impl Board {
 
     /// Appends the events of the found history from number `from` on, and answers how many events it
     /// has. On want of memory nothing is appended, and the seat has seen the found history all the same.
+    /// The seat is one of this board's, and has seen at least `from` events.
     pub fn catch_up<R: Wait>(
         &self,
         rt: &R,
