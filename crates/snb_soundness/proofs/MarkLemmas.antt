@@ -31,23 +31,23 @@ marking_ended es roots marks is c = (λ m. is.reached c (inl m), λ r. by r.0 c 
     by (suc n) c r = settled c (is.closed r.0 c r.1 (by n r.0 r.3) r.2)
 
 -- an id that is marked already
-pub marking_passed : (es : List ((ℕ × ℕ) × ℕ)) (roots : List ℕ) (marks : List ((ℕ × ℕ) × ℕ)) (todo : List ℕ) (id : ℕ) → IsMarked marks id → IsMarking es roots marks (todo ++ id ∷ []) → IsMarking es roots marks todo
-marking_passed es roots marks todo id marked is = record {
-  reached = λ c or. is.reached c (elim or [ inl m ↦ inl m | inr h ↦ inr (Contains-append_left todo (id ∷ []) c h) ]);
+pub marking_passed : (es : List ((ℕ × ℕ) × ℕ)) (roots : List ℕ) (marks : List ((ℕ × ℕ) × ℕ)) (ahead : List ℕ) (id : ℕ) → IsMarked marks id → IsMarking es roots marks (ahead ++ id ∷ []) → IsMarking es roots marks ahead
+marking_passed es roots marks ahead id marked is = record {
+  reached = λ c or. is.reached c (elim or [ inl m ↦ inl m | inr h ↦ inr (Contains-append_left ahead (id ∷ []) c h) ]);
   begun = λ c h. less c (is.begun c h);
   closed = λ p c d m h. less c (is.closed p c d m h);
 }
   where
-    less : (c : ℕ) → IsMarked marks c ⊎ Contains (todo ++ id ∷ []) c → IsMarked marks c ⊎ Contains todo c
+    less : (c : ℕ) → IsMarked marks c ⊎ Contains (ahead ++ id ∷ []) c → IsMarked marks c ⊎ Contains ahead c
     less c (inl m) = inl m
-    less c (inr h) = elim (last_cases todo id c h) [ inl t ↦ inr t | inr e ↦ inl (subst (IsMarked marks) e marked) ]
+    less c (inr h) = elim (last_cases ahead id c h) [ inl t ↦ inr t | inr e ↦ inl (subst (IsMarked marks) e marked) ]
 
 -- an id that is marked now
-pub marking_more : (es : List ((ℕ × ℕ) × ℕ)) (roots : List ℕ) (marks more : List ((ℕ × ℕ) × ℕ)) (todo next : List ℕ) (id : ℕ) → HasAdded marks id 0 0 more → HasChildren es id todo next → IsMarking es roots marks (todo ++ id ∷ []) → IsMarking es roots more next
-marking_more es roots marks more todo next id added children is = record {
+pub marking_more : (es : List ((ℕ × ℕ) × ℕ)) (roots : List ℕ) (marks more : List ((ℕ × ℕ) × ℕ)) (ahead next : List ℕ) (id : ℕ) → HasAdded marks id 0 0 more → HasChildren es id ahead next → IsMarking es roots marks (ahead ++ id ∷ []) → IsMarking es roots more next
+marking_more es roots marks more ahead next id added children is = record {
   reached = λ c or. elim or [
     | inl m ↦ elim ((added ((c, 0), m.0)).0 m.1) [ inl o ↦ is.reached c (inl (m.0, o)) | inr e ↦ subst (IsReached es roots) (ap (λ (x : (ℕ × ℕ) × ℕ). x.0.0) e) here ]
-    | inr h ↦ elim ((children c).0 h) [ inl t ↦ is.reached c (inr (Contains-append_left todo (id ∷ []) c t)) | inr pair ↦ (suc here.0, (id, pair.0, pair.1, here.1)) ]
+    | inr h ↦ elim ((children c).0 h) [ inl t ↦ is.reached c (inr (Contains-append_left ahead (id ∷ []) c t)) | inr pair ↦ (suc here.0, (id, pair.0, pair.1, here.1)) ]
   ];
   begun = λ c h. now c (is.begun c h);
   closed = λ p c d m h. elim ((added ((p, 0), m.0)).0 m.1) [
@@ -57,11 +57,11 @@ marking_more es roots marks more todo next id added children is = record {
 }
   where
     here : IsReached es roots id
-    here = is.reached id (inr (Contains-append_right todo (id ∷ []) id (contains_here id [])))
+    here = is.reached id (inr (Contains-append_right ahead (id ∷ []) id (contains_here id [])))
 
-    now : (c : ℕ) → IsMarked marks c ⊎ Contains (todo ++ id ∷ []) c → IsMarked more c ⊎ Contains next c
+    now : (c : ℕ) → IsMarked marks c ⊎ Contains (ahead ++ id ∷ []) c → IsMarked more c ⊎ Contains next c
     now c (inl m) = inl (m.0, (added ((c, 0), m.0)).1 (inl m.1))
-    now c (inr h) = elim (last_cases todo id c h) [
+    now c (inr h) = elim (last_cases ahead id c h) [
       | inl t ↦ inr ((children c).1 (inl t))
       | inr e ↦ inl (0, (added ((c, 0), 0)).1 (inr (λ i. ((e i, 0), 0))))
     ]
