@@ -8,7 +8,7 @@ use Rattle.snb_input.specs.Walk.{Held, IsHeldTold}
 use Rattle.snb_schema.specs.declared.refusal.Refusal.{Refusal}
 use Rattle.snb_schema.specs.Frequencies.{FrequencyTable}
 use Rattle.snb_words.specs.declared.command.Command.{Command}
-use Rattle.snb_words.specs.declared.command.Command.TheVariants.{Audit, Check, Expect, Run, Read, Validate}
+use Rattle.snb_words.specs.declared.command.Command.TheVariants.{Audit, Check, Expect, Run, Read, Trial, Validate}
 use Rattle.snb_words.specs.Commands.{IsLineOf}
 use Rattle.snb_words.specs.Laws.{WordsAreOne}
 use Rattle.snb_tool.specs.Inputs.{at_first, Found, IsFine, IsFoundTold, IsWrong}
@@ -64,6 +64,7 @@ done_low (Audit folder log ratio table) found fixed status texts d = low_by stat
 done_low (Expect folder table) found fixed status texts d = inl d.0
 done_low (Validate folder cases) found fixed status texts d = low_by status (tally_status d.tally) d.status_is (outcome_low d.tally.first)
 done_low (Read folder query) found fixed status texts d = inl d.0
+done_low (Trial size workers) found fixed status texts d = inl d.0
 
 pub answers_have_status : AnswersHaveStatus
 answers_have_status words contents fixed status texts (inl usage) = inr (inr (inl usage.0))

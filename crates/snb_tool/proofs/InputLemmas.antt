@@ -33,7 +33,7 @@ use Rattle.snb_schema.specs.QueryLists.{QueryLists}
 use Rattle.snb_tables.specs.Graphs.{HoldsKey}
 use Rattle.snb_tables.specs.Soundness.{Sound}
 use Rattle.snb_words.specs.declared.command.Command.{Command}
-use Rattle.snb_words.specs.declared.command.Command.TheVariants.{Audit, Check, Expect, Run, Read, Validate}
+use Rattle.snb_words.specs.declared.command.Command.TheVariants.{Audit, Check, Expect, Run, Read, Trial, Validate}
 use Rattle.snb_tool.specs.declared.input.Input.{Input}
 use Rattle.snb_audit.specs.Audited.{IsAuditAnswer}
 use Rattle.snb_audit.specs.LogFiles.{log_checks}
@@ -127,6 +127,7 @@ bad_cases_once one each held beside r q a b =
 -- the checks of a command give one refusal at most
 pub once : AreOne → RefuseEachOnce → (command : Command) (found : Found) → RefuseOnce (checks_of command found)
 once one each (Read folder query) found = each.dataset at_first found.held
+once one each (Trial size workers) found = λ r q a b. absurd a
 once one each (Check folder table) found = plan_once one 1000000 table found.held each
 once one each (Run folder workers ratio table) found = plan_once one ratio table found.held each
 once one each (Audit folder log ratio table) found = once_append (plan_checks ratio table found.held) (log_checks found.beside) (plan_once one ratio table found.held each) (each.log found.beside)

@@ -23,7 +23,7 @@ use Rattle.snb_tables.specs.Graphs.{HasGained}
 use Rattle.snb_plan.specs.Plans.{Plan, queries_in, updates_in}
 use Rattle.snb_replay.specs.Replay.{all_rows}
 use Rattle.snb_texts.specs.Answers.{answers_text}
-use Rattle.snb_words.specs.declared.command.Command.TheVariants.{Audit, Check, Run, Read, Validate}
+use Rattle.snb_words.specs.declared.command.Command.TheVariants.{Audit, Check, Run, Read, Trial, Validate}
 use Rattle.snb_workers.specs.declared.done.Answered.{Answered}
 use Rattle.snb_workers.specs.declared.run.Outcome.{Outcome}
 use Rattle.snb_workers.specs.Runs.{HasRun}
@@ -32,7 +32,7 @@ use Rattle.snb_auditor.specs.declared.verdict.Verdict.{Verdict}
 use Rattle.snb_audit.specs.VerdictTexts.{verdict_status, verdict_text}
 use Rattle.snb_checker.specs.declared.text.Tally.{Tally}
 use Rattle.snb_checker.specs.CheckTexts.{tally_status, tally_text}
-use Rattle.snb_tool.specs.Endings.{AreTexts, IsInputAnswer, IsJudgedAnswer, IsReplyAnswer, IsTallyAnswer, Shows}
+use Rattle.snb_tool.specs.Endings.{AreTexts, IsInputAnswer, IsJudgedAnswer, IsReplyAnswer, IsTallyAnswer, IsTrialInput, Shows}
 use Rattle.snb_tool.specs.Outcome.{IsCommandAnswer, IsLeft, check_of}
 use Rattle.snb_tool.specs.Output.{Fit, HasBegun, IsWrittenSoFar, Wrote, on_screen}
 use Rattle.snb_tool.specs.Outside.{Ends, OutOfMemory, Outside, ReadFault, Whole, WriteFault}
@@ -108,6 +108,11 @@ pub run_done : (contents : Option Files) (folder : List ℕ) (workers ratio : �
     → IsLeft workers input.graph input.plan fixed texts → IsCommandAnswer (Run folder workers ratio table) contents fixed 0 texts
 run_done contents folder workers ratio table fixed input texts h left =
     (record { held = h.0; beside = None }, (h.1, tt), inl (h.2.clean, (refl, record { graph = input.graph; plan = input.plan; input = h.2.is; left = left })))
+
+pub trial_done : (contents : Option Files) (size workers : ℕ) (fixed : Option ℕ) (input : Input) (texts : Written) → IsTrialInput size input → IsLeft workers input.graph input.plan fixed texts
+    → IsCommandAnswer (Trial size workers) contents fixed 0 texts
+trial_done contents size workers fixed input texts is left =
+    (record { held = λ file. None; beside = None }, (tt, tt), inl (tt, (refl, record { plan = input.plan; is_plan = is.is_plan; left = subst (λ (g : List Row). IsLeft workers g input.plan fixed texts) is.same left })))
 
 -- what is so of each event of a list, after those of a front, is so of all
 timed : (front h : List Event) → ((g : List Event) (e : Event) (rest : List Event) → g ++ e ∷ rest ≡ front ++ h → moment e ≤ MAX_AT) → AreTimed h

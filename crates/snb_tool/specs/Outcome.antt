@@ -16,7 +16,7 @@ use Rattle.snb_input.specs.Walk.{Held}
 use Rattle.snb_loader.specs.Dataset.{IsDataset}
 use Rattle.snb_expect.specs.CaseTexts.{cases_text, count_text}
 use Rattle.snb_expect.specs.Expected.{AreExpected, AreReadBack}
-use Rattle.snb_plan.specs.Plans.{IsOfStreams, Plan, queries_in, schedule_of, updates_in}
+use Rattle.snb_plan.specs.Plans.{IsOfStreams, IsPlan, Plan, queries_in, schedule_of, updates_in}
 use Rattle.snb_reads.specs.declared.cell.Cell.{Cell}
 use Rattle.snb_reads.specs.Replies.{IsReply}
 use Rattle.snb_replay.specs.Replay.{all_rows}
@@ -30,11 +30,12 @@ use Rattle.snb_schema.specs.ScreenTexts.{refusal_text, summary_text, usage_text}
 use Rattle.snb_tables.specs.FinalText.{final_text}
 use Rattle.snb_texts.specs.Answers.{answers_text}
 use Rattle.snb_texts.specs.Counts.{check_text}
+use Rattle.snb_trial.specs.Trial.{dataset, frequencies, lanes, lists, ratio}
 use Rattle.snb_validation.specs.ReplyData.{reply_data}
 use Rattle.snb_workers.specs.declared.done.Answered.{Answered}
 use Rattle.snb_workers.specs.Runs.{HasRun}
 use Rattle.snb_words.specs.declared.command.Command.{Command}
-use Rattle.snb_words.specs.declared.command.Command.TheVariants.{Audit, Check, Expect, Run, Read, Validate}
+use Rattle.snb_words.specs.declared.command.Command.TheVariants.{Audit, Check, Expect, Run, Read, Trial, Validate}
 use Rattle.snb_words.specs.Commands.{IsLineOf, IsOtherLine}
 use Rattle.snb_tool.specs.Inputs.{Found, IsFoundTold, IsInput, at_first, checks_of}
 use Rattle.snb_tool.specs.Output.{on_screen}
@@ -81,6 +82,12 @@ pub record IsRun (held : Held) (workers ratio : ℕ) (frequencies : FrequencyTab
   pub plan : Plan
   pub input : IsInput held ratio frequencies graph plan
   pub left : IsLeft workers graph plan fixed texts
+
+-- the texts are what a run by so many workers leaves of the formula workload of a size: of the plan of its lanes and lists over its dataset
+pub record IsTried (size workers : ℕ) (fixed : Option ℕ) (texts : Written) : Type 0 where
+  pub plan : Plan
+  pub is_plan : IsPlan (lanes size) (lists size) frequencies ratio plan
+  pub left : IsLeft workers dataset plan fixed texts
 
 -- nothing is wrong with the files of a plan, these bytes are a log that says so many workers and a history, and the history has this verdict on
 -- the plan
@@ -146,6 +153,7 @@ IsDone (Audit folder log ratio frequencies) found fixed status texts = TellsVerd
 IsDone (Expect folder frequencies) found fixed status texts = (status ≡ 0) × IsExpected found.held frequencies texts
 IsDone (Validate folder cases) found fixed status texts = IsValidated found.held found.beside status texts
 IsDone (Read folder query) found fixed status texts = (status ≡ 0) × IsRead found.held query texts
+IsDone (Trial size workers) found fixed status texts = (status ≡ 0) × IsTried size workers fixed texts
 
 -- the status and the texts of a command that is refused: what is wrong first is shown
 abbrev pub IsRefused : Refusal → ℕ → Written → Type 0

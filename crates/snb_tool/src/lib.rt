@@ -11,4 +11,5 @@ mod read;
 mod run;
 mod show;
 pub mod tool;
+mod trial;
 mod validate;

@@ -62,8 +62,8 @@ fn texts_of(
     })
 }
 
-// Runs the plan by so many workers, and makes the texts of the run.
-fn run_output<R: Threads + Wait + Sync, C: Clock + Sync, G: Gate + Sync>(
+/// Runs the plan by so many workers, and makes the texts of the run.
+pub fn run_output<R: Threads + Wait + Sync, C: Clock + Sync, G: Gate + Sync>(
     rt: &R,
     alloc: Global,
     workers: u32,

@@ -1,10 +1,10 @@
 //! The one call that does all that the program does.
 
-ghost use Rattle.std.specs.Prelude.{◌≡◌, ℕ, ◌≤◌, ◌⊎◌};
+ghost use Rattle.std.specs.Prelude.{◌≡◌, ℕ, ◌≤◌, ◌⊎◌, None};
 ghost use Rattle.snb_base.specs.Shelf.{Rose};
 ghost use Rattle.snb_schema.specs.declared.refusal.Refusal.{Refusal as Refused};
 ghost use Rattle.snb_words.specs.declared.command.Command.{Command as AnyCommand};
-ghost use Rattle.snb_words.specs.Commands.{IsLineOf, IsOtherLine, IsRunnable};
+ghost use Rattle.snb_words.specs.Commands.{IsLineOf, IsOtherLine, IsRunnable, folder_of};
 ghost use Rattle.snb_words.specs.Words.{texts_of};
 ghost use Rattle.snb_tool.specs.Inputs.{IsFine, IsWrong};
 ghost use Rattle.snb_tool.specs.Outcome.{IsAnswer, IsCommandAnswer, IsDoneAnswer, IsRefused};
@@ -18,6 +18,7 @@ use crate::law::{answers_have_status, refusal_is_one};
 use crate::read::read;
 use crate::run::run;
 use crate::show::show_as;
+use crate::trial::trial;
 use crate::validate::validate;
 use snb_base::clock::Clock;
 use snb_base::gate::Gate;
@@ -44,6 +45,7 @@ fn obey<
     ensures ends { Ends (IsCommandAnswer command.now)
         (seen (S.contents shelf.old) (C.fixed clock.now) (S.faults shelf.old) (O.faults out.old) (O.written out.old) (O.ready out.old))
         (seen (S.contents shelf.new) (C.fixed clock.now) (S.faults shelf.new) (O.faults out.new) (O.written out.new) (O.ready out.new)) result }
+    ensures unread { folder_of command.now ≡ None → shelf.new ≡ shelf.old }
     ensures read_only { IsReadOnly (S.contents shelf.old) (S.faults shelf.old) (S.contents shelf.new) (S.faults shelf.new) }
     ensures writes_later { O.faults out.old ≤ O.faults out.new }
 {
@@ -90,6 +92,7 @@ fn obey<
             validate(rt.alloc(), shelf, folder.as_str(), cases.as_str(), out)
         }
         Command::Read { folder, query } => read(rt.alloc(), shelf, folder.as_str(), query, out),
+        Command::Trial { size, workers } => trial(rt, *size, *workers, out, clock, gate),
     }
 }
 
@@ -105,9 +108,11 @@ fn answer<
         (seen (S.contents shelf.old) (C.fixed clock.now) (S.faults shelf.old) (O.faults out.old) (O.written out.old) (O.ready out.old))
         (seen (S.contents shelf.new) (C.fixed clock.now) (S.faults shelf.new) (O.faults out.new) (O.written out.new) (O.ready out.new)) result }
     ensures other_line { IsOtherLine (texts_of words.now) → ((result ≡ 2) ⊎ (result ≡ 5)) × (shelf.new ≡ shelf.old) }
+    ensures unread { (command : AnyCommand) → IsLineOf (texts_of words.now) command → folder_of command ≡ None → shelf.new ≡ shelf.old }
     ensures read_only { IsReadOnly (S.contents shelf.old) (S.faults shelf.old) (S.contents shelf.new) (S.faults shelf.new) }
     ensures writes_later { O.faults out.old ≤ O.faults out.new }
 {
+    one_command();
     match command_of(rt.alloc(), words) {
         Ok(Some(command)) => obey(rt, &command, shelf, out, clock, gate),
         Ok(None) => show_as(out, USAGE.as_bytes(), 2),
@@ -145,6 +150,10 @@ fn answer<
 ///   `IC13`, with as many parameters as it has: an id of a person or a message for a short read, of a
 ///   person first for a complex one; then a first name for `IC1`, a date for `IC2` and `IC9`, the name of
 ///   a country and a year for `IC11`, and a second person for `IC13`.
+/// - `trial N W` runs a workload made by a formula, of size N, 1 to 5000, by W workers, 1 to 8, and writes what
+///   `run` writes. No file is read, and the shelf is as it was. The dataset has 10 rows, and for each number
+///   from 1 to N there are seven updates: a person, a friendship, a forum, a membership, a post, a comment and a
+///   like. Every tenth update goes with a read of query 2, and every seventh with one of query 13.
 ///
 /// No word is empty, and none but an option's name begins with `-`. The options follow all other words, each
 /// as two words and at most once, in any order.
@@ -182,6 +191,7 @@ pub fn snb<
         (IsAnswer (texts_of words.now) (S.contents shelf.old) (C.fixed clock.now) status) }
     ensures memory { result ≡ 6 → O.written out.new ≡ O.written out.old }
     ensures other_line { IsOtherLine (texts_of words.now) → ((result ≡ 2) ⊎ (result ≡ 5)) × (shelf.new ≡ shelf.old) }
+    ensures unread { (command : AnyCommand) → IsLineOf (texts_of words.now) command → folder_of command ≡ None → shelf.new ≡ shelf.old }
     ensures complete { (command : AnyCommand) → IsLineOf (texts_of words.now) command → IsFine (S.contents shelf.old) command
         → ¬ Rose (S.faults shelf.old) (S.faults shelf.new) → ¬ Rose (O.faults out.old) (O.faults out.new)
         → HasWritten (O.written out.old) (O.written out.new) (IsDoneAnswer command (S.contents shelf.old) (C.fixed clock.now) result) ⊎ (result ≡ 6) }

@@ -1,11 +1,12 @@
 -- Facts on the lines of commands.
-use Rattle.std.proofs.Common.{◌≡◌, ℕ, List, Option, Some, None, Result, Ok, Err, OnErr, sym, subst, ◌∙◌, rules, codes}
+use Rattle.std.proofs.Common.{◌≡◌, ℕ, List, Option, Some, None, Result, Ok, Err, OnErr, sym, subst, ap, ◌∙◌, rules, codes}
 use Rattle.std.specs.Option.{IfSome, MatchOption}
+use Rattle.snb_base.specs.Spellings.{value_after}
 use Rattle.snb_ratio.specs.Ratios.{OneRatio}
 use Rattle.snb_schema.specs.Frequencies.{FrequenciesAreOne, FrequencyTable}
 use Rattle.snb_schema.specs.declared.query.Query.{Query}
 use Rattle.snb_words.specs.declared.command.Command.{Command}
-use Rattle.snb_words.specs.declared.command.Command.TheVariants.{Check, Run, Audit, Expect, Validate, Read}
+use Rattle.snb_words.specs.declared.command.Command.TheVariants.{Check, Run, Audit, Expect, Validate, Read, Trial}
 use Rattle.snb_words.specs.declared.options.Options.{Options}
 use Rattle.snb_fields.specs.Laws.{OneList}
 use Rattle.snb_words.specs.Commands.{AreOf, IsLineOf, IsOtherLine, IsReadOf, IsRunnable, form_of}
@@ -46,6 +47,8 @@ runnable words (Some (Audit folder log ratio table)) line = tt
 runnable words (Some (Expect folder table)) line = tt
 runnable words (Some (Validate folder cases)) line = tt
 runnable words (Some (Read folder query)) line = tt
+runnable words (Some (Trial size workers)) line =
+    let said = line.are.is_said in (said.3.0.1, said.3.0.0.small, said.3.1.1, said.3.1.0.small)
 
 -- what holds of each command of a name holds of the one whose name it is
 module _ (P : Command → Type 0) where
@@ -67,6 +70,9 @@ module _ (P : Command → Type 0) where
   pub at_read : ((folder : List ℕ) (query : Query) → P (Read folder query)) → (command : Command) → codes "read" ≡ (form_of command).name → P command
   at_read each command named = search rules
 
+  pub at_trial : ((size workers : ℕ) → P (Trial size workers)) → (command : Command) → codes "trial" ≡ (form_of command).name → P command
+  at_trial each command named = search rules
+
 -- the parts of a line are those of one command
 parts_one : OneList → (name : List ℕ) (plain : List (List ℕ)) (said : Options) (c d : Command) → AreOf c name plain said → AreOf d name plain said → c ≡ d
 parts_one list name plain said (Check f s) d x y = at_check (λ (d : Command). AreOf d name plain said → Check f s ≡ d) (λ g t y. cc) d (sym x.named ∙ y.named) y
@@ -83,6 +89,15 @@ parts_one list name plain said (Read f r) d x y = at_read (λ (d : Command). Are
     let reads = one_read list x.is_said.0 x.is_said.1 r s x.is_said.3
     (subst (λ (k : List ℕ). IsReadOf k x.is_said.1 s) (sym words) (subst (λ (ps : List (List ℕ)). IsReadOf y.is_said.0 ps s) (sym parameters) y.is_said.3)) in
     λ i. Read (folders i) (reads i))
+    d (sym x.named ∙ y.named) y
+parts_one list name plain said (Trial n w) d x y = at_trial (λ (d : Command). AreOf d name plain said → Trial n w ≡ d)
+    (λ m v y.
+    let e = sym x.is_said.2 ∙ y.is_said.2 in
+    let firsts : x.is_said.0 ≡ y.is_said.0 = cc in
+    let seconds : x.is_said.1 ≡ y.is_said.1 = cc in
+    let sizes : n ≡ m = x.is_said.3.0.0.value ∙ (ap (λ (t : List ℕ). value_after 0 t) firsts ∙ sym y.is_said.3.0.0.value) in
+    let crews : w ≡ v = x.is_said.3.1.0.value ∙ (ap (λ (t : List ℕ). value_after 0 t) seconds ∙ sym y.is_said.3.1.0.value) in
+    λ i. Trial (sizes i) (crews i))
     d (sym x.named ∙ y.named) y
 
 pub one_command : OneRatio → FrequenciesAreOne → OneList → WordsAreOne

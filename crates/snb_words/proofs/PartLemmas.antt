@@ -1,17 +1,20 @@
 -- The parts of the line of each command.
-use Rattle.std.proofs.Common.{◌≡◌, ℕ, ◌↔◌, List, [], ◌∷◌, length, Bool, true, IsTrue, Option, Some, None, refl, sym, subst, ap, ◌∙◌, arith, Bor, codes}
+use Rattle.std.proofs.Common.{◌≡◌, ℕ, ◌↔◌, List, [], ◌∷◌, length, Bool, true, IsTrue, Option, Some, None, get_or, ◌≤◌, refl, sym, subst, ap, ◌∙◌, arith, Bor, codes}
 use Rattle.std.proofs.lemmas.List.{length-map}
-use Rattle.std.specs.Option.{is_some}
+use Rattle.std.specs.Option.{MatchOption, is_some}
+use Rattle.snb_base.specs.Spellings.{Num}
+use Rattle.snb_schema.specs.declared.limits.TheConstants.{MAX_WORKERS}
+use Rattle.snb_words.specs.declared.limits.TheConstants.{MAX_TRIAL}
 use Rattle.snb_schema.specs.declared.query.Query.{Query}
 use Rattle.snb_words.specs.declared.command.Command.{Command}
-use Rattle.snb_words.specs.declared.command.Command.TheVariants.{Check, Run, Audit, Expect, Validate, Read}
+use Rattle.snb_words.specs.declared.command.Command.TheVariants.{Check, Run, Audit, Expect, Validate, Read, Trial}
 use Rattle.snb_words.specs.declared.options.OptionName.{OptionName}
 use Rattle.snb_words.specs.declared.options.OptionName.TheVariants.{Workers, Ratio, Frequencies}
 use Rattle.snb_words.specs.declared.options.Options.{Options}
-use Rattle.snb_words.specs.Commands.{AreOf, IsReadOf}
+use Rattle.snb_words.specs.Commands.{AreOf, IsReadOf, IsTrialOf}
 use Rattle.snb_words.specs.Options.{AreSuited, frequencies_of, ratio_of}
 use Rattle.snb_words.specs.Words.{texts_of}
-use Rattle.snb_words.proofs.CommandLemmas.{at_audit, at_check, at_expect, at_read, at_run, at_validate}
+use Rattle.snb_words.proofs.CommandLemmas.{at_audit, at_check, at_expect, at_read, at_run, at_trial, at_validate}
 
 -- the parts are those of a command of this name
 abbrev pub AreSome : List ℕ → List (List ℕ) → Options → Type 0
@@ -92,3 +95,37 @@ read_parts plain said x k rest r e suited iff = (
   λ p. at_read (λ c. AreOf c (codes "read") plain said → IsTrue r)
       (λ folder query are. iff.1 (query, same_read plain x k folder are.is_said.0 rest are.is_said.1 query e are.is_said.2 are.is_said.3)) p.0 p.1.named p.1,
 )
+
+-- the size and the number of workers of a trial are its plain words
+same_trial : (all : List (List ℕ)) (x y first second : List ℕ) (size workers : ℕ) → all ≡ x ∷ y ∷ [] → all ≡ first ∷ second ∷ [] → IsTrialOf first second size workers → IsTrialOf x y size workers
+same_trial all x y first second size workers a b said =
+    let e = sym b ∙ a in
+    let firsts : first ≡ x = cc in
+    let seconds : second ≡ y = cc in
+    subst (λ (w : List ℕ). IsTrialOf w y size workers) firsts (subst (λ (w : List ℕ). IsTrialOf first w size workers) seconds said)
+
+pub trial_parts : (plain : List (List ℕ)) (said : Options) (x y : List ℕ) (r : Bool) → plain ≡ x ∷ y ∷ [] → AreSuited [] [] said
+    → (IsTrue r ↔ ((size workers : ℕ) × IsTrialOf x y size workers)) → IsTrue r ↔ AreSome (codes "trial") plain said
+trial_parts plain said x y r e suited iff = (
+  λ t. let q = iff.0 t in (Trial q.0 q.1, record { named = refl; suited = suited; is_said = (x, y, e, q.2) }),
+  λ p. at_trial (λ c. AreOf c (codes "trial") plain said → IsTrue r)
+      (λ size workers are. iff.1 (size, workers, same_trial plain x y are.is_said.0 are.is_said.1 size workers e are.is_said.2 are.is_said.3)) p.0 p.1.named p.1,
+)
+
+-- what tells a number from 1 on tells whether there is one
+pub is_count : (word : List ℕ) (most : ℕ) (r : Option ℕ) → MatchOption r ((n : ℕ) → Num word n most → 1 ≤ n → ⊥) (λ n. Num word n most × (1 ≤ n)) → IsTrue (is_some r) ↔ ((n : ℕ) × Num word n most × (1 ≤ n))
+is_count word most None m = (λ t. absurd cc, λ p. absurd (m p.0 p.1 p.2))
+is_count word most (Some n) m = (λ t. (n, m.0, m.1), λ p. refl)
+
+-- so two words of which the first says a size are those of a trial where the second says a number of workers
+pub trial_test : (ws : List (Bor (List ℕ))) (said : Options) (d : Bor (List ℕ)) (s w : Option ℕ) → length ws ≡ 2 → AreSuited [] [] said
+    → MatchOption s ((n : ℕ) → Num (get_or ws 0 d).now n MAX_TRIAL → 1 ≤ n → ⊥) (λ n. Num (get_or ws 0 d).now n MAX_TRIAL × (1 ≤ n)) → IsTrue (is_some s)
+    → MatchOption w ((n : ℕ) → Num (get_or ws 1 d).now n MAX_WORKERS → 1 ≤ n → ⊥) (λ n. Num (get_or ws 1 d).now n MAX_WORKERS × (1 ≤ n))
+    → IsTrue (is_some w) ↔ AreSome (codes "trial") (texts_of ws) said
+trial_test [] said d s w two suited size there crew = absurd (omega (arith, two))
+trial_test (x ∷ []) said d s w two suited size there crew = absurd (omega (arith, two))
+trial_test (x ∷ y ∷ []) said d s w two suited size there crew =
+    let first = (is_count x.now MAX_TRIAL s size).0 there in
+    let iff = is_count y.now MAX_WORKERS w crew in
+    trial_parts (texts_of (x ∷ y ∷ [])) said x.now y.now (is_some w) refl suited (λ t. let n = iff.0 t in (first.0, n.0, ((first.1, first.2), (n.1, n.2))), λ p. iff.1 (p.1, p.2.1.0, p.2.1.1))
+trial_test (x ∷ y ∷ z ∷ ws) said d s w two suited size there crew = absurd (omega (arith, two))

@@ -12,11 +12,12 @@ use Rattle.snb_schema.specs.Frequencies.{SpellsFrequency}
 use Rattle.clap.specs.Simple.{App, Shape, is_simple, new_rule, with_rule}
 use Rattle.clap.specs.Takes.{takes}
 use Rattle.clap.specs.Walk.{Rule, Text}
+use Rattle.snb_words.specs.declared.limits.TheConstants.{MAX_TRIAL}
 use Rattle.snb_words.specs.declared.options.OptionName.{OptionName}
 use Rattle.snb_words.specs.declared.options.OptionName.TheVariants.{Workers, Ratio, Frequencies}
 use Rattle.snb_words.specs.declared.options.Options.{Options}
 use Rattle.snb_words.specs.Options.{Adds, IsGiven, Say, SaysFrequencies}
-use Rattle.snb_words.specs.Taken.{AreFound, IsFound, SaysWorkers, line_app, option_rule}
+use Rattle.snb_words.specs.Taken.{AreFound, IsFound, SaysSize, SaysWorkers, line_app, option_rule}
 use Rattle.snb_words.specs.Words.{IsPlainWord, texts_of}
 use Rattle.snb_words.proofs.WalkFacts.{Given, IsId, IsOption, Runs, after, ends, optioned, to_row, value_of}
 
@@ -110,6 +111,21 @@ found_then Says one (Some w) o found r e m h = found_is Says one w.now o found r
 
 pub one_number : (word : Text) (a b : ℕ) → SaysWorkers word a → SaysWorkers word b → a ≡ b
 one_number word a b p q = p.0.value ∙ sym q.0.value
+
+-- a word that was found and says this
+pub found_some : {A : Type 0} (Says : Text → A → Type 0) (o : Option Text) (word : Text) (a : A) → o ≡ Some word → Says word a → IsFound Says o (Some a)
+found_some Says o word a e says = subst (λ (found : Option Text). IsFound Says found (Some a)) (sym e) (a, says, refl)
+
+pub one_size : (word : Text) (a b : ℕ) → SaysSize word a → SaysSize word b → a ≡ b
+one_size word a b p q = p.0.value ∙ sym q.0.value
+
+-- what is no size says none
+pub size_then : (g : Option (Bor Text)) (r : Option ℕ)
+    → MatchOption g (r ≡ None) (λ w. MatchOption r ((n : ℕ) → Num w.now n MAX_TRIAL → 1 ≤ n → ⊥) (λ n. Num w.now n MAX_TRIAL × (1 ≤ n)))
+    → MatchOption g (r ≡ None) (λ w. MatchOption r ((n : ℕ) → ¬ SaysSize w.now n) (SaysSize w.now))
+size_then None r m = m
+size_then (Some w) None m = λ n s. m n s.0 s.1
+size_then (Some w) (Some n) m = m
 
 -- what is no number of workers says none
 pub workers_then : (g : Option (Bor Text)) (r : Option ℕ)

@@ -6,15 +6,15 @@ use Rattle.clap.specs.Takes.{takes}
 use Rattle.clap.specs.Walk.{Text, first_of, nothing_held, walk_from}
 use Rattle.snb_schema.specs.Frequencies.{FrequencyTable}
 use Rattle.snb_words.specs.declared.command.Command.{Command}
-use Rattle.snb_words.specs.declared.command.Command.TheVariants.{Check, Run, Audit, Expect, Validate}
+use Rattle.snb_words.specs.declared.command.Command.TheVariants.{Check, Run, Audit, Expect, Validate, Trial}
 use Rattle.snb_words.specs.declared.options.OptionName.{OptionName}
 use Rattle.snb_words.specs.declared.options.OptionName.TheVariants.{Frequencies}
 use Rattle.snb_words.specs.declared.options.Options.{Options}
-use Rattle.snb_words.specs.Commands.{IsLineOf, form_of}
+use Rattle.snb_words.specs.Commands.{IsLineOf, IsTrialOf, form_of}
 use Rattle.snb_words.specs.Options.{frequencies_of, no_options, ratio_of}
 use Rattle.snb_words.specs.Taken.{AreFound, IsLineBy, line_app}
 use Rattle.snb_words.specs.Words.{IsPlainWord}
-use Rattle.snb_words.proofs.CommandLemmas.{at_audit, at_check, at_expect, at_run, at_validate}
+use Rattle.snb_words.proofs.CommandLemmas.{at_audit, at_check, at_expect, at_run, at_trial, at_validate}
 use Rattle.snb_words.proofs.TakenLemmas.{OptionsRun, as_found, long_name, options_run}
 use Rattle.snb_words.proofs.WalkFacts.{Given, IsBuilt, IsOption, IsPlaced, Runs, finds, first, placed, value_of}
 
@@ -175,6 +175,32 @@ validate_line words (command, named, line) = at_validate (λ c. IsLineOf words c
       line.said,
       line,
       two_places validate_app (built validate_app).top validate_built words _ line tt (codes "folder") (codes "cases") folder cases line.are.is_said
+          (record { by_index = refl; by_id = refl; after = refl }) (record { by_index = refl; by_id = refl; after = refl }) refl (record { workers = refl; ratio = refl; frequencies = refl }),
+    ))
+    command named line
+
+abbrev pub trial_app : App
+trial_app = line_app (codes "size" ∷ codes "crew" ∷ []) []
+
+abbrev pub IsTrialLine : List Text → Type 0
+IsTrialLine words = (first second : Text) × (size workers : ℕ) × (said : Options) × IsTrialOf first second size workers × IsLineOf words (Trial size workers)
+    × IsTaken trial_app words ((codes "size", first) ∷ (codes "crew", second) ∷ []) said
+
+trial_built : IsBuilt trial_app (built trial_app).top
+trial_built = record { simple = refl; named = refl; built_is = refl; own = refl; none = (refl, (refl, tt)); defaults = refl; valid = λ rows. refl }
+
+pub trial_line : (words : List Text) → IsLineBy (codes "trial") words → IsTrialLine words
+trial_line words (command, named, line) = at_trial (λ c. IsLineOf words c → IsTrialLine words)
+    (λ size workers line.
+    let said = line.are.is_said in (
+      said.0,
+      said.1,
+      size,
+      workers,
+      line.said,
+      said.3,
+      line,
+      two_places trial_app (built trial_app).top trial_built words _ line tt (codes "size") (codes "crew") said.0 said.1 said.2
           (record { by_index = refl; by_id = refl; after = refl }) (record { by_index = refl; by_id = refl; after = refl }) refl (record { workers = refl; ratio = refl; frequencies = refl }),
     ))
     command named line

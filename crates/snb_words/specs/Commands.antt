@@ -1,11 +1,13 @@
 -- The commands of the program, and the words of each.
 use Rattle.std.specs.Prelude.{◌≡◌, ℕ, ◌≤◌, List, [], ◌∷◌, Option, None, Some, codes}
+use Rattle.snb_base.specs.Spellings.{Num}
 use Rattle.snb_schema.specs.declared.limits.TheConstants.{MAX_WORKERS}
 use Rattle.snb_schema.specs.declared.query.Query.{Query}
 use Rattle.snb_schema.specs.Columns.{SpellsAll}
 use Rattle.snb_schema.specs.ReadKinds.{kind_of, parameter_columns, parameter_values, read_word}
 use Rattle.snb_words.specs.declared.command.Command.{Command}
-use Rattle.snb_words.specs.declared.command.Command.TheVariants.{Check, Run, Audit, Expect, Validate, Read}
+use Rattle.snb_words.specs.declared.command.Command.TheVariants.{Check, Run, Audit, Expect, Validate, Read, Trial}
+use Rattle.snb_words.specs.declared.limits.TheConstants.{MAX_TRIAL}
 use Rattle.snb_words.specs.declared.options.OptionName.{OptionName}
 use Rattle.snb_words.specs.declared.options.OptionName.TheVariants.{Workers, Ratio, Frequencies}
 use Rattle.snb_words.specs.declared.options.Options.{Options}
@@ -26,14 +28,19 @@ form_of (Audit folder log ratio frequencies) = record { name = codes "audit"; ad
 form_of (Expect folder frequencies) = record { name = codes "expect"; admitted = Frequencies ∷ []; needed = [] }
 form_of (Validate folder cases) = record { name = codes "validate"; admitted = []; needed = [] }
 form_of (Read folder query) = record { name = codes "read"; admitted = []; needed = [] }
+form_of (Trial size workers) = record { name = codes "trial"; admitted = []; needed = [] }
 
 -- the words are the kind of the query and its parameters
 abbrev pub IsReadOf : List ℕ → List (List ℕ) → Query → Type 0
 IsReadOf kind parameters query = (kind ≡ read_word (kind_of query)) × SpellsAll (parameter_columns (kind_of query)) parameters (parameter_values query)
 
+-- the words are a size and a number of workers
+abbrev pub IsTrialOf : List ℕ → List ℕ → ℕ → ℕ → Type 0
+IsTrialOf first second size workers = (Num first size MAX_TRIAL × (1 ≤ size)) × (Num second workers MAX_WORKERS × (1 ≤ workers))
+
 -- what the plain words and the options of a command's line say: a folder; for `check` and `expect` frequencies; for a run the number of workers,
 -- a ratio and frequencies; for an audit the file of a log, a ratio and frequencies; for a validation the file of the cases; for a read its kind
--- and its parameters
+-- and its parameters. Of a trial they say a size and a number of workers
 abbrev pub IsSaid : Command → List (List ℕ) → Options → Type 0
 IsSaid (Check folder frequencies) plain said = (plain ≡ folder ∷ []) × (frequencies ≡ frequencies_of said)
 IsSaid (Run folder workers ratio frequencies) plain said =
@@ -43,6 +50,7 @@ IsSaid (Audit folder log ratio frequencies) plain said =
 IsSaid (Expect folder frequencies) plain said = (plain ≡ folder ∷ []) × (frequencies ≡ frequencies_of said)
 IsSaid (Validate folder cases) plain said = plain ≡ folder ∷ cases ∷ []
 IsSaid (Read folder query) plain said = (kind : List ℕ) × (parameters : List (List ℕ)) × (plain ≡ folder ∷ kind ∷ parameters) × IsReadOf kind parameters query
+IsSaid (Trial size workers) plain said = (first second : List ℕ) × (plain ≡ first ∷ second ∷ []) × IsTrialOf first second size workers
 
 -- the name, the plain words and the options are those of the command
 pub record AreOf (command : Command) (name : List ℕ) (plain : List (List ℕ)) (said : Options) : Type 0 where
@@ -62,7 +70,7 @@ pub record IsLineOf (words : List (List ℕ)) (command : Command) : Type 0 where
 abbrev pub IsOtherLine : List (List ℕ) → Type 0
 IsOtherLine words = (command : Command) → ¬ IsLineOf words command
 
--- a run has from one to `MAX_WORKERS` workers
+-- a run has from one to `MAX_WORKERS` workers, a trial too, and a size from one to `MAX_TRIAL`
 abbrev pub IsRunnable : Command → Type 0
 IsRunnable (Check folder frequencies) = Unit {0}
 IsRunnable (Run folder workers ratio frequencies) = (1 ≤ workers) × (workers ≤ MAX_WORKERS)
@@ -70,6 +78,7 @@ IsRunnable (Audit folder log ratio frequencies) = Unit {0}
 IsRunnable (Expect folder frequencies) = Unit {0}
 IsRunnable (Validate folder cases) = Unit {0}
 IsRunnable (Read folder query) = Unit {0}
+IsRunnable (Trial size workers) = (1 ≤ size) × (size ≤ MAX_TRIAL) × (1 ≤ workers) × (workers ≤ MAX_WORKERS)
 
 -- the folder that a command reads, where it reads one
 abbrev pub folder_of : Command → Option (List ℕ)
@@ -79,6 +88,7 @@ folder_of (Audit folder log ratio frequencies) = Some folder
 folder_of (Expect folder frequencies) = Some folder
 folder_of (Validate folder cases) = Some folder
 folder_of (Read folder query) = Some folder
+folder_of (Trial size workers) = None
 
 -- the file that a command is given by name beside it, where it is given one
 abbrev pub beside_of : Command → Option (List ℕ)
@@ -88,3 +98,4 @@ beside_of (Audit folder log ratio frequencies) = Some log
 beside_of (Expect folder frequencies) = None
 beside_of (Validate folder cases) = Some cases
 beside_of (Read folder query) = None
+beside_of (Trial size workers) = None

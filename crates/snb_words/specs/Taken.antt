@@ -16,6 +16,7 @@ use Rattle.snb_fields.specs.Values.{first_number, first_small, first_text}
 use Rattle.clap.specs.Simple.{App, new_rule, new_shape}
 use Rattle.clap.specs.Walk.{Rule}
 use Rattle.snb_words.specs.declared.command.Command.{Command}
+use Rattle.snb_words.specs.declared.limits.TheConstants.{MAX_TRIAL}
 use Rattle.snb_words.specs.declared.options.Options.{Options}
 use Rattle.snb_words.specs.Commands.{IsLineOf, form_of}
 use Rattle.snb_words.specs.Options.{SaysFrequencies}
@@ -38,6 +39,10 @@ IsLineBy name words = (command : Command) × (name ≡ (form_of command).name) �
 -- the word says a number of workers
 abbrev pub SaysWorkers : List ℕ → ℕ → Type 0
 SaysWorkers word n = Num word n MAX_WORKERS × (1 ≤ n)
+
+-- the word says the size of a trial
+abbrev pub SaysSize : List ℕ → ℕ → Type 0
+SaysSize word n = Num word n MAX_TRIAL × (1 ≤ n)
 
 -- a word was found and says this, or none was and this is none
 abbrev pub IsFound : {A : Type 0} → (List ℕ → A → Type 0) → Option (List ℕ) → Option A → Type 0

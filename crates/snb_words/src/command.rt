@@ -7,9 +7,9 @@ ghost use Rattle.snb_words.specs.Taken.{IsLineBy};
 ghost use Rattle.snb_words.specs.Words.{texts_of};
 
 use crate::line::{Line, line_of};
-use crate::options::{OptionName, Options};
+use crate::options::{OptionName, Options, size_of, workers_of};
 use crate::reads::is_read;
-use crate::taken::{matches_in, options_in, query_in, text_at};
+use crate::taken::{crew_in, matches_in, options_in, query_in, size_in, text_at};
 use snb_base::text::Text;
 use snb_ratio::law::one_ratio;
 use snb_ratio::ratio::Ratio;
@@ -70,6 +70,13 @@ pub enum Command {
         /// The read, with its parameters.
         query: Query,
     },
+    /// `trial N W`.
+    Trial {
+        /// The size of the workload, from 1 to `MAX_TRIAL`.
+        size: u32,
+        /// How many workers there are.
+        workers: u32,
+    },
 }
 
 impl Drop for Command {
@@ -103,6 +110,10 @@ impl Drop for Command {
                 folder: _,
                 query: _,
             } => {}
+            Command::Trial {
+                size: _,
+                workers: _,
+            } => {}
         }
     }
 }
@@ -133,6 +144,16 @@ fn is_read_line(line: &Line<'_, '_>) -> bool
     }
 }
 
+// Whether the parts of a line are those of a trial.
+fn is_trial_line(line: &Line<'_, '_>) -> bool
+    ensures { IsTrue result ↔ ((command : AnyCommand) × AreOf command (codes "trial") (texts_of line.now.plain.now) line.now.said) }
+{
+    if !line.suits(2, &[], &[]) {
+        return false;
+    }
+    size_of(line.plain[0]).is_some() && workers_of(line.plain[1]).is_some()
+}
+
 // Whether the parts of a line are those of a command.
 fn is_command(line: &Line<'_, '_>) -> bool
     ensures { IsTrue result ↔ ((command : AnyCommand) × AreOf command line.now.name.now (texts_of line.now.plain.now) line.now.said) }
@@ -144,6 +165,7 @@ fn is_command(line: &Line<'_, '_>) -> bool
         "expect" => line.suits(1, &OF_CHECK, &[]),
         "validate" => line.suits(2, &[], &[]),
         "read" => is_read_line(line),
+        "trial" => is_trial_line(line),
         _ => false,
     }
 }
@@ -229,6 +251,18 @@ fn take_read(alloc: Global, words: &[&str]) -> Result<Command, AllocError>
     Ok(Command::Read { folder, query })
 }
 
+// The trial that the words say.
+fn take_trial(alloc: Global, words: &[&str]) -> Result<Command, AllocError>
+    requires { IsLineBy (codes "trial") (texts_of words.now) }
+    ensures { IfOk result (IsLineOf (texts_of words.now)) }
+{
+    let matches = matches_in(alloc, &["size", "crew"], &[], words)?;
+    Ok(Command::Trial {
+        size: size_in(&matches),
+        workers: crew_in(&matches),
+    })
+}
+
 // The command of this name that the words say, as `clap` takes them apart.
 fn take(alloc: Global, name: &str, words: &[&str]) -> Result<Command, AllocError>
     requires { IsLineBy name.now (texts_of words.now) }
@@ -241,6 +275,7 @@ fn take(alloc: Global, name: &str, words: &[&str]) -> Result<Command, AllocError
         "expect" => take_expect(alloc, words),
         "validate" => take_validate(alloc, words),
         "read" => take_read(alloc, words),
+        "trial" => take_trial(alloc, words),
         _ => unreachable!(),
     }
 }

@@ -3,6 +3,7 @@
 
 pub mod command;
 pub mod law;
+pub mod limits;
 mod line;
 pub mod options;
 mod reads;

@@ -5,10 +5,12 @@ ghost use Rattle.snb_base.specs.Spellings.{Num};
 ghost use Rattle.snb_ratio.specs.Ratios.{SpellsRatio};
 ghost use Rattle.snb_schema.specs.declared.limits.TheConstants.{MAX_WORKERS};
 ghost use Rattle.snb_schema.specs.Frequencies.{FrequencyTable};
+ghost use Rattle.snb_words.specs.declared.limits.TheConstants.{MAX_TRIAL};
 ghost use Rattle.snb_words.specs.declared.options.Options.{Options as AnyOptions};
 ghost use Rattle.snb_words.specs.Options.{Adds, AreSuited, IsGiven, Say, SaysFrequencies, frequencies_of, no_options, ratio_of as ratio_said};
 ghost use Rattle.snb_words.specs.Words.{texts_of};
 
+use crate::limits::MAX_TRIAL;
 use snb_base::number::read_number;
 use snb_ratio::law::one_ratio;
 use snb_ratio::ratio::Ratio;
@@ -106,6 +108,17 @@ pub fn workers_of(word: &str) -> Option<u32>
     ensures { MatchOption result ((n : ℕ) → Num word.now n MAX_WORKERS → 1 ≤ n → ⊥) (λ n. Num word.now n MAX_WORKERS × (1 ≤ n)) }
 {
     let number = read_number(word.as_bytes(), u64::from(MAX_WORKERS))?;
+    if number == 0 {
+        return None;
+    }
+    Some(number as u32)
+}
+
+/// The size of a trial that the word says, or None.
+pub fn size_of(word: &str) -> Option<u32>
+    ensures { MatchOption result ((n : ℕ) → Num word.now n MAX_TRIAL → 1 ≤ n → ⊥) (λ n. Num word.now n MAX_TRIAL × (1 ≤ n)) }
+{
+    let number = read_number(word.as_bytes(), u64::from(MAX_TRIAL))?;
     if number == 0 {
         return None;
     }

@@ -7,10 +7,10 @@ ghost use Rattle.snb_schema.specs.declared.column.Value.{Value as AnyValue};
 ghost use Rattle.snb_schema.specs.declared.query.Query.{Query as AnyQuery};
 ghost use Rattle.snb_schema.specs.declared.read_kind.ReadKind.{ReadKind as AnyKind};
 ghost use Rattle.snb_words.specs.declared.options.Options.{Options as AnyOptions};
-ghost use Rattle.snb_words.specs.Taken.{AreFound, IsKindFound, IsReadFound, IsValueFound, line_app, option_rule};
+ghost use Rattle.snb_words.specs.Taken.{AreFound, IsFound, IsKindFound, IsReadFound, IsValueFound, SaysSize, SaysWorkers, line_app, option_rule};
 ghost use Rattle.snb_words.specs.Words.{texts_of};
 
-use crate::options::{Options, frequencies_of, ratio_of, workers_of};
+use crate::options::{Options, frequencies_of, ratio_of, size_of, workers_of};
 use crate::reads::query_of;
 use clap::error::ErrorKind;
 use clap::{Arg, ArgMatches, Command};
@@ -103,6 +103,28 @@ pub fn options_in(matches: &ArgMatches<'_>) -> Options
         ratio: matches.get_str("ratio").and_then(ratio_of),
         frequencies: matches.get_str("freq").and_then(frequencies_of),
     }
+}
+
+/// The size of a trial that was found. The condition: one was.
+pub fn size_in(matches: &ArgMatches<'_>) -> u32
+    requires { (size : ℕ) × IsFound SaysSize (first_value (found_of matches.now) (codes "size")) (Some size) }
+    ensures { (size : ℕ) → IsFound SaysSize (first_value (found_of matches.now) (codes "size")) (Some size) → result ≡ size }
+{
+    let Some(size) = matches.get_str("size").and_then(size_of) else {
+        unreachable!()
+    };
+    size
+}
+
+/// The number of workers of a trial that was found. The condition: one was.
+pub fn crew_in(matches: &ArgMatches<'_>) -> u32
+    requires { (workers : ℕ) × IsFound SaysWorkers (first_value (found_of matches.now) (codes "crew")) (Some workers) }
+    ensures { (workers : ℕ) → IsFound SaysWorkers (first_value (found_of matches.now) (codes "crew")) (Some workers) → result ≡ workers }
+{
+    let Some(workers) = matches.get_str("crew").and_then(workers_of) else {
+        unreachable!()
+    };
+    workers
 }
 
 // The kind of a read that was found. The condition: one was.

@@ -8,6 +8,14 @@ run-requires-clause-workers g c = λ κs lives. (subst IsRunnable c.in-Run.is c.
 pub run-requires-clause-few : goal.run-requires-clause-few
 run-requires-clause-few g c = λ κs lives. (subst IsRunnable c.in-Run.is c.requires.runnable).1
 
+pub trial-requires : goal.trial-requires
+trial-requires g c =
+    let is = subst IsRunnable c.in-Trial.is c.requires.runnable in
+    record { some = is.0; few = is.1; workers = is.2; crew = is.3 }
+
+pub returns-in-Trial-clause-ends : goal.returns-in-Trial-clause-ends
+returns-in-Trial-clause-ends g c = rw c.in-Trial.is (c.trial.ensures.ends (g.S.Shelf.contents c.args.shelf.now) (g.S.Shelf.faults c.args.shelf.now))
+
 pub returns-in-Check-clause-ends : goal.returns-in-Check-clause-ends
 returns-in-Check-clause-ends g c = rw (c.in-Check.is, ← c.as_str.ensures) (c.check.ensures.ends (g.C.Clock.fixed c.args.clock.now))
 

@@ -1,0 +1,73 @@
+//! The command `trial`.
+
+ghost use Rattle.std.specs.Prelude.{◌≡◌, ℕ, ◌≤◌, IfOk, Option};
+ghost use Rattle.snb_base.specs.Shelf.{Files};
+ghost use Rattle.snb_schema.specs.declared.limits.TheConstants.{MAX_WORKERS};
+ghost use Rattle.snb_words.specs.declared.command.Command.TheVariants.{Trial};
+ghost use Rattle.snb_words.specs.declared.limits.TheConstants.{MAX_TRIAL};
+ghost use Rattle.snb_tool.specs.Endings.{IsTrialInput};
+ghost use Rattle.snb_tool.specs.Outcome.{IsCommandAnswer};
+ghost use Rattle.snb_tool.specs.Outside.{Ends, seen};
+
+use crate::deliver::deliver;
+use crate::input::Input;
+use crate::run::run_output;
+use snb_base::clock::Clock;
+use snb_base::gate::Gate;
+use snb_base::outbox::Outbox;
+use snb_plan::plan::{Plan, PlanFault};
+use snb_trial::input::{trial_frequencies, trial_input, trial_ratio};
+use snb_trial::law::{lanes_are_of_streams, lists_are_enough, seven_updates, trial_is_closed};
+use std::alloc::{AllocError, Global};
+use std::sync::Wait;
+use std::thread::Threads;
+
+// The dataset and the plan of the formula workload of a size.
+fn input_of_size(alloc: Global, size: u32) -> Result<Input, AllocError>
+    requires some { 1 ≤ size }
+    requires few { size ≤ MAX_TRIAL }
+    ensures { IfOk result (IsTrialInput size) }
+{
+    lanes_are_of_streams();
+    lists_are_enough();
+    seven_updates();
+    trial_is_closed();
+    let (graph, lanes, lists) = trial_input(alloc, size)?;
+    match Plan::make(alloc, lanes, lists, trial_frequencies(), trial_ratio()) {
+        Ok(plan) => Ok(Input { graph, plan }),
+        Err(PlanFault::Memory) => Err(AllocError),
+        // 7 updates for each of at most 5,000, and less than one read for each.
+        Err(PlanFault::Refused { .. }) => unreachable!(),
+    }
+}
+
+/// Runs the formula workload of a size by so many workers, each in a thread of its own, writes the texts of
+/// the run, and gives the status. No file is read.
+pub fn trial<
+    R: AllocGlobal + Threads + Wait + Sync,
+    O: Outbox,
+    C: Clock + Sync,
+    G: Gate + Sync,
+>(rt: &R, size: u32, workers: u32, out: &mut O, clock: &C, gate: &G) -> u8
+    requires some { 1 ≤ size }
+    requires few { size ≤ MAX_TRIAL }
+    requires workers { 1 ≤ workers }
+    requires crew { workers ≤ MAX_WORKERS }
+    ensures ends { (contents : Option Files) (faults : ℕ) → Ends (IsCommandAnswer (Trial size workers))
+        (seen contents (C.fixed clock.now) faults (O.faults out.old) (O.written out.old) (O.ready out.old))
+        (seen contents (C.fixed clock.now) faults (O.faults out.new) (O.written out.new) (O.ready out.new)) result }
+    ensures writes_later { O.faults out.old ≤ O.faults out.new }
+{
+    let input = match input_of_size(rt.alloc(), size) {
+        Ok(input) => input,
+        Err(_) => return 6,
+    };
+    let output = match run_output(rt, rt.alloc(), workers, input, clock, gate) {
+        Ok(output) => output,
+        Err(_) => return 6,
+    };
+    match deliver(out, &output) {
+        Ok(()) => 0,
+        Err(_) => 5,
+    }
+}
