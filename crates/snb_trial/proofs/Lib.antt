@@ -1,0 +1,4 @@
+pub mod Elements
+pub mod Numbered
+pub mod Counts
+pub mod Seven
