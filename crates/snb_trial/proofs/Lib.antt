@@ -2,3 +2,4 @@ pub mod Elements
 pub mod Numbered
 pub mod Counts
 pub mod Seven
+pub mod Spelled
