@@ -1,0 +1,5 @@
+pub mod Elements
+pub mod Numbered
+pub mod Counts
+pub mod Seven
+pub mod Spelled

@@ -1,0 +1,23 @@
+//! Laws of the input of a formula workload.
+
+ghost use Rattle.snb_trial.specs.Laws.{LanesAreOfStreams, ListsAreEnough, SevenOfEach, UpdatesAreFew};
+
+use snb_fields::law::own_line;
+
+/// The lanes are those of streams: some text has each line.
+pub fn lanes_are_of_streams()
+    ensures { LanesAreOfStreams }
+{
+    own_line();
+}
+
+/// There are seven updates for each i, within the limit of an input.
+pub fn seven_updates()
+    ensures each { SevenOfEach }
+    ensures few { UpdatesAreFew }
+{}
+
+/// The lists have a parameter for each query of frequencies that name 2 and 13 alone.
+pub fn lists_are_enough()
+    ensures { ListsAreEnough }
+{}

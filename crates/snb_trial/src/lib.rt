@@ -1,0 +1,7 @@
+//! The input of a formula workload, of any size, which reads no file.
+#![tactic(auto)]
+
+mod entries;
+mod lanes;
+pub mod law;
+mod lists;
