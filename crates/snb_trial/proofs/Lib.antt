@@ -3,3 +3,4 @@ pub mod Numbered
 pub mod Counts
 pub mod Seven
 pub mod Spelled
+pub mod Said

@@ -10,6 +10,7 @@ use Rattle.snb_schema.specs.declared.query.Query.TheVariants.{Ic2, Ic13}
 use Rattle.snb_schema.specs.declared.row.Row.{Row}
 use Rattle.snb_schema.specs.declared.row.Row.TheVariants as row
 use Rattle.snb_schema.specs.declared.table.Table.TheVariants as table
+use Rattle.snb_schema.specs.Frequencies.{FrequencyTable}
 use Rattle.snb_schema.specs.LineLanes.{LineLanes}
 use Rattle.snb_schema.specs.QueryLists.{QueryLists}
 
@@ -129,3 +130,13 @@ lists n = record {
   eleven = [];
   thirteen = Ic13 0 n ∷ [];
 }
+
+-- ---- the plan
+
+-- a read of query 2 goes with every tenth update, and one of query 13 with every seventh
+abbrev pub frequencies : FrequencyTable
+frequencies = record { one = 0; two = 10; seven = 0; eight = 0; nine = 0; eleven = 0; thirteen = 7 }
+
+-- the ratio, in millionths: the least
+abbrev pub ratio : ℕ
+ratio = 1

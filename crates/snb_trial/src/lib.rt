@@ -5,3 +5,4 @@ mod entries;
 mod lanes;
 pub mod law;
 mod lists;
+pub mod terms;

@@ -1,0 +1,68 @@
+-- The texts of the frequencies and of the ratio, and that they are said so.
+use Rattle.std.proofs.Common.{◌≡◌, ◌<◌, ◌≤◌, ℕ, zero, suc, List, [], ◌∷◌, inl, inr, refl, sym, ◌∙◌, arith, codes, subst}
+use Rattle.std.specs.List.Sorted.{IsStrictlyIncreasing}
+use Rattle.snb_base.specs.Spellings.{Num}
+use Rattle.snb_ratio.specs.Ratios.{SpellsRatio}
+use Rattle.snb_schema.specs.Frequencies.{FrequencyTable, HasFrequencies, SpellsFrequencies, SpellsFrequency, frequency_at}
+use Rattle.snb_trial.specs.Trial.{frequencies, ratio}
+
+abbrev pub pairs : List (ℕ × ℕ)
+pairs = (2, 10) ∷ (13, 7) ∷ []
+
+two : SpellsFrequency (codes "2:10") (2, 10)
+two = record {
+  query = codes "2";
+  frequency = codes "10";
+  splits = refl;
+  numbered = record { digits = ((omega arith, omega arith), tt); some = omega arith; few = omega arith; no_lead = λ e. refl; value = refl; small = omega arith };
+  counted = record { digits = ((omega arith, omega arith), ((omega arith, omega arith), tt)); some = omega arith; few = omega arith; no_lead = λ e. absurd (omega (arith, e)); value = refl; small = omega arith };
+  complex = inr (inl refl);
+  positive = omega arith;
+}
+
+thirteen : SpellsFrequency (codes "13:7") (13, 7)
+thirteen = record {
+  query = codes "13";
+  frequency = codes "7";
+  splits = refl;
+  numbered = record { digits = ((omega arith, omega arith), ((omega arith, omega arith), tt)); some = omega arith; few = omega arith; no_lead = λ e. absurd (omega (arith, e)); value = refl; small = omega arith };
+  counted = record { digits = ((omega arith, omega arith), tt); some = omega arith; few = omega arith; no_lead = λ e. refl; value = refl; small = omega arith };
+  complex = inr (inr (inr (inr (inr (inr refl)))));
+  positive = omega arith;
+}
+
+-- two numbers of which the first is below the second rise
+two_rise : (a b : ℕ) → a < b → IsStrictlyIncreasing (a ∷ b ∷ [])
+two_rise a b less zero lt = less
+two_rise a b less (suc k) lt = absurd (omega (arith, lt))
+
+pub frequencies_said : SpellsFrequencies (codes "2:10,13:7") pairs
+frequencies_said = record { spelled = (two, (thirteen, tt)); rising = two_rise 2 13 (omega arith) }
+
+-- a table that has just these is the workload's
+pub table_is : (table : FrequencyTable) → HasFrequencies table pairs → table ≡ frequencies
+table_is table p = λ i. record { one = p 1 i; two = p 2 i; seven = p 7 i; eight = p 8 i; nine = p 9 i; eleven = p 11 i; thirteen = p 13 i }
+
+-- and the ratio's text
+pub ratio_said : SpellsRatio (codes "0.000001") ratio
+ratio_said = (
+  omega arith,
+  omega arith,
+  (
+    codes "0",
+    0,
+    record { digits = ((omega arith, omega arith), tt); some = omega arith; few = omega arith; no_lead = λ e. refl; value = refl; small = omega arith },
+    inr (
+      codes "000001",
+      1,
+      refl,
+      record {
+        digits = ((omega arith, omega arith), ((omega arith, omega arith), ((omega arith, omega arith), ((omega arith, omega arith), ((omega arith, omega arith), ((omega arith, omega arith), tt))))));
+        some = omega arith;
+        few = omega arith;
+        value = refl;
+      },
+      refl,
+    ),
+  ),
+)

@@ -1,0 +1,31 @@
+//! How often the workload asks its reads, and the ratio of its plan.
+
+ghost use Rattle.std.specs.Prelude.{◌≡◌};
+ghost use Rattle.snb_trial.specs.Trial.{frequencies, ratio};
+
+use snb_ratio::law::one_ratio;
+use snb_ratio::ratio::Ratio;
+use snb_schema::frequencies::Frequencies;
+use snb_schema::law::frequencies_are_one;
+
+/// A read of query 2 goes with every tenth update, and one of query 13 with every seventh.
+pub fn trial_frequencies() -> Frequencies
+    ensures { result ≡ frequencies }
+{
+    frequencies_are_one();
+    match Frequencies::read(b"2:10,13:7") {
+        Some(read) => read,
+        None => unreachable!(),
+    }
+}
+
+/// The least ratio, a millionth.
+pub fn trial_ratio() -> Ratio
+    ensures { result ≡ ratio }
+{
+    one_ratio();
+    match Ratio::read(b"0.000001") {
+        Some(read) => read,
+        None => unreachable!(),
+    }
+}
