@@ -16,8 +16,9 @@ use snb_base::clock::Clock;
 use snb_base::gate::Gate;
 use snb_base::outbox::Outbox;
 use snb_plan::plan::{Plan, PlanFault};
-use snb_trial::input::{trial_frequencies, trial_input, trial_ratio};
-use snb_trial::law::{lanes_are_of_streams, lists_are_enough, seven_updates, trial_is_closed};
+use snb_trial::law::{lanes_are_of_streams, lists_are_enough, seven_updates, updates_are_closed};
+use snb_trial::terms::{trial_frequencies, trial_ratio};
+use snb_trial::trial::trial_input;
 use std::alloc::{AllocError, Global};
 use std::sync::Wait;
 use std::thread::Threads;
@@ -31,7 +32,7 @@ fn input_of_size(alloc: Global, size: u32) -> Result<Input, AllocError>
     lanes_are_of_streams();
     lists_are_enough();
     seven_updates();
-    trial_is_closed();
+    updates_are_closed();
     let (graph, lanes, lists) = trial_input(alloc, size)?;
     match Plan::make(alloc, lanes, lists, trial_frequencies(), trial_ratio()) {
         Ok(plan) => Ok(Input { graph, plan }),

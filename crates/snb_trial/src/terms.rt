@@ -1,6 +1,7 @@
 //! How often the workload asks its reads, and the ratio of its plan.
 
 ghost use Rattle.std.specs.Prelude.{◌≡◌};
+ghost use Rattle.snb_trial.specs.Laws.{NamesTwo};
 ghost use Rattle.snb_trial.specs.Trial.{frequencies, ratio};
 
 use snb_ratio::law::one_ratio;
@@ -10,7 +11,8 @@ use snb_schema::law::frequencies_are_one;
 
 /// A read of query 2 goes with every tenth update, and one of query 13 with every seventh.
 pub fn trial_frequencies() -> Frequencies
-    ensures { result ≡ frequencies }
+    ensures value { result ≡ frequencies }
+    ensures names { NamesTwo result }
 {
     frequencies_are_one();
     match Frequencies::read(b"2:10,13:7") {
