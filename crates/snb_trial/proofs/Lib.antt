@@ -3,3 +3,5 @@ pub mod Numbered
 pub mod Counts
 pub mod Seven
 pub mod Spelled
+pub mod Closed
+pub mod TenRows

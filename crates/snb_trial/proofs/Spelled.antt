@@ -122,14 +122,14 @@ has_line own x fit two =
 
 -- ---- the texts of the updates
 
-letter : (b : ℕ) → b < 128 → b ≢ 124 → b ≢ 10 → IsFieldText (b ∷ [])
+pub letter : (b : ℕ) → b < 128 → b ≢ 124 → b ≢ 10 → IsFieldText (b ∷ [])
 letter b ascii bar end = record {
   utf8 = IsUtf8-from_ascii (b ∷ []) (IsAscii-from_all (b ∷ []) (All-from_recursion (λ c. c < 128) (b ∷ []) (ascii, tt)));
   no_bar = All-from_recursion (λ c. c ≢ 124) (b ∷ []) (bar, tt);
   one_line = All-from_recursion (λ c. c ≢ 10) (b ∷ []) (end, tt);
 }
 
-address : IsFieldText (codes "0.0.0.0")
+pub address : IsFieldText (codes "0.0.0.0")
 address = record { utf8 = IsUtf8-from_ascii (codes "0.0.0.0") (grind arith); no_bar = grind arith; one_line = grind arith }
 
 fits : (which : Seven) (i number : ℕ) → i ≤ 5000 → let x = line_of (number, entry_of which i) in AreFit (line_columns (kind_of x.op)) (line_values x.t x.t_d x.op)
