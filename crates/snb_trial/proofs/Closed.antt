@@ -1,15 +1,14 @@
 -- The updates of a plan of the lanes are closed over the dataset.
-use Rattle.std.proofs.Common.{◌≡◌, ◌∷◌, ◌++◌, ◌∙◌, ℕ, zero, suc, ◌+◌, ◌*◌, ◌/◌, ◌%◌, ◌<◌, ◌≤◌, ◌⊎◌, Bool, true, false, List, [], length, get_or, Option, Some, None, inl, inr, refl, sym, ap, subst, arith}
+use Rattle.std.proofs.Common.{◌≡◌, ◌∷◌, ◌++◌, ◌∙◌, ℕ, zero, suc, ◌+◌, ◌*◌, ◌%◌, ◌<◌, ◌≤◌, ◌⊎◌, Bool, true, false, List, [], get_or, Option, Some, inl, inr, refl, sym, ap, subst, arith}
 use Rattle.std.specs.Prelude.{◌==◌, if◌then◌else◌, max, min, slice_get}
-use Rattle.std.specs.List.{All, AllPairs, Contains, filter_map}
-use Rattle.std.proofs.lemmas.Bool.{cases_Bool, cases_lt, eq-eqb, eqb-true}
+use Rattle.std.specs.List.{All, AllPairs, Contains}
+use Rattle.std.proofs.lemmas.Bool.{cases_Bool, eq-eqb, eqb-true}
 use Rattle.std.proofs.lemmas.List.Elements.{All-contains, All-from_recursion, Contains-append_cases, Contains-append_left, Contains-append_right}
 use Rattle.std.proofs.lemmas.Option.{get_or_from_slice_get, same_Some, slice_get_within}
-use Rattle.snb_base.proofs.Laws.{contains_cases, contains_here, contains_there}
+use Rattle.snb_base.proofs.Laws.{contains_cases, contains_here}
 use Rattle.snb_schema.specs.declared.key.Key.{Key}
 use Rattle.snb_schema.specs.declared.key.Key.TheVariants.{Node, Knows, LikesPost, LikesComment, Member}
 use Rattle.snb_schema.specs.declared.op.Line.{Line}
-use Rattle.snb_schema.specs.declared.op.Op.{Op}
 use Rattle.snb_schema.specs.declared.refusal.Missing.{Missing}
 use Rattle.snb_schema.specs.declared.row.Row.{Row}
 use Rattle.snb_schema.specs.declared.row.Row.TheVariants as row
@@ -24,10 +23,10 @@ use Rattle.snb_schema.specs.QueryLists.{QueryLists}
 use Rattle.snb_schema.specs.References.{ref, refs_of}
 use Rattle.snb_schema.specs.RowKeys.{RowKey, named_key, row_key}
 use Rattle.snb_schema.specs.Schedule.{ComesBefore}
-use Rattle.snb_tables.specs.Graphs.{HasKey, HoldsKey}
+use Rattle.snb_tables.specs.Graphs.{HoldsKey}
 use Rattle.snb_plan.specs.Closed.{IsClosed, IsClosedAt, IsMet, IsTaken, Update, added_node, is_in_lane}
 use Rattle.snb_plan.specs.Plans.{IsLineOf, IsPlan, IsRead, IsUpdate, Operation, Placed, Plan, file_of, first_t, lane_of, update_from, update_operation, updates_in}
-use Rattle.snb_trial.specs.Trial.{Entry, dataset, half, lane, lanes, line_of}
+use Rattle.snb_trial.specs.Trial.{dataset, half, lane, lanes, line_of}
 use Rattle.snb_trial.proofs.Elements.{at_contains, behind_it, before_it, contains_at, given_by, given_in_order, gives, none_in}
 use Rattle.snb_trial.proofs.Numbered.{Rises}
 use Rattle.snb_trial.proofs.Seven.{Comment, Forum, Friendship, IsLineIn, Like, Membership, Person, Post, Seven, at_t, entry_of, in_lanes, in_line, in_order, lane_is, lane_later, lane_number, later, line_in, of_lane}
@@ -221,7 +220,7 @@ module _ (n : ℕ) (asked : QueryLists) (frequencies : FrequencyTable) (ratio : 
       let a = from_op x v cx ex in
       let b = from_op z w cz ez in
       let steps : ComesBefore (as_planned a.line).step (as_planned b.line).step =
-          subst (λ (o : Operation). ComesBefore o.step (as_planned b.line).step) a.is (subst (λ (o : Operation). ComesBefore x.step o.step) b.is before) in
+      subst (λ (o : Operation). ComesBefore o.step (as_planned b.line).step) a.is (subst (λ (o : Operation). ComesBefore x.step o.step) b.is before) in
       let less = earlier n a.line b.line a.of b.of steps in
       subst (λ (u : Update). u.line.t < w.line.t) a.update (subst (λ (u : Update). a.line.line.t < u.line.t) b.update less)
 

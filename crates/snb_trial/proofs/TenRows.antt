@@ -1,7 +1,7 @@
 -- The dataset is a sound graph.
-use Rattle.std.proofs.Common.{◌≡◌, ◌≢◌, ◌∷◌, ◌++◌, ◌∙◌, ℕ, zero, suc, ◌+◌, ◌<◌, ◌≤◌, List, [], false, get_or, refl, sym, ap, subst, arith}
+use Rattle.std.proofs.Common.{◌≡◌, ◌∷◌, ℕ, zero, suc, ◌+◌, ◌<◌, ◌≤◌, List, [], false, get_or, refl, sym, ap, subst, arith}
 use Rattle.std.specs.Prelude.{codes}
-use Rattle.std.specs.List.{All, AllByRecursion, AllPairs, Contains}
+use Rattle.std.specs.List.{All, AllByRecursion, AllPairs}
 use Rattle.std.specs.List.Sorted.{IsStrictlySortedBy}
 use Rattle.std.proofs.lemmas.List.Elements.{All-from_recursion, All-nil}
 use Rattle.std.proofs.lemmas.List.Sorted.{Contains-permutation, IsPermutation-sym}
@@ -39,19 +39,35 @@ plain b low high = letter b (omega (arith, high)) (omega (arith, high)) (omega (
 pub rows_fit : All IsTableRow dataset
 rows_fit = All-from_recursion IsTableRow dataset (
   record { shaped = refl; in_order = tt; within = (omega arith, (plain 97 (omega arith) (omega arith), (plain 117 (omega arith) (omega arith), (word, tt)))) },
-  (record { shaped = refl; in_order = tt; within = (omega arith, (plain 98 (omega arith) (omega arith), (plain 117 (omega arith) (omega arith), (country, tt)))) },
-  (record { shaped = refl; in_order = tt; within = (omega arith, (plain 120 (omega arith) (omega arith), (plain 117 (omega arith) (omega arith), tt))) },
-  (record { shaped = refl; in_order = tt; within = (omega arith, (plain 120 (omega arith) (omega arith), (plain 117 (omega arith) (omega arith), tt))) },
-  (record { shaped = refl; in_order = tt; within = (omega arith, (company, (plain 111 (omega arith) (omega arith), (plain 117 (omega arith) (omega arith), tt)))) },
-  (record {
-    shaped = refl;
-    in_order = tt;
-    within = (omega arith, (plain 70 (omega arith) (omega arith), (plain 76 (omega arith) (omega arith), (plain 103 (omega arith) (omega arith), (omega arith, (omega arith, (address, (plain 98 (omega arith) (omega arith), tt))))))));
-  },
-  (record { shaped = refl; in_order = tt; within = (omega arith, (omega arith, tt)) },
-  (record { shaped = refl; in_order = tt; within = (omega arith, (omega arith, tt)) },
-  (record { shaped = refl; in_order = tt; within = (omega arith, (omega arith, tt)) },
-  (record { shaped = refl; in_order = tt; within = (omega arith, (omega arith, tt)) }, tt)))))))))
+  (
+    record { shaped = refl; in_order = tt; within = (omega arith, (plain 98 (omega arith) (omega arith), (plain 117 (omega arith) (omega arith), (country, tt)))) },
+    (
+      record { shaped = refl; in_order = tt; within = (omega arith, (plain 120 (omega arith) (omega arith), (plain 117 (omega arith) (omega arith), tt))) },
+      (
+        record { shaped = refl; in_order = tt; within = (omega arith, (plain 120 (omega arith) (omega arith), (plain 117 (omega arith) (omega arith), tt))) },
+        (
+          record { shaped = refl; in_order = tt; within = (omega arith, (company, (plain 111 (omega arith) (omega arith), (plain 117 (omega arith) (omega arith), tt)))) },
+          (
+            record {
+              shaped = refl;
+              in_order = tt;
+              within = (omega arith, (plain 70 (omega arith) (omega arith), (plain 76 (omega arith) (omega arith), (plain 103 (omega arith) (omega arith), (omega arith, (omega arith, (address, (plain 98 (omega arith) (omega arith), tt))))))));
+            },
+            (
+              record { shaped = refl; in_order = tt; within = (omega arith, (omega arith, tt)) },
+              (
+                record { shaped = refl; in_order = tt; within = (omega arith, (omega arith, tt)) },
+                (
+                  record { shaped = refl; in_order = tt; within = (omega arith, (omega arith, tt)) },
+                  (record { shaped = refl; in_order = tt; within = (omega arith, (omega arith, tt)) }, tt),
+                ),
+              ),
+            ),
+          ),
+        ),
+      ),
+    ),
+  ),
 )
 
 -- ---- no two fill one slot
@@ -104,15 +120,31 @@ sorted : IsStrictlySortedBy row_order dataset
 unfolding IsStrictlySortedBy
 sorted = (
   (refl, (refl, (refl, (refl, (refl, (refl, (refl, (refl, (refl, tt))))))))),
-  ((refl, (refl, (refl, (refl, (refl, (refl, (refl, (refl, tt)))))))),
-  ((refl, (refl, (refl, (refl, (refl, (refl, (refl, tt))))))),
-  ((refl, (refl, (refl, (refl, (refl, (refl, tt)))))),
-  ((refl, (refl, (refl, (refl, (refl, tt))))),
-  ((refl, (refl, (refl, (refl, tt)))),
-  ((refl, (refl, (refl, tt))),
-  ((refl, (refl, tt)),
-  ((refl, tt),
-  (tt, tt))))))))),
+  (
+    (refl, (refl, (refl, (refl, (refl, (refl, (refl, (refl, tt)))))))),
+    (
+      (refl, (refl, (refl, (refl, (refl, (refl, (refl, tt))))))),
+      (
+        (refl, (refl, (refl, (refl, (refl, (refl, tt)))))),
+        (
+          (refl, (refl, (refl, (refl, (refl, tt))))),
+          (
+            (refl, (refl, (refl, (refl, tt)))),
+            (
+              (refl, (refl, (refl, tt))),
+              (
+                (refl, (refl, tt)),
+                (
+                  (refl, tt),
+                  (tt, tt),
+                ),
+              ),
+            ),
+          ),
+        ),
+      ),
+    ),
+  ),
 )
 
 -- the graph that gained the rows is the dataset
@@ -159,15 +191,31 @@ pub sound : Sound dataset
 sound = record {
   held = of_each RefersToHeld dataset (
     All-nil _,
-    (All-nil _,
-    (All-nil _,
-    (All-nil _,
-    (All-nil _,
-    (All-nil _,
-    (ends_held (row.Link table.PlaceIsPartOfPlace 0 1) (place_zero, (place_one, tt)),
-    (ends_held (row.Link table.TagHasTypeTagClass 0 0) (tag_zero, (class_zero, tt)),
-    (ends_held (row.Link table.OrganisationIsLocatedInPlace 0 1) (company_zero, (place_one, tt)),
-    (ends_held (row.Link table.PersonIsLocatedInPlace 0 0) (person_zero, (place_zero, tt)), tt)))))))))
+    (
+      All-nil _,
+      (
+        All-nil _,
+        (
+          All-nil _,
+          (
+            All-nil _,
+            (
+              All-nil _,
+              (
+                ends_held (row.Link table.PlaceIsPartOfPlace 0 1) (place_zero, (place_one, tt)),
+                (
+                  ends_held (row.Link table.TagHasTypeTagClass 0 0) (tag_zero, (class_zero, tt)),
+                  (
+                    ends_held (row.Link table.OrganisationIsLocatedInPlace 0 1) (company_zero, (place_one, tt)),
+                    (ends_held (row.Link table.PersonIsLocatedInPlace 0 0) (person_zero, (place_zero, tt)), tt),
+                  ),
+                ),
+              ),
+            ),
+          ),
+        ),
+      ),
+    ),
   );
   complete = refl;
   rooted = λ comment h. absurd (of_each (λ (r : Row). (row_key r).0 ≡ table.Comment → ⊥) dataset
