@@ -1,5 +1,5 @@
 -- Facts about lists: where elements stand, and lists in order.
-use Rattle.std.proofs.Common.{◌≡◌, ◌∷◌, ◌++◌, ◌∙◌, ℕ, zero, suc, ◌+◌, ◌<◌, ◌≤◌, ◌⊎◌, List, [], length, Option, Some, None, inl, inr, refl, sym, ap, subst, arith}
+use Rattle.std.proofs.Common.{◌≡◌, ◌∷◌, ◌++◌, ◌∙◌, ℕ, zero, suc, ◌+◌, ◌<◌, ◌≤◌, ◌⊎◌, List, [], Option, Some, None, inl, inr, refl, ap, subst, arith}
 use Rattle.std.specs.Prelude.{slice_get}
 use Rattle.std.specs.List.{All, AllPairs, Contains, cons_option, filter_map, flat_map, range_with_len}
 use Rattle.std.proofs.lemmas.List.Elements.{All-contains, Contains-append_cases, Contains-append_left, Contains-append_right}
@@ -103,7 +103,7 @@ given_in_order f R S [] kept pairs = pairs_none S
 given_in_order {X} {Y} f R S (x ∷ xs) kept pairs =
     option_pairs S (f x) (filter_map f xs)
     (λ y w e c. let g = given_by f xs w c in
-        kept x g.0 y w (contains_here x xs) (contains_there x xs g.0 g.1) (All-contains (R x) xs g.0 (pairs_head R x xs pairs) g.1) e g.2)
+    kept x g.0 y w (contains_here x xs) (contains_there x xs g.0 g.1) (All-contains (R x) xs g.0 (pairs_head R x xs pairs) g.1) e g.2)
     (given_in_order f R S xs (λ a b y w c d. kept a b y w (contains_there x xs a c) (contains_there x xs b d)) (pairs_tail R x xs pairs))
 
 -- ---- lists of each number of a range

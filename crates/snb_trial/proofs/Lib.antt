@@ -3,4 +3,6 @@ pub mod Numbered
 pub mod Counts
 pub mod Seven
 pub mod Spelled
+pub mod Closed
+pub mod TenRows
 pub mod Said

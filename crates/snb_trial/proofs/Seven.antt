@@ -1,16 +1,15 @@
 -- The seven updates of each i, and where they stand.
-use Rattle.std.proofs.Common.{◌≡◌, ◌∷◌, ◌∙◌, ℕ, zero, suc, ◌+◌, ◌*◌, ◌%◌, ◌<◌, ◌≤◌, ◌⊎◌, Bool, true, false, List, [], length, Some, inl, inr, refl, sym, ap, subst, arith}
-use Rattle.std.specs.Prelude.{◌++◌, ◌==◌, if◌then◌else◌, slice_get, slice_index_or}
+use Rattle.std.proofs.Common.{◌≡◌, ◌∷◌, ◌∙◌, ℕ, zero, suc, ◌+◌, ◌*◌, ◌%◌, ◌<◌, ◌≤◌, Bool, true, false, List, [], inl, inr, refl, sym, ap, subst, arith}
+use Rattle.std.specs.Prelude.{◌++◌, ◌==◌, if◌then◌else◌, slice_index_or}
 use Rattle.std.specs.List.{AllPairs, Contains, flat_map, range_with_len}
 use Rattle.std.proofs.lemmas.Bool.{cases_Bool, cases_eq, eq-eqb, eqb-true, false≢true}
 use Rattle.std.proofs.lemmas.List.Elements.{All-from_recursion}
 use Rattle.std.proofs.lemmas.List.Kept.{AllPairs-cons}
-use Rattle.snb_base.proofs.Laws.{contains_cases, contains_here, contains_there}
+use Rattle.snb_base.proofs.Laws.{contains_cases, contains_here}
 use Rattle.snb_schema.specs.declared.op.Line.{Line}
-use Rattle.snb_schema.specs.LineLanes.{LineLanes}
-use Rattle.snb_trial.specs.Trial.{Entry, comment, forum, forum_lane, friendship, lane, lanes, like, line_of, lines_from, membership, person, person_lane, post}
+use Rattle.snb_trial.specs.Trial.{Entry, comment, forum, forum_lane, friendship, lane, lanes, like, line_of, membership, person, person_lane, post}
 use Rattle.snb_trial.proofs.Numbered.{AreTimed, Rises, Sooner, entry_line, lane_rises, line_entry}
-use Rattle.snb_trial.proofs.Elements.{at_contains, contains_at, from_range, none_in, pairs_none, to_range}
+use Rattle.snb_trial.proofs.Elements.{from_range, none_in, pairs_none, to_range}
 
 -- which of the seven
 pub data Seven : Type 0 where

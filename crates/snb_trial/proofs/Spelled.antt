@@ -1,5 +1,5 @@
 -- Some text has each of the lines.
-use Rattle.std.proofs.Common.{◌≡◌, ◌≢◌, ◌∷◌, ◌∙◌, ℕ, ◌+◌, ◌*◌, ◌^◌, ◌<◌, ◌≤◌, List, [], inl, inr, refl, sym, ap, subst, arith, map, All}
+use Rattle.std.proofs.Common.{◌≡◌, ◌≢◌, ◌∷◌, ℕ, ◌*◌, ◌^◌, ◌<◌, ◌≤◌, List, [], inr, refl, sym, subst, arith, map, All}
 use Rattle.std.specs.Prelude.{codes}
 use Rattle.std.specs.Fmt.{decimal}
 use Rattle.std.specs.List.{AllByRecursion, Contains}
@@ -8,18 +8,17 @@ use Rattle.std.proofs.lemmas.List.Elements.{All-cons, All-from_recursion, All-ni
 use Rattle.std.proofs.lemmas.Str.{IsUtf8-from_ascii, IsUtf8-nil}
 use Rattle.std.proofs.lemmas.Str.Ascii.{IsAscii-from_all}
 use Rattle.snb_base.specs.Calendar.{IsDigit}
-use Rattle.snb_base.specs.Spellings.{Num, last_id, last_time}
+use Rattle.snb_base.specs.Spellings.{last_id, last_time}
 use Rattle.snb_base.proofs.Laws.{number_spelled}
 use Rattle.snb_schema.specs.declared.column.Column.{Column}
-use Rattle.snb_schema.specs.declared.column.Column.TheVariants.{Number, Small, OptionalId, Date, Day, Words, Word, TextList, IdList, PairList}
+use Rattle.snb_schema.specs.declared.column.Column.TheVariants.{Number, Small, OptionalId, Date, Day, Words, TextList, IdList, PairList}
 use Rattle.snb_schema.specs.declared.column.Value.{Value}
 use Rattle.snb_schema.specs.declared.column.Value.TheVariants.{Digits, SmallDigits, NoId, Letters, Texts, Ids, Pairs}
-use Rattle.snb_schema.specs.declared.limits.TheConstants.{MAX_LENGTH, MAX_TIME}
+use Rattle.snb_schema.specs.declared.limits.TheConstants.{MAX_TIME}
 use Rattle.snb_schema.specs.declared.op.Line.{Line}
-use Rattle.snb_schema.specs.declared.op.Op.{Op}
 use Rattle.snb_schema.specs.declared.op.OpKind.{OpKind}
 use Rattle.snb_schema.specs.Columns.{Spells, SpellsAll, canonical_field, no_id}
-use Rattle.snb_schema.specs.Lines.{HasNoBar, HasNoEnd, fields}
+use Rattle.snb_schema.specs.Lines.{HasNoBar, HasNoEnd}
 use Rattle.snb_schema.specs.StreamLines.{AreOfStream, AreOfStreams, IsOfLine}
 use Rattle.snb_schema.specs.TableRows.{IsFieldText}
 use Rattle.snb_schema.specs.UpdateLines.{IsOfTwo, canonical_line, forum_inserts, kind_of, line_columns, line_values, op_number, op_values, person_inserts}
@@ -122,35 +121,100 @@ has_line own x fit two =
 
 -- ---- the texts of the updates
 
-letter : (b : ℕ) → b < 128 → b ≢ 124 → b ≢ 10 → IsFieldText (b ∷ [])
+pub letter : (b : ℕ) → b < 128 → b ≢ 124 → b ≢ 10 → IsFieldText (b ∷ [])
 letter b ascii bar end = record {
   utf8 = IsUtf8-from_ascii (b ∷ []) (IsAscii-from_all (b ∷ []) (All-from_recursion (λ c. c < 128) (b ∷ []) (ascii, tt)));
   no_bar = All-from_recursion (λ c. c ≢ 124) (b ∷ []) (bar, tt);
   one_line = All-from_recursion (λ c. c ≢ 10) (b ∷ []) (end, tt);
 }
 
-address : IsFieldText (codes "0.0.0.0")
+pub address : IsFieldText (codes "0.0.0.0")
 address = record { utf8 = IsUtf8-from_ascii (codes "0.0.0.0") (grind arith); no_bar = grind arith; one_line = grind arith }
 
 fits : (which : Seven) (i number : ℕ) → i ≤ 5000 → let x = line_of (number, entry_of which i) in AreFit (line_columns (kind_of x.op)) (line_values x.t x.t_d x.op)
 fits Person i number few =
     let a : (1000 * i ≤ MAX_TIME) × (1000 * i < 10 ^ 19) = (omega arith, omega arith) in (
-      a, ((omega arith, omega arith), ((omega arith, omega arith), ((omega arith, omega arith),
-      (letter 70 (omega arith) (omega arith) (omega arith), (letter 76 (omega arith) (omega arith) (omega arith), (letter 103 (omega arith) (omega arith) (omega arith),
-      ((omega arith, omega arith), (a, (address, (letter 98 (omega arith) (omega arith) (omega arith), ((omega arith, omega arith), (tt, (tt, (tt, (tt, (tt, tt)))))))))))))))),
+      a,
+      (
+        (omega arith, omega arith),
+        (
+          (omega arith, omega arith),
+          (
+            (omega arith, omega arith),
+            (
+              letter 70 (omega arith) (omega arith) (omega arith),
+              (
+                letter 76 (omega arith) (omega arith) (omega arith),
+                (
+                  letter 103 (omega arith) (omega arith) (omega arith),
+                  ((omega arith, omega arith), (a, (address, (letter 98 (omega arith) (omega arith) (omega arith), ((omega arith, omega arith), (tt, (tt, (tt, (tt, (tt, tt)))))))))),
+                ),
+              ),
+            ),
+          ),
+        ),
+      ),
     )
 fits Friendship i number few = ((omega arith, omega arith), ((omega arith, omega arith), ((omega arith, omega arith), ((omega arith, omega arith), ((omega arith, omega arith), ((omega arith, omega arith), tt))))))
 fits Forum i number few =
     ((omega arith, omega arith), ((omega arith, omega arith), ((omega arith, omega arith), ((omega arith, omega arith), (letter 84 (omega arith) (omega arith) (omega arith), ((omega arith, omega arith), ((omega arith, omega arith), (tt, tt))))))))
 fits Membership i number few = ((omega arith, omega arith), ((omega arith, omega arith), ((omega arith, omega arith), ((omega arith, omega arith), ((omega arith, omega arith), ((omega arith, omega arith), tt))))))
-fits Post i number few =
-    ((omega arith, omega arith), ((omega arith, omega arith), ((omega arith, omega arith), ((omega arith, omega arith), (none_plain, ((omega arith, omega arith),
-    (address, (letter 98 (omega arith) (omega arith) (omega arith), (letter 108 (omega arith) (omega arith) (omega arith), (letter 99 (omega arith) (omega arith) (omega arith),
-    ((omega arith, omega arith), ((omega arith, omega arith), ((omega arith, omega arith), ((omega arith, omega arith), (tt, tt)))))))))))))))
-fits Comment i number few =
-    ((omega arith, omega arith), ((omega arith, omega arith), ((omega arith, omega arith), ((omega arith, omega arith), ((omega arith, omega arith),
-    (address, (letter 98 (omega arith) (omega arith) (omega arith), (letter 99 (omega arith) (omega arith) (omega arith),
-    ((omega arith, omega arith), ((omega arith, omega arith), ((omega arith, omega arith), ((omega arith, omega arith), (tt, (tt, tt))))))))))))))
+fits Post i number few = (
+  (omega arith, omega arith),
+  (
+    (omega arith, omega arith),
+    (
+      (omega arith, omega arith),
+      (
+        (omega arith, omega arith),
+        (
+          none_plain,
+          (
+            (omega arith, omega arith),
+            (
+              address,
+              (
+                letter 98 (omega arith) (omega arith) (omega arith),
+                (
+                  letter 108 (omega arith) (omega arith) (omega arith),
+                  (
+                    letter 99 (omega arith) (omega arith) (omega arith),
+                    ((omega arith, omega arith), ((omega arith, omega arith), ((omega arith, omega arith), ((omega arith, omega arith), (tt, tt))))),
+                  ),
+                ),
+              ),
+            ),
+          ),
+        ),
+      ),
+    ),
+  ),
+)
+fits Comment i number few = (
+  (omega arith, omega arith),
+  (
+    (omega arith, omega arith),
+    (
+      (omega arith, omega arith),
+      (
+        (omega arith, omega arith),
+        (
+          (omega arith, omega arith),
+          (
+            address,
+            (
+              letter 98 (omega arith) (omega arith) (omega arith),
+              (
+                letter 99 (omega arith) (omega arith) (omega arith),
+                ((omega arith, omega arith), ((omega arith, omega arith), ((omega arith, omega arith), ((omega arith, omega arith), (tt, (tt, tt)))))),
+              ),
+            ),
+          ),
+        ),
+      ),
+    ),
+  ),
+)
 fits Like i number few = ((omega arith, omega arith), ((omega arith, omega arith), ((omega arith, omega arith), ((omega arith, omega arith), ((omega arith, omega arith), ((omega arith, omega arith), tt))))))
 
 of_two : (which : Seven) (i : ℕ) → 1 ≤ i → IsOfTwo (entry_of which i).op

@@ -5,7 +5,10 @@ use Rattle.snb_schema.specs.Frequencies.{FrequencyTable, frequency_at}
 use Rattle.snb_schema.specs.LineLanes.{update_count}
 use Rattle.snb_schema.specs.QueryLists.{HaveParameters, QueryLists}
 use Rattle.snb_schema.specs.StreamLines.{AreOfStreams}
-use Rattle.snb_trial.specs.Trial.{lanes, lists}
+use Rattle.snb_plan.specs.Closed.{IsClosed}
+use Rattle.snb_plan.specs.Plans.{IsPlan, Plan, updates_in}
+use Rattle.snb_tables.specs.Graphs.{HoldsKey}
+use Rattle.snb_trial.specs.Trial.{dataset, lanes, lists}
 
 -- the lanes are those of streams
 abbrev pub LanesAreOfStreams : Type 0
@@ -26,3 +29,9 @@ NamesTwo frequencies = (q : ℕ) → 0 < frequency_at frequencies q → (q ≡ 2
 -- the lists have a parameter for each query of such frequencies
 abbrev pub ListsAreEnough : Type 0
 ListsAreEnough = (n : ℕ) (frequencies : FrequencyTable) → NamesTwo frequencies → HaveParameters (lists n) frequencies
+
+-- the updates of each plan of the lanes are closed over the dataset
+abbrev pub UpdatesAreClosed : Type 0
+UpdatesAreClosed =
+    (n : ℕ) (asked : QueryLists) (frequencies : FrequencyTable) (ratio : ℕ) (plan : Plan)
+    → IsPlan (lanes n) asked frequencies ratio plan → IsClosed (HoldsKey dataset) (updates_in plan)

@@ -11,12 +11,7 @@ use snb_schema::op::Line;
 use std::alloc::{AllocError, Global};
 
 // Appends what a lane of persons has of an i.
-fn push_person(
-    alloc: Global,
-    lines: &mut Vec<Line>,
-    part: u64,
-    i: u64,
-) -> Result<(), AllocError>
+fn push_person(alloc: Global, lines: &mut Vec<Line>, part: u64, i: u64) -> Result<(), AllocError>
     requires few { i ≤ 5000 }
     requires room { length lines.old.items ≤ 25000 }
     ensures { OnOk result (lines.new.items ≡ lines.old.items ++ lines_from (length lines.old.items + 1) (person_lane part i)) }
@@ -31,12 +26,7 @@ fn push_person(
 }
 
 // Appends what a forum lane has of an i.
-fn push_forum(
-    alloc: Global,
-    lines: &mut Vec<Line>,
-    part: u64,
-    i: u64,
-) -> Result<(), AllocError>
+fn push_forum(alloc: Global, lines: &mut Vec<Line>, part: u64, i: u64) -> Result<(), AllocError>
     requires few { i ≤ 5000 }
     requires room { length lines.old.items ≤ 25000 }
     ensures { OnOk result (lines.new.items ≡ lines.old.items ++ lines_from (length lines.old.items + 1) (forum_lane part i)) }

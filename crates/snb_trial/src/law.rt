@@ -1,6 +1,6 @@
 //! Laws of the input of a formula workload.
 
-ghost use Rattle.snb_trial.specs.Laws.{LanesAreOfStreams, ListsAreEnough, SevenOfEach, UpdatesAreFew};
+ghost use Rattle.snb_trial.specs.Laws.{LanesAreOfStreams, ListsAreEnough, SevenOfEach, UpdatesAreClosed, UpdatesAreFew};
 
 use snb_fields::law::own_line;
 
@@ -20,4 +20,10 @@ pub fn seven_updates()
 /// The lists have a parameter for each query of frequencies that name 2 and 13 alone.
 pub fn lists_are_enough()
     ensures { ListsAreEnough }
+{}
+
+/// The updates of each plan of the lanes are closed over the dataset: each has a new key, and finds
+/// what it refers to in time.
+pub fn updates_are_closed()
+    ensures { UpdatesAreClosed }
 {}
