@@ -6,7 +6,7 @@ ghost use Rattle.snb_schema.specs.Schedule.{IsOperation};
 ghost use Rattle.snb_board.specs.Boards.{Sitting};
 ghost use Rattle.snb_plan.specs.Plans.{schedule_of};
 ghost use Rattle.snb_workers.specs.Replicas.{Taken};
-ghost use Rattle.snb_workers.specs.WorkTurns.{HasCome, HasFollowed, IsAbreast, IsAtWork, IsHolding, IsReady, TurnsOn};
+ghost use Rattle.snb_workers.specs.WorkTurns.{HasCome, HasFollowed, IsAbreast, IsAtWork, IsHolding, IsReadyFor, TurnsOn};
 ghost use Rattle.snb_workers.specs.Works.{AreTimely, HasStopped, HasWorked, IsFollowing, IsFree, IsLater};
 
 use crate::done::Done;
@@ -37,6 +37,7 @@ fn follow<R: Wait>(
     ensures followed { HasFollowed plan.now seat.old seat.new replica.old replica.new }
     ensures ok { OnOk result (IsAbreast plan.now seat.old seat.new replica.old replica.new) }
 {
+    // Called for what it ensures of the board, which `advance` asks: it has 1 to 8 workers.
     board.workers();
     let mut events = Vec::new(alloc);
     board.catch_up(rt, seat, replica.front(), &mut events)?;
@@ -58,7 +59,7 @@ fn make_ready<R: Wait>(
     requires following { (base : List Row) × IsFollowing base plan.now seat.old.seen replica.old }
     requires there { IsOperation (schedule_of plan.now) op }
     ensures followed { HasFollowed plan.now seat.old seat.new replica.old replica.new }
-    ensures ok { OnOk result (IsReady plan.now op seat.old seat.new replica.old replica.new) }
+    ensures ok { OnOk result (IsReadyFor plan.now op seat.old seat.new replica.old replica.new) }
 {
     match plan.task(op) {
         Task::Insert { .. } => Ok(()),
