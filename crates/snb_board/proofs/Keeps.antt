@@ -10,11 +10,12 @@ use prog.Atomic.{either}
 use Rattle.atomic_table.specs.Table.{State, step, Act, keeps, takes, gives, Valid, carried_after, stepped, Allows}
 use Rattle.atomic_table.proofs.Lists.{set_here, set_else, set_again, exchanged}
 use Rattle.snb_schema.specs.declared.event.Event.{Event}
+use Rattle.snb_schema.specs.declared.limits.TheConstants.{MAX_TIME}
 use Rattle.snb_schema.specs.Schedule.{Schedule}
 use Rattle.snb_schema.specs.Rules.{IsLegal}
 use Rattle.snb_book.specs.Kept.{Kept}
 use Rattle.snb_board.specs.Boards.{events_of}
-use Rattle.snb_board.proofs.Events.{events_of-push_other, reached-append}
+use Rattle.snb_board.proofs.Events.{events_of-push_other, reached-append, reached-small}
 use Rattle.snb_board.specs.declared.view.View.{View}
 use Rattle.snb_board.specs.declared.view.Phase.{Phase}
 use Rattle.snb_board.specs.declared.view.Phase.TheVariants.{Idle, Holding, Counted, Raised}
@@ -277,6 +278,20 @@ raising slots id me new is_counted one is s r _ at _ =
       refl,
     )
 
+-- what was published is at most one more than the greatest time
+reach_high : (s : St) (a : Kept) (reach : ℕ) (t : Turn) → Stands s a reach t → reach ≤ MAX_TIME + 1
+reach_high s a reach free st = subst (λ (n : ℕ). n ≤ MAX_TIME + 1) (sym st.3) (reached-small a.schedule a.history)
+reach_high s a reach (held i) st = by_phase st.2.0.phase st.2.4
+  where
+    high : (h : List Event) → reach ≡ reached a.schedule h → reach ≤ MAX_TIME + 1
+    high h is = subst (λ (n : ℕ). n ≤ MAX_TIME + 1) (sym is) (reached-small a.schedule h)
+
+    by_phase : (ph : Phase) → Shows a.schedule ph reach a.history → reach ≤ MAX_TIME + 1
+    by_phase Idle is = high a.history is
+    by_phase Holding is = high a.history is
+    by_phase Counted is = high is.0 is.3
+    by_phase Raised is = high a.history is
+
 -- a seat that has no turn loads the word
 pub loading : (slots id : ℕ) (me : Sat) → me.0.phase ≡ Idle → IsSingle me.0 → Allows IsRuled slots id me 2 (λ n. n) (loaded (step slots 2 0 0 none) me)
 loading slots id me idle one s r _ at _ =
@@ -287,6 +302,7 @@ loading slots id me idle one s r _ at _ =
     let ok = r.each_view id v at in
     let own = own_ok a r.made r.owner r.reach id v one ok in
     let told : told_of v.parts ≤ r.reach = own.told in
+    let high : r.reach ≤ MAX_TIME + 1 = reach_high s a r.reach r.turn r.stands in
     let same = ok.same (has_part v one) in
     let behind : reached v.schedule (seen_of v.parts) ≤ r.reach = subst (λ (t : Schedule). reached t (seen_of v.parts) ≤ r.reach) (sym same.0) (own.behind (subst IsShown (sym idle) tt)) in
     let w = viewing v.phase v.schedule v.workers v.made (telling n v.parts) in
@@ -319,5 +335,5 @@ loading slots id me idle one s r _ at _ =
             stands = idle_stands s a r.reach r.turn id v w idle idle at r.stands;
             each_view = each_set (ViewOk a r.made r.owner r.reach) s.views id w right (λ j u _ e. r.each_view j u e);
           },
-      (refl, omega arith, omega arith),
+      (refl, omega arith, omega arith, subst (λ (m : ℕ). m ≤ MAX_TIME + 1) (sym is) high),
     )

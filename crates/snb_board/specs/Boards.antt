@@ -5,6 +5,7 @@ use mathlib.Core.List.{IsPrefix}
 use Rattle.atomic_table.specs.Seated.{TableId}
 use Rattle.snb_schema.specs.declared.event.Event.{Event}
 use Rattle.snb_schema.specs.declared.event.Event.TheVariants.{Start, Finish, Halt}
+use Rattle.snb_schema.specs.declared.limits.TheConstants.{MAX_TIME}
 use Rattle.snb_schema.specs.Schedule.{Schedule}
 use Rattle.snb_schema.specs.History.{is_by}
 use Rattle.snb_schema.specs.Completion.{completion}
@@ -88,6 +89,17 @@ HasHalted s t = HasCalled s t (λ h added. added ≡ Halt s.worker ∷ [])
 -- nothing was added
 abbrev pub HasLooked : Sitting → Sitting → Type 0
 HasLooked s t = HasCalled s t (λ h added. added ≡ [])
+
+-- the seat was told this completion time, in milliseconds, and is otherwise as before: no less than what it was told before, nor than the
+-- completion time of what it has seen, and at most MAX_TIME
+pub record HasLearned (s t : Sitting) (time : ℤ) : Type 0 where
+  pub site : t.site ≡ s.site
+  pub worker : t.worker ≡ s.worker
+  pub seen : t.seen ≡ s.seen
+  pub told : t.told ≡ time
+  pub rises : s.told ≤ℤ time
+  pub known : completion s.site.schedule s.seen ≤ℤ time
+  pub bounded : time ≤ℤ pos MAX_TIME
 
 -- one seat for each worker, in order, of whom none has seen anything
 abbrev pub AreSeats : Site → List Sitting → Type 0

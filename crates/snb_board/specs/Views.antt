@@ -6,6 +6,7 @@ use lib.ListN.{get_elem?}
 use Rattle.atomic_table.specs.Table.{State, Me, Step, rest}
 use Rattle.snb_schema.specs.declared.event.Event.{Event}
 use Rattle.snb_schema.specs.declared.event.Event.TheVariants.{Start, Finish, Halt}
+use Rattle.snb_schema.specs.declared.limits.TheConstants.{MAX_TIME}
 use Rattle.snb_schema.specs.Schedule.{Schedule}
 use Rattle.snb_schema.specs.Completion.{is_awaited, least_t}
 use Rattle.snb_schema.specs.Rules.{IsLegal}
@@ -184,12 +185,13 @@ counted_one st m n m' = m' ≡ (posed Counted (history_in m.1) m.0, m.1)
 abbrev pub raised : At → Sat → ℕ → Sat → Type 0
 raised st m n m' = m' ≡ (posed Raised (seen_of m.0.parts) m.0, m.1)
 
--- the seat was told the word, which is no less than what it knew
+-- the seat was told the word, which is no less than what it knew, and at most one more than the greatest time
 abbrev pub loaded : At → Sat → ℕ → Sat → Type 0
 loaded st m n m' =
     (m' ≡ (viewing m.0.phase m.0.schedule m.0.workers m.0.made (telling n m.0.parts), m.1))
     × (told_of m.0.parts ≤ n)
     × (reached m.0.schedule (seen_of m.0.parts) ≤ n)
+    × (n ≤ MAX_TIME + 1)
 
 -- the turn was passed, with the slot
 abbrev pub passed : At → Sat → ℕ → Sat → Type 0

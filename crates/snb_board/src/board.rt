@@ -7,12 +7,12 @@ ghost use Rattle.snb_schema.specs.History.{halted};
 ghost use Rattle.snb_schema.specs.Rules.{IsFront, IsLegal};
 ghost use Rattle.snb_book.specs.Claims.{IfGo};
 ghost use Rattle.snb_book.specs.Kept.{IsInHand};
-ghost use Rattle.snb_board.specs.Boards.{site, mine, AreAll, AreMadeBy, AreSeats, HasClaimed, HasFinished, HasHalted, HasLooked, IsPartOf};
+ghost use Rattle.snb_board.specs.Boards.{site, mine, AreAll, AreMadeBy, AreSeats, HasClaimed, HasFinished, HasHalted, HasLearned, HasLooked, IsPartOf};
 ghost use Rattle.snb_board.specs.Steps.{IsSized, IsSeated, IsResting, is_go, part_of, with_parts};
 ghost use Rattle.snb_board.specs.Views.{first_view, kept};
 
 use crate::seat::Seat;
-use crate::steps::{gather, give, mint, reach_of, take};
+use crate::steps::{gather, give, load, mint, reach_of, take};
 use crate::view::{Place, Rule, Top, View};
 use atomic_table::Table;
 use snb_book::book::Book;
@@ -28,10 +28,10 @@ use std::sync::Wait;
 /// One book that threads share, each with a seat of its own.
 ///
 /// A board has one history, which is legal at all times. Each call is made by a seat of this board, and
-/// waits until no other call has the book. What it finds is a history that begins with all that the seat
-/// had seen; it answers, and adds its event, as the book does at that history, and the seat has then seen
-/// that history with the event. No other seat adds events of its worker. A board is seen as which board it
-/// is, its schedule, and its count of workers.
+/// all but `completion` wait until no other call has the book. What it finds is a history that begins with
+/// all that the seat had seen; it answers, and adds its event, as the book does at that history, and the
+/// seat has then seen that history with the event. No other seat adds events of its worker. A board is seen
+/// as which board it is, its schedule, and its count of workers.
 pub struct Board {
     table: Table<Option<Book>, View, Snapshot<Book>, Rule, Global>,
     workers: u32,
@@ -219,6 +219,20 @@ impl Board {
         give(&self.table.shared, &mut seat.place, book, false);
         added?;
         Ok(len)
+    }
+
+    /// The completion time that was published last, in milliseconds since 1970-01-01 UTC:
+    /// 253402300799999 where no dependency is awaited, -1 where one of time 0 is. Takes no memory, and
+    /// doesn't wait.
+    ///
+    /// It may be newer than what the seat has seen, and is never older. It passes no dependency that the
+    /// seat's next turn still finds unfinished: each of those has a later time. It never falls for one
+    /// seat. What the seat has seen stays as it was. The seat is one of this board's.
+    pub fn completion(&self, seat: &mut Seat) -> i64
+        requires { seat.old.site ≡ self.now }
+        ensures { HasLearned seat.old seat.new result }
+    {
+        load(&self.table.shared, &mut seat.place) as i64 - 1
     }
 
     /// The book, once no thread shares the board any more. Takes no memory, and doesn't wait.

@@ -1,6 +1,7 @@
 //! A turn: the book is taken out of its slot, and put back.
 
-ghost use Rattle.std.specs.Prelude.{◌≡◌, ◌<◌, ◌≤◌, length, [], ◌∷◌, ◌++◌, Some, None, true, false, MatchBool};
+ghost use Rattle.std.specs.Prelude.{◌≡◌, ◌+◌, ◌<◌, ◌≤◌, length, [], ◌∷◌, ◌++◌, Some, None, true, false, MatchBool};
+ghost use Rattle.snb_schema.specs.declared.limits.TheConstants.{MAX_TIME};
 ghost use Rattle.snb_schema.specs.Rules.{IsLegal};
 ghost use Rattle.snb_board.specs.Boards.{time_below};
 ghost use Rattle.snb_board.specs.Steps.{IsSized, IsSeated, IsResting, HoldsTurn, HasTurn, Grew, told_view};
@@ -98,6 +99,7 @@ pub(crate) fn load(top: &Top, place: &mut Place) -> u64
     ensures table { IsSeated place.old place.new }
     ensures rest { place.new.me ≡ (told_view place.old.me.0 result, []) }
     ensures known { (told_of place.old.me.0.parts ≤ result) × (reached place.old.me.0.schedule (seen_of place.old.me.0.parts) ≤ result) }
+    ensures bounded { result ≤ MAX_TIME + 1 }
 {
     top.load::<Load>(place, REACH)
 }

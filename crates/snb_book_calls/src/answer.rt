@@ -1,7 +1,7 @@
 //! The calls of this crate by their words. To add one, write a function for it, and name it here.
 
 use crate::books::{claim, complete, completion, events, finish, halt, make_book};
-use crate::plans::plan;
+use crate::plans::{long_plan, plan};
 use crate::state::State;
 use crate::tags::{add_tag, tags, take_tag};
 use crate::times::{end, flags_of, global, initiated, local, make_times, start};
@@ -73,6 +73,7 @@ pub fn answer(
 ) -> Result<Option<String>, Flaw> {
     let answered = match call {
         "schedule" => plan(alloc, state, files, rest),
+        "long_schedule" => long_plan(alloc, state, files, rest),
         _ => answer_of_book(alloc, state, call, rest),
     };
     match answered {

@@ -32,22 +32,22 @@ pub fn make_book(alloc: Global, state: &mut State, rest: &str) -> Result<String,
     }
 }
 
-// What a claim answers.
-fn told_claim(alloc: Global, claim: Claim) -> Result<String, AllocError> {
+/// What a claim answers.
+pub fn told_claim(alloc: Global, claim: Claim) -> Result<String, AllocError> {
     match claim {
         Claim::Halted => String::from_str(alloc, "halted"),
         Claim::AllStarted => String::from_str(alloc, "all started"),
-        Claim::Busy { op, holder } => Ok(format!(in alloc; "busy {op} {holder}")?),
-        Claim::NotDue { until } => Ok(format!(in alloc; "not due {until}")?),
+        Claim::Busy { op, holder } => format!(in alloc; "busy {op} {holder}"),
+        Claim::NotDue { until } => format!(in alloc; "not due {until}"),
         Claim::Go { ticket } => {
             let Ticket { op, worker, start } = ticket;
-            Ok(format!(in alloc; "go {op} {worker} {start}")?)
+            format!(in alloc; "go {op} {worker} {start}")
         }
         Claim::Blocked {
             op,
             needs,
             completion,
-        } => Ok(format!(in alloc; "blocked {op} {needs} {completion}")?),
+        } => format!(in alloc; "blocked {op} {needs} {completion}"),
     }
 }
 
@@ -170,24 +170,29 @@ pub fn completion(alloc: Global, state: &State, rest: &str) -> Result<String, Fl
 // An event.
 fn told_event(alloc: Global, event: &Event) -> Result<String, AllocError> {
     match event {
-        Event::Start { op, worker, at } => Ok(format!(in alloc; "start {op} {worker} {at}")?),
+        Event::Start { op, worker, at } => format!(in alloc; "start {op} {worker} {at}"),
         Event::Finish {
             op,
             worker,
             at,
             front,
-        } => Ok(format!(in alloc; "finish {op} {worker} {at} {front}")?),
-        Event::Halt { worker } => Ok(format!(in alloc; "halt {worker}")?),
+        } => format!(in alloc; "finish {op} {worker} {at} {front}"),
+        Event::Halt { worker } => format!(in alloc; "halt {worker}"),
     }
+}
+
+/// The events of a history.
+pub fn told_events(alloc: Global, events: &[Event]) -> Result<String, Flaw> {
+    let mut list = List::new(alloc);
+    for event in events {
+        let one = told_event(alloc, event)?;
+        list.add(one.as_str())?;
+    }
+    list.told(alloc)
 }
 
 /// `events`
 pub fn events(alloc: Global, state: &State, rest: &str) -> Result<String, Flaw> {
     nothing(rest)?;
-    let mut list = List::new(alloc);
-    for event in book_of(state)?.events() {
-        let one = told_event(alloc, event)?;
-        list.add(one.as_str())?;
-    }
-    list.told(alloc)
+    told_events(alloc, book_of(state)?.events())
 }

@@ -3,7 +3,7 @@
 #![tactic(auto)]
 
 pub mod answer;
-mod books;
+pub mod books;
 mod events;
 mod plans;
 pub mod state;

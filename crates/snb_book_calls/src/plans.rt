@@ -161,13 +161,31 @@ fn told_schedule(alloc: Global, schedule: &Schedule) -> Result<String, Flaw> {
     Ok(answer.told())
 }
 
-/// `schedule RATIO` or `schedule RATIO FREQUENCIES`
-pub fn plan(alloc: Global, state: &mut State, files: &Files, rest: &str) -> Result<String, Flaw> {
+// The schedule of what the files say, under the terms that the text spells.
+fn schedule_of(alloc: Global, files: &Files, rest: &str) -> Result<Schedule, Flaw> {
     let terms = terms_of(rest)?;
     let mut shelf = files.on_shelf(alloc, FOLDER)?;
     let plan = load_plan(alloc, &mut shelf, terms)?;
-    let schedule = plan.schedule().try_copy()?;
+    Ok(plan.schedule().try_copy()?)
+}
+
+/// `schedule RATIO` or `schedule RATIO FREQUENCIES`
+pub fn plan(alloc: Global, state: &mut State, files: &Files, rest: &str) -> Result<String, Flaw> {
+    let schedule = schedule_of(alloc, files, rest)?;
     let told = told_schedule(alloc, &schedule)?;
     state.schedule = Some(schedule);
     Ok(told)
+}
+
+/// `long_schedule RATIO` or `long_schedule RATIO FREQUENCIES`
+pub fn long_plan(
+    alloc: Global,
+    state: &mut State,
+    files: &Files,
+    rest: &str,
+) -> Result<String, Flaw> {
+    let schedule = schedule_of(alloc, files, rest)?;
+    let count = schedule.steps().len();
+    state.schedule = Some(schedule);
+    Ok(format!(in alloc; "{count} operations")?)
 }

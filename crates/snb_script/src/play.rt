@@ -1,11 +1,15 @@
 //! A script is played, line by line.
 
+ghost use denote.Param.Send.{IsSync};
+
 use crate::answer::{Answered, Form, form_of, wanted_line};
 use crate::case::Cases;
 use crate::files::Files;
 use crate::flaw::{Flaw, Stop};
 use crate::words::first_word;
 use std::alloc::{AllocError, Global};
+use std::sync::Wait;
+use std::thread::Threads;
 
 /// The calls that a script may make.
 pub trait Calls {
@@ -13,14 +17,18 @@ pub trait Calls {
     fn begin(&mut self, alloc: Global);
 
     /// Makes the call that begins with this word, over the files as they are, and tells what it answers;
-    /// None where there is no such call.
-    fn answer(
+    /// None where there is no such call. A call may start threads and wait for them.
+    ///
+    /// The condition says what the bound `Sync` does, which isn't at hand in a method of a trait.
+    fn answer<R: Threads + Wait + Sync>(
         &mut self,
+        rt: &R,
         alloc: Global,
         files: &Files,
         word: &str,
         rest: &str,
-    ) -> Result<Option<String>, Flaw>;
+    ) -> Result<Option<String>, Flaw>
+        requires shared { IsSync R.row };
 }
 
 /// What is printed of a script.
@@ -99,17 +107,27 @@ impl Player {
     }
 
     // The answer of a call.
-    fn answer<C: Calls>(&self, calls: &mut C, call: &str) -> Result<String, Flaw> {
+    fn answer<R: Threads + Wait + Sync, C: Calls>(
+        &self,
+        rt: &R,
+        calls: &mut C,
+        call: &str,
+    ) -> Result<String, Flaw> {
         let (word, rest) = first_word(call);
-        match calls.answer(self.alloc, &self.files, word, rest)? {
+        match calls.answer(rt, self.alloc, &self.files, word, rest)? {
             Some(came) => Ok(came),
             None => Err(Flaw::NoWord),
         }
     }
 
     // Makes a call that must answer nothing.
-    fn call_bare<C: Calls>(&self, calls: &mut C, call: &str) -> Result<(), Flaw> {
-        let came = self.answer(calls, call)?;
+    fn call_bare<R: Threads + Wait + Sync, C: Calls>(
+        &self,
+        rt: &R,
+        calls: &mut C,
+        call: &str,
+    ) -> Result<(), Flaw> {
+        let came = self.answer(rt, calls, call)?;
         if came.is_empty() {
             return Ok(());
         }
@@ -117,14 +135,15 @@ impl Player {
     }
 
     // Makes a call whose answer is compared.
-    fn call_answered<C: Calls>(
+    fn call_answered<R: Threads + Wait + Sync, C: Calls>(
         &mut self,
+        rt: &R,
         calls: &mut C,
         line: usize,
         call: &str,
         wanted: Option<&str>,
     ) -> Result<(), Flaw> {
-        let came = self.answer(calls, call)?;
+        let came = self.answer(rt, calls, call)?;
         let mut answered = Answered::new(self.alloc, line, call, came)?;
         if let Some(wanted) = wanted {
             answered.add_wanted(self.alloc, wanted)?;
@@ -134,7 +153,13 @@ impl Player {
     }
 
     // Makes the call of a line, unless the case differs already.
-    fn call<C: Calls>(&mut self, calls: &mut C, line: usize, text: &str) -> Result<(), Flaw> {
+    fn call<R: Threads + Wait + Sync, C: Calls>(
+        &mut self,
+        rt: &R,
+        calls: &mut C,
+        line: usize,
+        text: &str,
+    ) -> Result<(), Flaw> {
         if !self.cases.is_begun() {
             return Err(Flaw::NoCase);
         }
@@ -142,9 +167,9 @@ impl Player {
             return Ok(());
         }
         match form_of(text) {
-            Form::Bare { call } => self.call_bare(calls, call),
-            Form::Below { call } => self.call_answered(calls, line, call, None),
-            Form::Line { call, wanted } => self.call_answered(calls, line, call, Some(wanted)),
+            Form::Bare { call } => self.call_bare(rt, calls, call),
+            Form::Below { call } => self.call_answered(rt, calls, line, call, None),
+            Form::Line { call, wanted } => self.call_answered(rt, calls, line, call, Some(wanted)),
         }
     }
 
@@ -159,7 +184,13 @@ impl Player {
     }
 
     // Carries out a line.
-    fn take_line<C: Calls>(&mut self, calls: &mut C, line: usize, text: &str) -> Result<(), Flaw> {
+    fn take_line<R: Threads + Wait + Sync, C: Calls>(
+        &mut self,
+        rt: &R,
+        calls: &mut C,
+        line: usize,
+        text: &str,
+    ) -> Result<(), Flaw> {
         if let Some(wanted) = wanted_line(text) {
             return self.add_wanted(wanted);
         }
@@ -173,7 +204,7 @@ impl Player {
         }
         match self.files.take_line(word, rest) {
             Some(taken) => taken,
-            None => self.call(calls, line, text),
+            None => self.call(rt, calls, line, text),
         }
     }
 
@@ -188,11 +219,16 @@ impl Player {
     }
 
     // Carries out the lines of a script.
-    fn take_lines<C: Calls>(&mut self, calls: &mut C, script: &str) -> Result<(), Stop> {
+    fn take_lines<R: Threads + Wait + Sync, C: Calls>(
+        &mut self,
+        rt: &R,
+        calls: &mut C,
+        script: &str,
+    ) -> Result<(), Stop> {
         let mut line: usize = 0;
         for text in script.split('\n') {
             line = line.saturating_add(1);
-            match self.take_line(calls, line, text) {
+            match self.take_line(rt, calls, line, text) {
                 Ok(()) => {}
                 Err(flaw) => return Err(Stop { line, flaw }),
             }
@@ -218,9 +254,14 @@ impl Player {
 /// Plays a script with these calls, and tells what is to be printed of it. A case is played up to the
 /// first answer that isn't the wanted one; its lines about files are carried out all the same. A line
 /// that can't be carried out ends the script.
-pub fn play<C: Calls>(alloc: Global, calls: &mut C, script: &str) -> Result<Report, AllocError> {
+pub fn play<R: Threads + Wait + Sync, C: Calls>(
+    rt: &R,
+    alloc: Global,
+    calls: &mut C,
+    script: &str,
+) -> Result<Report, AllocError> {
     let mut player = Player::new(alloc);
-    match player.take_lines(calls, script) {
+    match player.take_lines(rt, calls, script) {
         Ok(()) => {
             let text = player.cases().counted()?;
             Ok(Report {

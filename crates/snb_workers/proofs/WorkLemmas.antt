@@ -1,6 +1,6 @@
 -- Facts on the turns of a worker at a board.
 use Rattle.std.proofs.Common.{◌≡◌, ◌∙◌, ℕ, ◌<◌, List, [], ◌∷◌, ◌++◌, length, Bool, true, false, cond, Option, Some, None, inl, inr, refl, sym, ap, subst, arith, append-nil}
-use Rattle.std.specs.Prelude.{AllPairs, Contains, IfSome, slice_get}
+use Rattle.std.specs.Prelude.{AllPairs, Contains, IfSome, ℤ, slice_get}
 use Rattle.std.proofs.lemmas.Bool.{eq-eqb}
 use Rattle.std.proofs.lemmas.List.Elements.{Contains-append_left}
 use Rattle.snb_base.proofs.Laws.{contains_cases}
@@ -16,7 +16,7 @@ use Rattle.snb_schema.proofs.Laws.{hand-push}
 use Rattle.snb_book.specs.declared.claim.Claim.TheVariants.{Halted, AllStarted, Go}
 use Rattle.snb_book.specs.declared.claim.Ticket.{Ticket}
 use Rattle.snb_book.specs.Kept.{IsInHand, moment_after}
-use Rattle.snb_board.specs.Boards.{HasCalled, HasClaimed, HasFinished, HasHalted, HasLooked, Site, Sitting, events_of, mine}
+use Rattle.snb_board.specs.Boards.{HasCalled, HasClaimed, HasFinished, HasHalted, HasLearned, HasLooked, Site, Sitting, events_of, mine, sitting}
 use Rattle.snb_plan.specs.Plans.{IsOfStreams, Plan, schedule_of}
 use Rattle.snb_workers.specs.declared.done.Answered.{Answered}
 use Rattle.snb_workers.specs.Replicas.{StandsFor, Taken}
@@ -128,6 +128,30 @@ module _ (plan : Plan) (fixed : Option ℕ) (first : Sitting) (old : Taken) (s t
       empty = ap (λ (l : List Event). hand l t.worker) (c.mine ∙ (ap (λ (l : List Event). mine s ++ l) none ∙ append-nil (mine s))) ∙ (ap (hand (mine s)) c.worker ∙ work.empty);
       replied = replied_followed plan fixed first old s t r r (followed_by_none plan s t r looked) work.come replies work.replied;
     }
+
+    -- and so does what the seat is then told of the completion time
+    pub at_work_told : (u : Sitting) (time : ℤ) → HasLearned t u time → IsAtWork plan fixed first old u r replies
+    at_work_told u time h = subst (λ (x : Site × ℕ × List Event). IsAtWork plan fixed first old (sitting x.0 x.1 x.2 u.told) r replies) (λ i. (sym h.site i, sym h.worker i, sym h.seen i)) same
+      where
+        still : IsAtWork plan fixed first old t r replies
+        still = at_work_still
+
+        come : HasCome plan fixed first old t r
+        come = still.come
+
+        same : IsAtWork plan fixed first old (sitting t.site t.worker t.seen u.told) r replies
+        same = record {
+          come = record {
+            schedule = come.schedule;
+            later = record { site = come.later.site; worker = come.later.worker; seen = come.later.seen; mine = come.later.mine };
+            running = come.running;
+            timely = come.timely;
+            some = come.some;
+            follows = come.follows;
+          };
+          empty = still.empty;
+          replied = record { answered = still.replied.answered; fronts = still.replied.fronts };
+        }
 
     found_is : t.seen ≡ c.found
     found_is = c.seen ∙ (ap (λ (l : List Event). c.found ++ l) none ∙ append-nil c.found)

@@ -8,10 +8,20 @@ use Rattle.snb_schema.specs.declared.row.Row.{Row}
 use Rattle.snb_board.specs.Boards.{Site, Sitting}
 use Rattle.snb_plan.specs.Plans.{Plan}
 use Rattle.snb_workers.specs.declared.crew.Left.{Left}
+use Rattle.snb_workers.specs.declared.crew.Made.{Made}
 use Rattle.snb_workers.specs.declared.crew.Post.{Post}
 use Rattle.snb_workers.specs.declared.done.Answered.{Answered}
 use Rattle.snb_workers.specs.Replicas.{Taken}
 use Rattle.snb_workers.specs.Works.{AreTimely, HasWorked, IsFollowing, IsFree, IsLater}
+
+-- the seat, with a replica of the base, where there was memory for one
+abbrev pub IsMade : List Row → Sitting → Made → Type 0
+IsMade base seat made = (made.seat ≡ seat) × IfOk made.replica (λ r. r ≡ record { graph = base; front = 0 })
+
+-- so of each seat
+pub record AreMade (base : List Row) (seats : List Sitting) (all : List Made) : Type 0 where
+  pub many : length all ≡ length seats
+  pub each : (k : ℕ) (d : Sitting) (e : Made) → k < length seats → IsMade base (slice_index_or seats k d) (slice_index_or all k e)
 
 -- a worker may work: it has its seat at the board, with nothing in hand, and a replica that follows what it has seen over some base
 pub record IsReady (plan : Plan) (z : Site) (post : Post) : Type 0 where

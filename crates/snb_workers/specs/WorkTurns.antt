@@ -60,6 +60,6 @@ pub record HasFollowed (plan : Plan) (s t : Sitting) (old new : Taken) : Type 0 
 abbrev pub IsAbreast : Plan → Sitting → Sitting → Taken → Taken → Type 0
 IsAbreast plan s t old new = (base : List Row) → IsFollowing base plan s.seen old → StandsFor base plan t.seen new
 
--- and where the operation is a read, it has
-abbrev pub IsReady : Plan → ℕ → Sitting → Sitting → Taken → Taken → Type 0
-IsReady plan op s t old new = (query : Query) → Asks plan op query → IsAbreast plan s t old new
+-- the replica is ready for the operation: where that is a read, it has come to all that the seat has seen
+abbrev pub IsReadyFor : Plan → ℕ → Sitting → Sitting → Taken → Taken → Type 0
+IsReadyFor plan op s t old new = (query : Query) → Asks plan op query → IsAbreast plan s t old new

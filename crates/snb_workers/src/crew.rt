@@ -6,7 +6,7 @@ ghost use Rattle.snb_tables.specs.Graphs.{HoldsKey};
 ghost use Rattle.snb_tables.specs.Soundness.{Sound};
 ghost use Rattle.snb_plan.specs.Closed.{IsClosed};
 ghost use Rattle.snb_plan.specs.Plans.{schedule_of, updates_in};
-ghost use Rattle.snb_workers.specs.Crews.{AllLeave, ArePartsOf, AreReady, IsReady, Leaves};
+ghost use Rattle.snb_workers.specs.Crews.{AllLeave, AreMade, ArePartsOf, AreReady, IsMade, IsReady, Leaves};
 ghost use Rattle.snb_workers.specs.Runs.{HasRun};
 
 use crate::done::{Answered, Done};
@@ -100,16 +100,73 @@ impl Left {
     }
 }
 
+// A seat, and a replica for its worker, where there was memory for one.
+struct Made {
+    seat: Seat,
+    replica: Result<Replica, AllocError>,
+}
+
+impl Drop for Made {
+    fn drop(self) {
+        let Made {
+            seat: _,
+            replica: _,
+        } = self;
+    }
+}
+
+impl Made {
+    // What the worker begins with, where there was memory for it.
+    fn into_post(self) -> Result<Post, AllocError>
+        ensures { IfOk result (λ post. (post.seat ≡ self.seat) × (self.replica ≡ Ok post.replica)) }
+    {
+        let Made { seat, replica } = self;
+        Ok(Post {
+            seat,
+            replica: replica?,
+        })
+    }
+}
+
+// A replica of the base for each seat, made in a thread of its own.
+fn make_all<R: Threads + Sync>(
+    rt: &R,
+    base: &Graph,
+    seats: Vec<Seat>,
+) -> Result<Vec<Made>, AllocError>
+    requires { Sound base.now }
+    ensures { IfOk result (λ made. AreMade base.now seats.items made.items) }
+{
+    thread::map_vec(
+        rt,
+        seats,
+        &|seat: Seat| -> Made
+            requires { Sound base.now }
+            ensures { IsMade base.entry.now seat result }
+        {
+            Made {
+                replica: Replica::new(base),
+                seat,
+            }
+        },
+    )
+}
+
 // A replica of the base for each seat.
-fn posts_of(alloc: Global, base: &Graph, seats: Vec<Seat>) -> Result<Vec<Post>, AllocError>
+fn posts_of<R: Threads + Sync>(
+    rt: &R,
+    alloc: Global,
+    base: &Graph,
+    seats: Vec<Seat>,
+) -> Result<Vec<Post>, AllocError>
     requires { Sound base.now }
     ensures seats { IfOk result (λ posts. map (λ post. post.seat) posts.items ≡ seats.items) }
     ensures replicas { IfOk result (λ posts. All (λ post. post.replica ≡ record { graph = base.now; front = 0 }) posts.items) }
 {
-    let mut posts = Vec::with_capacity(alloc, seats.len())?;
-    for seat in seats {
-        let replica = Replica::new(base)?;
-        posts.push(Post { seat, replica })?;
+    let made = make_all(rt, base, seats)?;
+    let mut posts = Vec::with_capacity(alloc, made.len())?;
+    for one in made {
+        posts.push(one.into_post()?)?;
     }
     Ok(posts)
 }
@@ -203,7 +260,7 @@ pub fn run_workers<R: Threads + Wait + Sync, C: Clock + Sync, G: Gate + Sync>(
     hand_is_own();
     prefix_is_legal();
     let (board, seats) = Board::make(alloc, plan.schedule(), workers)?;
-    let posts = posts_of(alloc, base, seats)?;
+    let posts = posts_of(rt, alloc, base, seats)?;
     let lefts = work_all(rt, alloc, &board, plan, posts, clock, gate)?;
     let (seats, replies, mut replica) = parts_of(alloc, lefts)?;
     let book = board.close(seats);

@@ -3,10 +3,10 @@
 ghost use Rattle.std.specs.Prelude.{◌≡◌, List, IfOk, IfSome, OnErr, OnOk, length};
 ghost use Rattle.snb_schema.specs.declared.row.Row.{Row};
 ghost use Rattle.snb_schema.specs.Schedule.{IsOperation};
-ghost use Rattle.snb_board.specs.Boards.{Sitting};
+ghost use Rattle.snb_board.specs.Boards.{HasLearned, Sitting};
 ghost use Rattle.snb_plan.specs.Plans.{schedule_of};
 ghost use Rattle.snb_workers.specs.Replicas.{Taken};
-ghost use Rattle.snb_workers.specs.WorkTurns.{HasCome, HasFollowed, IsAbreast, IsAtWork, IsHolding, IsReady, TurnsOn};
+ghost use Rattle.snb_workers.specs.WorkTurns.{HasCome, HasFollowed, IsAbreast, IsAtWork, IsHolding, IsReadyFor, TurnsOn};
 ghost use Rattle.snb_workers.specs.Works.{AreTimely, HasStopped, HasWorked, IsFollowing, IsFree, IsLater};
 
 use crate::done::Done;
@@ -37,6 +37,7 @@ fn follow<R: Wait>(
     ensures followed { HasFollowed plan.now seat.old seat.new replica.old replica.new }
     ensures ok { OnOk result (IsAbreast plan.now seat.old seat.new replica.old replica.new) }
 {
+    // Called for what it ensures of the board, which `advance` asks: it has 1 to 8 workers.
     board.workers();
     let mut events = Vec::new(alloc);
     board.catch_up(rt, seat, replica.front(), &mut events)?;
@@ -58,7 +59,7 @@ fn make_ready<R: Wait>(
     requires following { (base : List Row) × IsFollowing base plan.now seat.old.seen replica.old }
     requires there { IsOperation (schedule_of plan.now) op }
     ensures followed { HasFollowed plan.now seat.old seat.new replica.old replica.new }
-    ensures ok { OnOk result (IsReady plan.now op seat.old seat.new replica.old replica.new) }
+    ensures ok { OnOk result (IsReadyFor plan.now op seat.old seat.new replica.old replica.new) }
 {
     match plan.task(op) {
         Task::Insert { .. } => Ok(()),
@@ -96,6 +97,25 @@ fn do_claimed<R: Wait, C: Clock, G: Gate>(
     Ok(())
 }
 
+// Rests for the least while, since another worker may finish what is waited for at any moment; but not
+// at all where the completion time that was published since has come to what is needed.
+fn wait_for<R: Wait, C: Clock>(
+    rt: &R,
+    board: &Board,
+    seat: &mut Seat,
+    clock: &C,
+    now: u64,
+    needs: u64,
+)
+    requires { seat.old.site ≡ board.now }
+    ensures { HasLearned seat.old seat.new seat.new.told }
+{
+    let completion = board.completion(seat);
+    if completion < 0 || (completion as u64) < needs {
+        clock.rest(rt, now.saturating_add(1));
+    }
+}
+
 // Claims an operation, does it and finishes it; or rests where none may start now.
 fn take_turn<R: Wait, C: Clock, G: Gate>(
     rt: &R,
@@ -125,9 +145,8 @@ fn take_turn<R: Wait, C: Clock, G: Gate>(
             clock.rest(rt, until);
             Ok(Turn::More)
         }
-        // The least while, since another worker may finish what is waited for at any moment.
-        Claim::Blocked { .. } => {
-            clock.rest(rt, now.saturating_add(1));
+        Claim::Blocked { needs, .. } => {
+            wait_for(rt, board, seat, clock, now, needs);
             Ok(Turn::More)
         }
         Claim::Busy { .. } => {

@@ -1,5 +1,6 @@
+use Rattle.std.proofs.Common.{◌∙◌}
 use Rattle.snb_workers.proofs.Following.{on_err}
-use Rattle.snb_workers.proofs.WorkLemmas.{at_work_still, holds_now, over_halted, over_started}
+use Rattle.snb_workers.proofs.WorkLemmas.{at_work_still, at_work_told, holds_now, over_halted, over_started}
 use Rattle.snb_workers.proofs.work.take_turn.Goals as goal
 
 pub do_claimed-requires-clause-holding : goal.do_claimed-requires-clause-holding
@@ -30,9 +31,13 @@ pub returns-in-NotDue-clause-ok : goal.returns-in-NotDue-clause-ok
 returns-in-NotDue-clause-ok g c = λ first old work.
     at_work_still c.args.plan.now (g.C.Clock.fixed c.args.clock.now) first old c.args.seat.now c.claim.new.seat c.args.replica.now c.args.replies.now work c.in-NotDue.ensures.call c.in-NotDue.ensures.call.is_so.1
 
+pub wait_for-requires : goal.wait_for-requires
+wait_for-requires g c = c.in-Blocked.ensures.call.site ∙ c.requires.board
+
 pub returns-in-Blocked-clause-ok : goal.returns-in-Blocked-clause-ok
 returns-in-Blocked-clause-ok g c = λ first old work.
-    at_work_still c.args.plan.now (g.C.Clock.fixed c.args.clock.now) first old c.args.seat.now c.claim.new.seat c.args.replica.now c.args.replies.now work c.in-Blocked.ensures.call c.in-Blocked.ensures.call.is_so.1
+    at_work_told c.args.plan.now (g.C.Clock.fixed c.args.clock.now) first old c.args.seat.now c.claim.new.seat c.args.replica.now c.args.replies.now work c.in-Blocked.ensures.call c.in-Blocked.ensures.call.is_so.1 c.wait_for.new.seat
+    c.wait_for.new.seat.told c.wait_for.ensures
 
 pub returns-in-Busy-clause-ok : goal.returns-in-Busy-clause-ok
 returns-in-Busy-clause-ok g c = λ first old work.
