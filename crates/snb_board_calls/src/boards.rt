@@ -192,6 +192,31 @@ pub fn two_seats<R: Wait>(
     }
 }
 
+// What the seat of worker 1, which sees nothing, is told of the completion time before worker 0 has claimed and
+// finished an insert, and after that.
+fn told_word<R: Wait>(rt: &R, alloc: Global, schedule: &Schedule) -> Result<String, Flaw> {
+    let (board, mut zero, mut one) = pair(alloc, schedule)?;
+    let before = board.completion(&mut one);
+    let claim = board.claim(rt, &mut zero, 0);
+    finish_insert(rt, &board, schedule, &mut zero, claim, 1000)?;
+    let after = board.completion(&mut one);
+    Ok(format!(in alloc; "{before}, then {after}")?)
+}
+
+/// `fresh_word`
+pub fn fresh_word<R: Wait>(
+    rt: &R,
+    alloc: Global,
+    state: &State,
+    rest: &str,
+) -> Result<String, Flaw> {
+    nothing(rest)?;
+    match &state.schedule {
+        Some(schedule) => told_word(rt, alloc, schedule),
+        None => Err(Flaw::OtherValue),
+    }
+}
+
 // Claims at the moment and finishes what the worker was given, until all is started, somebody has halted,
 // what comes next isn't due, or it is a read.
 fn work<R: Wait>(rt: &R, board: &Board, schedule: &Schedule, seat: &mut Seat, now: u64)

@@ -150,9 +150,9 @@ fn answer<
 ///   `IC13`, with as many parameters as it has: an id of a person or a message for a short read, of a
 ///   person first for a complex one; then a first name for `IC1`, a date for `IC2` and `IC9`, the name of
 ///   a country and a year for `IC11`, and a second person for `IC13`.
-/// - `trial N W` runs a workload made by a formula, of size N, 1 to 5000, by W workers, 1 to 8, and writes what
-///   `run` writes. No file is read, and the shelf is as it was. The dataset has 10 rows, and for each number
-///   from 1 to N there are seven updates: a person, a friendship, a forum, a membership, a post, a comment and a
+/// - `trial SIZE N` runs a workload made by a formula, of this size, 1 to 5000, by N workers, 1 to 8, and writes
+///   what `run` writes. No file is read, and the shelf is as it was. The dataset has 10 rows, and for each number
+///   from 1 to SIZE there are seven updates: a person, a friendship, a forum, a membership, a post, a comment and a
 ///   like. Every tenth update goes with a read of query 2, and every seventh with one of query 13.
 ///
 /// No word is empty, and none but an option's name begins with `-`. The options follow all other words, each

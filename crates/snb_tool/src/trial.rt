@@ -44,12 +44,14 @@ fn input_of_size(alloc: Global, size: u32) -> Result<Input, AllocError>
 
 /// Runs the formula workload of a size by so many workers, each in a thread of its own, writes the texts of
 /// the run, and gives the status. No file is read.
-pub fn trial<
-    R: AllocGlobal + Threads + Wait + Sync,
-    O: Outbox,
-    C: Clock + Sync,
-    G: Gate + Sync,
->(rt: &R, size: u32, workers: u32, out: &mut O, clock: &C, gate: &G) -> u8
+pub fn trial<R: AllocGlobal + Threads + Wait + Sync, O: Outbox, C: Clock + Sync, G: Gate + Sync>(
+    rt: &R,
+    size: u32,
+    workers: u32,
+    out: &mut O,
+    clock: &C,
+    gate: &G,
+) -> u8
     requires some { 1 ≤ size }
     requires few { size ≤ MAX_TRIAL }
     requires workers { 1 ≤ workers }

@@ -16,7 +16,7 @@ use Rattle.snb_schema.specs.QueryLists.{QueryLists}
 
 -- ---- the dataset
 
--- its rows, in the order of a graph
+-- its ten rows, in the order of a graph
 abbrev pub dataset : List Row
 dataset =
     row.Place (record { id = 0; name = codes "a"; url = codes "u"; kind = codes "city" })

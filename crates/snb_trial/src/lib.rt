@@ -6,5 +6,5 @@ mod entries;
 mod lanes;
 pub mod law;
 mod lists;
-pub mod trial;
 pub mod terms;
+pub mod trial;

@@ -70,7 +70,7 @@ pub enum Command {
         /// The read, with its parameters.
         query: Query,
     },
-    /// `trial N W`.
+    /// `trial SIZE N`.
     Trial {
         /// The size of the workload, from 1 to `MAX_TRIAL`.
         size: u32,
