@@ -9,6 +9,8 @@ use snb_script::play::{Calls, play};
 use std::alloc::Global;
 use std::io;
 use std::process::ExitCode;
+use std::sync::Wait;
+use std::thread::Threads;
 
 // What the calls of a case are made on, for each crate of calls that keeps something.
 struct Every {
@@ -44,8 +46,9 @@ impl Calls for Every {
         *self = Every::new(alloc);
     }
 
-    fn answer(
+    fn answer<R: Threads + Wait + Sync>(
         &mut self,
+        rt: &R,
         alloc: Global,
         files: &Files,
         word: &str,
@@ -78,6 +81,12 @@ impl Calls for Every {
         )? {
             return Ok(Some(answer));
         }
+        if let Some(answer) = snb_board_calls::answer::answer(rt, alloc, &self.book, word, rest)? {
+            return Ok(Some(answer));
+        }
+        if let Some(answer) = snb_worker_calls::answer::answer(rt, alloc, files, word, rest)? {
+            return Ok(Some(answer));
+        }
         if let Some(answer) = snb_word_calls::answer::answer(alloc, word, rest)? {
             return Ok(Some(answer));
         }
@@ -89,10 +98,10 @@ impl Calls for Every {
 }
 
 // Plays the script, and prints what came of it. Tells whether each line was carried out.
-fn play_input<R: AllocGlobal + Input + Print>(rt: &R) -> io::Result<bool> {
+fn play_input<R: AllocGlobal + Input + Print + Threads + Wait + Sync>(rt: &R) -> io::Result<bool> {
     let script = io::read_to_string(rt.alloc(), rt.reader())?;
     let mut every = Every::new(rt.alloc());
-    let report = play(rt.alloc(), &mut every, script.as_str())?;
+    let report = play(rt, rt.alloc(), &mut every, script.as_str())?;
     let text = report.text.as_str();
     print!(rt; "{text}")?;
     Ok(report.is_whole)

@@ -17,8 +17,8 @@ fn frequencies_of(text: &str) -> Result<Frequencies, Flaw> {
     Frequencies::read(text.as_bytes()).ok_or(Flaw::NoFrequencies)
 }
 
-// The ratio and the frequencies that the text spells.
-fn terms_of(text: &str) -> Result<Terms, Flaw> {
+/// The ratio and the frequencies that the text spells.
+pub fn terms_of(text: &str) -> Result<Terms, Flaw> {
     let (ratio, frequencies) = first_word(text);
     let ratio = Ratio::read(ratio.as_bytes()).ok_or(Flaw::NoRatio)?;
     let frequencies = frequencies_of(frequencies)?;

@@ -2,5 +2,5 @@
 #![tactic(auto)]
 
 pub mod calls;
-mod planned;
+pub mod planned;
 mod tell;

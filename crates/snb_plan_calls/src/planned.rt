@@ -1,10 +1,11 @@
 //! The plan of a folder.
 
-ghost use Rattle.std.specs.Prelude.{◌≤◌};
+ghost use Rattle.std.specs.Prelude.{◌≤◌, IfOk};
 ghost use Rattle.snb_schema.specs.declared.limits.TheConstants.{MAX_BYTES, MAX_ROWS};
 ghost use Rattle.snb_schema.specs.LineLanes.{update_count};
 ghost use Rattle.snb_schema.specs.QueryLists.{HaveParameters};
 ghost use Rattle.snb_schema.specs.StreamLines.{AreOfStreams};
+ghost use Rattle.snb_tables.specs.Soundness.{Sound};
 
 use snb_base::memory_shelf::MemoryShelf;
 use snb_graph::graph::Graph;
@@ -112,6 +113,8 @@ fn with_plan(
 ) -> Result<Planned, Load>
     requires bytes { used.old.bytes ≤ MAX_BYTES }
     requires rows { used.old.rows ≤ MAX_ROWS }
+    requires sound { Sound graph }
+    ensures { IfOk result (λ planned. Sound planned.graph) }
 {
     match load_plan(alloc, shelf, used, terms) {
         Ok(plan) => Ok(Planned { graph, plan }),
@@ -120,7 +123,9 @@ fn with_plan(
 }
 
 // The dataset of the folder, and its plan.
-fn load_from(alloc: Global, shelf: &mut MemoryShelf, terms: Terms) -> Result<Planned, Load> {
+fn load_from(alloc: Global, shelf: &mut MemoryShelf, terms: Terms) -> Result<Planned, Load>
+    ensures { IfOk result (λ planned. Sound planned.graph) }
+{
     let mut used = Used { bytes: 0, rows: 0 };
     match load_dataset(alloc, shelf, FOLDER, &mut used) {
         Ok(graph) => with_plan(alloc, shelf, graph, &mut used, terms),
@@ -129,12 +134,15 @@ fn load_from(alloc: Global, shelf: &mut MemoryShelf, terms: Terms) -> Result<Pla
 }
 
 /// The dataset of the files, and its plan. What comes first is refused first: the tables, the streams,
-/// the parameters, and then the plan.
+/// the parameters, and then the plan. The dataset is sound; whether the plan is closed over it isn't
+/// looked at.
 pub fn load_planned(
     alloc: Global,
     files: &Files,
     terms: Terms,
-) -> Result<Result<Planned, Load>, Flaw> {
+) -> Result<Result<Planned, Load>, Flaw>
+    ensures { IfOk result (λ loaded. IfOk loaded (λ planned. Sound planned.graph)) }
+{
     let mut shelf = files.on_shelf(alloc, FOLDER)?;
     Ok(load_from(alloc, &mut shelf, terms))
 }
