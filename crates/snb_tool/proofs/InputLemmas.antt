@@ -124,10 +124,14 @@ bad_cases_once one each held beside r q a b =
     each.cases a.graph beside r q a.refused
     (subst (λ (g : List Row). FirstOf (cases_checks g beside) q) (one.dataset at_first held b.graph a.graph b.dataset a.dataset) b.refused)
 
+-- where nothing is tried nothing is refused
+no_checks : RefuseOnce []
+no_checks = record { one = λ r q p s. absurd p; or_not = λ r p none. absurd p }
+
 -- the checks of a command give one refusal at most
 pub once : AreOne → RefuseEachOnce → (command : Command) (found : Found) → RefuseOnce (checks_of command found)
 once one each (Read folder query) found = each.dataset at_first found.held
-once one each (Trial size workers) found = λ r q a b. absurd a
+once one each (Trial size workers) found = no_checks
 once one each (Check folder table) found = plan_once one 1000000 table found.held each
 once one each (Run folder workers ratio table) found = plan_once one ratio table found.held each
 once one each (Audit folder log ratio table) found = once_append (plan_checks ratio table found.held) (log_checks found.beside) (plan_once one ratio table found.held each) (each.log found.beside)

@@ -4,3 +4,4 @@ pub mod OutcomeLemmas
 pub mod Writing
 pub mod ExpectLemmas
 pub mod ValidLemmas
+pub mod TrialLemmas

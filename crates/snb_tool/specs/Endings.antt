@@ -39,7 +39,7 @@ use Rattle.snb_checker.specs.declared.text.Tally.{Tally}
 use Rattle.snb_expect.specs.Expected.{AreExpected, AreReadBack, HaveWords}
 use Rattle.snb_checker.specs.CasesFile.{IsTally}
 use Rattle.snb_tables.specs.Soundness.{Sound}
-use Rattle.snb_trial.specs.Trial.{dataset, frequencies, lanes, lists, ratio}
+use Rattle.snb_trial.specs.Trial.{dataset, lanes, least_ratio, lists, read_frequencies}
 use Rattle.snb_tool.specs.Inputs.{AreBadCases, IsInput, at_first, plan_checks}
 use Rattle.snb_tool.specs.Outcome.{IsJudged, expected_texts, reply_line}
 use Rattle.snb_tool.specs.Output.{HasBegun, Wrote, on_screen}
@@ -93,7 +93,7 @@ IsInputAnswer contents folder ratio frequencies (Err Memory) = Unit {0}
 -- the dataset and a plan of the formula workload of a size, which is closed over it
 pub record IsTrialInput (size : ℕ) (input : Input) : Type 0 where
   pub same : input.graph ≡ dataset
-  pub is_plan : IsPlan (lanes size) (lists size) frequencies ratio input.plan
+  pub is_plan : IsPlan (lanes size) (lists size) read_frequencies least_ratio input.plan
   pub closed : IsClosed (HoldsKey input.graph) (updates_in input.plan)
   pub sound : Sound input.graph
 

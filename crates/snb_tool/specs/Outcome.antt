@@ -30,7 +30,7 @@ use Rattle.snb_schema.specs.ScreenTexts.{refusal_text, summary_text, usage_text}
 use Rattle.snb_tables.specs.FinalText.{final_text}
 use Rattle.snb_texts.specs.Answers.{answers_text}
 use Rattle.snb_texts.specs.Counts.{check_text}
-use Rattle.snb_trial.specs.Trial.{dataset, frequencies, lanes, lists, ratio}
+use Rattle.snb_trial.specs.Trial.{dataset, lanes, least_ratio, lists, read_frequencies}
 use Rattle.snb_validation.specs.ReplyData.{reply_data}
 use Rattle.snb_workers.specs.declared.done.Answered.{Answered}
 use Rattle.snb_workers.specs.Runs.{HasRun}
@@ -86,7 +86,7 @@ pub record IsRun (held : Held) (workers ratio : ℕ) (frequencies : FrequencyTab
 -- the texts are what a run by so many workers leaves of the formula workload of a size: of the plan of its lanes and lists over its dataset
 pub record IsTried (size workers : ℕ) (fixed : Option ℕ) (texts : Written) : Type 0 where
   pub plan : Plan
-  pub is_plan : IsPlan (lanes size) (lists size) frequencies ratio plan
+  pub is_plan : IsPlan (lanes size) (lists size) read_frequencies least_ratio plan
   pub left : IsLeft workers dataset plan fixed texts
 
 -- nothing is wrong with the files of a plan, these bytes are a log that says so many workers and a history, and the history has this verdict on

@@ -1,12 +1,12 @@
 -- The texts of the frequencies and of the ratio, and that they are said so.
-use Rattle.std.proofs.Common.{◌≡◌, ◌<◌, ◌≤◌, ℕ, zero, suc, List, [], ◌∷◌, ◌==◌, ◌⊎◌, Bool, true, false, if◌then◌else◌, inl, inr, refl, arith, codes}
+use Rattle.std.proofs.Common.{◌≡◌, ◌<◌, ℕ, zero, suc, List, [], ◌∷◌, ◌==◌, ◌⊎◌, Bool, true, false, if◌then◌else◌, inl, inr, refl, arith, codes}
 use Rattle.std.specs.List.Sorted.{IsStrictlyIncreasing}
 use Rattle.snb_base.specs.Spellings.{Num}
 use Rattle.snb_ratio.specs.Ratios.{SpellsRatio}
-use Rattle.snb_schema.specs.Frequencies.{FrequencyTable, HasFrequencies, SpellsFrequencies, SpellsFrequency, frequency_at}
+use Rattle.snb_schema.specs.Frequencies.{FrequencyTable, HasFrequencies, SpellsFrequencies, SpellsFrequency}
 use Rattle.std.proofs.lemmas.Bool.{eqb-true}
 use Rattle.snb_trial.specs.Laws.{NamesTwo}
-use Rattle.snb_trial.specs.Trial.{frequencies, ratio}
+use Rattle.snb_trial.specs.Trial.{least_ratio, read_frequencies}
 
 abbrev pub pairs : List (ℕ × ℕ)
 pairs = (2, 10) ∷ (13, 7) ∷ []
@@ -42,11 +42,11 @@ pub frequencies_said : SpellsFrequencies (codes "2:10,13:7") pairs
 frequencies_said = record { spelled = (two, (thirteen, tt)); rising = two_rise 2 13 (omega arith) }
 
 -- a table that has just these is the workload's
-pub table_is : (table : FrequencyTable) → HasFrequencies table pairs → table ≡ frequencies
+pub table_is : (table : FrequencyTable) → HasFrequencies table pairs → table ≡ read_frequencies
 table_is table p = λ i. record { one = p 1 i; two = p 2 i; seven = p 7 i; eight = p 8 i; nine = p 9 i; eleven = p 11 i; thirteen = p 13 i }
 
 -- and the ratio's text
-pub ratio_said : SpellsRatio (codes "0.000001") ratio
+pub ratio_said : SpellsRatio (codes "0.000001") least_ratio
 ratio_said = (
   omega arith,
   omega arith,
@@ -80,7 +80,7 @@ by_tests false false false false false false true lt = inr refl
 by_tests false false false false false false false lt = absurd (omega (arith, lt))
 
 -- no query but 2 and 13 has a frequency
-pub names_two : NamesTwo frequencies
+pub names_two : NamesTwo read_frequencies
 names_two q lt = elim (by_tests (q == 1) (q == 2) (q == 7) (q == 8) (q == 9) (q == 11) (q == 13) lt) [
   | inl two ↦ inl (eqb-true q 2 two)
   | inr thirteen ↦ inr (eqb-true q 13 thirteen)

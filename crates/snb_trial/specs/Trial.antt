@@ -134,9 +134,9 @@ lists n = record {
 -- ---- the plan
 
 -- a read of query 2 goes with every tenth update, and one of query 13 with every seventh
-abbrev pub frequencies : FrequencyTable
-frequencies = record { one = 0; two = 10; seven = 0; eight = 0; nine = 0; eleven = 0; thirteen = 7 }
+abbrev pub read_frequencies : FrequencyTable
+read_frequencies = record { one = 0; two = 10; seven = 0; eight = 0; nine = 0; eleven = 0; thirteen = 7 }
 
 -- the ratio, in millionths: the least
-abbrev pub ratio : ℕ
-ratio = 1
+abbrev pub least_ratio : ℕ
+least_ratio = 1

@@ -2,7 +2,7 @@
 
 ghost use Rattle.std.specs.Prelude.{◌≡◌};
 ghost use Rattle.snb_trial.specs.Laws.{NamesTwo};
-ghost use Rattle.snb_trial.specs.Trial.{frequencies, ratio};
+ghost use Rattle.snb_trial.specs.Trial.{least_ratio, read_frequencies};
 
 use snb_ratio::law::one_ratio;
 use snb_ratio::ratio::Ratio;
@@ -11,7 +11,7 @@ use snb_schema::law::frequencies_are_one;
 
 /// A read of query 2 goes with every tenth update, and one of query 13 with every seventh.
 pub fn trial_frequencies() -> Frequencies
-    ensures value { result ≡ frequencies }
+    ensures value { result ≡ read_frequencies }
     ensures names { NamesTwo result }
 {
     frequencies_are_one();
@@ -23,7 +23,7 @@ pub fn trial_frequencies() -> Frequencies
 
 /// The least ratio, a millionth.
 pub fn trial_ratio() -> Ratio
-    ensures { result ≡ ratio }
+    ensures { result ≡ least_ratio }
 {
     one_ratio();
     match Ratio::read(b"0.000001") {

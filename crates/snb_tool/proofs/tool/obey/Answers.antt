@@ -8,10 +8,17 @@ run-requires-clause-workers g c = λ κs lives. (subst IsRunnable c.in-Run.is c.
 pub run-requires-clause-few : goal.run-requires-clause-few
 run-requires-clause-few g c = λ κs lives. (subst IsRunnable c.in-Run.is c.requires.runnable).1
 
-pub trial-requires : goal.trial-requires
-trial-requires g c =
-    let is = subst IsRunnable c.in-Trial.is c.requires.runnable in
-    record { some = is.0; few = is.1; workers = is.2; crew = is.3 }
+pub trial-requires-clause-some : goal.trial-requires-clause-some
+trial-requires-clause-some g c = λ κs lives. (subst IsRunnable c.in-Trial.is c.requires.runnable).0
+
+pub trial-requires-clause-few : goal.trial-requires-clause-few
+trial-requires-clause-few g c = λ κs lives. (subst IsRunnable c.in-Trial.is c.requires.runnable).1
+
+pub trial-requires-clause-workers : goal.trial-requires-clause-workers
+trial-requires-clause-workers g c = λ κs lives. (subst IsRunnable c.in-Trial.is c.requires.runnable).2
+
+pub trial-requires-clause-crew : goal.trial-requires-clause-crew
+trial-requires-clause-crew g c = λ κs lives. (subst IsRunnable c.in-Trial.is c.requires.runnable).3
 
 pub returns-in-Trial-clause-ends : goal.returns-in-Trial-clause-ends
 returns-in-Trial-clause-ends g c = rw c.in-Trial.is (c.trial.ensures.ends (g.S.Shelf.contents c.args.shelf.now) (g.S.Shelf.faults c.args.shelf.now))
