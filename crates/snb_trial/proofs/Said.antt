@@ -1,7 +1,6 @@
 -- The texts of the frequencies and of the ratio, and that they are said so.
 use Rattle.std.proofs.Common.{◌≡◌, ◌<◌, ℕ, zero, suc, List, [], ◌∷◌, ◌==◌, ◌⊎◌, Bool, true, false, if◌then◌else◌, inl, inr, refl, arith, codes}
 use Rattle.std.specs.List.Sorted.{IsStrictlyIncreasing}
-use Rattle.snb_base.specs.Spellings.{Num}
 use Rattle.snb_ratio.specs.Ratios.{SpellsRatio}
 use Rattle.snb_schema.specs.Frequencies.{FrequencyTable, HasFrequencies, SpellsFrequencies, SpellsFrequency}
 use Rattle.std.proofs.lemmas.Bool.{eqb-true}

@@ -16,6 +16,19 @@ use Rattle.snb_schema.specs.QueryLists.{QueryLists}
 
 -- ---- the dataset
 
+-- person 0
+abbrev pub first_person : Row
+first_person = row.Person (record {
+  id = 0;
+  first_name = codes "F";
+  last_name = codes "L";
+  gender = codes "g";
+  birthday = 0;
+  creation_date = 0;
+  location_ip = codes "0.0.0.0";
+  browser_used = codes "b";
+})
+
 -- its ten rows, in the order of a graph
 abbrev pub dataset : List Row
 dataset =
@@ -24,16 +37,7 @@ dataset =
     ∷ row.TagClass (record { id = 0; name = codes "x"; url = codes "u" })
     ∷ row.Tag (record { id = 0; name = codes "x"; url = codes "u" })
     ∷ row.Organisation (record { id = 0; kind = codes "company"; name = codes "o"; url = codes "u" })
-    ∷ row.Person (record {
-      id = 0;
-      first_name = codes "F";
-      last_name = codes "L";
-      gender = codes "g";
-      birthday = 0;
-      creation_date = 0;
-      location_ip = codes "0.0.0.0";
-      browser_used = codes "b";
-    })
+    ∷ first_person
     ∷ row.Link table.PlaceIsPartOfPlace 0 1
     ∷ row.Link table.TagHasTypeTagClass 0 0
     ∷ row.Link table.OrganisationIsLocatedInPlace 0 1

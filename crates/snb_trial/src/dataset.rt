@@ -2,7 +2,7 @@
 
 ghost use Rattle.std.specs.Prelude.{◌≡◌, IfOk, codes};
 ghost use Rattle.snb_schema.specs.declared.row.Row.TheVariants as row;
-ghost use Rattle.snb_trial.specs.Trial.{dataset};
+ghost use Rattle.snb_trial.specs.Trial.{dataset, first_person};
 
 use snb_base::text::Text;
 use snb_graph::graph::Graph;
@@ -52,7 +52,7 @@ fn company(alloc: Global) -> Result<Row, AllocError>
 
 // Person 0.
 fn person(alloc: Global) -> Result<Row, AllocError>
-    ensures { IfOk result (λ made. made ≡ row.Person (record { id = 0; first_name = codes "F"; last_name = codes "L"; gender = codes "g"; birthday = 0; creation_date = 0; location_ip = codes "0.0.0.0"; browser_used = codes "b" })) }
+    ensures { IfOk result (λ made. made ≡ first_person) }
 {
     let person = Person {
         id: 0,

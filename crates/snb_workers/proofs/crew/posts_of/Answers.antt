@@ -1,4 +1,4 @@
-use Rattle.std.proofs.Common.{rules, vec_len, ◌≡◌, ◌∙◌, ◌++◌, ◌∷◌, ℕ, zero, suc, ◌<◌, List, [], Ok, length, get_or, ap, ap₂, subst, sym, refl, arith, map}
+use Rattle.std.proofs.Common.{rules, vec_len, ◌≡◌, ◌∙◌, ◌++◌, ◌∷◌, ℕ, suc, ◌<◌, List, [], Ok, length, get_or, ap, ap₂, subst, sym, refl, arith, map}
 use Rattle.std.specs.Prelude.{All, Result}
 use Rattle.std.specs.Result.{IfOk}
 use Rattle.std.proofs.lemmas.Iterator.Adapters.{YieldsList-from_vec}
@@ -9,7 +9,6 @@ use Rattle.snb_schema.specs.declared.row.Row.{Row}
 use Rattle.snb_board.specs.Boards.{Sitting}
 use Rattle.snb_workers.specs.declared.crew.Made.{Made}
 use Rattle.snb_workers.specs.declared.crew.Post.{Post}
-use Rattle.snb_workers.specs.Crews.{AreMade, IsMade}
 use Rattle.snb_workers.specs.Replicas.{Taken}
 use Rattle.snb_workers.proofs.crew.posts_of.Goals as goal
 
