@@ -1,13 +1,12 @@
-use Rattle.std.proofs.Common.{◌≡◌, ◌*◌, ◌≤◌, ◌∙◌, ℕ, List, ap, subst, sym, arith}
+use Rattle.std.proofs.Common.{◌≡◌, ◌*◌, ◌≤◌, ◌∙◌, List, ap, subst, sym, arith}
 use Rattle.snb_plan.specs.Closed.{IsClosed}
 use Rattle.snb_plan.specs.Plans.{read_count, updates_in}
 use Rattle.snb_schema.specs.declared.limits.TheConstants.{MAX_READS}
 use Rattle.snb_schema.specs.declared.row.Row.{Row}
 use Rattle.snb_schema.specs.Frequencies.{FrequencyTable}
-use Rattle.snb_schema.specs.LineLanes.{LineLanes, update_count}
+use Rattle.snb_schema.specs.LineLanes.{update_count}
 use Rattle.snb_schema.specs.StreamLines.{AreOfStreams}
 use Rattle.snb_tables.specs.Graphs.{HoldsKey}
-use Rattle.snb_trial.specs.Trial.{read_frequencies}
 use Rattle.snb_tool.proofs.TrialLemmas.{few_reads, plan_of}
 use Rattle.snb_tool.proofs.trial.input_of_size.Goals as goal
 
