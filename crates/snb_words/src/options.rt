@@ -103,26 +103,29 @@ fn is_among(names: &[OptionName], name: OptionName) -> bool
     false
 }
 
-/// The number of workers that the word says, or None.
-pub fn workers_of(word: &str) -> Option<u32>
-    ensures { MatchOption result ((n : ℕ) → Num word.now n MAX_WORKERS → 1 ≤ n → ⊥) (λ n. Num word.now n MAX_WORKERS × (1 ≤ n)) }
+// The number that the word says, from 1 to the greatest, or None.
+fn count_of(word: &str, most: u32) -> Option<u32>
+    ensures { MatchOption result ((n : ℕ) → Num word.now n most → 1 ≤ n → ⊥) (λ n. Num word.now n most × (1 ≤ n)) }
 {
-    let number = read_number(word.as_bytes(), u64::from(MAX_WORKERS))?;
+    let number = read_number(word.as_bytes(), u64::from(most))?;
     if number == 0 {
         return None;
     }
     Some(number as u32)
 }
 
+/// The number of workers that the word says, or None.
+pub fn workers_of(word: &str) -> Option<u32>
+    ensures { MatchOption result ((n : ℕ) → Num word.now n MAX_WORKERS → 1 ≤ n → ⊥) (λ n. Num word.now n MAX_WORKERS × (1 ≤ n)) }
+{
+    count_of(word, MAX_WORKERS)
+}
+
 /// The size of a trial that the word says, or None.
 pub fn size_of(word: &str) -> Option<u32>
     ensures { MatchOption result ((n : ℕ) → Num word.now n MAX_TRIAL → 1 ≤ n → ⊥) (λ n. Num word.now n MAX_TRIAL × (1 ≤ n)) }
 {
-    let number = read_number(word.as_bytes(), u64::from(MAX_TRIAL))?;
-    if number == 0 {
-        return None;
-    }
-    Some(number as u32)
+    count_of(word, MAX_TRIAL)
 }
 
 /// The ratio that the word says, or None.
