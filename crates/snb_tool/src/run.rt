@@ -62,7 +62,8 @@ fn texts_of(
     })
 }
 
-/// Runs the plan by so many workers, and makes the texts of the run.
+/// Runs the plan by so many workers, 1 to 8, and makes the texts of the run. The dataset is sound, and the
+/// plan is closed over it.
 pub fn run_output<R: Threads + Wait + Sync, C: Clock + Sync, G: Gate + Sync>(
     rt: &R,
     alloc: Global,

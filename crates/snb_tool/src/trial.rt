@@ -37,13 +37,13 @@ fn input_of_size(alloc: Global, size: u32) -> Result<Input, AllocError>
     match Plan::make(alloc, lanes, lists, trial_frequencies(), trial_ratio()) {
         Ok(plan) => Ok(Input { graph, plan }),
         Err(PlanFault::Memory) => Err(AllocError),
-        // 7 updates for each of at most 5,000, and less than one read for each.
+        // There are at most 35,000 updates, and fewer reads than updates.
         Err(PlanFault::Refused { .. }) => unreachable!(),
     }
 }
 
-/// Runs the formula workload of a size by so many workers, each in a thread of its own, writes the texts of
-/// the run, and gives the status. No file is read.
+/// Runs the formula workload of a size, 1 to `MAX_TRIAL`, by so many workers, 1 to 8, each in a thread of its
+/// own, writes the texts of the run, and gives the status. No file is read.
 pub fn trial<R: AllocGlobal + Threads + Wait + Sync, O: Outbox, C: Clock + Sync, G: Gate + Sync>(
     rt: &R,
     size: u32,
