@@ -24,7 +24,7 @@ use Rattle.snb_plan.specs.declared.spots.Spot.{Spot}
 use Rattle.snb_plan.specs.Plans.{AreReads, kinds_of, read_lane}
 use Rattle.snb_plan.specs.Spots.{AreAllSpots, AreUpdateSpots, IsReadSpot, IsSpotBefore, IsThere, IsUpdateSpot, line_at, no_line, no_spot, read_step, spot_step, spot_t, update_step}
 use Rattle.snb_plan.proofs.Assembly.{AreSpotsOf, all_timed, lane_lines, place_counted, spot_rises}
-use Rattle.snb_plan.proofs.Streams.{apart, line_times}
+use Rattle.snb_plan.proofs.Streams.{line_times}
 
 -- ---- the step at a spot
 
@@ -50,7 +50,6 @@ pub record IsStepOf (lanes : LineLanes) (ratio t0 : ℕ) (s : Spot) (step : Step
   pub t_d : step.t_d ≤ MAX_TIME
   pub within : s.lane ≤ read_lane lanes
   pub reads : (step.query ≡ true) ↔ (s.lane ≡ read_lane lanes)
-  pub apart : step.dependency ≡ true → step.dependent ≡ false
 
 pub step_is : (lanes : LineLanes) (fr : FrequencyTable) (updates : List Spot) (reads : List Instance) (spots : List Spot) (ratio t0 : ℕ) (s : Spot) → AreSpotsOf lanes fr updates reads spots
     → Contains spots s → IsStepOf lanes ratio t0 s (spot_step lanes ratio t0 s)
@@ -65,7 +64,6 @@ step_is lanes fr updates reads spots ratio t0 s are at = by ((are.are_all.those 
       t_d = (line_times (line_at lanes s.lane s.place) ((lane_lines lanes s.lane are.of u.in_lanes).0 s.place no_line u.within)).1;
       within = (let lt = u.in_lanes in omega (arith, lt));
       reads = (λ q. absurd (false≢true q), λ e. absurd (let lt = u.in_lanes in omega (arith, lt, e)));
-      apart = apart (line_at lanes s.lane s.place).op;
     }
 
     of_read : s.lane ≡ read_lane lanes → IsStepOf lanes ratio t0 s (read_step ratio t0 s)
@@ -77,7 +75,6 @@ step_is lanes fr updates reads spots ratio t0 s are at = by ((are.are_all.those 
       t_d = omega arith;
       within = omega (arith, here);
       reads = (λ q. here, λ e. refl);
-      apart = λ q. absurd (false≢true q);
     }
 
     by : IsUpdateSpot lanes s ⊎ IsReadSpot lanes updates reads s → IsStepOf lanes ratio t0 s (spot_step lanes ratio t0 s)
@@ -211,7 +208,6 @@ all_planned lanes fr updates reads spots ratio t0 are few_lanes few_steps due = 
         λ q. subst (λ (l : ℕ). slice_get (kinds_of lanes) l ≡ Some Query) (sym h.lane) (kind.0 (h.reads.0 q)),
         λ q. h.reads.1 (kind.1 (subst (λ (l : ℕ). slice_get (kinds_of lanes) l ≡ Some Query) h.lane q)),
       );
-  apart = λ k within. (has k (in_spots k within)).apart;
 }
   where
     size : length (map (spot_step lanes ratio t0) spots) ≡ length spots

@@ -23,8 +23,3 @@ times t t_d cs vs (x ∷ y ∷ fs) s = (s.0.small, s.1.0.small)
 -- the moments of a line aren't too great
 pub line_times : (x : Line) → IsOfLine x → (x.t ≤ MAX_TIME) × (x.t_d ≤ MAX_TIME)
 line_times x of = times x.t x.t_d (Number (op_number x.op) ∷ insert_columns (kind_of x.op)) _ (fields of.0) of.1.spelled
-
--- what adds an awaited node doesn't wait
-pub apart : (op : Op) → adds_awaited op ≡ true → waits op ≡ false
-apart (AddPerson a b c d e f g h i j k l m n) awaited = refl
-apart _ awaited = absurd cc

@@ -32,8 +32,8 @@ added_node (ops.AddPost post image date ip browser language content size author 
 added_node (ops.AddComment comment date ip browser content size author country parent tags) = Some (ref kinds.Comment comment)
 added_node (ops.AddFriend one other date) = None
 
--- a node of this kind may be added by an update before in the same lane: a forum or a message. Persons are awaited, and the others are
--- the dataset's alone
+-- a node of this kind may be added by an update before in the same lane: a forum or a message. Persons and forums are awaited, and the
+-- others are the dataset's alone
 abbrev pub is_in_lane : Kind → Bool
 is_in_lane kinds.Place = false
 is_in_lane kinds.TagClass = false

@@ -22,7 +22,7 @@ fn is_awaited(kind: Kind) -> bool
     ensures { result ≡ is_awaited kind }
 {
     match kind {
-        Kind::Person => true,
+        Kind::Person | Kind::Forum => true,
         _ => false,
     }
 }

@@ -40,7 +40,7 @@ pub fn adds_awaited(op: &Op) -> bool
     ensures { result ≡ adds_awaited op.now }
 {
     match op {
-        Op::AddPerson { .. } => true,
+        Op::AddPerson { .. } | Op::AddForum { .. } => true,
         _ => false,
     }
 }
@@ -353,8 +353,8 @@ impl Plan {
 
     /// Refuses the first update in merged order that waits and whose t_d isn't below its t, that takes
     /// a key which is held or is taken by an update before it, or that refers to a node which is
-    /// neither held nor added in time: a person by an update whose t is at most this t_d, a forum or a
-    /// message by an update before it in its lane. `held` tells the keys of the dataset.
+    /// neither held nor added in time: a person or a forum by an update whose t is at most this t_d, a
+    /// forum or a message by an update before it in its lane. `held` tells the keys of the dataset.
     pub fn closed<H: Held>(&self, alloc: Global, held: &H) -> Result<(), PlanFault>
         ensures ok { OnOk result (IsClosed (H.holds held.now) (updates_in self.now)) }
         ensures bad { OnRefused result (IsFirstWrong (H.holds held.now) (updates_in self.now)) }

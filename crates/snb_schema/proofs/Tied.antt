@@ -24,5 +24,4 @@ planned_tie = record {
   needs_timed = by_two (λ k. _) (omega arith) (omega arith);
   due_timed = by_two (λ k. _) (omega arith) (omega arith);
   reads = by_two (λ k. _) (λ q. absurd cc, λ q. absurd cc) (λ q. absurd cc, λ q. absurd cc);
-  apart = by_two (λ k. _) (λ q. refl) (λ q. absurd cc);
 }

@@ -7,14 +7,14 @@ use Rattle.snb_schema.specs.declared.table.Kind.{Kind}
 use Rattle.snb_schema.specs.declared.table.Kind.TheVariants as kinds
 use Rattle.snb_schema.specs.UpdateLines.{kind_of}
 
--- inserts wait for nodes of this kind: for persons
+-- inserts wait for nodes of this kind: for persons and forums
 abbrev pub is_awaited : Kind → Bool
 is_awaited kinds.Place = false
 is_awaited kinds.TagClass = false
 is_awaited kinds.Tag = false
 is_awaited kinds.Organisation = false
 is_awaited kinds.Person = true
-is_awaited kinds.Forum = false
+is_awaited kinds.Forum = true
 is_awaited kinds.Post = false
 is_awaited kinds.Comment = false
 

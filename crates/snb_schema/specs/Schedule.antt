@@ -81,4 +81,3 @@ pub record IsPlanned (s : Schedule) : Type 0 where
   pub needs_timed : (k : ℕ) → IsOperation s k → (step_of s k).t_d ≤ MAX_TIME
   pub due_timed : (k : ℕ) → IsOperation s k → (step_of s k).due ≤ MAX_AT
   pub reads : (k : ℕ) → IsOperation s k → ((step_of s k).query ≡ true) ↔ (slice_get s.kinds (step_of s k).lane ≡ Some Query)
-  pub apart : (k : ℕ) → IsOperation s k → (step_of s k).dependency ≡ true → (step_of s k).dependent ≡ false

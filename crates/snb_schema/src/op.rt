@@ -190,8 +190,8 @@ pub enum OpKind {
 pub struct Line {
     /// The moment of the insert, in milliseconds since 1970-01-01 UTC.
     pub t: u64,
-    /// The moment up to which the insert depends on persons, in the same unit; that of a person's insert
-    /// depends on none.
+    /// The moment up to which the insert depends on inserts of persons and forums, in the same unit; that
+    /// of a person's insert depends on none.
     pub t_d: u64,
     /// What is inserted.
     pub op: Op,

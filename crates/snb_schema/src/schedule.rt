@@ -78,8 +78,7 @@ impl Schedule {
     /// `MAX_READS` steps together. The lane of each step is there. The steps are in the order of t, of
     /// lane and of place, and no step is due earlier than one before it. The place of a step is the
     /// number of the steps before it in its lane. No t and no t_d is above `MAX_TIME`, and no due time
-    /// above `MAX_AT`. The reads are the steps of the lanes of kind `Query`. No step is both a
-    /// dependency and a dependent.
+    /// above `MAX_AT`. The reads are the steps of the lanes of kind `Query`.
     pub fn make(alloc: Global, kinds: &[LaneKind], steps: Vec<Step>) -> Result<Schedule, AllocError>
         requires { IsPlanned (record { steps = steps.items; kinds = kinds.now }) }
         ensures { IfOk result (λ s. s ≡ record { steps = steps.items; kinds = kinds.now }) }

@@ -85,12 +85,12 @@ pub fn row_references()
     ensures node { refs_of_row (row.Person cy_person) false ≡ [] }
 {}
 
-/// Others wait for a person's insert, which waits for nothing; each other insert waits, and nothing
-/// waits for it.
+/// Others wait for a person's insert, which waits for nothing. A forum's insert waits, and others wait
+/// for it. Each further insert waits, and nothing waits for it.
 pub fn waiting()
     ensures person { adds_awaited cy ≡ true }
     ensures person_waits { waits cy ≡ false }
-    ensures forum { adds_awaited group ≡ false }
+    ensures forum { adds_awaited group ≡ true }
     ensures forum_waits { waits group ≡ true }
     ensures friends { adds_awaited friends ≡ false }
     ensures friends_wait { waits friends ≡ true }

@@ -55,7 +55,7 @@ const MOST_INSERTS: u64 = 8;
 pub struct Insert {
     /// The moment of the insert.
     pub t: u64,
-    /// The moment up to which the insert depends on persons.
+    /// The moment up to which the insert depends on inserts of persons and forums.
     pub t_d: u64,
     /// What is inserted.
     pub op: Op,
