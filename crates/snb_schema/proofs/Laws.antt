@@ -1,8 +1,11 @@
 -- What other crates may cite of this one: facts about schedules, histories, completion times and plans.
-use Rattle.std.proofs.Common.{◌≡◌, ℕ, ◌<◌, ◌≤◌, List, [], ◌∷◌, ◌++◌, length, Bool, true, cond, ◌⊎◌, Some}
+use Rattle.std.proofs.Common.{◌≡◌, ℕ, ◌<◌, ◌≤◌, List, [], ◌∷◌, ◌++◌, length, Bool, true, cond, ◌⊎◌, Option, Some, None}
 use Rattle.std.specs.Prelude.{pos, ◌≤ℤ◌, ◌↔◌}
+use Rattle.std.specs.Iterator.{Yields}
+use Rattle.std.specs.Map.Iter.{TakesFirst}
 use Rattle.snb_schema.specs.declared.limits.TheConstants.{MAX_TIME, MAX_AT}
 use Rattle.snb_schema.specs.declared.event.Event.{Event}
+use Rattle.snb_schema.specs.declared.refusal.Missing.{Missing}
 use Rattle.snb_schema.specs.Schedule.{Schedule, step_of, IsOperation, is_dependency, IsPlanned}
 use Rattle.snb_schema.specs.History.{finishes, finished, starts, started, hand, has_moment, halts, halted, moment, last}
 use Rattle.snb_schema.specs.Completion.{least_of, time_left}
@@ -22,6 +25,7 @@ use Rattle.snb_schema.proofs.Unstuck
 use Rattle.snb_schema.proofs.Planned
 use Rattle.snb_schema.proofs.Deciding
 use Rattle.snb_schema.proofs.Tied
+use Rattle.snb_schema.proofs.Walks
 use Rattle.snb_schema.proofs.Once.{HasStart}
 
 -- a dependent is cleared exactly where its t_d is at most the completion time
@@ -141,3 +145,15 @@ obeys = Deciding.obeys
 -- the schedule of a person and a friendship that waits for it is a plan's
 pub planned_tie : IsPlanned tie
 planned_tie = Tied.planned_tie
+
+-- ---- walks over nodes
+
+-- what a walk gave, the node that it gives next and what is left then are together all that it had to give
+pub walked_to : (all so_far left after : List Missing) (given : Option Missing) (next : Missing) → Yields (TakesFirst (λ node. node)) all so_far left → given ≡ Some next
+    → TakesFirst (λ node. node) left given after → so_far ++ next ∷ after ≡ all
+walked_to = Walks.walked_to
+
+-- a walk that gives no more has given all that it had to give
+pub walked_all : (all so_far left after : List Missing) (given : Option Missing) → Yields (TakesFirst (λ node. node)) all so_far left → given ≡ None
+    → TakesFirst (λ node. node) left given after → so_far ≡ all
+walked_all = Walks.walked_all

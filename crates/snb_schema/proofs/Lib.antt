@@ -16,3 +16,4 @@ pub mod Short
 pub mod InTurn
 pub mod Tied
 pub mod FrequencyFacts
+pub mod Walks

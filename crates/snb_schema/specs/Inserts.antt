@@ -1,11 +1,12 @@
 -- What each of the eight inserts adds, and what it takes.
-use Rattle.std.specs.Prelude.{ℕ, min, max, List, [], ◌∷◌, ◌++◌, map}
+use Rattle.std.specs.Prelude.{ℕ, min, max, option_to_list, List, [], ◌∷◌, ◌++◌, map}
 use Rattle.snb_schema.specs.declared.key.Key.{Key}
 use Rattle.snb_schema.specs.declared.key.Key.TheVariants.{Node, Knows, LikesPost, LikesComment, Member}
 use Rattle.snb_schema.specs.declared.op.Op.{Op}
 use Rattle.snb_schema.specs.declared.op.Op.TheVariants as ops
 use Rattle.snb_schema.specs.declared.op.Parent.{Parent}
 use Rattle.snb_schema.specs.declared.op.Parent.TheVariants as parents
+use Rattle.snb_schema.specs.declared.references.Keys.{Keys}
 use Rattle.snb_schema.specs.declared.row.Row.{Row}
 use Rattle.snb_schema.specs.declared.row.Row.TheVariants as row
 use Rattle.snb_schema.specs.declared.table.Kind.TheVariants as kinds
@@ -86,3 +87,7 @@ keys_of (ops.AddMember person forum date) = Member forum person ∷ []
 keys_of (ops.AddPost post image date ip browser language content size author forum country tags) = message_keys post
 keys_of (ops.AddComment comment date ip browser content size author country parent tags) = message_keys comment
 keys_of (ops.AddFriend one other date) = Knows (min one other) (max one other) ∷ []
+
+-- the same keys, where they are kept as one and maybe another
+abbrev pub listed : Keys → List Key
+listed keys = keys.one ∷ option_to_list keys.other

@@ -1,4 +1,4 @@
--- What rows and inserts refer to, and which edges each node has.
+-- What rows and inserts refer to, which node an insert adds, and which edges each node has.
 use Rattle.std.specs.Prelude.{ℕ, Bool, true, false, Option, Some, None, List, [], ◌∷◌, ◌++◌, map}
 use Rattle.snb_schema.specs.declared.op.Op.{Op}
 use Rattle.snb_schema.specs.declared.op.Op.TheVariants as ops
@@ -118,10 +118,14 @@ abbrev pub parent_ref : Parent → Missing
 parent_ref (parents.Post n) = ref kinds.Post n
 parent_ref (parents.Comment n) = ref kinds.Comment n
 
+-- the organisations of studies or works, each of which has a year
+abbrev pub organisations : List (ℕ × ℕ) → List Missing
+organisations stays = map (λ s. ref kinds.Organisation s.0) stays
+
 -- what an insert refers to, in the order in which it is checked
 abbrev pub refs_of : Op → List Missing
 refs_of (ops.AddPerson person first last gender birthday created ip browser city languages emails tags study work) =
-    ref kinds.Place city ∷ map (ref kinds.Tag) tags ++ map (λ s. ref kinds.Organisation s.0) study ++ map (λ w. ref kinds.Organisation w.0) work
+    ref kinds.Place city ∷ map (ref kinds.Tag) tags ++ organisations study ++ organisations work
 refs_of (ops.LikePost person post date) = ref kinds.Person person ∷ ref kinds.Post post ∷ []
 refs_of (ops.LikeComment person comment date) = ref kinds.Person person ∷ ref kinds.Comment comment ∷ []
 refs_of (ops.AddForum forum title date moderator tags) = ref kinds.Person moderator ∷ map (ref kinds.Tag) tags
@@ -131,6 +135,17 @@ refs_of (ops.AddPost post image date ip browser language content size author for
 refs_of (ops.AddComment comment date ip browser content size author country parent tags) =
     ref kinds.Person author ∷ ref kinds.Place country ∷ parent_ref parent ∷ map (ref kinds.Tag) tags
 refs_of (ops.AddFriend one other date) = ref kinds.Person one ∷ ref kinds.Person other ∷ []
+
+-- the node that an insert adds, if it adds one
+abbrev pub added_node : Op → Option Missing
+added_node (ops.AddPerson person first last gender birthday created ip browser city languages emails tags study work) = Some (ref kinds.Person person)
+added_node (ops.LikePost person post date) = None
+added_node (ops.LikeComment person comment date) = None
+added_node (ops.AddForum forum title date moderator tags) = Some (ref kinds.Forum forum)
+added_node (ops.AddMember person forum date) = None
+added_node (ops.AddPost post image date ip browser language content size author forum country tags) = Some (ref kinds.Post post)
+added_node (ops.AddComment comment date ip browser content size author country parent tags) = Some (ref kinds.Comment comment)
+added_node (ops.AddFriend one other date) = None
 
 -- the edges that each node of a table has exactly once, in order: the key of each is the node's id, and a comment's parent may stand in
 -- either table of replies, which share their keys

@@ -18,6 +18,7 @@ pub mod op;
 pub mod person;
 pub mod query;
 pub mod read_kind;
+pub mod references;
 pub mod refusal;
 pub mod row;
 pub mod schedule;
