@@ -11,3 +11,4 @@ pub mod Laws
 pub mod Prefixes
 pub mod OneInsert
 pub mod InOrder
+pub mod Waiting

@@ -116,7 +116,7 @@ module _ {lanes : LineLanes} {lists : QueryLists} {frequencies : FrequencyTable}
       by (Some o) here q = by_kind o here q ((is_plan.numbered.those o).0 (at_contains plan.operations k o here))
 
   -- the step of a line that is planned
-  step_planned : (k : ℕ) (o : Operation) (p : Placed) → slice_get plan.operations k ≡ Some o → IsLineOf lanes p → o ≡ as_planned p → IsStepAt lanes plan k (of_line p)
+  pub step_planned : (k : ℕ) (o : Operation) (p : Placed) → slice_get plan.operations k ≡ Some o → IsLineOf lanes p → o ≡ as_planned p → IsStepAt lanes plan k (of_line p)
   step_planned k o p here of same =
       let step : step_of (schedule_of plan) k ≡ (as_planned p).step = step_here plan k o here ∙ ap (λ (x : Operation). x.step) same in
       let within = slice_get_within plan.operations k o here in

@@ -1,3 +1,4 @@
 pub mod Laws
 pub mod Replay
+pub mod Waiting
 pub mod Worked

@@ -1,9 +1,10 @@
 //! Laws of replay. The function only cites laws of histories, graphs and inserts; its contract is the law.
 
 ghost use Rattle.snb_replay.specs.Laws.{CompleteIsFinal, HistoriesAgree, PrefixesAreSound, WelcomeInOrder, WelcomeInTurn};
+ghost use Rattle.snb_replay.specs.Waiting.{RunsWait};
 
 use snb_inserts::law::inserts_are_kept;
-use snb_schema::law::{once_each, prefix_is_legal};
+use snb_schema::law::{completion_waits, once_each, prefix_is_legal};
 use snb_tables::law::{graphs_are_their_rows, new_rows_are_gained};
 
 /// In a legal history of a plan whose updates are closed over a base, each insert finds all that it refers to
@@ -30,3 +31,13 @@ pub fn replay_is_welcome()
 pub fn order_is_welcome()
     ensures { WelcomeInOrder }
 {}
+
+/// In a legal history of a plan of streams no insert that waits starts before every insert of a person or a
+/// forum has finished whose t is at most its t_d, and at no time has the completion time come to the t of an
+/// insert of a person or a forum that hasn't finished: the dependency rule and the watermark of Erling et
+/// al., SIGMOD 2015.
+pub fn runs_wait()
+    ensures { RunsWait }
+{
+    completion_waits();
+}

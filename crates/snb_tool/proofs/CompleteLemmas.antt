@@ -165,6 +165,8 @@ in_short files fixed folder workers ratio table old new texts found told done e 
       history = run.left.history;
       legal = run.left.ran.legal;
       complete = run.left.ran.complete;
+      waits = run.left.ran.waits;
+      below = run.left.ran.below;
       log = ap (λ (w : Written). w.log) e ∙ ap (λ (w : Written). old.log ++ w.log) run.left.shown;
       replies = run.left.replies;
       answered = run.left.ran.answered;

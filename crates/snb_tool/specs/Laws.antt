@@ -19,6 +19,7 @@ use Rattle.snb_input.specs.Files.{held_in}
 use Rattle.snb_input.specs.FirstOf.{FirstOf, NoneOf}
 use Rattle.snb_plan.specs.Plans.{Plan, schedule_of}
 use Rattle.snb_replay.specs.Replay.{IsFinal}
+use Rattle.snb_replay.specs.Waiting.{StaysBelow, WaitsForAll}
 use Rattle.snb_schema.specs.declared.event.Event.{Event}
 use Rattle.snb_schema.specs.declared.file.FileId.{FileId}
 use Rattle.snb_schema.specs.declared.limits.TheConstants.{MAX_BYTES}
@@ -53,7 +54,8 @@ AnswersHaveStatus =
     → (status ≡ 0) ⊎ (status ≡ 1) ⊎ (status ≡ 2) ⊎ (status ≡ 3)
 
 -- what a run that is done has added to the channels, where the files and the channels are told: the log of a legal, complete history of the plan
--- of the files; the replies to its reads, each on the graph of its front; and the rows of the dataset and of each insert, each once
+-- of the files, in which no insert that waits starts before every insert of a person or a forum has finished whose t is at most its t_d, and at
+-- no time the completion time comes to the t of one that hasn't finished; the replies to its reads, each on the graph of its front; and the rows of the dataset and of each insert, each once
 pub record IsRunInShort (files : Files) (folder : List ℕ) (workers ratio : ℕ) (frequencies : FrequencyTable) (old new : Written) : Type 0 where
   pub graph : List Row
   pub plan : Plan
@@ -61,6 +63,8 @@ pub record IsRunInShort (files : Files) (folder : List ℕ) (workers ratio : ℕ
   pub history : List Event
   pub legal : IsLegal (schedule_of plan) workers history
   pub complete : IsComplete (schedule_of plan) history
+  pub waits : WaitsForAll plan history
+  pub below : StaysBelow plan history
   pub log : new.log ≡ old.log ++ log_text workers history
   pub replies : List Answered
   pub answered : AreReplies graph plan history history replies

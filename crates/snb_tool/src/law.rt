@@ -29,9 +29,11 @@ pub fn answers_have_status()
 {}
 
 /// Where the files and the channels are told, status 0 of `run` says: there is a legal, complete history of
-/// the plan of the files, whose text was added to the log; the replies to its reads, each on the graph of
-/// its front, whose text was added to the answers; and the graph with each row of the dataset and of each
-/// insert once, whose text was added to the final text.
+/// the plan of the files, whose text was added to the log, in which no insert that waits starts before every
+/// insert of a person or a forum has finished whose t is at most its t_d, and at no time the completion time
+/// comes to the t of one that hasn't finished; the replies to its reads, each on the graph of its front, whose
+/// text was added to the answers; and the graph with each row of the dataset and of each insert once, whose
+/// text was added to the final text.
 pub fn run_in_short()
     ensures { RunInShort }
 {

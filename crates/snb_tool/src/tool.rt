@@ -125,7 +125,7 @@ fn answer<
 /// - `check DIR` reads the 33 tables of the folder `DIR` from the shelf, then its update streams, and
 ///   the parameter files of the queries with a frequency, and shows how many rows the dataset has and how
 ///   many updates and reads the plan. The updates must be closed over the dataset: each has new keys, and
-///   each finds the nodes that it refers to there, among the persons added up to its t_d, or among what
+///   each finds the nodes that it refers to there, among the persons and forums added up to its t_d, or among what
 ///   the updates before it in its lane add.
 /// - `run DIR --workers N` reads the same, runs the plan by N workers, 1 to 8, each in a thread of its own, and
 ///   writes the log, the answers, the final graph and the summary on their channels.

@@ -22,8 +22,9 @@ use Rattle.snb_tables.specs.Graphs.{HoldsKey, IsGraph}
 use Rattle.snb_tables.specs.Soundness.{Sound}
 use Rattle.snb_board.specs.Boards.{AreAll, AreMadeBy, AreSeats, IsPartOf, Site, Sitting, events_of, mine, sitting, time_below}
 use Rattle.snb_plan.specs.Closed.{IsClosed}
-use Rattle.snb_plan.specs.Plans.{Plan, schedule_of, updates_in}
+use Rattle.snb_plan.specs.Plans.{IsOfStreams, Plan, schedule_of, updates_in}
 use Rattle.snb_replay.specs.Laws.{CompleteIsFinal}
+use Rattle.snb_replay.specs.Waiting.{RunsWait}
 use Rattle.snb_replay.specs.Replay.{IsAfter, IsFinal}
 use Rattle.snb_workers.specs.declared.crew.Left.{Left}
 use Rattle.snb_workers.specs.declared.crew.Post.{Post}
@@ -296,10 +297,12 @@ module _
                 )
 
             -- and brought to the end it makes the outcome of a run
-            pub crew_has_run : (new : Taken) (final : List Row) → CompleteIsFinal → StandsFor base plan h new → final ≡ new.graph → Sound final → HasRun z.workers plan fixed base h replies final
-            crew_has_run new final law stands same sound = record {
+            pub crew_has_run : (new : Taken) (final : List Row) → CompleteIsFinal → RunsWait → IsOfStreams plan → StandsFor base plan h new → final ≡ new.graph → Sound final → HasRun z.workers plan fixed base h replies final
+            crew_has_run new final law wait streams stands same sound = record {
               legal = legal;
               complete = complete;
+              waits = (wait plan z.workers h streams legal).0;
+              below = (wait plan z.workers h streams legal).1;
               moments = moments;
               answered = answered;
               final = subst (IsFinal base plan) (sym same) (law base plan z.workers h new.graph legal complete stands.after);

@@ -22,6 +22,7 @@ use Rattle.snb_plan.specs.Closed.{IsClosed}
 use Rattle.snb_plan.specs.Plans.{IsOfStreams, Plan, schedule_of, updates_in}
 use Rattle.snb_plan.proofs.Laws.{closed_plan_is_timely}
 use Rattle.snb_replay.specs.Laws.{CompleteIsFinal}
+use Rattle.snb_replay.specs.Waiting.{RunsWait}
 use Rattle.snb_replay.specs.Replay.{all_rows}
 use Rattle.snb_workers.specs.declared.done.Answered.{Answered}
 use Rattle.snb_workers.specs.Replicas.{StandsFor, Taken}
@@ -202,13 +203,15 @@ begins plan fixed base b r replies graph streams closed book replica none =
     })))
 
 -- where all is done the run is over, and it is one of any number of workers
-pub has_run : (plan : Plan) (fixed : Option ℕ) (base : List Row) (b : Kept) (r : Taken) (replies : List Answered) (workers : ℕ) (events : List Event) (graph : List Row) → CompleteIsFinal → IsUnderWay plan fixed base b r replies →
+pub has_run : (plan : Plan) (fixed : Option ℕ) (base : List Row) (b : Kept) (r : Taken) (replies : List Answered) (workers : ℕ) (events : List Event) (graph : List Row) → CompleteIsFinal → RunsWait → IsUnderWay plan fixed base b r replies →
     IsComplete (schedule_of plan) b.history → events ≡ b.history → graph ≡ r.graph → Sound graph → 1 ≤ workers → HasRun workers plan fixed base events replies graph
-has_run plan fixed base b r replies workers events graph law u complete same final sound some =
+has_run plan fixed base b r replies workers events graph law wait u complete same final sound some =
     subst (λ (h : List Event). HasRun workers plan fixed base h replies graph) (sym same)
     (record {
       legal = of_more (schedule_of plan) workers b.history some u.way.legal;
       complete = complete;
+      waits = (wait plan 1 b.history u.way.streams u.way.legal).0;
+      below = (wait plan 1 b.history u.way.streams u.way.legal).1;
       moments = u.way.moments;
       answered = u.way.answered;
       final = subst (λ (g : List Row). HasGained base (all_rows plan) g) (sym final) (law base plan 1 b.history r.graph u.way.legal complete u.way.stands.after);

@@ -11,6 +11,7 @@ use Rattle.snb_tables.specs.Soundness.{Sound}
 use Rattle.snb_plan.specs.Plans.{Ask, Operation, Plan, schedule_of}
 use Rattle.snb_reads.specs.Replies.{IsReply}
 use Rattle.snb_replay.specs.Replay.{IsAfter, IsFinal}
+use Rattle.snb_replay.specs.Waiting.{StaysBelow, WaitsForAll}
 use Rattle.snb_workers.specs.declared.done.Answered.{Answered}
 
 -- an event's moment, if it has one, is this
@@ -48,11 +49,15 @@ pub record AreReplies (base : List Row) (plan : Plan) (finishes h : List Event) 
       (op worker at front : ℕ) (query : Query) → Contains finishes (Finish op worker at front) → Asks plan op query →
       (a : Answered) × Contains replies a × (a.op ≡ op)
 
--- a legal, complete history of the plan for so many workers, whose events are at the fixed moment where the clock tells one; the replies to
--- its reads; and a sound graph that has the rows of the base and of each insert
+-- a legal, complete history of the plan for so many workers, whose events are at the fixed moment where the clock tells one: no insert that
+-- waits starts in it before every insert of a person or a forum has finished whose t is at most its t_d, and at no time does the completion
+-- time come to the t of one that hasn't finished; the replies to its reads; and a sound graph that has the rows of the base and of each
+-- insert
 pub record HasRun (workers : ℕ) (plan : Plan) (fixed : Option ℕ) (base : List Row) (h : List Event) (replies : List Answered) (graph : List Row) : Type 0 where
   pub legal : IsLegal (schedule_of plan) workers h
   pub complete : IsComplete (schedule_of plan) h
+  pub waits : WaitsForAll plan h
+  pub below : StaysBelow plan h
   pub moments : AreAt fixed h
   pub answered : AreReplies base plan h h replies
   pub final : IsFinal base plan graph

@@ -19,7 +19,7 @@ use snb_board::board::Board;
 use snb_board::seat::Seat;
 use snb_graph::graph::Graph;
 use snb_plan::plan::Plan;
-use snb_replay::law::replay_is_welcome;
+use snb_replay::law::{replay_is_welcome, runs_wait};
 use snb_schema::law::{hand_is_own, prefix_is_legal};
 use std::alloc::{AllocError, Global};
 use std::sync::Wait;
@@ -257,6 +257,7 @@ pub fn run_workers<R: Threads + Wait + Sync, C: Clock + Sync, G: Gate + Sync>(
     plan.known();
     base.known();
     replay_is_welcome();
+    runs_wait();
     hand_is_own();
     prefix_is_legal();
     let (board, seats) = Board::make(alloc, plan.schedule(), workers)?;

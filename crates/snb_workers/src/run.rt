@@ -21,7 +21,7 @@ use snb_book::book::Book;
 use snb_book::claim::{Claim, Ticket};
 use snb_graph::graph::Graph;
 use snb_plan::plan::{Plan, Task};
-use snb_replay::law::replay_is_welcome;
+use snb_replay::law::{replay_is_welcome, runs_wait};
 use snb_schema::event::Event;
 use std::alloc::{AllocError, Global};
 use std::sync::Wait;
@@ -169,6 +169,7 @@ pub fn run_alone<R: Wait, C: Clock, G: Gate>(
     plan.known();
     base.known();
     replay_is_welcome();
+    runs_wait();
     let mut replica = Replica::new(base)?;
     let mut replies = Done::new(alloc);
     let mut book = Book::make(alloc, plan.schedule(), 1)?;

@@ -64,7 +64,7 @@ returns g c =
     crew_has_run c.args.plan.now (g.C.Clock.fixed c.args.clock.now) c.args.base.now z c.in_ok-posts.posts.items c.in_ok-board.seats.items c.in_ok-lefts.lefts.items c.close-book.result.history c.in_ok-board.ensures.seats
     c.in_ok-posts.ensures.seats c.in_ok-posts.ensures.replicas c.known-2.ensures c.requires.closed planned c.in_ok-lefts.ensures c.in_ok-seats.ensures.had_memory c.in_ok-seats.seats.items
     c.in_ok-seats.ensures.seats c.hand_is_own.ensures c.prefix_is_legal.ensures legal c.close-book.ensures.seats c.close-book.ensures.made some follows c.in_ok-replies.replies c.in_ok-seats.replies.items
-    c.in_ok-seats.ensures.replies c.in_ok-replies.ensures.each c.in_ok-replies.ensures.all c.known-3.ensures c.catch_up.new.replica c.into_graph.result c.replay_is_welcome.ensures.last
+    c.in_ok-seats.ensures.replies c.in_ok-replies.ensures.each c.in_ok-replies.ensures.all c.known-3.ensures c.catch_up.new.replica c.into_graph.result c.replay_is_welcome.ensures.last c.runs_wait.ensures c.known.ensures
     (c.in_ok-catch_up.ensures c.args.base.now at_first) c.into_graph.ensures.value c.into_graph.ensures.sound in
     record {
       ran = subst (λ (x : ℕ × List Event). HasRun x.0 c.args.plan.now (g.C.Clock.fixed c.args.clock.now) c.args.base.now x.1 c.in_ok-replies.replies c.into_graph.result)

@@ -23,5 +23,5 @@ returns-in-Over g c =
     record {
       ran = λ workers some.
           has_run c.args.plan.now (g.C.Clock.fixed c.args.clock.now) c.args.base.now c.take_turn.new.book c.take_turn.new.replica c.take_turn.new.replies workers c.into_events.result.items c.into_graph.result
-          c.replay_is_welcome.ensures.last over.0 over.1 c.into_events.ensures c.into_graph.ensures.value c.into_graph.ensures.sound some;
+          c.replay_is_welcome.ensures.last c.runs_wait.ensures over.0 over.1 c.into_events.ensures c.into_graph.ensures.value c.into_graph.ensures.sound some;
     }
