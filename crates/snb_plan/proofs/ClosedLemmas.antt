@@ -18,10 +18,10 @@ use Rattle.snb_schema.specs.declared.refusal.Refusal.{Refusal}
 use Rattle.snb_schema.specs.declared.table.Kind.TheVariants as kinds
 use Rattle.snb_schema.specs.Awaiting.{is_awaited, waits}
 use Rattle.snb_schema.specs.Inserts.{keys_of}
-use Rattle.snb_schema.specs.References.{ref, refs_of}
+use Rattle.snb_schema.specs.References.{added_node, ref, refs_of}
 use Rattle.snb_plan.specs.declared.added.Added.{Added}
 use Rattle.snb_plan.specs.declared.added.Mark.{Mark}
-use Rattle.snb_plan.specs.Closed.{Update, added_node, IsClosed, IsClosedAt, IsFirstUnmet, IsFirstWrong, IsLate, IsMet, IsTaken, IsWrong, IsWrongBy}
+use Rattle.snb_plan.specs.Closed.{Update, IsClosed, IsClosedAt, IsFirstUnmet, IsFirstWrong, IsLate, IsMet, IsTaken, IsWrong, IsWrongBy}
 use Rattle.snb_plan.specs.Added.{mark_at, mark_of, HasMore, IsFine, IsMetBy, IsTakenBy}
 use Rattle.snb_plan.proofs.Slots.{among}
 

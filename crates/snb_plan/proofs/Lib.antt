@@ -2,7 +2,6 @@ pub mod Assembly
 pub mod ClosedLemmas
 pub mod Laws
 pub mod Making
-pub mod Meeting
 pub mod OnePlan
 pub mod OneRefusal
 pub mod Ordered

@@ -1,5 +1,5 @@
 -- What is kept of the updates so far. Cited by contracts of private functions alone.
-use Rattle.std.specs.Prelude.{◌≡◌, ℕ, ◌≤◌, ◌⊎◌, Option, Some, None, List, [], ◌∷◌, All, Contains, true}
+use Rattle.std.specs.Prelude.{◌≡◌, ℕ, ◌≤◌, ◌⊎◌, Option, Some, List, All, Contains, true}
 use Rattle.std.specs.BTreeMap.{get}
 use Rattle.std.specs.Ordering.{nat_cmp, ordering_then}
 use Rattle.std.specs.declared.cmp.Ordering.{Ordering}
@@ -11,22 +11,13 @@ use Rattle.snb_schema.specs.declared.refusal.Missing.{Missing}
 use Rattle.snb_schema.specs.declared.table.Table.TheVariants as table
 use Rattle.snb_schema.specs.Awaiting.{is_awaited}
 use Rattle.snb_schema.specs.Inserts.{keys_of}
-use Rattle.snb_schema.specs.References.{refs_of}
+use Rattle.snb_schema.specs.References.{added_node, refs_of}
 use Rattle.snb_schema.specs.RowKeys.{kind_table}
 use Rattle.snb_schema.specs.TableOrder.{table_order}
 use Rattle.snb_plan.specs.declared.added.Added.{Added}
 use Rattle.snb_plan.specs.declared.added.Mark.{Mark}
 use Rattle.snb_plan.specs.declared.added.Slot.{Slot}
-use Rattle.snb_plan.specs.declared.references.Keys.{Keys}
-use Rattle.snb_plan.specs.Closed.{Update, added_node, is_in_lane, IsLate}
-
--- the keys as a list
-abbrev pub optional_key : Option Key → List Key
-optional_key None = []
-optional_key (Some key) = key ∷ []
-
-abbrev pub listed : Keys → List Key
-listed keys = keys.one ∷ optional_key keys.other
+use Rattle.snb_plan.specs.Closed.{Update, is_in_lane, IsLate}
 
 -- how a key stands in the map
 abbrev pub slot_of : Key → Slot

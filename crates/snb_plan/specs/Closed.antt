@@ -1,11 +1,9 @@
 -- Which updates a run may be given: each has a new key, and each finds the nodes that it refers to in time.
-use Rattle.std.specs.Prelude.{◌≡◌, ℕ, ◌<◌, ◌≤◌, ◌⊎◌, Bool, true, false, List, ◌∷◌, ◌++◌, Contains, All, Option, Some, None}
+use Rattle.std.specs.Prelude.{◌≡◌, ℕ, ◌<◌, ◌≤◌, ◌⊎◌, Bool, true, false, List, ◌∷◌, ◌++◌, Contains, All, Some}
 use Rattle.snb_schema.specs.declared.file.FileId.{FileId}
 use Rattle.snb_schema.specs.declared.key.Key.{Key}
 use Rattle.snb_schema.specs.declared.key.Key.TheVariants.{Node}
 use Rattle.snb_schema.specs.declared.op.Line.{Line}
-use Rattle.snb_schema.specs.declared.op.Op.{Op}
-use Rattle.snb_schema.specs.declared.op.Op.TheVariants as ops
 use Rattle.snb_schema.specs.declared.refusal.Missing.{Missing}
 use Rattle.snb_schema.specs.declared.refusal.Refusal.{Refusal}
 use Rattle.snb_schema.specs.declared.refusal.Refusal.TheVariants.{LateDependency, Duplicate, Unmet}
@@ -13,24 +11,13 @@ use Rattle.snb_schema.specs.declared.table.Kind.{Kind}
 use Rattle.snb_schema.specs.declared.table.Kind.TheVariants as kinds
 use Rattle.snb_schema.specs.Awaiting.{is_awaited, waits}
 use Rattle.snb_schema.specs.Inserts.{keys_of}
-use Rattle.snb_schema.specs.References.{ref, refs_of}
+use Rattle.snb_schema.specs.References.{added_node, refs_of}
 
 -- an update: the lane and the file that it stands in, and its line
 pub record Update : Type 0 where
   pub lane : ℕ
   pub file : FileId
   pub line : Line
-
--- the node that an insert adds, if it adds one
-abbrev pub added_node : Op → Option Missing
-added_node (ops.AddPerson person first last gender birthday created ip browser city languages emails tags study work) = Some (ref kinds.Person person)
-added_node (ops.LikePost person post date) = None
-added_node (ops.LikeComment person comment date) = None
-added_node (ops.AddForum forum title date moderator tags) = Some (ref kinds.Forum forum)
-added_node (ops.AddMember person forum date) = None
-added_node (ops.AddPost post image date ip browser language content size author forum country tags) = Some (ref kinds.Post post)
-added_node (ops.AddComment comment date ip browser content size author country parent tags) = Some (ref kinds.Comment comment)
-added_node (ops.AddFriend one other date) = None
 
 -- a node of this kind may be added by an update before in the same lane: a forum or a message. Persons and forums are awaited, and the
 -- others are the dataset's alone

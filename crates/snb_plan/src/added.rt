@@ -3,11 +3,12 @@
 ghost use Rattle.std.specs.Prelude.{◌≡◌, Option, None, OnOk};
 ghost use Rattle.snb_schema.specs.declared.key.Key.{Key as AnyKey};
 ghost use Rattle.snb_schema.specs.RowKeys.{kind_table};
-ghost use Rattle.snb_plan.specs.Added.{listed, mark_at, slot_of, HasAdded, HasMore, HasPut};
+ghost use Rattle.snb_schema.specs.Inserts.{listed};
+ghost use Rattle.snb_plan.specs.Added.{mark_at, slot_of, HasAdded, HasMore, HasPut};
 
-use crate::references::{Keys, added_node, keys_of};
 use snb_schema::key::Key;
 use snb_schema::op::Line;
+use snb_schema::references::{Keys, added_node, keys_of};
 use snb_schema::refusal::Missing;
 use snb_schema::table::{Kind, Table};
 use std::alloc::{AllocError, Global};

@@ -1,21 +1,21 @@
 //! Whether each update has a new key, and finds the nodes that it refers to in time.
 
-ghost use Rattle.std.specs.Prelude.{◌≡◌, ◌↔◌, IsTrue, MatchOption, IfOk, OnOk, All};
+ghost use Rattle.std.specs.Prelude.{◌≡◌, ◌↔◌, IsTrue, MatchOption, OnOk, All};
 ghost use Rattle.snb_schema.specs.Awaiting.{is_awaited};
 ghost use Rattle.snb_schema.specs.Faults.{OnBad};
+ghost use Rattle.snb_schema.specs.References.{refs_of};
 ghost use Rattle.snb_plan.specs.Closed.{is_in_lane, IsFirstUnmet, IsLate, IsWrongBy};
 ghost use Rattle.snb_plan.specs.Added.{update_of, HasAdded, IsFine, IsKeyTaken, IsMetAt, IsMetBy, IsTakenBy, MeetsBy};
 
 use crate::added::{Added, Mark};
 use crate::plan::waits;
-use crate::references::{keys_of, refs_of};
 use snb_schema::fault::Fault;
 use snb_schema::file::FileId;
 use snb_schema::key::{Held, Key};
-use snb_schema::op::{Line, Op};
+use snb_schema::op::Line;
+use snb_schema::references::{keys_of, refs_of};
 use snb_schema::refusal::{Missing, Refusal};
 use snb_schema::table::Kind;
-use std::alloc::{AllocError, Global};
 
 // Whether inserts wait for nodes of this kind.
 fn is_awaited(kind: Kind) -> bool
@@ -95,20 +95,14 @@ fn is_met<H: Held>(held: &H, added: &Added, lane: u32, t_d: u64, node: Missing) 
     }
 }
 
-// The first reference that isn't met.
-fn first_unmet<H: Held>(
-    held: &H,
-    added: &Added,
-    lane: u32,
-    t_d: u64,
-    refs: &[Missing],
-) -> Option<Missing>
-    ensures { MatchOption result (All (IsMetAt (H.holds held.now) added.now lane t_d) refs.now)
-        (IsFirstUnmet (IsMetAt (H.holds held.now) added.now lane t_d) refs.now) }
+// The first node that the update refers to and that isn't met.
+fn first_unmet<H: Held>(held: &H, added: &Added, lane: u32, line: &Line) -> Option<Missing>
+    ensures { MatchOption result (All (IsMetAt (H.holds held.now) added.now lane line.now.t_d) (refs_of line.now.op))
+        (IsFirstUnmet (IsMetAt (H.holds held.now) added.now lane line.now.t_d) (refs_of line.now.op)) }
 {
-    for node in refs {
-        if !is_met(held, added, lane, t_d, *node) {
-            return Some(*node);
+    for node in refs_of(&line.op) {
+        if !is_met(held, added, lane, line.t_d, node) {
+            return Some(node);
         }
     }
     None
@@ -116,42 +110,39 @@ fn first_unmet<H: Held>(
 
 // What is wrong with an update, by the updates so far.
 fn wrong_with<H: Held>(
-    alloc: Global,
     held: &H,
     added: &Added,
     lane: u32,
     file: FileId,
     line: &Line,
-) -> Result<Option<Refusal>, AllocError>
-    ensures { IfOk result (λ found. MatchOption found (IsFine (H.holds held.now) added.now (update_of lane file line.now))
-        (IsWrongBy (IsTakenBy (H.holds held.now) added.now) (IsMetBy (H.holds held.now) added.now) (update_of lane file line.now))) }
+) -> Option<Refusal>
+    ensures { MatchOption result (IsFine (H.holds held.now) added.now (update_of lane file line.now))
+        (IsWrongBy (IsTakenBy (H.holds held.now) added.now) (IsMetBy (H.holds held.now) added.now) (update_of lane file line.now)) }
 {
     if is_late(lane, file, line) {
-        return Ok(Some(Refusal::LateDependency {
+        return Some(Refusal::LateDependency {
             file,
             line: line.number,
-        }));
+        });
     }
     if is_taken(held, added, lane, file, line) {
-        return Ok(Some(Refusal::Duplicate {
+        return Some(Refusal::Duplicate {
             file,
             line: line.number,
-        }));
+        });
     }
-    let refs = refs_of(alloc, &line.op)?;
-    match first_unmet(held, added, lane, line.t_d, &refs) {
-        None => Ok(None),
-        Some(missing) => Ok(Some(Refusal::Unmet {
+    match first_unmet(held, added, lane, line) {
+        None => None,
+        Some(missing) => Some(Refusal::Unmet {
             file,
             line: line.number,
             missing,
-        })),
+        }),
     }
 }
 
 /// Adds an update, unless something is wrong with it.
 pub fn check_update<H: Held>(
-    alloc: Global,
     held: &H,
     added: &mut Added,
     lane: u32,
@@ -162,7 +153,7 @@ pub fn check_update<H: Held>(
     ensures more { OnOk result (HasAdded added.old lane line.now added.new) }
     ensures bad { OnBad result (IsWrongBy (IsTakenBy (H.holds held.now) added.old) (IsMetBy (H.holds held.now) added.old) (update_of lane file line.now)) }
 {
-    if let Some(refusal) = wrong_with(alloc, held, added, lane, file, line)? {
+    if let Some(refusal) = wrong_with(held, added, lane, file, line) {
         return Err(Fault::Bad { refusal });
     }
     added.add(lane, line)?;

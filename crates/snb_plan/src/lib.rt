@@ -6,5 +6,4 @@ mod closed;
 mod instances;
 pub mod law;
 pub mod plan;
-mod references;
 mod spots;

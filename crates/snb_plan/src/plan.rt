@@ -379,7 +379,7 @@ fn check_steps<H: Held>(alloc: Global, held: &H, lanes: &Lanes, steps: &[Step]) 
         if !step.query {
             let line = &lane_of(lanes, step.lane)[step.place as usize];
             let file = file_of(lanes, step.lane);
-            check_update(alloc, held, &mut added, step.lane, file, line)?;
+            check_update(held, &mut added, step.lane, file, line)?;
         }
     }
     Ok(())
