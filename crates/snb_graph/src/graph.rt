@@ -310,7 +310,8 @@ impl Graph {
         sound(self.alloc, &self.tables)
     }
 
-    /// Makes all rows frozen, so that copies share them. The rows stay, whatever it answers.
+    /// Makes all rows frozen, so that copies of the graph share them. The rows stay, whatever it answers:
+    /// an error says that memory doesn't suffice, and then some of them may be frozen and others not.
     pub fn freeze(&mut self) -> Result<(), AllocError>
         ensures { self.new ≡ self.old }
     {
@@ -318,7 +319,8 @@ impl Graph {
         self.links.freeze()
     }
 
-    /// A graph with the same rows, which shares those that are frozen.
+    /// A graph with the same rows, which shares those that are frozen and copies the others. An error says
+    /// that memory doesn't suffice.
     pub fn try_copy(&self) -> Result<Graph, AllocError>
         ensures { IfOk result (λ copy. copy ≡ self.now) }
     {

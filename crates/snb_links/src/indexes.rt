@@ -52,7 +52,7 @@ impl Indexes {
         }
     }
 
-    /// What is frozen is kept.
+    /// A law: each frozen link is kept.
     pub fn known(&self)
         ensures { (l : Link) → HasFrozenLink self.now l → HasLink self.now l }
     {
@@ -65,7 +65,8 @@ impl Indexes {
         self.study.known();
     }
 
-    /// Adds a link that is new. Want of memory leaves all as it was.
+    /// Adds a link. Want of memory leaves all as it was.
+    /// The condition: no link with the ends of this one is kept.
     pub fn add(&mut self, link: Link) -> Result<(), AllocError>
         requires { IsNewLink self.old link }
         ensures ok { OnOk result (HasGainedLink self.old link self.new) }
@@ -84,7 +85,8 @@ impl Indexes {
         }
     }
 
-    /// Takes out the link with the ends of this one, if there is one; it isn't a frozen one.
+    /// Takes out the link with the ends of this one, if there is one. Takes no memory.
+    /// The condition: no link with these ends is frozen.
     pub fn drop_link(&mut self, link: Link)
         requires { IsOwnLink self.old link }
         ensures gone { HasLostLink self.old link self.new }
@@ -159,7 +161,8 @@ impl Indexes {
         Ok(())
     }
 
-    /// Takes out the links with the ends of the news, none of which is frozen.
+    /// Takes out the links with the ends of the news. Takes no memory.
+    /// The condition: no link with these ends is frozen.
     pub fn drop_news(&mut self, news: News)
         requires { AreOwn self.old news }
         ensures gone { HasLostNews self.old news self.new }
@@ -182,7 +185,8 @@ impl Indexes {
         self.study.freeze()
     }
 
-    /// Makes all links frozen. They stay, whatever it answers, and what is frozen is one of them.
+    /// Makes all links frozen, so that copies share them. They stay, whatever it answers: an error says
+    /// that memory doesn't suffice, and then some of the walks may be frozen and others not.
     pub fn freeze(&mut self) -> Result<(), AllocError>
         ensures same { SameLinks self.old self.new }
         ensures among { (l : Link) → HasFrozenLink self.new l → HasLink self.new l }
@@ -192,7 +196,8 @@ impl Indexes {
         frozen
     }
 
-    /// The same links.
+    /// The same links: the copy shares the frozen ones and copies the others. An error says that memory
+    /// doesn't suffice.
     pub fn try_copy(&self) -> Result<Indexes, AllocError>
         ensures { IfOk result (λ copy. copy ≡ self.now) }
     {

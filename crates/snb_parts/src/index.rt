@@ -146,7 +146,7 @@ impl Index {
         }
     }
 
-    /// What is frozen is there.
+    /// A law: each frozen pair is one of the pairs.
     pub fn known(&self)
         ensures { (of id date : ℕ) → HasFrozenPair self.now of id date → HasPair self.now of id date }
     {
@@ -164,7 +164,8 @@ impl Index {
         Links::over(frozen, slice_at(&self.added, of))
     }
 
-    /// Adds a pair that the number doesn't have. Want of memory leaves all pairs as they were.
+    /// Adds a pair to those of a number. Want of memory leaves all pairs as they were.
+    /// The condition: the number has no pair of this id.
     pub fn add(&mut self, of: u64, id: u64, date: u64) -> Result<(), AllocError>
         requires { (d : ℕ) → ¬ HasPair self.old of id d }
         ensures ok { OnOk result (HasAdded self.old of id date self.new) }
@@ -174,7 +175,8 @@ impl Index {
         put(&mut self.added, self.alloc, of, id, date)
     }
 
-    /// Takes out the pair of an id, if there is one; it isn't a frozen one.
+    /// Takes the pair of an id out of those of a number, if there is one. Takes no memory.
+    /// The condition: no frozen pair of the number has this id.
     pub fn drop_pair(&mut self, of: u64, id: u64)
         requires { (d : ℕ) → ¬ HasFrozenPair self.old of id d }
         ensures gone { HasDropped self.old of id self.new }
@@ -183,7 +185,8 @@ impl Index {
         take(&mut self.added, of, id);
     }
 
-    /// Makes all pairs the frozen part. They stay, whatever it answers.
+    /// Makes all pairs the frozen part, which copies share. Where memory doesn't suffice, the index is as
+    /// it was.
     pub fn freeze(&mut self) -> Result<(), AllocError>
         ensures same { SamePairs self.old self.new }
         ensures ok { OnOk result ((q : ℕ) → pairs_at self.new.0 q ≡ pairs_of self.old q) }
@@ -201,7 +204,8 @@ impl Index {
         Ok(())
     }
 
-    /// An index with the same pairs, which shares the frozen part and copies the others.
+    /// An index with the same pairs, which shares the frozen part and copies the others. An error says
+    /// that memory doesn't suffice.
     pub fn try_copy(&self) -> Result<Self, AllocError>
         ensures { IfOk result (λ copy. copy ≡ self.now) }
     {

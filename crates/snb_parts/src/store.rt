@@ -77,7 +77,7 @@ impl<K: Apart, V: Clone + Drop> Store<K, V> {
         }
     }
 
-    /// What is known of the two parts.
+    /// A law: both parts are in order and share no key, and their entries can be counted.
     pub fn known(&self)
         ensures { AreStored K.cmp self.now.0 self.now.1 }
     {
@@ -96,7 +96,7 @@ impl<K: Apart, V: Clone + Drop> Store<K, V> {
         }
     }
 
-    /// What is kept under a key.
+    /// What is kept under a key. Takes no memory.
     pub fn get(&self, key: &K) -> Option<&V>
         ensures { option_copied result ≡ value_at K.cmp (all_of K.cmp self.now) key.now }
     {
@@ -107,14 +107,15 @@ impl<K: Apart, V: Clone + Drop> Store<K, V> {
         }
     }
 
-    /// Whether there is an entry of the key.
+    /// Whether there is an entry of the key. Takes no memory.
     pub fn has(&self, key: &K) -> bool
         ensures { result ≡ is_some (value_at K.cmp (all_of K.cmp self.now) key.now) }
     {
         self.get(key).is_some()
     }
 
-    /// Adds an entry of a key that is new. Want of memory leaves all as it was.
+    /// Adds an entry. Want of memory leaves all as it was.
+    /// The condition: no entry has the key.
     pub fn add(&mut self, key: K, value: V) -> Result<(), AllocError>
         requires { value_at K.cmp (all_of K.cmp self.old) key ≡ None }
         ensures ok { OnOk result (all_of K.cmp self.new ≡ insert_entry K.cmp (all_of K.cmp self.old) key value) }
@@ -128,7 +129,8 @@ impl<K: Apart, V: Clone + Drop> Store<K, V> {
         Ok(())
     }
 
-    /// Takes out the entry of a key that isn't frozen, if there is one.
+    /// Takes out the entry of a key, if there is one. Takes no memory.
+    /// The condition: no frozen entry has the key.
     pub fn take_back(&mut self, key: &K)
         requires { value_at K.cmp self.old.0 key.now ≡ None }
         ensures gone { all_of K.cmp self.new ≡ remove_entry (is_at (K.cmp key.now)) (all_of K.cmp self.old) }
@@ -177,7 +179,8 @@ impl<K: Apart, V: Clone + Drop> Store<K, V> {
         Walk::over(frozen, self.added.range(from..=last))
     }
 
-    /// Makes all entries the frozen part. They stay, whatever it answers.
+    /// Makes all entries the frozen part, which copies share. Where memory doesn't suffice, the store is
+    /// as it was.
     /// The condition: a clone of a value is equal to it.
     pub fn freeze(&mut self) -> Result<(), AllocError>
         requires { (v w : V) → V.is_clone v w → w ≡ v }
@@ -190,7 +193,8 @@ impl<K: Apart, V: Clone + Drop> Store<K, V> {
         Ok(())
     }
 
-    /// A store with the same entries, which shares the frozen part and copies the others.
+    /// A store with the same entries, which shares the frozen part and copies the others. An error says
+    /// that memory doesn't suffice.
     /// The condition: a clone of a value is equal to it.
     pub fn try_copy(&self) -> Result<Self, AllocError>
         requires { (v w : V) → V.is_clone v w → w ≡ v }

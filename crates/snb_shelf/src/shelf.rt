@@ -85,7 +85,8 @@ impl<K: Key, V: Kept> Shelf<K, V> {
         Ok(())
     }
 
-    /// Takes out the row of a key that isn't frozen, if there is one.
+    /// Takes out the row of a key, if there is one. Takes no memory.
+    /// The condition: no frozen row has the key.
     pub fn take_back(&mut self, key: &K)
         requires { ¬ HasKey self.old.frozen (K.name V.table key.now) }
         ensures lost { HasLost self.old.rows (K.name V.table key.now) self.new.rows }
@@ -131,7 +132,8 @@ impl<K: Key, V: Kept> Shelf<K, V> {
         self.store.through(from, last)
     }
 
-    /// Makes all rows frozen. They stay, whatever it answers.
+    /// Makes all rows frozen, so that copies share them. They stay, whatever it answers: an error says
+    /// that memory doesn't suffice, and what was frozen is.
     pub fn freeze(&mut self) -> Result<(), AllocError>
         ensures rows { self.new.rows ≡ self.old.rows }
         ensures ok { OnOk result (self.new.frozen ≡ self.old.rows) }
@@ -142,7 +144,8 @@ impl<K: Key, V: Kept> Shelf<K, V> {
         Ok(())
     }
 
-    /// A shelf with the same rows, which shares the frozen ones and copies the others.
+    /// A shelf with the same rows, which shares the frozen ones and copies the others. An error says that
+    /// memory doesn't suffice.
     pub fn try_copy(&self) -> Result<Self, AllocError>
         ensures { IfOk result (λ copy. copy ≡ self.now) }
     {

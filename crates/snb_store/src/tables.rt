@@ -124,7 +124,7 @@ impl Tables {
         let _ = &self.places;
     }
 
-    /// The frozen rows are among the rows.
+    /// A law: the frozen rows are among the rows.
     pub fn shared(&self)
         ensures { (r : Row) → Contains self.now.frozen r → Contains self.now.rows r }
     {
@@ -216,7 +216,8 @@ impl Tables {
         self.organisations.find(&id)
     }
 
-    /// Tables with the same rows.
+    /// Tables with the same rows, which share the frozen ones and copy the others. An error says that
+    /// memory doesn't suffice.
     pub fn try_copy(&self) -> Result<Tables, AllocError>
         ensures { IfOk result (λ copy. copy ≡ self.now) }
     {
@@ -788,8 +789,8 @@ impl Tables {
         self.edges.take_back(&key);
     }
 
-    /// Takes out a word that is held and isn't frozen. Takes no memory.
-    /// The condition: the table is that of emails or of languages.
+    /// Takes out a word. Takes no memory.
+    /// The conditions: the word is held and isn't frozen, and its table is that of emails or of languages.
     pub fn take_word(&mut self, key: WordKey)
         requires held { HasKey self.old.rows (word_name key) }
         requires free { ¬ HasKey self.old.frozen (word_name key) }
@@ -800,7 +801,8 @@ impl Tables {
         self.words.take_back(&key);
     }
 
-    /// Takes out a row that is held, isn't frozen and no word. Takes no memory.
+    /// Takes out a row. Takes no memory.
+    /// The conditions: the row is held, isn't frozen, and is no email or language.
     pub fn take_back(&mut self, row: &Row)
         requires held { Contains self.old.rows row.now }
         requires free { ¬ HasKey self.old.frozen (row_key row.now) }
