@@ -55,7 +55,10 @@ impl Runs {
     }
 
     /// The pairs of a map.
-    pub(crate) fn of(alloc: Global, map: &BTreeMap<u64, Vec<(u64, u64)>>) -> Result<Runs, AllocError>
+    pub(crate) fn of(
+        alloc: Global,
+        map: &BTreeMap<u64, Vec<(u64, u64)>>,
+    ) -> Result<Runs, AllocError>
         ensures { IfOk result (λ runs. runs ≡ lists_of map.now.entries) }
     {
         let mut heads = Vec::with_capacity(alloc, map.len())?;
