@@ -33,17 +33,20 @@ use Rattle.snb_graph.specs.Filters.{date_of, friends_of, from_of, led_in, likes_
 use Rattle.snb_graph.specs.Laws.{OneWalk, Sorts, WalkLaw}
 use Rattle.snb_graph.specs.Walks.{ArePairs, Likes}
 
-number_is : (a b : ℕ) → nat_eq a b ≡ true → a ≡ b
+pub number_is : (a b : ℕ) → nat_eq a b ≡ true → a ≡ b
 number_is a b e = grind (arith, e)
 
-number_itself : (a : ℕ) → nat_eq a a ≡ true
+pub number_itself : (a : ℕ) → nat_eq a a ≡ true
 number_itself a = grind arith
 
 -- a row of a table is one of its rows
-of_table : (g : List Row) (t : Table) (r : Row) → Contains (rows g t) r → Contains g r × (table_of r ≡ t)
+pub of_table : (g : List Row) (t : Table) (r : Row) → Contains (rows g t) r → Contains g r × (table_of r ≡ t)
 of_table g t r c = let kept = (in_filter (λ (x : Row). same_table (table_of x) t) g r).0 c in (kept.0, same_true the_table tt (table_of r) t kept.1)
 
-in_table : (g : List Row) (t : Table) (r : Row) → Contains g r → same_table (table_of r) t ≡ true → Contains (rows g t) r
+pub same_table_itself : (t : Table) → same_table t t ≡ true
+same_table_itself t = matches_eq-law t t ∙ ap is_eq (table_itself t)
+
+pub in_table : (g : List Row) (t : Table) (r : Row) → Contains g r → same_table (table_of r) t ≡ true → Contains (rows g t) r
 in_table g t r c e = (in_filter (λ (x : Row). same_table (table_of x) t) g r).1 (c, e)
 
 -- a row of a table of edges is told by its ends and its date
@@ -75,7 +78,7 @@ link_is t (row.Dated u a b d) is fit e = absurd (let s : shapes.Dated ≡ shapes
 link_is t (row.Yeared u a b d) is fit e = absurd (let s : shapes.Yeared ≡ shapes.Link = fit.shaped ∙ ap shape e ∙ is in absurd cc)
 link_is t (row.Word u p w) is fit e = absurd (let s : shapes.Word ≡ shapes.Link = fit.shaped ∙ ap shape e ∙ is in absurd cc)
 
-fits : (g : List Row) (r : Row) → IsGraph g → Contains g r → IsTableRow r
+pub fits : (g : List Row) (r : Row) → IsGraph g → Contains g r → IsTableRow r
 fits g r graph c = All-contains IsTableRow g r graph.of_tables c
 
 -- ---- friends

@@ -24,12 +24,9 @@ use Rattle.snb_schema.specs.References.{ref}
 use Rattle.snb_schema.specs.RowKeys.{RowKey, node_key, row_key, slot, slot_of}
 use Rattle.snb_schema.specs.RowLines.{table_of}
 use Rattle.snb_schema.specs.TableOrder.{same_table}
-use Rattle.snb_shelf.proofs.Laws.{contains_cases, contains_here, contains_there, ends_walk, in_filter}
-use Rattle.snb_shelf.specs.declared.keys.EdgeKey.{EdgeKey}
-use Rattle.snb_shelf.specs.Edges.{edge_of, edge_row, link_of}
-use Rattle.snb_shelf.specs.KeysApart.{edge_name}
-use Rattle.snb_shelf.specs.Pairs.{ArePairsOf, ends_of}
-use Rattle.snb_shelf.specs.Rows.{entry_row, rows_by}
+use Rattle.snb_shelf.proofs.Laws.{contains_cases, contains_here, contains_there, in_filter}
+use Rattle.snb_parts.specs.Pairs.{ArePairsOf}
+use Rattle.snb_shelf.specs.Rows.{Stock}
 use Rattle.snb_tables.specs.Graphs.{HasGained, HasKey, HasSlot, IsGraph, row_order, rows}
 use Rattle.snb_tables.specs.Laws.{GraphsAreTheirRows}
 use Rattle.snb_tables.specs.Soundness.{Held}
@@ -37,17 +34,16 @@ use Rattle.snb_tables.proofs.Laws.{row_total, same_is}
 use Rattle.snb_links.specs.declared.indexes.Indexes.{Indexes}
 use Rattle.snb_links.specs.declared.link.Link.{Link}
 use Rattle.snb_links.specs.declared.link.Walk.{Walk}
-use Rattle.snb_links.specs.declared.link.Walk.TheVariants.{Friends, Messages, Replies, PostLikes, CommentLikes}
+use Rattle.snb_links.specs.declared.link.Walk.TheVariants.{Friends, Messages, Replies, PostLikes, CommentLikes, Work, Study}
 use Rattle.snb_links.specs.Concerns.{concerns}
-use Rattle.snb_links.specs.Kept.{HasLink, IsIndexed, at}
+use Rattle.snb_links.specs.Kept.{HasFrozenLink, HasLink, IsBacked, IsIndexed, at}
 use Rattle.snb_links.specs.Links.{LikesComment, LikesPost, Tells}
 use Rattle.snb_links.specs.News.{link}
-use Rattle.snb_links.proofs.Laws.{mute_indexed}
+use Rattle.snb_links.proofs.Laws.{mute_indexed, mute_left}
 use Rattle.snb_store.proofs.Laws.{contains_gained}
 use Rattle.snb_store.specs.Parts.{HasGivenBack}
-use Rattle.snb_graph.specs.Additions.{AddsUp, HasClash, HasTaken}
-use Rattle.snb_graph.specs.Left.{edge_ends}
-use Rattle.snb_graph.specs.Walks.{ArePairs, Likes, stays_of, year_of}
+use Rattle.snb_graph.specs.Additions.{AddsUp, HasClash, HasTaken, HoldsAll, IsKept}
+use Rattle.snb_graph.specs.Walks.{ArePairs, Likes}
 
 pub not_held : {H : Type 0} (test : Bool) → IsTrue test ↔ H → test ≡ false → ¬ H
 not_held true same e = absurd (false≢true (sym e))
@@ -55,13 +51,11 @@ not_held false same e = λ h. false≢true (same.1 h)
 
 -- ---- walks
 
-pub walk_pairs : (g : List Row) (s : Indexes) (w : Walk) (of : ℕ) (ps : List ((ℕ × ℕ) × ℕ)) → IsIndexed g s → ArePairsOf (at s w) of ps → ArePairs (Tells g w of) (ends_of ps)
-walk_pairs g s w of ps is are =
-    let ends = ends_walk (at s w) of ps are in
-    record {
-      rises = ends.rises;
-      same = λ id date. (λ c. (is.same (link w of id date)).0 ((ends.same id date).0 c), λ h. (ends.same id date).1 ((is.same (link w of id date)).1 h));
-    }
+pub walk_pairs : (g : List Row) (s : Indexes) (w : Walk) (of : ℕ) (ps : List (ℕ × ℕ)) → IsIndexed g s → ArePairsOf (at s w) of ps → ArePairs (Tells g w of) ps
+walk_pairs g s w of ps is are = record {
+  rises = are.rises;
+  same = λ id date. (λ c. (is.same (link w of id date)).0 ((are.same id date).0 c), λ h. (are.same id date).1 ((is.same (link w of id date)).1 h));
+}
 
 -- the rows of the keys of a post and a comment aren't in one graph
 post_or_comment : (g : List Row) (m : ℕ) → IsGraph g → HasKey g (node_key kinds.Post m) → HasKey g (node_key kinds.Comment m) → ⊥
@@ -96,50 +90,6 @@ comment_likes g m ps held none are = record {
   );
 }
 
--- ---- stays
-
-link_table : (c : KeyColumns) (t : Table) (a b n : ℕ) → table_of (link_of c t a b n) ≡ t
-link_table First t a b n = refl
-link_table Second t a b n = refl
-link_table FirstTwo t a b n = refl
-
-edge_table : (s : Shape) (c : KeyColumns) (t : Table) (a b n : ℕ) → table_of (edge_of s c t a b n) ≡ t
-edge_table shapes.Dated c t a b n = refl
-edge_table shapes.Yeared c t a b n = refl
-edge_table shapes.Place c t a b n = link_table c t a b n
-edge_table shapes.TagClass c t a b n = link_table c t a b n
-edge_table shapes.Tag c t a b n = link_table c t a b n
-edge_table shapes.Organisation c t a b n = link_table c t a b n
-edge_table shapes.Person c t a b n = link_table c t a b n
-edge_table shapes.Forum c t a b n = link_table c t a b n
-edge_table shapes.Post c t a b n = link_table c t a b n
-edge_table shapes.Comment c t a b n = link_table c t a b n
-edge_table shapes.Link c t a b n = link_table c t a b n
-edge_table shapes.Word c t a b n = link_table c t a b n
-
--- the second id and the year of a row
-abbrev stay : Row → ℕ × ℕ
-stay r = ((row_key r).2, year_of r)
-
-one_stay : (k : EdgeKey) (n : ℕ) → shape k.table ≡ shapes.Yeared → stay (edge_row (edge_name k) n) ≡ (k.second, n)
-one_stay k n yeared = ap (λ s. stay (edge_of s (key_columns k.table) k.table k.first k.second n)) yeared
-
-all_stays : (t : Table) (es : List (EdgeKey × ℕ)) → shape t ≡ shapes.Yeared → ((r : Row) → Contains (rows_by (entry_row edge_name edge_row) es) r → table_of r ≡ t) → edge_ends es ≡ map stay (rows_by (entry_row edge_name edge_row) es)
-all_stays t [] yeared are = refl
-all_stays t (e ∷ es) yeared are =
-    let here : table_of (edge_row (edge_name e.0) e.1) ≡ t = are _ (contains_here (edge_row (edge_name e.0) e.1) (rows_by (entry_row edge_name edge_row) es)) in
-    let its_table : e.0.table ≡ t = sym (edge_table (shape e.0.table) (key_columns e.0.table) e.0.table e.0.first e.0.second e.1) ∙ here in
-    let first = sym (one_stay e.0 e.1 (ap shape its_table ∙ yeared)) in
-    let rest = all_stays t es yeared (λ r c. are r (contains_there (edge_row (edge_name e.0) e.1) (rows_by (entry_row edge_name edge_row) es) r c)) in
-    λ i. first i ∷ rest i
-
-pub stays : (g : List Row) (t : Table) (person : ℕ) (es : List (EdgeKey × ℕ)) → shape t ≡ shapes.Yeared → rows_by (entry_row edge_name edge_row) es ≡ filter (λ r. nat_eq (row_key r).1 person) (rows g t) → edge_ends es ≡ stays_of g t person
-stays g t person es yeared same =
-    all_stays t es yeared (λ r c.
-    let kept = (in_filter (λ (x : Row). nat_eq (row_key x).1 person) (rows g t) r).0 (subst (λ xs. Contains xs r) same c) in
-    same_is (table_of r) t ((in_filter (λ (x : Row). same_table (table_of x) t) g r).0 kept.0).1)
-    ∙ ap (map stay) same
-
 -- ---- rows added and taken out
 
 tells_none : (w : Walk) (of id date : ℕ) → ¬ Tells [] w of id date
@@ -149,6 +99,8 @@ tells_none Messages of id date l = let c = l.held in omega (arith, c.1)
 tells_none Replies of id date l = let c = l.held in omega (arith, c.1)
 tells_none PostLikes of id date c = omega (arith, c.1)
 tells_none CommentLikes of id date c = omega (arith, c.1)
+tells_none Work of id date c = omega (arith, c.1)
+tells_none Study of id date c = omega (arith, c.1)
 
 pub none_indexed : (g : List Row) (s : Indexes) → g ≡ [] → IsGraph g → ((l : Link) → ¬ HasLink s l) → IsIndexed g s
 none_indexed g s is graph none = record {
@@ -283,3 +235,19 @@ next_item {X} xs all x front at =
     let rest : drop (length xs) all ≡ x ∷ drop (length xs + 1) all =
     drop-cons all (length xs) x at.0 ∙ ap (λ (y : X). y ∷ drop (suc (length xs)) all) (sym at.1) ∙ ap (λ (n : ℕ). x ∷ drop n all) (sym (add-one (length xs))) in
     ap (λ (ys : List X). ys ++ x ∷ drop (length xs + 1) all) first ∙ ap (λ (ys : List X). take (length xs) all ++ ys) (sym rest) ∙ take-append-drop (length xs) all
+
+-- a row that was added isn't of a frozen row's key
+pub not_frozen : (g front now frozen : List Row) (r : Row) → AddsUp g (front ++ r ∷ []) now → HoldsAll g frozen → ¬ HasKey frozen (row_key r)
+not_frozen g front now frozen r adds holds has =
+    let there = holds has.it has.held in
+    let one = adds.graph.apart has.it r ((adds.same has.it).1 (inl there)) (last_held g front now r adds) (ap slot has.keyed) in
+    adds.apart front r [] refl (inl (subst (Contains g) one there))
+
+-- without links and frozen rows nothing is wrong
+pub none_kept : (g : Stock) (s : Indexes) → g.rows ≡ [] → IsGraph g.rows → ((l : Link) → ¬ HasLink s l) → ((l : Link) → ¬ HasFrozenLink s l) → IsKept g s
+none_kept g s is graph none free = record { indexed = none_indexed g.rows s is graph none; backed = λ l has. absurd (free l has) }
+
+-- a row along which no walk goes was added, or wasn't
+pub mute_kept : {E : Type 0} (result : Result (Unit {0}) E) (old new : Stock) (r : Row) (s : Indexes) → ((w : Walk) → concerns w r ≡ false) → IsKept old s → OnOk result (HasGained old.rows (r ∷ []) new.rows) → OnErr result (new ≡ old) → new.frozen ≡ old.frozen → IsKept new s
+mute_kept (Ok x) old new r s mute is ok err frozen = record { indexed = mute_indexed old.rows new.rows r s mute is.indexed ok; backed = subst (λ g. IsBacked g s) (sym frozen) is.backed }
+mute_kept (Err e) old new r s mute is ok err frozen = subst (λ (g : Stock). IsKept g s) (sym err) is

@@ -1,2 +1,3 @@
-pub mod GraphLemmas
-pub mod FilterLemmas
+mod FilterLemmas
+mod GraphLemmas
+mod StayLemmas

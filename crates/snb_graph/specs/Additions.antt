@@ -3,6 +3,9 @@ use Rattle.std.specs.Prelude.{◌≡◌, ◌↔◌, ◌⊎◌, ◌++◌, ◌∷�
 use Rattle.snb_schema.specs.declared.row.Row.{Row}
 use Rattle.snb_schema.specs.RowKeys.{slot_of}
 use Rattle.snb_tables.specs.Graphs.{HasSlot, IsGraph}
+use Rattle.snb_shelf.specs.Rows.{Stock}
+use Rattle.snb_links.specs.declared.indexes.Indexes.{Indexes}
+use Rattle.snb_links.specs.Kept.{IsBacked, IsIndexed}
 
 -- the slot of one of the rows is that of a row that is held, or of a row before it
 pub record HasClash (g more : List Row) : Type 0 where
@@ -29,3 +32,12 @@ pub record AddsUp (g more now : List Row) : Type 0 where
   pub graph : IsGraph now
   pub same : (r : Row) → Contains now r ↔ (Contains g r ⊎ Contains more r)
   pub apart : (before : List Row) (r : Row) (after : List Row) → before ++ r ∷ after ≡ more → ¬ (Contains g r ⊎ Contains before r)
+
+-- the rows hold all of these
+abbrev pub HoldsAll : List Row → List Row → Type 0
+HoldsAll g frozen = (r : Row) → Contains frozen r → Contains g r
+
+-- the links are those that the rows tell of, and the frozen ones those that the frozen rows tell of
+pub record IsKept (tables : Stock) (links : Indexes) : Type 0 where
+  pub indexed : IsIndexed tables.rows links
+  pub backed : IsBacked tables.frozen links

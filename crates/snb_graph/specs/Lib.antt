@@ -1,5 +1,4 @@
 pub mod Additions
 pub mod Filters
 pub mod Laws
-pub mod Left
 pub mod Walks

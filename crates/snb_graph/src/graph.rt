@@ -1,10 +1,9 @@
 //! The graph, with what is walked along.
 
-ghost use Rattle.std.specs.Prelude.{◌≢◌, length, All, List, ◌≡◌, ◌++◌, ◌∷◌, [], ◌↔◌, Contains, IsTrue, IsSome, IfSome, IfOk, IfErr, OnOk, OnErr, Err};
+ghost use Rattle.std.specs.Prelude.{◌≢◌, length, All, ◌≡◌, ◌∷◌, [], ◌↔◌, Contains, IsTrue, IsSome, IfSome, IfOk, IfErr, OnOk, OnErr, Err};
 ghost use Rattle.std.specs.Option.{option_copied};
 ghost use Rattle.snb_schema.specs.declared.layout.KeyColumns.TheVariants as columns;
 ghost use Rattle.snb_schema.specs.declared.layout.Shape.TheVariants as shapes;
-ghost use Rattle.snb_schema.specs.declared.row.Row.{Row};
 ghost use Rattle.snb_schema.specs.declared.row.Row.TheVariants as row;
 ghost use Rattle.snb_schema.specs.declared.table.Kind.TheVariants as kinds;
 ghost use Rattle.snb_schema.specs.declared.table.Table.TheVariants as table;
@@ -16,24 +15,21 @@ ghost use Rattle.snb_tables.specs.Soundness.{Held as IsHeld, Sound};
 ghost use Rattle.snb_soundness.specs.Outcomes.{IsWrong};
 ghost use Rattle.snb_shelf.specs.Edges.{link_of};
 ghost use Rattle.snb_store.specs.declared.insert.Insert.TheVariants as Insert;
-ghost use Rattle.snb_store.specs.Parts.{HasGivenBack};
-ghost use Rattle.snb_store.specs.Twins.{IsNoWord};
 ghost use Rattle.snb_store.specs.Words.{words_of};
-ghost use Rattle.snb_graph.specs.Additions.{AddsUp, AreNew, HasClash, HasTaken};
+ghost use Rattle.snb_graph.specs.Additions.{AreNew, HasClash};
 ghost use Rattle.snb_links.specs.Links.{LikesComment, LikesPost};
+ghost use Rattle.snb_parts.specs.Pairs.{rest};
 ghost use Rattle.snb_graph.specs.Walks.{AreFriendsOf, AreLikesOf, AreMessagesOf, ArePairs, AreRepliesOf, stays_of};
 
-use crate::walk::Links;
-use snb_base::text::Text;
+use crate::additions::{insert, insert_each, take_all};
 use snb_links::indexes::Indexes;
 use snb_links::link::Walk;
-use snb_links::news::news_of;
+use snb_parts::links::Links;
 use snb_schema::key::{Held, Key};
 use snb_schema::nodes::{Comment, Forum, Named, Organisation, Place, Post};
 use snb_schema::person::Person;
 use snb_schema::row::Row;
 use snb_schema::table::Table;
-use snb_shelf::keys::WordKey;
 use snb_soundness::sound::sound;
 use snb_soundness::unsound::Unsound;
 use snb_store::each::TableRows;
@@ -41,7 +37,6 @@ use snb_store::insert::Insert;
 use snb_store::same::holds_same;
 use snb_store::tables::Tables;
 use snb_store::words::Words;
-use snb_tables::law::graphs_are_their_rows;
 use std::alloc::{AllocError, Global};
 use std::marker::Model;
 
@@ -67,37 +62,13 @@ impl Drop for Graph {
 impl Model for Graph {
     ghost use Rattle.std.specs.Prelude.{List};
     ghost use Rattle.snb_schema.specs.declared.row.Row.{Row};
-    ghost use Rattle.snb_links.specs.Kept.{IsIndexed};
+    ghost use Rattle.snb_graph.specs.Additions.{IsKept};
 
     ghost Value = { List Row };
 
-    ghost view = { λ g. g.tables };
+    ghost view = { λ g. g.tables.rows };
 
-    ghost invariant = { λ g. IsIndexed g.tables g.links };
-}
-
-// An equal row.
-fn copy_of(row: &Row) -> Result<Row, AllocError>
-    ensures { IfOk result (λ copy. copy ≡ row.now) }
-{
-    row.clone()
-}
-
-// Notes an equal row. Want of memory leaves the list as it was.
-fn note(added: &mut Vec<Row>, row: &Row) -> Result<(), AllocError>
-    ensures ok { OnOk result (added.new.items ≡ added.old.items ++ row.now ∷ []) }
-    ensures err { OnErr result (added.new.items ≡ added.old.items) }
-{
-    let copy = copy_of(row)?;
-    added.push(copy)?;
-    Ok(())
-}
-
-// Takes the last row off a list.
-fn forget(added: &mut Vec<Row>)
-    ensures { (front : List Row) (last : Row) → added.old.items ≡ front ++ last ∷ [] → added.new.items ≡ front }
-{
-    let _ = added.pop();
+    ghost invariant = { λ g. IsKept g.tables g.links };
 }
 
 impl Graph {
@@ -236,100 +207,58 @@ impl Graph {
 
     /// The friends of a person with the dates of their friendships, by rising id. Takes no memory.
     pub fn friends(&self, person: u64) -> Links<'_>
-        ensures { AreFriendsOf self.now person result }
+        ensures { AreFriendsOf self.now person (rest result) }
     {
         let _ = &self.tables;
-        Links::over(self.links.pairs(Walk::Friends, person))
+        self.links.pairs(Walk::Friends, person)
     }
 
     /// The messages of a person with their creation dates, by rising id. Takes no memory.
     pub fn messages(&self, person: u64) -> Links<'_>
-        ensures { AreMessagesOf self.now person result }
+        ensures { AreMessagesOf self.now person (rest result) }
     {
         let _ = &self.tables;
-        Links::over(self.links.pairs(Walk::Messages, person))
+        self.links.pairs(Walk::Messages, person)
     }
 
     /// The comments that reply to a message with their creation dates, by rising id. Takes no memory.
     pub fn replies(&self, message: u64) -> Links<'_>
-        ensures { AreRepliesOf self.now message result }
+        ensures { AreRepliesOf self.now message (rest result) }
     {
         let _ = &self.tables;
-        Links::over(self.links.pairs(Walk::Replies, message))
+        self.links.pairs(Walk::Replies, message)
     }
 
     /// The persons who like a message with the dates of their likes, by rising id: those who like the
     /// post of this id, if it is held, and else those who like the comment. Where each node that a row
     /// refers to is held, these are all. Takes no memory.
     pub fn likes(&self, message: u64) -> Links<'_>
-        ensures post { HasKey self.now (node_key kinds.Post message) → ArePairs (LikesPost self.now message) result }
-        ensures comment { ¬ HasKey self.now (node_key kinds.Post message) → ArePairs (LikesComment self.now message) result }
-        ensures held { IsHeld self.now → AreLikesOf self.now message result }
+        ensures post { HasKey self.now (node_key kinds.Post message) → ArePairs (LikesPost self.now message) (rest result) }
+        ensures comment { ¬ HasKey self.now (node_key kinds.Post message) → ArePairs (LikesComment self.now message) (rest result) }
+        ensures held { IsHeld self.now → AreLikesOf self.now message (rest result) }
     {
         match self.tables.post(message) {
-            Some(_) => Links::over(self.links.pairs(Walk::PostLikes, message)),
-            None => Links::over(self.links.pairs(Walk::CommentLikes, message)),
+            Some(_) => self.links.pairs(Walk::PostLikes, message),
+            None => self.links.pairs(Walk::CommentLikes, message),
         }
     }
 
     /// The organisations where a person works with the years since when, by rising id. Takes no
     /// memory.
     pub fn work(&self, person: u64) -> Links<'_>
-        ensures { result ≡ stays_of self.now table.PersonWorkAtOrganisation person }
+        ensures { rest result ≡ stays_of self.now table.PersonWorkAtOrganisation person }
     {
-        let _ = &self.links;
-        Links::along(
-            self.tables
-                .edges_from(Table::PersonWorkAtOrganisation, person),
-        )
+        let _ = &self.tables;
+        self.links.pairs(Walk::Work, person)
     }
 
     /// The organisations where a person studied with the years since when, by rising id. Takes no
     /// memory.
     pub fn study(&self, person: u64) -> Links<'_>
-        ensures { result ≡ stays_of self.now table.PersonStudyAtOrganisation person }
+        ensures { rest result ≡ stays_of self.now table.PersonStudyAtOrganisation person }
     {
-        let _ = &self.links;
-        Links::along(
-            self.tables
-                .edges_from(Table::PersonStudyAtOrganisation, person),
-        )
-    }
-
-    // `insert_row` of a word.
-    fn insert_word(&mut self, table: Table, person: u64, text: Text) -> Result<(), Insert>
-        requires { IsTableRow (row.Word table person text) }
-        ensures ok { OnOk result (HasGained self.old (row.Word table person text ∷ []) self.new) }
-        ensures duplicate { (result ≡ Err Insert.Duplicate) ↔ HasSlot self.old (slot_of (row.Word table person text)) }
-        ensures err { OnErr result (self.new ≡ self.old) }
-    {
-        self.tables.insert_row(Row::Word {
-            table,
-            person,
-            text,
-        })
-    }
-
-    // `insert_row` of a row that is no word.
-    fn insert_other(&mut self, row: Row) -> Result<(), Insert>
-        requires shaped { IsTableRow row }
-        requires no_word { IsNoWord row }
-        ensures ok { OnOk result (HasGained self.old (row ∷ []) self.new) }
-        ensures duplicate { (result ≡ Err Insert.Duplicate) ↔ HasSlot self.old (slot_of row) }
-        ensures err { OnErr result (self.new ≡ self.old) }
-    {
-        if self.tables.holds(&row) {
-            return Err(Insert::Duplicate);
-        }
-        let news = news_of(&self.tables, &row);
-        if self.links.add_news(news).is_err() {
-            return Err(Insert::Memory);
-        }
-        if self.tables.put(row).is_err() {
-            self.links.drop_news(news);
-            return Err(Insert::Memory);
-        }
-        Ok(())
+        let _ = &self.tables;
+        self.links.pairs(Walk::Study, person)
     }
 
     /// Adds a row. `Duplicate` says that a row of its slot is held, and `Memory` that memory doesn't
@@ -341,106 +270,7 @@ impl Graph {
         ensures duplicate { (result ≡ Err Insert.Duplicate) ↔ HasSlot self.old (slot_of row) }
         ensures err { OnErr result (self.new ≡ self.old) }
     {
-        match row {
-            Row::Word {
-                table,
-                person,
-                text,
-            } => self.insert_word(table, person, text),
-            other => self.insert_other(other),
-        }
-    }
-
-    // Takes out a word that is held.
-    fn take_word(&mut self, table: Table, person: u64, text: Text)
-        requires { Contains self.old (row.Word table person text) }
-        ensures { HasGivenBack self.old (row.Word table person text) self.new }
-    {
-        self.tables.known();
-        self.tables.take_word(WordKey {
-            table,
-            person,
-            text,
-        });
-    }
-
-    // Takes out a row that is held and no word.
-    fn take_other(&mut self, row: &Row)
-        requires held { Contains self.old row.now }
-        requires no_word { IsNoWord row.now }
-        ensures { HasGivenBack self.old row.now self.new }
-    {
-        self.tables.known();
-        self.tables.take_back(row);
-        let news = news_of(&self.tables, row);
-        self.links.drop_news(news);
-    }
-
-    // Takes out a row that is held.
-    fn take_back(&mut self, row: Row)
-        requires { Contains self.old row }
-        ensures { HasGivenBack self.old row self.new }
-    {
-        match row {
-            Row::Word {
-                table,
-                person,
-                text,
-            } => self.take_word(table, person, text),
-            other => self.take_other(&other),
-        }
-    }
-
-    // Adds a row and notes it. Where that fails, the graph and the list are as they were.
-    fn insert_noted(&mut self, row: Row, added: &mut Vec<Row>) -> Result<(), Insert>
-        requires { IsTableRow row }
-        ensures ok { OnOk result (HasGained self.old (row ∷ []) self.new) }
-        ensures noted { OnOk result (added.new.items ≡ added.old.items ++ row ∷ []) }
-        ensures free { OnOk result (¬ HasSlot self.old (slot_of row)) }
-        ensures duplicate { result ≡ Err Insert.Duplicate → HasSlot self.old (slot_of row) }
-        ensures err { OnErr result (self.new ≡ self.old) }
-        ensures kept { OnErr result (added.new.items ≡ added.old.items) }
-    {
-        if note(added, &row).is_err() {
-            return Err(Insert::Memory);
-        }
-        match self.insert_row(row) {
-            Ok(()) => Ok(()),
-            Err(why) => {
-                forget(added);
-                Err(why)
-            }
-        }
-    }
-
-    // Takes out rows that were added, the last first.
-    fn take_all(&mut self, added: Vec<Row>)
-        requires { (old : List Row) × AddsUp old added.items self.old }
-        ensures { (old : List Row) → AddsUp old added.items self.old → self.new ≡ old }
-    {
-        graphs_are_their_rows();
-        let mut left = added;
-        while let Some(row) = left.pop() {
-            self.take_back(row);
-        }
-    }
-
-    // Adds the rows one after another, up to the first that can't be added, and notes them.
-    fn insert_each(&mut self, rows: Vec<Row>, added: &mut Vec<Row>) -> Result<(), Insert>
-        requires shaped { All IsTableRow rows.items }
-        requires graph { IsGraph self.old }
-        requires none { added.old.items ≡ [] }
-        ensures ok { OnOk result (HasTaken self.old rows.items self.new) }
-        ensures duplicate { result ≡ Err Insert.Duplicate → HasClash self.old rows.items }
-        ensures err { OnErr result (HasTaken self.old added.new.items self.new) }
-    {
-        for row in rows {
-            match self.insert_noted(row, added) {
-                Ok(()) => {}
-                Err(why) => return Err(why),
-            }
-        }
-        Ok(())
+        insert(&mut self.tables, &mut self.links, row)
     }
 
     /// Adds all of the rows, or none. `Duplicate` says that a row of the slot of one of them is held,
@@ -455,11 +285,12 @@ impl Graph {
         ensures err { OnErr result (self.new ≡ self.old) }
     {
         self.tables.known();
+        self.tables.shared();
         let mut added = Vec::new(*rows.allocator());
-        match self.insert_each(rows, &mut added) {
+        match insert_each(&mut self.tables, &mut self.links, rows, &mut added) {
             Ok(()) => Ok(()),
             Err(why) => {
-                self.take_all(added);
+                take_all(&mut self.tables, &mut self.links, added);
                 Err(why)
             }
         }
@@ -479,7 +310,17 @@ impl Graph {
         sound(self.alloc, &self.tables)
     }
 
-    /// A graph with the same rows.
+    /// Makes all rows frozen, so that copies of the graph share them. The rows stay, whatever it answers:
+    /// an error says that memory doesn't suffice, and then some of them may be frozen and others not.
+    pub fn freeze(&mut self) -> Result<(), AllocError>
+        ensures { self.new ≡ self.old }
+    {
+        self.tables.freeze()?;
+        self.links.freeze()
+    }
+
+    /// A graph with the same rows, which shares those that are frozen and copies the others. An error says
+    /// that memory doesn't suffice.
     pub fn try_copy(&self) -> Result<Graph, AllocError>
         ensures { IfOk result (λ copy. copy ≡ self.now) }
     {

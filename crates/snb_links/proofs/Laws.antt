@@ -1,14 +1,19 @@
 -- Laws that proofs above cite: what one row more or fewer makes of the links kept beside the rows.
-use Rattle.std.proofs.Common.{◌≡◌, ◌++◌, ◌∷◌, [], false, List, refl, inl, inr}
+use Rattle.std.proofs.Common.{◌≡◌, ◌++◌, ◌∷◌, [], ℕ, false, List, refl, inl, inr}
+use Rattle.std.specs.List.{Contains}
 use Rattle.std.specs.List.Sorted.{IsPermutation}
 use Rattle.snb_schema.specs.declared.row.Row.{Row}
 use Rattle.snb_schema.specs.RowKeys.{slot_of}
 use Rattle.snb_tables.specs.Graphs.{HasGained, HasSlot, IsGraph}
 use Rattle.snb_links.specs.declared.indexes.Indexes.{Indexes}
 use Rattle.snb_links.specs.declared.link.News.{News}
+use Rattle.snb_links.specs.declared.link.Link.{Link}
 use Rattle.snb_links.specs.declared.link.Walk.{Walk}
+use Rattle.snb_links.specs.declared.link.Walk.TheVariants.{Friends, Messages, Replies, PostLikes, CommentLikes, Work, Study}
+use Rattle.snb_links.specs.Links.{Tells}
+use Rattle.snb_links.proofs.LinkLemmas.{frozen_before, new_own, still_own}
 use Rattle.snb_links.specs.Concerns.{concerns}
-use Rattle.snb_links.specs.Kept.{HasLostNews, HasNews, IsFresh, IsIndexed, SameLinks}
+use Rattle.snb_links.specs.Kept.{AreOwn, HasFrozenLink, HasLink, HasLostNews, HasNews, IsBacked, IsFresh, IsIndexed, SameFrozen, SameLinks}
 use Rattle.snb_links.specs.News.{IsNews}
 use Rattle.snb_links.proofs.NewsLemmas.{silent, still_tells}
 
@@ -70,3 +75,33 @@ news_undone s mid t news fresh has lost l = (
       elim ((has l).0 was.0) [ inl o ↦ o | inr told ↦ absurd (was.1 l told (refl, refl, refl)) ],
   λ o. (lost l).1 ((has l).1 (inl o), λ k told same. fresh.new k told l same o),
 )
+
+-- what some rows tell, more rows tell too
+pub tells_more : (g h : List Row) → ((r : Row) → Contains g r → Contains h r) → (w : Walk) (of id date : ℕ) → Tells g w of id date → Tells h w of id date
+tells_more g h more Friends of id date (inl c) = inl (more _ c)
+tells_more g h more Friends of id date (inr c) = inr (more _ c)
+tells_more g h more Messages of id date l = record { edge = l.edge; among = l.among; kind = l.kind; from = l.from; node = l.node; linked = more _ l.linked; held = more _ l.held; is = l.is }
+tells_more g h more Replies of id date l = record { edge = l.edge; among = l.among; kind = l.kind; from = l.from; node = l.node; linked = more _ l.linked; held = more _ l.held; is = l.is }
+tells_more g h more PostLikes of id date c = more _ c
+tells_more g h more CommentLikes of id date c = more _ c
+tells_more g h more Work of id date c = more _ c
+tells_more g h more Study of id date c = more _ c
+
+-- frozen links are backed by more frozen rows, and fewer frozen links by the same
+pub more_backed : (g h : List Row) (s : Indexes) → ((r : Row) → Contains g r → Contains h r) → IsBacked g s → IsBacked h s
+more_backed g h s more is l has = tells_more g h more l.walk l.of l.id l.date (is l has)
+
+pub still_backed : (g : List Row) (s t : Indexes) → SameFrozen s t → IsBacked g s → IsBacked g t
+still_backed g s t same is l has = is l (frozen_before s t same l has)
+
+-- where all links are told of, so are the frozen ones among them
+pub all_backed : (g : List Row) (s t : Indexes) → IsIndexed g s → SameLinks s t → ((l : Link) → HasFrozenLink t l → HasLink t l) → IsBacked g t
+all_backed g s t is same among l has = (is.same l).0 ((same l).0 (among l has))
+
+-- the news of a row that isn't there are of no frozen link
+pub news_own : (g frozen : List Row) (r : Row) (s : Indexes) (news : News) → IsBacked frozen s → ((x : Row) → Contains frozen x → Contains g x) → IsNews g r news → ¬ HasSlot g (slot_of r) → AreOwn s news
+news_own g frozen r s news backed among says free k told l same has = says.fresh free k told l same (more_backed frozen g s among backed l has)
+
+-- fresh news are of no frozen link, after a change that freezes nothing
+pub fresh_own : (s t : Indexes) (news : News) → IsFresh s news → ((l : Link) → HasFrozenLink s l → HasLink s l) → SameFrozen s t → AreOwn t news
+fresh_own s t news fresh among same k told = still_own s t k same (new_own s k among (fresh.new k told))

@@ -25,7 +25,7 @@ use Rattle.snb_store.proofs.Laws.{contains_gained}
 use Rattle.snb_tables.specs.Graphs.{HasSlot, IsGraph}
 use Rattle.snb_links.specs.declared.link.Link.{Link}
 use Rattle.snb_links.specs.declared.link.Walk.{Walk}
-use Rattle.snb_links.specs.declared.link.Walk.TheVariants.{Friends, Messages, Replies, PostLikes, CommentLikes}
+use Rattle.snb_links.specs.declared.link.Walk.TheVariants.{Friends, Messages, Replies, PostLikes, CommentLikes, Work, Study}
 use Rattle.snb_links.specs.Concerns.{concerns}
 use Rattle.snb_links.specs.Kept.{IsTold, SameEnds}
 use Rattle.snb_links.specs.Links.{IsCreatorTable, IsFriendship, IsParentTable, LeadsTo, Tells, message_of}
@@ -97,6 +97,8 @@ silent g new r Replies perm mute of id date l = record {
 }
 silent g new r PostLikes perm mute of id date c = unconcerned g new r _ PostLikes perm mute refl c
 silent g new r CommentLikes perm mute of id date c = unconcerned g new r _ CommentLikes perm mute refl c
+silent g new r Work perm mute of id date c = unconcerned g new r _ Work perm mute refl c
+silent g new r Study perm mute of id date c = unconcerned g new r _ Study perm mute refl c
 
 leads_still : (F : Table → Type 0) (g new : List Row) (r : Row) → IsPermutation new (g ++ r ∷ []) → (of id date : ℕ) → LeadsTo F g of id date → LeadsTo F new of id date
 leads_still F g new r perm of id date l = record {
@@ -118,6 +120,8 @@ still_tells g new r Messages perm of id date l = leads_still IsCreatorTable g ne
 still_tells g new r Replies perm of id date l = leads_still IsParentTable g new r perm of id date l
 still_tells g new r PostLikes perm of id date c = old_row g new r _ perm c
 still_tells g new r CommentLikes perm of id date c = old_row g new r _ perm c
+still_tells g new r Work perm of id date c = old_row g new r _ perm c
+still_tells g new r Study perm of id date c = old_row g new r _ perm c
 
 -- ---- edges from messages
 
@@ -376,6 +380,25 @@ like_news w t held tells g a b d =
     ))
     (λ free e x. free (record { it = row.Dated t a b e; held = held g b a e x; fills = refl }))
 
+-- the ends and the year of an edge
+abbrev yeared : Row → ℕ × ℕ × ℕ
+yeared (row.Yeared t a b y) = (a, b, y)
+yeared r = (0, 0, 0)
+
+-- a new stay
+pub stay_news : (w : Walk) (t : Table) → ((h : List Row) (of id date : ℕ) → Tells h w of id date → Contains h (row.Yeared t of id date)) → ((h : List Row) (of id date : ℕ) → Contains h (row.Yeared t of id date) → Tells h w of id date) →
+    (g : List Row) (a b y : ℕ) → IsNewsOf g (row.Yeared t a b y) w (Some (link w a b y))
+stay_news w t held tells g a b y =
+    found_news g (row.Yeared t a b y) w a b y (Some (link w a b y)) refl
+    (λ new perm of m e. (
+      λ x. elim (contains_gained g new (row.Yeared t a b y) _ perm (held new of m e x)) [ inl was ↦ inl (tells g of m e was) | inr same ↦ inr (ap yeared same) ],
+      λ or. elim or [
+        | inl was ↦ still_tells g new (row.Yeared t a b y) w perm of m e was
+        | inr same ↦ tells new of m e (subst (λ (x : ℕ × ℕ × ℕ). Contains new (row.Yeared t x.0 x.1 x.2)) same (this_row g new (row.Yeared t a b y) perm))
+      ],
+    ))
+    (λ free e x. free (record { it = row.Yeared t a b e; held = held g a b e x; fills = refl }))
+
 -- two links are one where all they have is the same
 link_same : (w : Walk) (of id date : ℕ) (l : Link) → w ≡ l.walk → ◌≡◌ {A = ℕ × ℕ × ℕ} (of, id, date) (l.of, l.id, l.date) → link w of id date ≡ l
 link_same w of id date l walks e = λ i. record { walk = walks i; of = (e i).0; id = (e i).1; date = (e i).2 }
@@ -429,6 +452,8 @@ friend_news g a b d graph less = record {
     mute Replies other = refl
     mute PostLikes other = refl
     mute CommentLikes other = refl
+    mute Work other = refl
+    mute Study other = refl
 
     by : (new : List Row) → IsPermutation new (g ++ r ∷ []) → (l : Link) → l.walk ≡ Friends → IsFriendship new l.of l.id l.date → TellsLink g l ⊎ IsTold (record { first = Some (link Friends a b d); second = Some (link Friends b a d) }) l
     by new perm l e (inl c) =
@@ -564,6 +589,8 @@ other_link t a b one two three four Messages = neither _ _ (different t table.Po
 other_link t a b one two three four Replies = neither _ _ (different t table.CommentReplyOfPost three) (different t table.CommentReplyOfComment four)
 other_link t a b one two three four PostLikes = refl
 other_link t a b one two three four CommentLikes = refl
+other_link t a b one two three four Work = refl
+other_link t a b one two three four Study = refl
 
 pub other_dated : (t : Table) (a b d : ℕ) → t ≢ table.PersonKnowsPerson → t ≢ table.PersonLikesPost → t ≢ table.PersonLikesComment → (w : Walk) → concerns w (row.Dated t a b d) ≡ false
 other_dated t a b d one two three Friends = different t table.PersonKnowsPerson one
@@ -571,6 +598,21 @@ other_dated t a b d one two three Messages = refl
 other_dated t a b d one two three Replies = refl
 other_dated t a b d one two three PostLikes = different t table.PersonLikesPost two
 other_dated t a b d one two three CommentLikes = different t table.PersonLikesComment three
+other_dated t a b d one two three Work = refl
+other_dated t a b d one two three Study = refl
+
+pub other_yeared : (t : Table) (a b y : ℕ) → t ≢ table.PersonWorkAtOrganisation → t ≢ table.PersonStudyAtOrganisation → (w : Walk) → concerns w (row.Yeared t a b y) ≡ false
+other_yeared t a b y one two Work = different t table.PersonWorkAtOrganisation one
+other_yeared t a b y one two Study = different t table.PersonStudyAtOrganisation two
+other_yeared t a b y one two w = refl
+
+pub work_mute : (a b y : ℕ) (w : Walk) → w ≢ Work → concerns w (row.Yeared table.PersonWorkAtOrganisation a b y) ≡ false
+work_mute a b y Work other = absurd (other refl)
+work_mute a b y w other = refl
+
+pub study_mute : (a b y : ℕ) (w : Walk) → w ≢ Study → concerns w (row.Yeared table.PersonStudyAtOrganisation a b y) ≡ false
+study_mute a b y Study other = absurd (other refl)
+study_mute a b y w other = refl
 
 pub post_like_mute : (a b d : ℕ) (w : Walk) → w ≢ PostLikes → concerns w (row.Dated table.PersonLikesPost a b d) ≡ false
 post_like_mute a b d PostLikes other = absurd (other refl)
@@ -599,9 +641,10 @@ post_mute (row.Comment x) id date is w one = absurd (apart (ap (λ (o : Option (
 post_mute r id date is w one = absurd cc
 
 -- the rows of the kinds that no walk goes along
-pub other_row : (r : Row) → ((x : _) → r ≡ row.Post x → ⊥) → ((x : _) → r ≡ row.Comment x → ⊥) → ((t : _) (a b : _) → r ≡ row.Link t a b → ⊥) → ((t : _) (a b d : _) → r ≡ row.Dated t a b d → ⊥) → (w : Walk) → concerns w r ≡ false
-other_row (row.Post x) one two three four w = absurd (one x refl)
-other_row (row.Comment x) one two three four w = absurd (two x refl)
-other_row (row.Link t a b) one two three four w = absurd (three t a b refl)
-other_row (row.Dated t a b d) one two three four w = absurd (four t a b d refl)
-other_row r one two three four w = refl
+pub other_row : (r : Row) → ((x : _) → r ≡ row.Post x → ⊥) → ((x : _) → r ≡ row.Comment x → ⊥) → ((t : _) (a b : _) → r ≡ row.Link t a b → ⊥) → ((t : _) (a b d : _) → r ≡ row.Dated t a b d → ⊥) → ((t : _) (a b y : _) → r ≡ row.Yeared t a b y → ⊥) → (w : Walk) → concerns w r ≡ false
+other_row (row.Post x) one two three four five w = absurd (one x refl)
+other_row (row.Comment x) one two three four five w = absurd (two x refl)
+other_row (row.Link t a b) one two three four five w = absurd (three t a b refl)
+other_row (row.Dated t a b d) one two three four five w = absurd (four t a b d refl)
+other_row (row.Yeared t a b y) one two three four five w = absurd (five t a b y refl)
+other_row r one two three four five w = refl

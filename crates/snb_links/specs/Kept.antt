@@ -1,26 +1,36 @@
 -- The links that are kept beside the rows of a graph.
-use Rattle.std.specs.Prelude.{◌≡◌, ◌↔◌, ◌⊎◌, ℕ, Option, Some, List}
+use Rattle.std.specs.Prelude.{◌≡◌, ◌↔◌, ◌⊎◌, Option, Some, List}
 use Rattle.snb_schema.specs.declared.row.Row.{Row}
-use Rattle.snb_shelf.specs.Pairs.{HasPair}
+use Rattle.snb_parts.specs.Pairs.{HasFrozenPair, HasPair, Lists}
 use Rattle.snb_tables.specs.Graphs.{IsGraph}
 use Rattle.snb_links.specs.declared.indexes.Indexes.{Indexes}
 use Rattle.snb_links.specs.declared.link.Link.{Link}
 use Rattle.snb_links.specs.declared.link.News.{News}
 use Rattle.snb_links.specs.declared.link.Walk.{Walk}
-use Rattle.snb_links.specs.declared.link.Walk.TheVariants.{Friends, Messages, Replies, PostLikes, CommentLikes}
+use Rattle.snb_links.specs.declared.link.Walk.TheVariants.{Friends, Messages, Replies, PostLikes, CommentLikes, Work, Study}
 use Rattle.snb_links.specs.Links.{Tells}
 
 -- the pairs of a walk
-abbrev pub at : Indexes → Walk → List ((ℕ × ℕ) × ℕ)
+abbrev pub at : Indexes → Walk → Lists × Lists
 at s Friends = s.friends
 at s Messages = s.messages
 at s Replies = s.replies
 at s PostLikes = s.post_likes
 at s CommentLikes = s.comment_likes
+at s Work = s.work
+at s Study = s.study
 
 -- the link is kept
 abbrev pub HasLink : Indexes → Link → Type 0
 HasLink s l = HasPair (at s l.walk) l.of l.id l.date
+
+-- and frozen
+abbrev pub HasFrozenLink : Indexes → Link → Type 0
+HasFrozenLink s l = HasFrozenPair (at s l.walk) l.of l.id l.date
+
+-- the frozen links are the same lists
+abbrev pub SameFrozen : Indexes → Indexes → Type 0
+SameFrozen old new = (w : Walk) → (at new w).0 ≡ (at old w).0
 
 -- two links lead from one id to another along one walk
 abbrev pub SameEnds : Link → Link → Type 0
@@ -29,6 +39,10 @@ SameEnds k l = (k.walk ≡ l.walk) × (k.of ≡ l.of) × (k.id ≡ l.id)
 -- no link with these ends is kept
 abbrev pub IsNewLink : Indexes → Link → Type 0
 IsNewLink s k = (l : Link) → SameEnds k l → ¬ HasLink s l
+
+-- no link with these ends is frozen
+abbrev pub IsOwnLink : Indexes → Link → Type 0
+IsOwnLink s k = (l : Link) → SameEnds k l → ¬ HasFrozenLink s l
 
 -- one link more
 abbrev pub HasGainedLink : Indexes → Link → Indexes → Type 0
@@ -63,6 +77,10 @@ pub record IsFresh (s : Indexes) (news : News) : Type 0 where
   pub new : (k : Link) → IsTold news k → IsNewLink s k
   pub apart : AreApart news
 
+-- no link with the ends of one of the news is frozen
+abbrev pub AreOwn : Indexes → News → Type 0
+AreOwn s news = (k : Link) → IsTold news k → IsOwnLink s k
+
 -- the links with the news
 abbrev pub HasNews : Indexes → News → Indexes → Type 0
 HasNews old news new = (l : Link) → HasLink new l ↔ (HasLink old l ⊎ IsTold news l)
@@ -75,3 +93,7 @@ HasLostNews old news new = (l : Link) → HasLink new l ↔ (HasLink old l × ((
 pub record IsIndexed (g : List Row) (s : Indexes) : Type 0 where
   pub graph : IsGraph g
   pub same : (l : Link) → HasLink s l ↔ Tells g l.walk l.of l.id l.date
+
+-- the frozen links are told of by the frozen rows
+abbrev pub IsBacked : List Row → Indexes → Type 0
+IsBacked frozen s = (l : Link) → HasFrozenLink s l → Tells frozen l.walk l.of l.id l.date

@@ -8,7 +8,7 @@ use Rattle.snb_schema.specs.declared.table.Table.{Table}
 use Rattle.snb_schema.specs.declared.table.Table.TheVariants as table
 use Rattle.snb_schema.specs.References.{from_kind}
 use Rattle.snb_links.specs.declared.link.Walk.{Walk}
-use Rattle.snb_links.specs.declared.link.Walk.TheVariants.{Friends, Messages, Replies, PostLikes, CommentLikes}
+use Rattle.snb_links.specs.declared.link.Walk.TheVariants.{Friends, Messages, Replies, PostLikes, CommentLikes, Work, Study}
 
 -- two persons know each other from this date on
 abbrev pub IsFriendship : List Row → ℕ → ℕ → ℕ → Type 0
@@ -63,6 +63,13 @@ LikesPost g post person date = Contains g (row.Dated table.PersonLikesPost perso
 abbrev pub LikesComment : List Row → ℕ → ℕ → ℕ → Type 0
 LikesComment g comment person date = Contains g (row.Dated table.PersonLikesComment person comment date)
 
+-- a person works at an organisation since this year, or studied there
+abbrev pub WorksAt : List Row → ℕ → ℕ → ℕ → Type 0
+WorksAt g person organisation year = Contains g (row.Yeared table.PersonWorkAtOrganisation person organisation year)
+
+abbrev pub StudiedAt : List Row → ℕ → ℕ → ℕ → Type 0
+StudiedAt g person organisation year = Contains g (row.Yeared table.PersonStudyAtOrganisation person organisation year)
+
 -- the rows tell of a link: whose it is, where it leads, and its date
 abbrev pub Tells : List Row → Walk → ℕ → ℕ → ℕ → Type 0
 Tells g Friends of id date = IsFriendship g of id date
@@ -70,3 +77,5 @@ Tells g Messages of id date = IsMessage g of id date
 Tells g Replies of id date = IsReply g of id date
 Tells g PostLikes of id date = LikesPost g of id date
 Tells g CommentLikes of id date = LikesComment g of id date
+Tells g Work of id date = WorksAt g of id date
+Tells g Study of id date = StudiedAt g of id date

@@ -1,14 +1,14 @@
 //! The links of a graph, for each walk in a map of its own.
 
 ghost use Rattle.std.specs.Prelude.{◌≡◌, Some, IfOk, OnOk, OnErr};
-ghost use Rattle.snb_shelf.specs.Pairs.{ArePairsOf};
-ghost use Rattle.snb_links.specs.Kept.{at, HasGainedLink, HasGainedSome, HasLink, HasLostLink, HasLostNews, HasLostSome, HasNews, IsFresh, IsNewLink, SameLinks};
+ghost use Rattle.snb_parts.specs.Pairs.{ArePairsOf, rest};
+ghost use Rattle.snb_links.specs.Kept.{at, AreOwn, HasFrozenLink, HasGainedLink, HasGainedSome, HasLink, HasLostLink, HasLostNews, HasLostSome, HasNews, IsFresh, IsNewLink, IsOwnLink, SameFrozen, SameLinks};
 ghost use Rattle.snb_links.specs.declared.link.Link.{Link};
 
 use crate::link::{Link, News, Walk};
-use snb_shelf::index::Index;
+use snb_parts::index::Index;
+use snb_parts::links::Links;
 use std::alloc::{AllocError, Global};
-use std::collections::btree_map::Range;
 
 /// The links of a graph.
 pub struct Indexes {
@@ -17,6 +17,8 @@ pub struct Indexes {
     replies: Index,
     post_likes: Index,
     comment_likes: Index,
+    work: Index,
+    study: Index,
 }
 
 impl Drop for Indexes {
@@ -27,6 +29,8 @@ impl Drop for Indexes {
             replies: _,
             post_likes: _,
             comment_likes: _,
+            work: _,
+            study: _,
         } = self;
     }
 }
@@ -34,7 +38,8 @@ impl Drop for Indexes {
 impl Indexes {
     /// No links. Takes no memory.
     pub fn empty(alloc: Global) -> Indexes
-        ensures { (l : Link) → ¬ HasLink result l }
+        ensures none { (l : Link) → ¬ HasLink result l }
+        ensures frozen { (l : Link) → ¬ HasFrozenLink result l }
     {
         Indexes {
             friends: Index::empty(alloc),
@@ -42,14 +47,31 @@ impl Indexes {
             replies: Index::empty(alloc),
             post_likes: Index::empty(alloc),
             comment_likes: Index::empty(alloc),
+            work: Index::empty(alloc),
+            study: Index::empty(alloc),
         }
     }
 
-    /// Adds a link that is new. Want of memory leaves all as it was.
+    /// A law: each frozen link is kept.
+    pub fn known(&self)
+        ensures { (l : Link) → HasFrozenLink self.now l → HasLink self.now l }
+    {
+        self.friends.known();
+        self.messages.known();
+        self.replies.known();
+        self.post_likes.known();
+        self.comment_likes.known();
+        self.work.known();
+        self.study.known();
+    }
+
+    /// Adds a link. Want of memory leaves all as it was.
+    /// The condition: no link with the ends of this one is kept.
     pub fn add(&mut self, link: Link) -> Result<(), AllocError>
         requires { IsNewLink self.old link }
         ensures ok { OnOk result (HasGainedLink self.old link self.new) }
-        ensures err { OnErr result (self.new ≡ self.old) }
+        ensures err { OnErr result (SameLinks self.old self.new) }
+        ensures frozen { SameFrozen self.old self.new }
     {
         let (of, id, date) = (link.of, link.id, link.date);
         match link.walk {
@@ -58,12 +80,17 @@ impl Indexes {
             Walk::Replies => self.replies.add(of, id, date),
             Walk::PostLikes => self.post_likes.add(of, id, date),
             Walk::CommentLikes => self.comment_likes.add(of, id, date),
+            Walk::Work => self.work.add(of, id, date),
+            Walk::Study => self.study.add(of, id, date),
         }
     }
 
-    /// Takes out the link with the ends of this one, if there is one.
+    /// Takes out the link with the ends of this one, if there is one. Takes no memory.
+    /// The condition: no link with these ends is frozen.
     pub fn drop_link(&mut self, link: Link)
-        ensures { HasLostLink self.old link self.new }
+        requires { IsOwnLink self.old link }
+        ensures gone { HasLostLink self.old link self.new }
+        ensures frozen { SameFrozen self.old self.new }
     {
         let (of, id) = (link.of, link.id);
         match link.walk {
@@ -72,12 +99,14 @@ impl Indexes {
             Walk::Replies => self.replies.drop_pair(of, id),
             Walk::PostLikes => self.post_likes.drop_pair(of, id),
             Walk::CommentLikes => self.comment_likes.drop_pair(of, id),
+            Walk::Work => self.work.drop_pair(of, id),
+            Walk::Study => self.study.drop_pair(of, id),
         }
     }
 
     /// The links of an id along a walk, by rising id. Takes no memory.
-    pub fn pairs(&self, walk: Walk, of: u64) -> Range<'_, (u64, u64), u64>
-        ensures { ArePairsOf (at self.now walk) of result }
+    pub fn pairs(&self, walk: Walk, of: u64) -> Links<'_>
+        ensures { ArePairsOf (at self.now walk) of (rest result) }
     {
         match walk {
             Walk::Friends => self.friends.pairs(of),
@@ -85,6 +114,8 @@ impl Indexes {
             Walk::Replies => self.replies.pairs(of),
             Walk::PostLikes => self.post_likes.pairs(of),
             Walk::CommentLikes => self.comment_likes.pairs(of),
+            Walk::Work => self.work.pairs(of),
+            Walk::Study => self.study.pairs(of),
         }
     }
 
@@ -92,7 +123,8 @@ impl Indexes {
     fn add_some(&mut self, link: Option<Link>) -> Result<(), AllocError>
         requires { (k : Link) → link ≡ Some k → IsNewLink self.old k }
         ensures ok { OnOk result (HasGainedSome self.old link self.new) }
-        ensures err { OnErr result (self.new ≡ self.old) }
+        ensures err { OnErr result (SameLinks self.old self.new) }
+        ensures frozen { SameFrozen self.old self.new }
     {
         match link {
             Some(link) => self.add(link),
@@ -102,7 +134,9 @@ impl Indexes {
 
     // Takes out the link with the ends of this one, if there is one.
     fn drop_some(&mut self, link: Option<Link>)
-        ensures { HasLostSome self.old link self.new }
+        requires { (k : Link) → link ≡ Some k → IsOwnLink self.old k }
+        ensures gone { HasLostSome self.old link self.new }
+        ensures frozen { SameFrozen self.old self.new }
     {
         match link {
             Some(link) => self.drop_link(link),
@@ -116,7 +150,9 @@ impl Indexes {
         requires { IsFresh self.old news }
         ensures ok { OnOk result (HasNews self.old news self.new) }
         ensures err { OnErr result (SameLinks self.old self.new) }
+        ensures frozen { SameFrozen self.old self.new }
     {
+        self.known();
         self.add_some(news.first)?;
         if self.add_some(news.second).is_err() {
             self.drop_some(news.first);
@@ -125,15 +161,43 @@ impl Indexes {
         Ok(())
     }
 
-    /// Takes out the links with the ends of the news.
+    /// Takes out the links with the ends of the news. Takes no memory.
+    /// The condition: no link with these ends is frozen.
     pub fn drop_news(&mut self, news: News)
-        ensures { HasLostNews self.old news self.new }
+        requires { AreOwn self.old news }
+        ensures gone { HasLostNews self.old news self.new }
+        ensures frozen { SameFrozen self.old self.new }
     {
         self.drop_some(news.first);
         self.drop_some(news.second);
     }
 
-    /// The same links.
+    // Makes the links of each walk frozen, as far as memory suffices.
+    fn freeze_each(&mut self) -> Result<(), AllocError>
+        ensures { SameLinks self.old self.new }
+    {
+        self.friends.freeze()?;
+        self.messages.freeze()?;
+        self.replies.freeze()?;
+        self.post_likes.freeze()?;
+        self.comment_likes.freeze()?;
+        self.work.freeze()?;
+        self.study.freeze()
+    }
+
+    /// Makes all links frozen, so that copies share them. They stay, whatever it answers: an error says
+    /// that memory doesn't suffice, and then some of the walks may be frozen and others not.
+    pub fn freeze(&mut self) -> Result<(), AllocError>
+        ensures same { SameLinks self.old self.new }
+        ensures among { (l : Link) → HasFrozenLink self.new l → HasLink self.new l }
+    {
+        let frozen = self.freeze_each();
+        self.known();
+        frozen
+    }
+
+    /// The same links: the copy shares the frozen ones and copies the others. An error says that memory
+    /// doesn't suffice.
     pub fn try_copy(&self) -> Result<Indexes, AllocError>
         ensures { IfOk result (λ copy. copy ≡ self.now) }
     {
@@ -143,6 +207,8 @@ impl Indexes {
             replies: self.replies.try_copy()?,
             post_likes: self.post_likes.try_copy()?,
             comment_likes: self.comment_likes.try_copy()?,
+            work: self.work.try_copy()?,
+            study: self.study.try_copy()?,
         })
     }
 }

@@ -13,6 +13,10 @@ pub enum Walk {
     PostLikes,
     /// From a comment to the persons who like it.
     CommentLikes,
+    /// From a person to the organisations where the person works.
+    Work,
+    /// From a person to the organisations where the person studied.
+    Study,
 }
 
 /// A link from an id to another one.
@@ -24,7 +28,7 @@ pub struct Link {
     /// Where it leads.
     pub id: u64,
     /// In milliseconds since 1970-01-01 UTC: when the friendship or the like began, or the creation
-    /// date of the message or reply.
+    /// date of the message or reply. Of work and study the year.
     pub date: u64,
 }
 

@@ -15,8 +15,8 @@ use snb_store::tables::Tables;
 
 // The creation date of a post.
 fn post_date(tables: &Tables, id: u64) -> Option<u64>
-    ensures found { IfSome result (IsDated tables.now kinds.Post id) }
-    ensures none { result ≡ None → IsUndated tables.now kinds.Post id }
+    ensures found { IfSome result (IsDated tables.now.rows kinds.Post id) }
+    ensures none { result ≡ None → IsUndated tables.now.rows kinds.Post id }
 {
     match tables.post(id) {
         Some(post) => Some(post.creation_date),
@@ -26,8 +26,8 @@ fn post_date(tables: &Tables, id: u64) -> Option<u64>
 
 // The creation date of a comment.
 fn comment_date(tables: &Tables, id: u64) -> Option<u64>
-    ensures found { IfSome result (IsDated tables.now kinds.Comment id) }
-    ensures none { result ≡ None → IsUndated tables.now kinds.Comment id }
+    ensures found { IfSome result (IsDated tables.now.rows kinds.Comment id) }
+    ensures none { result ≡ None → IsUndated tables.now.rows kinds.Comment id }
 {
     match tables.comment(id) {
         Some(comment) => Some(comment.creation_date),
@@ -37,24 +37,24 @@ fn comment_date(tables: &Tables, id: u64) -> Option<u64>
 
 // Who created a post.
 fn post_creator(tables: &Tables, id: u64) -> Option<u64>
-    ensures found { IfSome result (IsLed IsCreatorTable tables.now kinds.Post id) }
-    ensures none { result ≡ None → IsLedNowhere IsCreatorTable tables.now kinds.Post id }
+    ensures found { IfSome result (IsLed IsCreatorTable tables.now.rows kinds.Post id) }
+    ensures none { result ≡ None → IsLedNowhere IsCreatorTable tables.now.rows kinds.Post id }
 {
     tables.one(Table::PostHasCreatorPerson, id)
 }
 
 // Who created a comment.
 fn comment_creator(tables: &Tables, id: u64) -> Option<u64>
-    ensures found { IfSome result (IsLed IsCreatorTable tables.now kinds.Comment id) }
-    ensures none { result ≡ None → IsLedNowhere IsCreatorTable tables.now kinds.Comment id }
+    ensures found { IfSome result (IsLed IsCreatorTable tables.now.rows kinds.Comment id) }
+    ensures none { result ≡ None → IsLedNowhere IsCreatorTable tables.now.rows kinds.Comment id }
 {
     tables.one(Table::CommentHasCreatorPerson, id)
 }
 
 // The message that a comment replies to.
 fn parent_of(tables: &Tables, id: u64) -> Option<u64>
-    ensures found { IfSome result (IsLed IsParentTable tables.now kinds.Comment id) }
-    ensures none { result ≡ None → IsLedNowhere IsParentTable tables.now kinds.Comment id }
+    ensures found { IfSome result (IsLed IsParentTable tables.now.rows kinds.Comment id) }
+    ensures none { result ≡ None → IsLedNowhere IsParentTable tables.now.rows kinds.Comment id }
 {
     match tables.one(Table::CommentReplyOfPost, id) {
         Some(post) => Some(post),
@@ -86,7 +86,7 @@ fn link_at(walk: Walk, of: u64, id: u64, date: Option<u64>) -> Option<Link>
 
 // What a new edge makes of the links.
 fn link_news(tables: &Tables, table: Table, from: u64, to: u64) -> News
-    ensures { IsNews tables.now (row.Link table from to) result }
+    ensures { IsNews tables.now.rows (row.Link table from to) result }
 {
     tables.known();
     match table {
@@ -116,7 +116,7 @@ fn link_news(tables: &Tables, table: Table, from: u64, to: u64) -> News
 // What a new edge with a date makes of the links.
 fn dated_news(tables: &Tables, table: Table, from: u64, to: u64, date: u64) -> News
     requires { IsTableRow (row.Dated table from to date) }
-    ensures { IsNews tables.now (row.Dated table from to date) result }
+    ensures { IsNews tables.now.rows (row.Dated table from to date) result }
 {
     tables.known();
     match table {
@@ -159,9 +159,40 @@ fn dated_news(tables: &Tables, table: Table, from: u64, to: u64, date: u64) -> N
     }
 }
 
+// What a new edge with a year makes of the links.
+fn yeared_news(tables: &Tables, table: Table, from: u64, to: u64, year: u32) -> News
+    ensures { IsNews tables.now.rows (row.Yeared table from to year) result }
+{
+    tables.known();
+    match table {
+        Table::PersonWorkAtOrganisation => News {
+            first: Some(Link {
+                walk: Walk::Work,
+                of: from,
+                id: to,
+                date: year as u64,
+            }),
+            second: None,
+        },
+        Table::PersonStudyAtOrganisation => News {
+            first: Some(Link {
+                walk: Walk::Study,
+                of: from,
+                id: to,
+                date: year as u64,
+            }),
+            second: None,
+        },
+        _ => News {
+            first: None,
+            second: None,
+        },
+    }
+}
+
 // What a new comment makes of the links: it is its creator's, and replies to its parent.
 fn comment_news(tables: &Tables, id: u64, date: u64) -> News
-    ensures { (r : Row) → message_of r ≡ Some (kinds.Comment, id, date) → IsNews tables.now r result }
+    ensures { (r : Row) → message_of r ≡ Some (kinds.Comment, id, date) → IsNews tables.now.rows r result }
 {
     tables.known();
     News {
@@ -172,7 +203,7 @@ fn comment_news(tables: &Tables, id: u64, date: u64) -> News
 
 // What a new post makes of the links: it is its creator's.
 fn post_news(tables: &Tables, id: u64, date: u64) -> News
-    ensures { (r : Row) → message_of r ≡ Some (kinds.Post, id, date) → IsNews tables.now r result }
+    ensures { (r : Row) → message_of r ≡ Some (kinds.Post, id, date) → IsNews tables.now.rows r result }
 {
     tables.known();
     News {
@@ -185,7 +216,7 @@ fn post_news(tables: &Tables, id: u64, date: u64) -> News
 /// The condition: the row is one that its table can have.
 pub fn news_of(tables: &Tables, row: &Row) -> News
     requires { IsTableRow row.now }
-    ensures { IsNews tables.now row.now result }
+    ensures { IsNews tables.now.rows row.now result }
 {
     match row {
         Row::Post { post } => post_news(tables, post.id, post.creation_date),
@@ -197,6 +228,12 @@ pub fn news_of(tables: &Tables, row: &Row) -> News
             to,
             date,
         } => dated_news(tables, *table, *from, *to, *date),
+        Row::Yeared {
+            table,
+            from,
+            to,
+            year,
+        } => yeared_news(tables, *table, *from, *to, *year),
         _ => News {
             first: None,
             second: None,

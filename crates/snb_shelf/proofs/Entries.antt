@@ -12,7 +12,7 @@ use Rattle.std.specs.List.Sorted.{IsPermutation, IsStrictlySortedBy}
 use Rattle.std.proofs.lemmas.Map.Lookups.{CmpEqualImpliesEq}
 use Rattle.std.proofs.lemmas.Map.Views.{All-map-remove_entry, Contains-keys_from_lookup, IsSome-lookup_from_Contains, Contains-from_lookup, lookup-from_Contains, tells_apart}
 use Rattle.std.proofs.lemmas.Map.Keys.{IsDistinct-from_sorted}
-use Rattle.std.proofs.lemmas.List.Elements.{All-cons, All-tail, All-contains}
+use Rattle.std.proofs.lemmas.List.Elements.{All-cons, All-contains, All-contains_itself, All-tail, All-weaker}
 use Rattle.std.proofs.lemmas.List.Sorted.{IsPermutation-refl, IsPermutation-cons, IsPermutation-trans, IsPermutation-sym, IsPermutation-map, IsPermutation-append_left, IsPermutation-append_comm, IsPermutation-to_front, All-permutation, Contains-permutation, length_permutation}
 use mathlib.Core.Bool.{false≢true}
 use Rattle.snb_schema.specs.declared.row.Row.{Row}
@@ -20,7 +20,9 @@ use Rattle.snb_schema.specs.Layouts.{shape}
 use Rattle.snb_schema.specs.RowKeys.{RowKey, row_key}
 use Rattle.snb_shelf.specs.Keyed.{key_table, IsPart}
 use Rattle.snb_tables.specs.Graphs.{part, part_of, key_order, row_order, HasKey}
-use Rattle.snb_shelf.specs.Rows.{entry_row, rows_by, Fits, AreKept, HasLost, most_rows}
+use Rattle.snb_shelf.specs.Rows.{entry_row, rows_by, Fits, AreKept, HasLost}
+use Rattle.snb_parts.specs.Merged.{AreParts, merged}
+use Rattle.snb_parts.proofs.ListLemmas.{frozen_within}
 use Rattle.snb_shelf.proofs.Laws.{contains_here, contains_map, map_contains, filter_map}
 
 -- what a test doesn't find isn't there
@@ -152,11 +154,10 @@ module _ {K V : Type 0} (cmp : K → K → Ordering) (total : IsTotalOrder cmp) 
   rows_added es k v none =
       IsPermutation-trans _ _ _ (IsPermutation-map (λ (e : K × V). f e.0 e.1) _ _ (IsPermutation-insert_entry cmp es k v none)) (IsPermutation-sym _ _ (IsPermutation-to_front (rows_by f es) (f k v)))
 
-  pub kept_added : (es : List (K × V)) (k : K) (v : V) → lookup (is_at (cmp k)) es ≡ None → AreKept cmp fits es → fits k v → IsStrictlySortedBy cmp (keys_of (insert_entry cmp es k v)) → length es < most_rows → AreKept cmp fits (insert_entry cmp es k v)
-  kept_added es k v none kept fit rises room = record {
+  pub kept_added : (es : List (K × V)) (k : K) (v : V) → lookup (is_at (cmp k)) es ≡ None → AreKept cmp fits es → fits k v → IsStrictlySortedBy cmp (keys_of (insert_entry cmp es k v)) → AreKept cmp fits (insert_entry cmp es k v)
+  kept_added es k v none kept fit rises = record {
     fit = All-permutation (λ (e : K × V). fits e.0 e.1) _ _ (IsPermutation-sym _ _ (IsPermutation-insert_entry cmp es k v none)) (All-cons (λ (e : K × V). fits e.0 e.1) (k, v) es fit kept.fit);
     rises = rises;
-    few = omega (arith, length_permutation _ _ (IsPermutation-insert_entry cmp es k v none));
   }
 
   -- the row of a key taken out
@@ -176,8 +177,18 @@ module _ {K V : Type 0} (cmp : K → K → Ordering) (total : IsTotalOrder cmp) 
   pub none_lost : (es : List (K × V)) → AreKept cmp fits es → (k : K) → ¬ HasKey (rows_by f es) (key k) → rows_by f (remove_entry (is_at (cmp k)) es) ≡ rows_by f es
   none_lost es kept k none = ap (rows_by f) (none_removed (is_at (cmp k)) es (none_if_new (lookup (is_at (cmp k)) es) (found_iff es kept.fit k) none))
 
-  pub kept_lost : (es : List (K × V)) (k : K) → AreKept cmp fits es → IsStrictlySortedBy cmp (keys_of (remove_entry (is_at (cmp k)) es)) → length (remove_entry (is_at (cmp k)) es) ≤ length es → AreKept cmp fits (remove_entry (is_at (cmp k)) es)
-  kept_lost es k kept rises fewer = record { fit = All-remove_entry (λ (x : K × V). fits x.0 x.1) (is_at (cmp k)) es kept.fit; rises = rises; few = omega (arith, fewer, kept.few) }
+  pub kept_lost : (es : List (K × V)) (k : K) → AreKept cmp fits es → IsStrictlySortedBy cmp (keys_of (remove_entry (is_at (cmp k)) es)) → AreKept cmp fits (remove_entry (is_at (cmp k)) es)
+  kept_lost es k kept rises = record { fit = All-remove_entry (λ (x : K × V). fits x.0 x.1) (is_at (cmp k)) es kept.fit; rises = rises }
+
+  -- the frozen entries fit as all do
+  pub frozen_fit : (es fs : List (K × V)) → AreParts cmp es fs → AreKept cmp fits (merged cmp es fs) → All (λ e. fits e.0 e.1) es
+  frozen_fit es fs parts kept = All-weaker (Contains es) (λ (e : K × V). fits e.0 e.1) (λ e c. All-contains (λ (x : K × V). fits x.0 x.1) (merged cmp es fs) e kept.fit (frozen_within cmp total exact es fs parts e c)) es (All-contains_itself es)
+
+  -- the frozen rows are among all
+  pub frozen_among : (es fs : List (K × V)) → AreParts cmp es fs → (r : Row) → Contains (rows_by f es) r → Contains (rows_by f (merged cmp es fs)) r
+  frozen_among es fs parts r c =
+      let e = map_contains (λ (x : K × V). f x.0 x.1) es r c in
+      subst (λ (x : Row). Contains (rows_by f (merged cmp es fs)) x) e.2 (contains_map (λ (x : K × V). f x.0 x.1) (merged cmp es fs) e.0 (frozen_within cmp total exact es fs parts e.0 e.1))
 
   -- the rows of a range
   within : (test : Ordering → Ordering → Bool) (lo hi : K) (es : List (K × V)) → All (λ e. fits e.0 e.1) es →

@@ -7,6 +7,7 @@ use Rattle.snb_schema.specs.declared.row.Row.{Row}
 use Rattle.snb_schema.specs.RowKeys.{RowKey, row_key}
 use Rattle.snb_tables.specs.Graphs.{part_of, key_order}
 use Rattle.std.specs.Ordering.{is_le, is_lt}
+use Rattle.snb_parts.specs.Merged.{all_of}
 use Rattle.snb_schema.specs.Layouts.{shape}
 
 -- the row of an entry; name makes the key of a map the key of a row
@@ -21,15 +22,19 @@ rows_by f es = map (λ e. f e.0 e.1) es
 abbrev pub Fits : {K V : Type 0} → ℕ → (K → RowKey) → (RowKey → V → Row) → K → V → Type 0
 Fits n name row k v = (row_key (row (name k) v) ≡ name k) × (part_of (shape (name k).0) ≡ n)
 
--- more rows than any memory holds
-abbrev pub most_rows : ℕ
-most_rows = 1152921504606846976
-
--- the entries rise by key, each fits, and they can be counted
+-- the entries rise by key, and each fits
 pub record AreKept {K V : Type 0} (cmp : K → K → Ordering) (fits : K → V → Type 0) (es : List (K × V)) : Type 0 where
   pub fit : All (λ e. fits e.0 e.1) es
   pub rises : IsStrictlySortedBy cmp (keys_of es)
-  pub few : length es ≤ most_rows
+
+-- the rows, and those of them that copies share
+pub record Stock : Type 0 where
+  pub rows : List Row
+  pub frozen : List Row
+
+-- the rows of two lists of entries, of which the first is shared
+abbrev pub stock : {K V : Type 0} → (K → K → Ordering) → (K → V → Row) → List (K × V) × List (K × V) → Stock
+stock cmp f s = record { rows = rows_by f (all_of cmp s); frozen = rows_by f s.0 }
 
 -- the rows but for the one with this key
 abbrev pub HasLost : List Row → RowKey → List Row → Type 0

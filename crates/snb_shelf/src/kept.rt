@@ -1,23 +1,22 @@
 //! How rows are kept as entries of a map.
 
 ghost use Rattle.std.specs.Prelude.{◌≡◌, ℕ};
-ghost use Rattle.std.specs.declared.cmp.Ordering.TheVariants.{Equal};
 ghost use Rattle.snb_schema.specs.RowKeys.{RowKey};
 ghost use Rattle.snb_tables.specs.Graphs.{key_order};
 ghost use Rattle.snb_schema.specs.declared.row.Row.{Row};
 ghost use Rattle.snb_schema.specs.declared.table.Table.{Table};
+
+use snb_parts::kept::Apart;
 
 /// A value whose clone is equal to it.
 pub trait Exact: Clone + Drop {
     ghost same_clone: { (a b : Self) → Self.is_clone a b → b ≡ a };
 }
 
-/// A key of a map: only equal keys compare alike, and they compare as the keys of rows do.
-pub trait Key: Ord + Exact {
+/// A key of a map: keys compare as the keys of rows do.
+pub trait Key: Apart {
     /// The key of a row of the table, where the table isn't part of the key itself.
     ghost name: { Table → Self → RowKey };
-
-    ghost same_key: { (a b : Self) → Self.cmp a b ≡ Equal → a ≡ b };
 
     ghost ordered: { (t : Table) (a b : Self) → key_order (name t a) (name t b) ≡ Self.cmp a b };
 }

@@ -1,22 +1,16 @@
 //! The keys of the maps.
 
-ghost use Rattle.std.proofs.lemmas.Map.Lookups.{exact_unsigned};
 ghost use Rattle.std.proofs.Common.{rules};
 
-use crate::kept::{Exact, Key};
+use crate::kept::Key;
 use snb_base::text::Text;
+use snb_parts::kept::Apart;
 use snb_schema::table::Table;
-
-impl Exact for u64 {
-    ghost same_clone = { λ a b e. e };
-}
 
 impl Key for u64 {
     ghost use Rattle.snb_shelf.specs.KeysApart.{id_name, id_order};
 
     ghost name = { id_name };
-
-    ghost same_key = { exact_unsigned };
 
     ghost ordered = { id_order };
 }
@@ -27,10 +21,6 @@ pub struct EdgeKey {
     pub table: Table,
     pub first: u64,
     pub second: u64,
-}
-
-impl Exact for EdgeKey {
-    ghost same_clone = { λ a b e. e };
 }
 
 /// The key of a person's email or language: its table, the person and the text.
@@ -51,26 +41,34 @@ impl Drop for WordKey {
     }
 }
 
-impl Key for EdgeKey {
-    ghost use Rattle.snb_shelf.specs.KeysApart.{edge_name, edge_exact, edge_order};
+impl Apart for EdgeKey {
+    ghost use Rattle.snb_shelf.specs.KeysApart.{edge_exact};
 
-    ghost name = { λ t k. edge_name k };
+    ghost same_clone = { λ a b e. e };
 
     ghost same_key = { edge_exact };
+}
+
+impl Key for EdgeKey {
+    ghost use Rattle.snb_shelf.specs.KeysApart.{edge_name, edge_order};
+
+    ghost name = { λ t k. edge_name k };
 
     ghost ordered = { λ t j k. edge_order j k };
 }
 
-impl Exact for WordKey {
+impl Apart for WordKey {
+    ghost use Rattle.snb_shelf.specs.KeysApart.{word_exact};
+
     ghost same_clone = { Prim.search rules };
+
+    ghost same_key = { word_exact };
 }
 
 impl Key for WordKey {
-    ghost use Rattle.snb_shelf.specs.KeysApart.{word_name, word_exact, word_order};
+    ghost use Rattle.snb_shelf.specs.KeysApart.{word_name, word_order};
 
     ghost name = { λ t k. word_name k };
-
-    ghost same_key = { word_exact };
 
     ghost ordered = { λ t j k. word_order j k };
 }

@@ -6,9 +6,9 @@ ghost use Rattle.snb_schema.specs.TableRows.{IsTableRow};
 ghost use Rattle.snb_shelf.specs.Rows.{GivesRow, entry_row, rows_by};
 
 use crate::kept::{Kept, Key};
+use snb_parts::walk::Walk;
 use snb_schema::row::Row;
 use std::alloc::AllocError;
-use std::collections::btree_map::Range;
 use std::marker::Model;
 
 /// What makes a row of a key and of what is kept of it.
@@ -23,7 +23,7 @@ pub trait Shown<K: Key>: Kept {
 /// it has none.
 #[derive(Drop)]
 pub struct ShelfRows<'a, K: Key, V: Kept> {
-    left: Range<'a, K, V>,
+    left: Walk<'a, K, V>,
     ended: bool,
 }
 
@@ -42,7 +42,7 @@ impl<'a, K: Key, V: Kept> Model for ShelfRows<'a, K, V> {
 
 impl<'a, K: Key, V: Kept> ShelfRows<'a, K, V> {
     /// A walk over entries, whose rows are ones that their tables can have.
-    pub fn over(left: Range<'a, K, V>) -> Self
+    pub fn over(left: Walk<'a, K, V>) -> Self
         requires { All IsTableRow (rows_by (entry_row (K.name V.table) V.as_row) left) }
         ensures { result ≡ rows_by (entry_row (K.name V.table) V.as_row) left.entry }
     {

@@ -28,7 +28,7 @@ fn ends(link: Row) -> (u64, u64)
 
 // The comments that reply to posts.
 fn roots(alloc: Global, tables: &Tables) -> Result<Vec<u64>, AllocError>
-    ensures { IfOk result (λ ids. AreRoots tables.now ids.items) }
+    ensures { IfOk result (λ ids. AreRoots tables.now.rows ids.items) }
 {
     tables.known();
     let mut ids = Vec::new(alloc);
@@ -42,7 +42,7 @@ fn roots(alloc: Global, tables: &Tables) -> Result<Vec<u64>, AllocError>
 
 // The pairs of a comment and a comment that replies to it.
 fn replies(alloc: Global, tables: &Tables) -> Result<Index, AllocError>
-    ensures { IfOk result (AreReplies tables.now) }
+    ensures { IfOk result (AreReplies tables.now.rows) }
 {
     tables.known();
     let mut pairs = Index::empty(alloc);
@@ -56,7 +56,7 @@ fn replies(alloc: Global, tables: &Tables) -> Result<Index, AllocError>
 
 // Marks on the comments whose chains of parents end at posts.
 fn rooted(alloc: Global, tables: &Tables) -> Result<Index, AllocError>
-    ensures { IfOk result (MarksRooted tables.now) }
+    ensures { IfOk result (MarksRooted tables.now.rows) }
 {
     let ids = roots(alloc, tables)?;
     let pairs = replies(alloc, tables)?;
@@ -65,7 +65,7 @@ fn rooted(alloc: Global, tables: &Tables) -> Result<Index, AllocError>
 
 // The least comment whose chain of parents doesn't end at a post.
 pub(crate) fn check_chains(alloc: Global, tables: &Tables) -> Result<(), Unsound>
-    ensures { FindsCycle tables.now result }
+    ensures { FindsCycle tables.now.rows result }
 {
     let marks = rooted(alloc, tables)?;
     tables.known();

@@ -91,7 +91,7 @@ pub(crate) fn first_id(row: Row) -> u64
 fn is_filled(tables: &Tables, edge: Table, id: u64) -> bool
     requires edge { IsEndEdge edge }
     requires small { id ≤ MAX_ID }
-    ensures { result ≡ fills tables.now (slot (edge, id, 0, [])) }
+    ensures { result ≡ fills tables.now.rows (slot (edge, id, 0, [])) }
 {
     let row = Row::Link {
         table: edge,
@@ -104,7 +104,7 @@ fn is_filled(tables: &Tables, edge: Table, id: u64) -> bool
 // The first edge that a node lacks.
 fn check_node(tables: &Tables, node: Table, id: u64) -> Result<(), Unsound>
     requires { id ≤ MAX_ID }
-    ensures { Finds tables.now (needs_at node id) result }
+    ensures { Finds tables.now.rows (needs_at node id) result }
 {
     for edge in required_of(node) {
         if !is_filled(tables, *edge, id) {
@@ -120,7 +120,7 @@ fn check_node(tables: &Tables, node: Table, id: u64) -> Result<(), Unsound>
 
 // The first edge that a node of a table lacks.
 fn check_nodes(tables: &Tables, node: Table) -> Result<(), Unsound>
-    ensures { Finds tables.now (flat_map needs_of (rows tables.now node)) result }
+    ensures { Finds tables.now.rows (flat_map needs_of (rows tables.now.rows node)) result }
 {
     tables.known();
     for item in tables.each(node) {
@@ -132,7 +132,7 @@ fn check_nodes(tables: &Tables, node: Table) -> Result<(), Unsound>
 
 // The first edge that a node lacks, of all nodes.
 pub(crate) fn check_edges(tables: &Tables) -> Result<(), Unsound>
-    ensures { Finds tables.now (needs tables.now) result }
+    ensures { Finds tables.now.rows (needs tables.now.rows) result }
 {
     tables.known();
     for node in &NODES {

@@ -14,8 +14,8 @@ use std::alloc::Global;
 /// have, and the chain of each comment's parents ends at a post. If not, what is wrong first. It
 /// doesn't look at references.
 pub fn sound(alloc: Global, tables: &Tables) -> Result<(), Unsound>
-    ensures ok { OnOk result (Held tables.now → Sound tables.now) }
-    ensures err { IfErr result (IsWrong tables.now) }
+    ensures ok { OnOk result (Held tables.now.rows → Sound tables.now.rows) }
+    ensures err { IfErr result (IsWrong tables.now.rows) }
 {
     check_edges(tables)?;
     check_chains(alloc, tables)

@@ -1,5 +1,5 @@
 -- Rows in parts, as one list.
-use Rattle.std.proofs.Common.{◌≡◌, ℕ, ◌<◌, ◌+◌, zero, suc, length, ◌⊎◌, List, [], ◌∷◌, ◌++◌, refl, sym, ap, ◌∙◌, subst, inl, inr, arith, append_assoc, append-nil, length-append}
+use Rattle.std.proofs.Common.{◌≡◌, ℕ, ◌<◌, ◌+◌, zero, suc, length, ◌⊎◌, List, [], ◌∷◌, ◌++◌, refl, sym, ap, ◌∙◌, subst, inl, inr, arith, map, append_assoc, append-nil, length-append}
 use Rattle.std.specs.declared.cmp.Ordering.TheVariants.{Less}
 use Rattle.std.specs.Ordering.{nat_cmp, ordering_then}
 use Rattle.std.specs.List.{All, Contains, AllByRecursion}
@@ -19,9 +19,27 @@ use Rattle.snb_schema.specs.RowKeys.{RowKey, row_key, slot, slot_of}
 use Rattle.snb_tables.specs.Graphs.{part, part_of, row_order, key_order, HasKey, HasSlot}
 use Rattle.snb_shelf.specs.Keyed.{IsPart, key_table}
 use Rattle.snb_schema.specs.TableRows.{IsTableRow}
-use Rattle.snb_shelf.specs.Rows.{HasLost}
+use Rattle.snb_shelf.specs.Rows.{HasLost, Stock}
 use Rattle.snb_store.specs.Parts.{joined, AreParts, IsWhole, HasGivenBack}
 use Rattle.snb_store.proofs.Laws.{contains_gained}
+
+-- equal stocks have equal rows
+pub rows_is : {s t : Stock} → s ≡ t → s.rows ≡ t.rows
+rows_is e = ap (λ (x : Stock). x.rows) e
+
+pub frozen_is : {s t : Stock} → s ≡ t → s.frozen ≡ t.frozen
+frozen_is e = ap (λ (x : Stock). x.frozen) e
+
+-- the rows of parts, and what copies share of them
+abbrev pub stock_of : List (List Row) → List (List Row) → Stock
+stock_of ss fs = record { rows = joined ss; frozen = joined fs }
+
+-- the same of a list of both
+abbrev pub stock_list : List Stock → Stock
+stock_list ss = stock_of (map (λ s. s.rows) ss) (map (λ s. s.frozen) ss)
+
+abbrev pub IsWholeStock : List Stock → Type 0
+IsWholeStock ss = IsWhole (map (λ s. s.rows) ss)
 
 -- the part at a place
 abbrev pub at : List (List Row) → ℕ → List Row
@@ -34,6 +52,30 @@ abbrev pub with_part : List (List Row) → ℕ → List Row → List (List Row)
 with_part [] i new = []
 with_part (s ∷ ss) zero new = new ∷ ss
 with_part (s ∷ ss) (suc i) new = s ∷ with_part ss i new
+
+-- a part's rows are among the whole's
+pub part_among : (ss : List (List Row)) (i : ℕ) (r : Row) → Contains (at ss i) r → Contains (joined ss) r
+part_among [] i r c = absurd (omega (arith, c.1))
+part_among (s ∷ ss) zero r c = Contains-append_left s (joined ss) r c
+part_among (s ∷ ss) (suc i) r c = Contains-append_right s (joined ss) r (part_among ss i r c)
+
+-- a key that the whole lacks is in no part
+pub not_in_part : (ss : List (List Row)) (i : ℕ) (k : RowKey) → ¬ HasKey (joined ss) k → ¬ HasKey (at ss i) k
+not_in_part ss i k none has = none (record { it = has.it; held = part_among ss i has.it has.held; keyed = has.keyed })
+
+-- the rows of each list are among those of the list at its place
+abbrev pub AreAmong : List (List Row) → List (List Row) → Type 0
+AreAmong [] ts = Unit {0}
+AreAmong (s ∷ ss) [] = ⊥
+AreAmong (s ∷ ss) (t ∷ ts) = ((r : Row) → Contains s r → Contains t r) × AreAmong ss ts
+
+pub joined_among : (ss ts : List (List Row)) → AreAmong ss ts → (r : Row) → Contains (joined ss) r → Contains (joined ts) r
+joined_among [] ts among r c = absurd (omega (arith, c.1))
+joined_among (s ∷ ss) [] among r c = absurd among
+joined_among (s ∷ ss) (t ∷ ts) among r c = elim (Contains-append_cases s (joined ss) r c) [
+  | inl h ↦ Contains-append_left t (joined ts) r (among.0 r h)
+  | inr h ↦ Contains-append_right t (joined ts) r (joined_among ss ts among.1 r h)
+]
 
 -- rows added at the end may come after what follows
 moved_back : (s more rest : List Row) → IsPermutation ((s ++ more) ++ rest) ((s ++ rest) ++ more)

@@ -22,7 +22,11 @@ pub record IsWhole (ss : List (List Row)) : Type 0 where
 
 -- the parts that a graph keeps
 abbrev pub parts : Inside → List (List Row)
-parts g = g.places ∷ g.tag_classes ∷ g.tags ∷ g.organisations ∷ g.persons ∷ g.forums ∷ g.posts ∷ g.comments ∷ g.edges ∷ g.words ∷ []
+parts g = g.places.rows ∷ g.tag_classes.rows ∷ g.tags.rows ∷ g.organisations.rows ∷ g.persons.rows ∷ g.forums.rows ∷ g.posts.rows ∷ g.comments.rows ∷ g.edges.rows ∷ g.words.rows ∷ []
+
+-- and what copies share of each
+abbrev pub frozen_parts : Inside → List (List Row)
+frozen_parts g = g.places.frozen ∷ g.tag_classes.frozen ∷ g.tags.frozen ∷ g.organisations.frozen ∷ g.persons.frozen ∷ g.forums.frozen ∷ g.posts.frozen ∷ g.comments.frozen ∷ g.edges.frozen ∷ g.words.frozen ∷ []
 
 -- a row was taken out of a graph, and what is left is a graph
 pub record HasGivenBack (old : List Row) (r : Row) (new : List Row) : Type 0 where

@@ -107,7 +107,7 @@ fn same_comment(a: &Comment, b: &Comment) -> bool
 
 // Whether this place is held.
 fn holds_place(tables: &Tables, place: &Place) -> bool
-    ensures { IsTrue result ↔ Contains tables.now (row.Place place.now) }
+    ensures { IsTrue result ↔ Contains tables.now.rows (row.Place place.now) }
 {
     tables.known();
     match tables.place(place.id) {
@@ -118,7 +118,7 @@ fn holds_place(tables: &Tables, place: &Place) -> bool
 
 // Whether this class of tags is held.
 fn holds_tag_class(tables: &Tables, named: &Named) -> bool
-    ensures { IsTrue result ↔ Contains tables.now (row.TagClass named.now) }
+    ensures { IsTrue result ↔ Contains tables.now.rows (row.TagClass named.now) }
 {
     tables.known();
     match tables.tag_class(named.id) {
@@ -129,7 +129,7 @@ fn holds_tag_class(tables: &Tables, named: &Named) -> bool
 
 // Whether this tag is held.
 fn holds_tag(tables: &Tables, named: &Named) -> bool
-    ensures { IsTrue result ↔ Contains tables.now (row.Tag named.now) }
+    ensures { IsTrue result ↔ Contains tables.now.rows (row.Tag named.now) }
 {
     tables.known();
     match tables.tag(named.id) {
@@ -140,7 +140,7 @@ fn holds_tag(tables: &Tables, named: &Named) -> bool
 
 // Whether this organisation is held.
 fn holds_organisation(tables: &Tables, organisation: &Organisation) -> bool
-    ensures { IsTrue result ↔ Contains tables.now (row.Organisation organisation.now) }
+    ensures { IsTrue result ↔ Contains tables.now.rows (row.Organisation organisation.now) }
 {
     tables.known();
     match tables.organisation(organisation.id) {
@@ -151,7 +151,7 @@ fn holds_organisation(tables: &Tables, organisation: &Organisation) -> bool
 
 // Whether this person is held.
 fn holds_person(tables: &Tables, person: &Person) -> bool
-    ensures { IsTrue result ↔ Contains tables.now (row.Person person.now) }
+    ensures { IsTrue result ↔ Contains tables.now.rows (row.Person person.now) }
 {
     tables.known();
     match tables.person(person.id) {
@@ -162,7 +162,7 @@ fn holds_person(tables: &Tables, person: &Person) -> bool
 
 // Whether this forum is held.
 fn holds_forum(tables: &Tables, forum: &Forum) -> bool
-    ensures { IsTrue result ↔ Contains tables.now (row.Forum forum.now) }
+    ensures { IsTrue result ↔ Contains tables.now.rows (row.Forum forum.now) }
 {
     tables.known();
     match tables.forum(forum.id) {
@@ -173,7 +173,7 @@ fn holds_forum(tables: &Tables, forum: &Forum) -> bool
 
 // Whether this post is held.
 fn holds_post(tables: &Tables, post: &Post) -> bool
-    ensures { IsTrue result ↔ Contains tables.now (row.Post post.now) }
+    ensures { IsTrue result ↔ Contains tables.now.rows (row.Post post.now) }
 {
     tables.known();
     match tables.post(post.id) {
@@ -184,7 +184,7 @@ fn holds_post(tables: &Tables, post: &Post) -> bool
 
 // Whether this comment is held.
 fn holds_comment(tables: &Tables, comment: &Comment) -> bool
-    ensures { IsTrue result ↔ Contains tables.now (row.Comment comment.now) }
+    ensures { IsTrue result ↔ Contains tables.now.rows (row.Comment comment.now) }
 {
     tables.known();
     match tables.comment(comment.id) {
@@ -197,7 +197,7 @@ fn holds_comment(tables: &Tables, comment: &Comment) -> bool
 fn holds_end(tables: &Tables, table: Table, id: u64, other: u64) -> bool
     requires shape { shape table ≡ shapes.Link }
     requires one { key_columns table ≢ columns.FirstTwo }
-    ensures { IsTrue result ↔ Contains tables.now (link_of (key_columns table) table id 0 other) }
+    ensures { IsTrue result ↔ Contains tables.now.rows (link_of (key_columns table) table id 0 other) }
 {
     tables.known();
     match tables.one(table, id) {
@@ -210,7 +210,7 @@ fn holds_end(tables: &Tables, table: Table, id: u64, other: u64) -> bool
 fn holds_ends(tables: &Tables, table: Table, from: u64, to: u64) -> bool
     requires shape { shape table ≡ shapes.Link }
     requires both { key_columns table ≡ columns.FirstTwo }
-    ensures { IsTrue result ↔ Contains tables.now (row.Link table from to) }
+    ensures { IsTrue result ↔ Contains tables.now.rows (row.Link table from to) }
 {
     tables.edge(table, from, to).is_some()
 }
@@ -218,7 +218,7 @@ fn holds_ends(tables: &Tables, table: Table, from: u64, to: u64) -> bool
 // Whether this edge is held.
 fn holds_link(tables: &Tables, table: Table, from: u64, to: u64) -> bool
     requires { IsTableRow (row.Link table from to) }
-    ensures { IsTrue result ↔ Contains tables.now (row.Link table from to) }
+    ensures { IsTrue result ↔ Contains tables.now.rows (row.Link table from to) }
 {
     match key_columns_of(table) {
         KeyColumns::First => holds_end(tables, table, from, to),
@@ -230,7 +230,7 @@ fn holds_link(tables: &Tables, table: Table, from: u64, to: u64) -> bool
 // Whether this edge is held, with its date.
 fn holds_dated(tables: &Tables, table: Table, from: u64, to: u64, date: u64) -> bool
     requires { IsTableRow (row.Dated table from to date) }
-    ensures { IsTrue result ↔ Contains tables.now (row.Dated table from to date) }
+    ensures { IsTrue result ↔ Contains tables.now.rows (row.Dated table from to date) }
 {
     tables.known();
     match tables.edge(table, from, to) {
@@ -242,7 +242,7 @@ fn holds_dated(tables: &Tables, table: Table, from: u64, to: u64, date: u64) -> 
 // Whether this edge is held, with its year.
 fn holds_yeared(tables: &Tables, table: Table, from: u64, to: u64, year: u32) -> bool
     requires { IsTableRow (row.Yeared table from to year) }
-    ensures { IsTrue result ↔ Contains tables.now (row.Yeared table from to year) }
+    ensures { IsTrue result ↔ Contains tables.now.rows (row.Yeared table from to year) }
 {
     tables.known();
     match tables.edge(table, from, to) {
@@ -266,7 +266,7 @@ fn has_text(words: Words<'_>, text: &Text) -> bool
 // Whether this word is held.
 fn holds_word(tables: &Tables, table: Table, person: u64, text: &Text) -> bool
     requires { IsTableRow (row.Word table person text.now) }
-    ensures { IsTrue result ↔ Contains tables.now (row.Word table person text.now) }
+    ensures { IsTrue result ↔ Contains tables.now.rows (row.Word table person text.now) }
 {
     tables.known();
     has_text(tables.words(table, person), text)
@@ -276,7 +276,7 @@ fn holds_word(tables: &Tables, table: Table, person: u64, text: &Text) -> bool
 /// The condition: the row is one that its table can have.
 pub fn holds_same(tables: &Tables, row: &Row) -> bool
     requires { IsTableRow row.now }
-    ensures { IsTrue result ↔ Contains tables.now row.now }
+    ensures { IsTrue result ↔ Contains tables.now.rows row.now }
 {
     match row {
         Row::Place { place } => holds_place(tables, place),

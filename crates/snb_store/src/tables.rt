@@ -28,6 +28,7 @@ use crate::insert::Insert;
 use crate::links::{link_entry, twin_of};
 use crate::words::Words;
 use snb_base::text::Text;
+use snb_parts::walk::Walk;
 use snb_schema::key::{Held, Key};
 use snb_schema::layout::{KeyColumns, Shape, key_columns_of, shape_of};
 use snb_schema::nodes::{Comment, Forum, Named, Organisation, Place, Post};
@@ -39,7 +40,6 @@ use snb_shelf::nodes::{Class, Mark};
 use snb_shelf::rows::ShelfRows;
 use snb_shelf::shelf::Shelf;
 use std::alloc::{AllocError, Global};
-use std::collections::btree_map::Range;
 use std::marker::Model;
 
 /// The rows of a graph: those of each kind of node, then the edges, then the words, each in the
@@ -77,14 +77,13 @@ impl Drop for Tables {
 }
 
 impl Model for Tables {
-    ghost use Rattle.std.specs.Prelude.{List};
-    ghost use Rattle.snb_schema.specs.declared.row.Row.{Row};
+    ghost use Rattle.snb_shelf.specs.Rows.{Stock};
 
-    ghost Value = { List Row };
+    ghost Value = { Stock };
 
-    ghost use Rattle.snb_store.specs.Parts.{joined, parts, IsWhole};
+    ghost use Rattle.snb_store.specs.Parts.{frozen_parts, joined, parts, IsWhole};
 
-    ghost view = { λ g. joined (parts g) };
+    ghost view = { λ g. record { rows = joined (parts g); frozen = joined (frozen_parts g) } };
 
     ghost invariant = { λ g. IsWhole (parts g) };
 }
@@ -99,8 +98,9 @@ fn after(id: u64) -> u64
 impl Tables {
     /// A graph without rows. Takes no memory.
     pub fn empty(alloc: Global) -> Tables
-        ensures rows { result ≡ [] }
-        ensures graph { IsGraph result }
+        ensures rows { result.rows ≡ [] }
+        ensures frozen { result.frozen ≡ [] }
+        ensures graph { IsGraph result.rows }
     {
         Tables {
             places: Shelf::empty(alloc),
@@ -119,68 +119,105 @@ impl Tables {
 
     /// The rows are a graph.
     pub fn known(&self)
-        ensures { IsGraph self.now }
+        ensures { IsGraph self.now.rows }
     {
         let _ = &self.places;
     }
 
+    /// A law: the frozen rows are among the rows.
+    pub fn shared(&self)
+        ensures { (r : Row) → Contains self.now.frozen r → Contains self.now.rows r }
+    {
+        self.places.known();
+        self.tag_classes.known();
+        self.tags.known();
+        self.organisations.known();
+        self.persons.known();
+        self.forums.known();
+        self.posts.known();
+        self.comments.known();
+        self.edges.known();
+        self.words.known();
+    }
+
+    /// Makes all rows frozen. They stay, whatever it answers; where memory doesn't suffice, some of them
+    /// may be frozen, and those that were are.
+    pub fn freeze(&mut self) -> Result<(), AllocError>
+        ensures rows { self.new.rows ≡ self.old.rows }
+        ensures ok { OnOk result (self.new.frozen ≡ self.old.rows) }
+        ensures more { (r : Row) → Contains self.old.frozen r → Contains self.new.frozen r }
+    {
+        self.places.freeze()?;
+        self.tag_classes.freeze()?;
+        self.tags.freeze()?;
+        self.organisations.freeze()?;
+        self.persons.freeze()?;
+        self.forums.freeze()?;
+        self.posts.freeze()?;
+        self.comments.freeze()?;
+        self.edges.freeze()?;
+        self.words.freeze()?;
+        Ok(())
+    }
+
     /// The person of this id.
     pub fn person(&self, id: u64) -> Option<&Person>
-        ensures found { IfSome (option_copied result) (λ n. (n.id ≡ id) × Contains self.now (row.Person n)) }
-        ensures held { IsSome result ↔ HasKey self.now (node_key kinds.Person id) }
+        ensures found { IfSome (option_copied result) (λ n. (n.id ≡ id) × Contains self.now.rows (row.Person n)) }
+        ensures held { IsSome result ↔ HasKey self.now.rows (node_key kinds.Person id) }
     {
         self.persons.find(&id)
     }
 
     /// The post of this id.
     pub fn post(&self, id: u64) -> Option<&Post>
-        ensures found { IfSome (option_copied result) (λ n. (n.id ≡ id) × Contains self.now (row.Post n)) }
-        ensures held { IsSome result ↔ HasKey self.now (node_key kinds.Post id) }
+        ensures found { IfSome (option_copied result) (λ n. (n.id ≡ id) × Contains self.now.rows (row.Post n)) }
+        ensures held { IsSome result ↔ HasKey self.now.rows (node_key kinds.Post id) }
     {
         self.posts.find(&id)
     }
 
     /// The comment of this id.
     pub fn comment(&self, id: u64) -> Option<&Comment>
-        ensures found { IfSome (option_copied result) (λ n. (n.id ≡ id) × Contains self.now (row.Comment n)) }
-        ensures held { IsSome result ↔ HasKey self.now (node_key kinds.Comment id) }
+        ensures found { IfSome (option_copied result) (λ n. (n.id ≡ id) × Contains self.now.rows (row.Comment n)) }
+        ensures held { IsSome result ↔ HasKey self.now.rows (node_key kinds.Comment id) }
     {
         self.comments.find(&id)
     }
 
     /// The forum of this id.
     pub fn forum(&self, id: u64) -> Option<&Forum>
-        ensures found { IfSome (option_copied result) (λ n. (n.id ≡ id) × Contains self.now (row.Forum n)) }
-        ensures held { IsSome result ↔ HasKey self.now (node_key kinds.Forum id) }
+        ensures found { IfSome (option_copied result) (λ n. (n.id ≡ id) × Contains self.now.rows (row.Forum n)) }
+        ensures held { IsSome result ↔ HasKey self.now.rows (node_key kinds.Forum id) }
     {
         self.forums.find(&id)
     }
 
     /// The place of this id.
     pub fn place(&self, id: u64) -> Option<&Place>
-        ensures found { IfSome (option_copied result) (λ n. (n.id ≡ id) × Contains self.now (row.Place n)) }
-        ensures held { IsSome result ↔ HasKey self.now (node_key kinds.Place id) }
+        ensures found { IfSome (option_copied result) (λ n. (n.id ≡ id) × Contains self.now.rows (row.Place n)) }
+        ensures held { IsSome result ↔ HasKey self.now.rows (node_key kinds.Place id) }
     {
         self.places.find(&id)
     }
 
     /// The tag of this id.
     pub fn tag(&self, id: u64) -> Option<&Named>
-        ensures found { IfSome (option_copied result) (λ n. (n.id ≡ id) × Contains self.now (row.Tag n)) }
-        ensures held { IsSome result ↔ HasKey self.now (node_key kinds.Tag id) }
+        ensures found { IfSome (option_copied result) (λ n. (n.id ≡ id) × Contains self.now.rows (row.Tag n)) }
+        ensures held { IsSome result ↔ HasKey self.now.rows (node_key kinds.Tag id) }
     {
         self.tags.find(&id)
     }
 
     /// The organisation of this id.
     pub fn organisation(&self, id: u64) -> Option<&Organisation>
-        ensures found { IfSome (option_copied result) (λ n. (n.id ≡ id) × Contains self.now (row.Organisation n)) }
-        ensures held { IsSome result ↔ HasKey self.now (node_key kinds.Organisation id) }
+        ensures found { IfSome (option_copied result) (λ n. (n.id ≡ id) × Contains self.now.rows (row.Organisation n)) }
+        ensures held { IsSome result ↔ HasKey self.now.rows (node_key kinds.Organisation id) }
     {
         self.organisations.find(&id)
     }
 
-    /// Tables with the same rows.
+    /// Tables with the same rows, which share the frozen ones and copy the others. An error says that
+    /// memory doesn't suffice.
     pub fn try_copy(&self) -> Result<Tables, AllocError>
         ensures { IfOk result (λ copy. copy ≡ self.now) }
     {
@@ -203,8 +240,8 @@ impl Tables {
     /// The condition: the table is one of edges.
     pub fn edge(&self, table: Table, first: u64, second: u64) -> Option<u64>
         requires { IsOfEdges table }
-        ensures found { IfSome result (λ n. (row_key (edge_row (table, first, second, []) n) ≡ (table, first, second, [])) × Contains self.now (edge_row (table, first, second, []) n)) }
-        ensures held { IsSome result ↔ HasKey self.now (table, first, second, []) }
+        ensures found { IfSome result (λ n. (row_key (edge_row (table, first, second, []) n) ≡ (table, first, second, [])) × Contains self.now.rows (edge_row (table, first, second, []) n)) }
+        ensures held { IsSome result ↔ HasKey self.now.rows (table, first, second, []) }
     {
         self.edges
             .find(&EdgeKey {
@@ -220,16 +257,16 @@ impl Tables {
     pub fn one(&self, table: Table, id: u64) -> Option<u64>
         requires shape { shape table ≡ shapes.Link }
         requires one_id { key_columns table ≢ columns.FirstTwo }
-        ensures found { IfSome result (λ other. Contains self.now (link_of (key_columns table) table id 0 other)) }
-        ensures held { IsSome result ↔ HasKey self.now (table, id, 0, []) }
+        ensures found { IfSome result (λ other. Contains self.now.rows (link_of (key_columns table) table id 0 other)) }
+        ensures held { IsSome result ↔ HasKey self.now.rows (table, id, 0, []) }
     {
         self.edge(table, id, 0)
     }
 
     /// The class of tags of this id.
     pub fn tag_class(&self, id: u64) -> Option<&Named>
-        ensures found { IfSome (option_copied result) (λ n. (n.id ≡ id) × Contains self.now (row.TagClass n)) }
-        ensures held { IsSome result ↔ HasKey self.now (node_key kinds.TagClass id) }
+        ensures found { IfSome (option_copied result) (λ n. (n.id ≡ id) × Contains self.now.rows (row.TagClass n)) }
+        ensures held { IsSome result ↔ HasKey self.now.rows (node_key kinds.TagClass id) }
     {
         match self.tag_classes.find(&id) {
             Some(class) => Some(&class.named),
@@ -239,7 +276,7 @@ impl Tables {
 
     /// How many rows there are.
     pub fn rows(&self) -> u64
-        ensures { result ≡ length self.now }
+        ensures { result ≡ length self.now.rows }
     {
         self.places.len()
             + self.tag_classes.len()
@@ -254,9 +291,9 @@ impl Tables {
     }
 
     // The edges of a table, in the order of their keys.
-    fn edges_of(&self, table: Table) -> Range<'_, EdgeKey, u64>
+    fn edges_of(&self, table: Table) -> Walk<'_, EdgeKey, u64>
         requires { IsOfEdges table }
-        ensures rows { rows_by (entry_row edge_name edge_row) result ≡ rows self.now table }
+        ensures rows { rows_by (entry_row edge_name edge_row) result ≡ rows self.now.rows table }
         ensures few { length result < 2 ^ 63 }
     {
         let from = EdgeKey {
@@ -274,9 +311,9 @@ impl Tables {
 
     /// The edges of a table whose keys begin with this id, by rising second id. Takes no memory.
     /// The condition: the table is one of edges.
-    pub fn edges_from(&self, table: Table, first: u64) -> Range<'_, EdgeKey, u64>
+    pub fn edges_from(&self, table: Table, first: u64) -> Walk<'_, EdgeKey, u64>
         requires { IsOfEdges table }
-        ensures { rows_by (entry_row edge_name edge_row) result ≡ filter (λ r. nat_eq (row_key r).1 first) (rows self.now table) }
+        ensures { rows_by (entry_row edge_name edge_row) result ≡ filter (λ r. nat_eq (row_key r).1 first) (rows self.now.rows table) }
     {
         let from = EdgeKey {
             table,
@@ -294,17 +331,17 @@ impl Tables {
     // How many edges a table has.
     fn count_edges(&self, table: Table) -> u64
         requires { IsOfEdges table }
-        ensures { result ≡ count self.now table }
+        ensures { result ≡ count self.now.rows table }
     {
         self.edges_of(table).count() as u64
     }
 
     // The words of a table whose persons lie from one id on and before another, by person, then in
     // byte order.
-    fn words_of(&self, table: Table, from: u64, end: u64) -> Range<'_, WordKey, Mark>
+    fn words_of(&self, table: Table, from: u64, end: u64) -> Walk<'_, WordKey, Mark>
         requires shape { shape table ≡ shapes.Word }
         requires rises { from ≤ end }
-        ensures rows { rows_by (entry_row word_name word_row) result ≡ filter (λ r. is_from from end (row_key r).1) (rows self.now table) }
+        ensures rows { rows_by (entry_row word_name word_row) result ≡ filter (λ r. is_from from end (row_key r).1) (rows self.now.rows table) }
         ensures few { length result < 2 ^ 63 }
     {
         let first = WordKey {
@@ -324,7 +361,7 @@ impl Tables {
     /// The condition: the table is that of emails or of languages.
     pub fn words(&self, table: Table, person: u64) -> Words<'_>
         requires { shape table ≡ shapes.Word }
-        ensures { result ≡ words_of self.now table person }
+        ensures { result ≡ words_of self.now.rows table person }
     {
         let _ = &self.words;
         Words::over(self.words_of(table, person, after(person)))
@@ -333,7 +370,7 @@ impl Tables {
     // How many words a table has.
     fn count_words(&self, table: Table) -> u64
         requires { shape table ≡ shapes.Word }
-        ensures { result ≡ count self.now table }
+        ensures { result ≡ count self.now.rows table }
     {
         let _ = &self.words;
         self.words_of(table, 0, u64::MAX).count() as u64
@@ -341,7 +378,7 @@ impl Tables {
 
     /// How many rows a table has.
     pub fn count(&self, table: Table) -> u64
-        ensures { result ≡ count self.now table }
+        ensures { result ≡ count self.now.rows table }
     {
         match shape_of(table) {
             Shape::Place => self.places.len(),
@@ -361,7 +398,7 @@ impl Tables {
 
     // The rows of the table.
     fn each_places(&self) -> ShelfRows<'_, u64, Place>
-        ensures { result ≡ rows self.now tables.Place }
+        ensures { result ≡ rows self.now.rows tables.Place }
     {
         let _ = &self.places;
         ShelfRows::over(self.places.through(0, u64::MAX))
@@ -369,7 +406,7 @@ impl Tables {
 
     // The rows of the table.
     fn each_tag_classes(&self) -> ShelfRows<'_, u64, Class>
-        ensures { result ≡ rows self.now tables.TagClass }
+        ensures { result ≡ rows self.now.rows tables.TagClass }
     {
         let _ = &self.tag_classes;
         ShelfRows::over(self.tag_classes.through(0, u64::MAX))
@@ -377,7 +414,7 @@ impl Tables {
 
     // The rows of the table.
     fn each_tags(&self) -> ShelfRows<'_, u64, Named>
-        ensures { result ≡ rows self.now tables.Tag }
+        ensures { result ≡ rows self.now.rows tables.Tag }
     {
         let _ = &self.tags;
         ShelfRows::over(self.tags.through(0, u64::MAX))
@@ -385,7 +422,7 @@ impl Tables {
 
     // The rows of the table.
     fn each_organisations(&self) -> ShelfRows<'_, u64, Organisation>
-        ensures { result ≡ rows self.now tables.Organisation }
+        ensures { result ≡ rows self.now.rows tables.Organisation }
     {
         let _ = &self.organisations;
         ShelfRows::over(self.organisations.through(0, u64::MAX))
@@ -393,7 +430,7 @@ impl Tables {
 
     // The rows of the table.
     fn each_persons(&self) -> ShelfRows<'_, u64, Person>
-        ensures { result ≡ rows self.now tables.Person }
+        ensures { result ≡ rows self.now.rows tables.Person }
     {
         let _ = &self.persons;
         ShelfRows::over(self.persons.through(0, u64::MAX))
@@ -401,7 +438,7 @@ impl Tables {
 
     // The rows of the table.
     fn each_forums(&self) -> ShelfRows<'_, u64, Forum>
-        ensures { result ≡ rows self.now tables.Forum }
+        ensures { result ≡ rows self.now.rows tables.Forum }
     {
         let _ = &self.forums;
         ShelfRows::over(self.forums.through(0, u64::MAX))
@@ -409,7 +446,7 @@ impl Tables {
 
     // The rows of the table.
     fn each_posts(&self) -> ShelfRows<'_, u64, Post>
-        ensures { result ≡ rows self.now tables.Post }
+        ensures { result ≡ rows self.now.rows tables.Post }
     {
         let _ = &self.posts;
         ShelfRows::over(self.posts.through(0, u64::MAX))
@@ -417,7 +454,7 @@ impl Tables {
 
     // The rows of the table.
     fn each_comments(&self) -> ShelfRows<'_, u64, Comment>
-        ensures { result ≡ rows self.now tables.Comment }
+        ensures { result ≡ rows self.now.rows tables.Comment }
     {
         let _ = &self.comments;
         ShelfRows::over(self.comments.through(0, u64::MAX))
@@ -426,7 +463,7 @@ impl Tables {
     // The rows of a table of edges.
     fn each_edge(&self, table: Table) -> ShelfRows<'_, EdgeKey, u64>
         requires { IsOfEdges table }
-        ensures { result ≡ rows self.now table }
+        ensures { result ≡ rows self.now.rows table }
     {
         let _ = &self.edges;
         ShelfRows::over(self.edges_of(table))
@@ -435,7 +472,7 @@ impl Tables {
     // The rows of a table of words.
     fn each_word(&self, table: Table) -> ShelfRows<'_, WordKey, Mark>
         requires { shape table ≡ shapes.Word }
-        ensures { result ≡ rows self.now table }
+        ensures { result ≡ rows self.now.rows table }
     {
         let _ = &self.words;
         ShelfRows::over(self.words_of(table, 0, u64::MAX))
@@ -443,14 +480,14 @@ impl Tables {
 
     /// Copies of the rows of a table, in the order of their keys.
     pub fn each(&self, table: Table) -> TableRows<'_>
-        ensures { result ≡ rows self.now table }
+        ensures { result ≡ rows self.now.rows table }
     {
         TableRows::over(self.left(table))
     }
 
     // The rows of a table.
     fn left(&self, table: Table) -> Left<'_>
-        ensures { left_rows result ≡ rows self.now table }
+        ensures { left_rows result ≡ rows self.now.rows table }
     {
         match table {
             Table::Place => Left::Place {
@@ -491,7 +528,7 @@ impl Tables {
 
     // Whether a node of the kind has the id.
     fn has_node(&self, kind: Kind, id: u64) -> bool
-        ensures { IsTrue result ↔ HasKey self.now (node_key kind id) }
+        ensures { IsTrue result ↔ HasKey self.now.rows (node_key kind id) }
     {
         match kind {
             Kind::Place => self.places.has(&id),
@@ -508,7 +545,7 @@ impl Tables {
     // Whether an edge of the table has the key.
     fn has_edge(&self, table: Table, first: u64, second: u64) -> bool
         requires { IsOfEdges table }
-        ensures { IsTrue result ↔ HasKey self.now (table, first, second, []) }
+        ensures { IsTrue result ↔ HasKey self.now.rows (table, first, second, []) }
     {
         self.edges.has(&EdgeKey {
             table,
@@ -520,7 +557,7 @@ impl Tables {
     // Whether a link's key is held.
     fn has_link(&self, table: Table, from: u64, to: u64) -> bool
         requires { IsOfEdges table }
-        ensures { IsTrue result ↔ HasKey self.now (edge_key (key_columns table) table from to) }
+        ensures { IsTrue result ↔ HasKey self.now.rows (edge_key (key_columns table) table from to) }
     {
         match key_columns_of(table) {
             KeyColumns::First => self.has_edge(table, from, 0),
@@ -533,7 +570,7 @@ impl Tables {
     fn has_row(&self, row: &Row) -> bool
         requires shaped { IsTableRow row.now }
         requires no_word { IsNoWord row.now }
-        ensures { IsTrue result ↔ HasKey self.now (row_key row.now) }
+        ensures { IsTrue result ↔ HasKey self.now.rows (row_key row.now) }
     {
         match row {
             Row::Place { place } => self.has_node(Kind::Place, place.id),
@@ -566,7 +603,7 @@ impl Tables {
     // Whether a row of the other table that shares the row's keys has its key.
     fn has_twin(&self, row: &Row) -> bool
         requires { IsTableRow row.now }
-        ensures { IsTrue result ↔ HasTwin self.now (row_key row.now) }
+        ensures { IsTrue result ↔ HasTwin self.now.rows (row_key row.now) }
     {
         match row {
             Row::Post { post } => self.has_node(Kind::Comment, post.id),
@@ -584,7 +621,7 @@ impl Tables {
     pub fn holds(&self, row: &Row) -> bool
         requires shaped { IsTableRow row.now }
         requires no_word { IsNoWord row.now }
-        ensures { IsTrue result ↔ HasSlot self.now (slot_of row.now) }
+        ensures { IsTrue result ↔ HasSlot self.now.rows (slot_of row.now) }
     {
         self.has_row(row) || self.has_twin(row)
     }
@@ -594,9 +631,10 @@ impl Tables {
     /// The condition: the row is one that its table can have.
     pub fn insert_row(&mut self, row: Row) -> Result<(), Insert>
         requires { IsTableRow row }
-        ensures ok { OnOk result (HasGained self.old (row ∷ []) self.new) }
-        ensures duplicate { (result ≡ Err Insert.Duplicate) ↔ HasSlot self.old (slot_of row) }
+        ensures ok { OnOk result (HasGained self.old.rows (row ∷ []) self.new.rows) }
+        ensures duplicate { (result ≡ Err Insert.Duplicate) ↔ HasSlot self.old.rows (slot_of row) }
         ensures err { OnErr result (self.new ≡ self.old) }
+        ensures frozen { self.new.frozen ≡ self.old.frozen }
     {
         match row {
             Row::Word {
@@ -616,9 +654,10 @@ impl Tables {
     fn insert_other(&mut self, row: Row) -> Result<(), Insert>
         requires shaped { IsTableRow row }
         requires no_word { IsNoWord row }
-        ensures ok { OnOk result (HasGained self.old (row ∷ []) self.new) }
-        ensures duplicate { (result ≡ Err Insert.Duplicate) ↔ HasSlot self.old (slot_of row) }
+        ensures ok { OnOk result (HasGained self.old.rows (row ∷ []) self.new.rows) }
+        ensures duplicate { (result ≡ Err Insert.Duplicate) ↔ HasSlot self.old.rows (slot_of row) }
         ensures err { OnErr result (self.new ≡ self.old) }
+        ensures frozen { self.new.frozen ≡ self.old.frozen }
     {
         if self.holds(&row) {
             return Err(Insert::Duplicate);
@@ -632,7 +671,7 @@ impl Tables {
     // Whether a word is held.
     fn has_word(&self, key: &WordKey) -> bool
         requires { IsTableRow (row.Word key.now.table key.now.person key.now.text) }
-        ensures { IsTrue result ↔ HasSlot self.now (slot_of (row.Word key.now.table key.now.person key.now.text)) }
+        ensures { IsTrue result ↔ HasSlot self.now.rows (slot_of (row.Word key.now.table key.now.person key.now.text)) }
     {
         self.words.has(key)
     }
@@ -640,9 +679,10 @@ impl Tables {
     // Adds a word that is new.
     fn put_word(&mut self, key: WordKey) -> Result<(), AllocError>
         requires shaped { IsTableRow (row.Word key.table key.person key.text) }
-        requires free { ¬ HasSlot self.old (slot_of (row.Word key.table key.person key.text)) }
-        ensures ok { OnOk result (HasGained self.old (row.Word key.table key.person key.text ∷ []) self.new) }
+        requires free { ¬ HasSlot self.old.rows (slot_of (row.Word key.table key.person key.text)) }
+        ensures ok { OnOk result (HasGained self.old.rows (row.Word key.table key.person key.text ∷ []) self.new.rows) }
         ensures err { OnErr result (self.new ≡ self.old) }
+        ensures frozen { self.new.frozen ≡ self.old.frozen }
     {
         self.words.add(key, Mark {})
     }
@@ -650,9 +690,10 @@ impl Tables {
     // `insert_row` of a word.
     fn insert_word(&mut self, key: WordKey) -> Result<(), Insert>
         requires { IsTableRow (row.Word key.table key.person key.text) }
-        ensures ok { OnOk result (HasGained self.old (row.Word key.table key.person key.text ∷ []) self.new) }
-        ensures duplicate { (result ≡ Err Insert.Duplicate) ↔ HasSlot self.old (slot_of (row.Word key.table key.person key.text)) }
+        ensures ok { OnOk result (HasGained self.old.rows (row.Word key.table key.person key.text ∷ []) self.new.rows) }
+        ensures duplicate { (result ≡ Err Insert.Duplicate) ↔ HasSlot self.old.rows (slot_of (row.Word key.table key.person key.text)) }
         ensures err { OnErr result (self.new ≡ self.old) }
+        ensures frozen { self.new.frozen ≡ self.old.frozen }
     {
         if self.has_word(&key) {
             return Err(Insert::Duplicate);
@@ -668,9 +709,10 @@ impl Tables {
     pub fn put(&mut self, row: Row) -> Result<(), AllocError>
         requires shaped { IsTableRow row }
         requires no_word { IsNoWord row }
-        requires free { ¬ HasSlot self.old (slot_of row) }
-        ensures ok { OnOk result (HasGained self.old (row ∷ []) self.new) }
+        requires free { ¬ HasSlot self.old.rows (slot_of row) }
+        ensures ok { OnOk result (HasGained self.old.rows (row ∷ []) self.new.rows) }
         ensures err { OnErr result (self.new ≡ self.old) }
+        ensures frozen { self.new.frozen ≡ self.old.frozen }
     {
         match row {
             Row::Place { place } => self.places.add(place.id, place),
@@ -719,8 +761,10 @@ impl Tables {
 
     // Takes out the node of a kind and id.
     fn take_node(&mut self, kind: Kind, id: u64)
-        requires { HasKey self.old (node_key kind id) }
-        ensures { (r : Row) → Contains self.old r → row_key r ≡ node_key kind id → HasGivenBack self.old r self.new }
+        requires held { HasKey self.old.rows (node_key kind id) }
+        requires free { ¬ HasKey self.old.frozen (node_key kind id) }
+        ensures gone { (r : Row) → Contains self.old.rows r → row_key r ≡ node_key kind id → HasGivenBack self.old.rows r self.new.rows }
+        ensures frozen { self.new.frozen ≡ self.old.frozen }
     {
         match kind {
             Kind::Place => self.places.take_back(&id),
@@ -736,28 +780,35 @@ impl Tables {
 
     // Takes out the edge of a key.
     fn take_edge(&mut self, key: EdgeKey)
-        requires held { HasKey self.old (edge_name key) }
+        requires held { HasKey self.old.rows (edge_name key) }
+        requires free { ¬ HasKey self.old.frozen (edge_name key) }
         requires edge { IsOfEdges key.table }
-        ensures { (r : Row) → Contains self.old r → row_key r ≡ edge_name key → HasGivenBack self.old r self.new }
+        ensures gone { (r : Row) → Contains self.old.rows r → row_key r ≡ edge_name key → HasGivenBack self.old.rows r self.new.rows }
+        ensures frozen { self.new.frozen ≡ self.old.frozen }
     {
         self.edges.take_back(&key);
     }
 
-    /// Takes out a word that is held. Takes no memory.
-    /// The condition: the table is that of emails or of languages.
+    /// Takes out a word. Takes no memory.
+    /// The conditions: the word is held and isn't frozen, and its table is that of emails or of languages.
     pub fn take_word(&mut self, key: WordKey)
-        requires held { HasKey self.old (word_name key) }
+        requires held { HasKey self.old.rows (word_name key) }
+        requires free { ¬ HasKey self.old.frozen (word_name key) }
         requires word { shape key.table ≡ shapes.Word }
-        ensures { (r : Row) → Contains self.old r → row_key r ≡ word_name key → HasGivenBack self.old r self.new }
+        ensures gone { (r : Row) → Contains self.old.rows r → row_key r ≡ word_name key → HasGivenBack self.old.rows r self.new.rows }
+        ensures frozen { self.new.frozen ≡ self.old.frozen }
     {
         self.words.take_back(&key);
     }
 
-    /// Takes out a row that is held and no word. Takes no memory.
+    /// Takes out a row. Takes no memory.
+    /// The conditions: the row is held, isn't frozen, and is no email or language.
     pub fn take_back(&mut self, row: &Row)
-        requires held { Contains self.old row.now }
+        requires held { Contains self.old.rows row.now }
+        requires free { ¬ HasKey self.old.frozen (row_key row.now) }
         requires no_word { IsNoWord row.now }
-        ensures { HasGivenBack self.old row.now self.new }
+        ensures gone { HasGivenBack self.old.rows row.now self.new.rows }
+        ensures frozen { self.new.frozen ≡ self.old.frozen }
     {
         self.known();
         match row {
@@ -803,7 +854,7 @@ impl Tables {
 impl Held for Tables {
     ghost use Rattle.snb_tables.specs.Graphs.{HoldsKey};
 
-    ghost holds = { HoldsKey };
+    ghost holds = { λ g. HoldsKey g.rows };
 
     fn has(&self, key: &Key) -> bool {
         match *key {

@@ -6,15 +6,15 @@ ghost use Rattle.std.specs.Map.Iter.{TakesFirst, deref};
 ghost use Rattle.snb_store.specs.Words.{texts_of};
 
 use snb_base::text::Text;
+use snb_parts::walk::Walk;
 use snb_shelf::keys::WordKey;
 use snb_shelf::nodes::Mark;
-use std::collections::btree_map::Range;
 use std::marker::Model;
 
 /// The words of a person that a walk has still to give, in byte order. A contract sees them as texts.
 #[derive(Drop)]
 pub struct Words<'a> {
-    keys: Range<'a, WordKey, Mark>,
+    keys: Walk<'a, WordKey, Mark>,
 }
 
 impl<'a> Model for Words<'a> {
@@ -28,7 +28,7 @@ impl<'a> Model for Words<'a> {
 
 impl<'a> Words<'a> {
     /// A walk over words.
-    pub(crate) fn over(keys: Range<'a, WordKey, Mark>) -> Words<'a>
+    pub(crate) fn over(keys: Walk<'a, WordKey, Mark>) -> Words<'a>
         ensures { result ≡ texts_of keys.entry }
     {
         Words { keys }

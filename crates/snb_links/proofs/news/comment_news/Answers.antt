@@ -6,7 +6,7 @@ use Rattle.snb_links.proofs.news.comment_news.Goals as goal
 
 pub returns : goal.returns
 returns c r is =
-    two_news c.args.tables.now r Messages Replies c.link_from.result c.link_from-2.result (λ e. absurd cc)
-    (message_news Messages IsCreatorTable along_messages c.args.tables.now c.known.ensures r kinds.Comment c.args.id c.args.date is c.comment_creator.result c.link_from.result c.comment_creator.ensures.found c.comment_creator.ensures.none c.link_from.ensures.some c.link_from.ensures.none)
-    (message_news Replies IsParentTable along_replies c.args.tables.now c.known.ensures r kinds.Comment c.args.id c.args.date is c.parent_of.result c.link_from-2.result c.parent_of.ensures.found c.parent_of.ensures.none c.link_from-2.ensures.some c.link_from-2.ensures.none)
+    two_news c.args.tables.now.rows r Messages Replies c.link_from.result c.link_from-2.result (λ e. absurd cc)
+    (message_news Messages IsCreatorTable along_messages c.args.tables.now.rows c.known.ensures r kinds.Comment c.args.id c.args.date is c.comment_creator.result c.link_from.result c.comment_creator.ensures.found c.comment_creator.ensures.none c.link_from.ensures.some c.link_from.ensures.none)
+    (message_news Replies IsParentTable along_replies c.args.tables.now.rows c.known.ensures r kinds.Comment c.args.id c.args.date is c.parent_of.result c.link_from-2.result c.parent_of.ensures.found c.parent_of.ensures.none c.link_from-2.ensures.some c.link_from-2.ensures.none)
     (message_mute r kinds.Comment c.args.id c.args.date is)

@@ -10,4 +10,4 @@ pub returns-in-Comment : goal.returns-in-Comment
 returns-in-Comment c = c.comment_news.ensures c.args.row.now (ap message_of c.in-Comment.is)
 
 pub returns-in_default : goal.returns-in_default
-returns-in_default c = no_news c.args.tables.now c.args.row.now (other_row c.args.row.now c.in_default.not-Post c.in_default.not-Comment c.in_default.not-Link c.in_default.not-Dated)
+returns-in_default c = no_news c.args.tables.now.rows c.args.row.now (other_row c.args.row.now c.in_default.not-Post c.in_default.not-Comment c.in_default.not-Link c.in_default.not-Dated c.in_default.not-Yeared)

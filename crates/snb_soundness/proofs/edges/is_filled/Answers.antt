@@ -5,4 +5,4 @@ pub holds-requires-clause-shaped : goal.holds-requires-clause-shaped
 holds-requires-clause-shaped c = end_row c.args.edge c.args.id c.requires.edge c.requires.small
 
 pub returns : goal.returns
-returns c = filled c.args.tables.now c.args.edge c.args.id c.holds.result c.requires.edge c.holds.ensures
+returns c = filled c.args.tables.now.rows c.args.edge c.args.id c.holds.result c.requires.edge c.holds.ensures

@@ -6,8 +6,8 @@ use Rattle.snb_store.proofs.same.holds_comment.Goals as goal
 
 pub returns-in-Some : goal.returns-in-Some
 returns-in-Some c =
-    held_same c.args.tables.now row.Comment c.in-Some.held.now c.args.comment.now c.same_comment.result (λ a b e. cc) c.known.ensures c.in-Some.ensures.found.1
+    held_same c.args.tables.now.rows row.Comment c.in-Some.held.now c.args.comment.now c.same_comment.result (λ a b e. cc) c.known.ensures c.in-Some.ensures.found.1
     (ap (λ n. (table.Comment, n, 0, [])) c.in-Some.ensures.found.0) c.same_comment.ensures
 
 pub returns-in-None : goal.returns-in-None
-returns-in-None c = none_same c.args.tables.now (row.Comment c.args.comment.now) c.in-None.ensures.held.1
+returns-in-None c = none_same c.args.tables.now.rows (row.Comment c.args.comment.now) c.in-None.ensures.held.1

@@ -7,4 +7,4 @@ pub edge-requires : goal.edge-requires
 edge-requires c = ap part_of c.requires.shape
 
 pub returns : goal.returns
-returns c = rw c.is_some.ensures (ends_held c.args.tables.now c.args.table c.args.from c.args.to c.edge.result c.requires.shape c.requires.both c.edge.ensures.found c.edge.ensures.held)
+returns c = rw c.is_some.ensures (ends_held c.args.tables.now.rows c.args.table c.args.from c.args.to c.edge.result c.requires.shape c.requires.both c.edge.ensures.found c.edge.ensures.held)

@@ -6,8 +6,8 @@ use Rattle.snb_store.proofs.same.holds_forum.Goals as goal
 
 pub returns-in-Some : goal.returns-in-Some
 returns-in-Some c =
-    held_same c.args.tables.now row.Forum c.in-Some.held.now c.args.forum.now c.same_forum.result (λ a b e. cc) c.known.ensures c.in-Some.ensures.found.1
+    held_same c.args.tables.now.rows row.Forum c.in-Some.held.now c.args.forum.now c.same_forum.result (λ a b e. cc) c.known.ensures c.in-Some.ensures.found.1
     (ap (λ n. (table.Forum, n, 0, [])) c.in-Some.ensures.found.0) c.same_forum.ensures
 
 pub returns-in-None : goal.returns-in-None
-returns-in-None c = none_same c.args.tables.now (row.Forum c.args.forum.now) c.in-None.ensures.held.1
+returns-in-None c = none_same c.args.tables.now.rows (row.Forum c.args.forum.now) c.in-None.ensures.held.1

@@ -7,4 +7,4 @@ words-requires c = sym c.requires.shaped
 
 pub returns : goal.returns
 returns c =
-    word_among c.args.tables.now c.args.table c.args.person c.args.text.now c.words.result c.has_text.result c.known.ensures c.requires.shaped c.words.ensures c.has_text.ensures
+    word_among c.args.tables.now.rows c.args.table c.args.person c.args.text.now c.words.result c.has_text.result c.known.ensures c.requires.shaped c.words.ensures c.has_text.ensures

@@ -12,8 +12,8 @@ edge-requires c = ap part_of (sym c.requires.shaped)
 pub returns-in-Some : goal.returns-in-Some
 returns-in-Some c =
     let t = c.args.table in
-    held_same c.args.tables.now (λ n. row.Yeared t c.args.from c.args.to n) c.in-Some.held c.args.year c.same_number.result (λ a b e. cc) c.known.ensures
-    (subst (Contains c.args.tables.now) (yeared_row t c.args.from c.args.to c.in-Some.held c.requires.shaped) c.in-Some.ensures.found.1) refl c.same_number.ensures
+    held_same c.args.tables.now.rows (λ n. row.Yeared t c.args.from c.args.to n) c.in-Some.held c.args.year c.same_number.result (λ a b e. cc) c.known.ensures
+    (subst (Contains c.args.tables.now.rows) (yeared_row t c.args.from c.args.to c.in-Some.held c.requires.shaped) c.in-Some.ensures.found.1) refl c.same_number.ensures
 
 pub returns-in-None : goal.returns-in-None
-returns-in-None c = none_same c.args.tables.now (row.Yeared c.args.table c.args.from c.args.to c.args.year) c.in-None.ensures.held.1
+returns-in-None c = none_same c.args.tables.now.rows (row.Yeared c.args.table c.args.from c.args.to c.args.year) c.in-None.ensures.held.1

@@ -14,3 +14,9 @@ returns-in-PostLikes c = rw c.in-PostLikes.is c.pairs-in-PostLikes.ensures
 
 pub returns-in-CommentLikes : goal.returns-in-CommentLikes
 returns-in-CommentLikes c = rw c.in-CommentLikes.is c.pairs-in-CommentLikes.ensures
+
+pub returns-in-Work : goal.returns-in-Work
+returns-in-Work c = rw c.in-Work.is c.pairs-in-Work.ensures
+
+pub returns-in-Study : goal.returns-in-Study
+returns-in-Study c = rw c.in-Study.is c.pairs-in-Study.ensures

@@ -8,10 +8,11 @@ use Rattle.snb_shelf.specs.Rows.{entry_row}
 use Rattle.snb_tables.specs.Graphs.{part_of}
 use Rattle.snb_store.specs.Parts.{parts}
 use Rattle.snb_store.proofs.TableLemmas.{whole_table}
+use Rattle.snb_store.proofs.PartLemmas.{rows_is}
 use Rattle.snb_store.proofs.tables.Tables.count_words.Goals as goal
 
 pub returns : goal.returns
 returns c =
     count_from_yields_List c.words_of.result c.count.result c.count.ensures.ran (YieldsList-from_rest {shows = deref_pair} c.words_of.result refl)
     ∙ sym (length-map c.words_of.result (λ e. entry_row word_name word_row e.0 e.1))
-    ∙ ap length (c.words_of.ensures.rows ∙ whole_table c.args.table c.args.self.now (parts c.self.inside) c.self.view_is c.self.invariant (ap part_of c.requires))
+    ∙ ap length (c.words_of.ensures.rows ∙ whole_table c.args.table c.args.self.now.rows (parts c.self.inside) (rows_is c.self.view_is) c.self.invariant (ap part_of c.requires))

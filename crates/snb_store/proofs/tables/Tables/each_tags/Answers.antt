@@ -2,11 +2,12 @@ use Rattle.std.proofs.Common.{◌∙◌, refl, arith}
 use Rattle.snb_schema.specs.declared.table.Table.TheVariants as tables
 use Rattle.snb_store.specs.Parts.{parts}
 use Rattle.snb_store.proofs.TableLemmas.{node_range, rows_fit}
+use Rattle.snb_store.proofs.PartLemmas.{rows_is}
 use Rattle.snb_store.proofs.tables.Tables.each_tags.Goals as goal
 
 pub over-requires : goal.over-requires
 over-requires c =
-    rows_fit tables.Tag (parts c.self.inside) c.args.self.now _ c.self.view_is c.self.invariant (c.through.ensures.rows ∙ node_range tables.Tag (parts c.self.inside) c.args.self.now 2 c.self.view_is c.self.invariant refl (omega arith))
+    rows_fit tables.Tag (parts c.self.inside) c.args.self.now.rows _ (rows_is c.self.view_is) c.self.invariant (c.through.ensures.rows ∙ node_range tables.Tag (parts c.self.inside) c.args.self.now.rows 2 (rows_is c.self.view_is) c.self.invariant refl (omega arith))
 
 pub returns : goal.returns
-returns c = c.over.ensures ∙ c.through.ensures.rows ∙ node_range tables.Tag (parts c.self.inside) c.args.self.now 2 c.self.view_is c.self.invariant refl (omega arith)
+returns c = c.over.ensures ∙ c.through.ensures.rows ∙ node_range tables.Tag (parts c.self.inside) c.args.self.now.rows 2 (rows_is c.self.view_is) c.self.invariant refl (omega arith)

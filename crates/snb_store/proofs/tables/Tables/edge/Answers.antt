@@ -5,10 +5,11 @@ use Rattle.snb_schema.specs.RowKeys.{row_key}
 use Rattle.snb_shelf.specs.Edges.{edge_row}
 use Rattle.snb_store.specs.Parts.{parts}
 use Rattle.snb_store.proofs.SlotLemmas.{key_in_part, found_in_part}
+use Rattle.snb_store.proofs.PartLemmas.{rows_is}
 use Rattle.snb_store.proofs.tables.Tables.edge.Goals as goal
 
 pub returns-clause-held : goal.returns-clause-held
-returns-clause-held c = rw (c.copied.ensures, ← some_copied c.find.result) (key_in_part (parts c.self.inside) 8 c.args.self.now (c.args.table, c.args.first, c.args.second, []) (is_some c.find.result) c.self.view_is c.self.invariant c.requires c.find.ensures.held)
+returns-clause-held c = rw (c.copied.ensures, ← some_copied c.find.result) (key_in_part (parts c.self.inside) 8 c.args.self.now.rows (c.args.table, c.args.first, c.args.second, []) (is_some c.find.result) (rows_is c.self.view_is) c.self.invariant c.requires c.find.ensures.held)
 
 pub returns-clause-found : goal.returns-clause-found
-returns-clause-found c = rw c.copied.ensures (found_in_part (parts c.self.inside) 8 c.args.self.now (option_copied c.find.result) (λ n. edge_row (c.args.table, c.args.first, c.args.second, []) n) _ (λ n. row_key (edge_row (c.args.table, c.args.first, c.args.second, []) n) ≡ (c.args.table, c.args.first, c.args.second, [])) c.self.view_is c.find.ensures.found (λ n fit. fit.0))
+returns-clause-found c = rw c.copied.ensures (found_in_part (parts c.self.inside) 8 c.args.self.now.rows (option_copied c.find.result) (λ n. edge_row (c.args.table, c.args.first, c.args.second, []) n) _ (λ n. row_key (edge_row (c.args.table, c.args.first, c.args.second, []) n) ≡ (c.args.table, c.args.first, c.args.second, [])) (rows_is c.self.view_is) c.find.ensures.found (λ n fit. fit.0))

@@ -4,6 +4,7 @@ use Rattle.std.specs.Ordering.{is_gt, nat_cmp, ordering_then}
 use Rattle.snb_shelf.specs.KeysApart.{table_itself, three}
 use Rattle.snb_store.specs.Parts.{parts}
 use Rattle.snb_store.proofs.TableLemmas.{from_rows}
+use Rattle.snb_store.proofs.PartLemmas.{rows_is}
 use Rattle.snb_store.proofs.tables.Tables.edges_from.Goals as goal
 
 pub through-requires : goal.through-requires
@@ -12,4 +13,4 @@ through-requires c =
     ∙ ap (λ o. is_gt (ordering_then o (nat_cmp 0 18446744073709551615))) (tied_itself nat_cmp_total c.args.first)
 
 pub returns : goal.returns
-returns c = c.through.ensures.rows ∙ from_rows c.args.table c.args.first (parts c.self.inside) c.args.self.now c.self.view_is c.self.invariant c.requires
+returns c = c.through.ensures.rows ∙ from_rows c.args.table c.args.first (parts c.self.inside) c.args.self.now.rows (rows_is c.self.view_is) c.self.invariant c.requires

@@ -1,6 +1,7 @@
 use Rattle.std.proofs.Common.{subst}
 use Rattle.snb_tables.specs.Graphs.{IsGraph}
+use Rattle.snb_store.proofs.PartLemmas.{rows_is}
 use Rattle.snb_store.proofs.tables.Tables.known.Goals as goal
 
 pub returns : goal.returns
-returns c = subst IsGraph c.self.view_is c.self.invariant.graph
+returns c = subst IsGraph (rows_is c.self.view_is) c.self.invariant.graph

@@ -6,4 +6,4 @@ use Rattle.snb_store.proofs.tables.Tables.one.Goals as goal
 
 pub returns-clause-found : goal.returns-clause-found
 returns-clause-found c =
-    if_contains c.args.self.now c.edge.result (λ n. edge_of _ (key_columns c.args.table) c.args.table c.args.id 0 n) _ _ (λ n. ap (λ s. edge_of s (key_columns c.args.table) c.args.table c.args.id 0 n) c.requires.shape) c.edge.ensures.found
+    if_contains c.args.self.now.rows c.edge.result (λ n. edge_of _ (key_columns c.args.table) c.args.table c.args.id 0 n) _ _ (λ n. ap (λ s. edge_of s (key_columns c.args.table) c.args.table c.args.id 0 n) c.requires.shape) c.edge.ensures.found

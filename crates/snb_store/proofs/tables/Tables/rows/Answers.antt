@@ -1,6 +1,7 @@
 use Rattle.std.proofs.Common.{ap, length, arith}
 use Rattle.snb_store.proofs.PartLemmas.{joined_count}
+use Rattle.snb_store.proofs.PartLemmas.{rows_is}
 use Rattle.snb_store.proofs.tables.Tables.rows.Goals as goal
 
 pub returns : goal.returns
-returns c = omega (arith, ap length c.self.view_is, joined_count c.self.inside.places c.self.inside.tag_classes c.self.inside.tags c.self.inside.organisations c.self.inside.persons c.self.inside.forums c.self.inside.posts c.self.inside.comments c.self.inside.edges c.self.inside.words)
+returns c = omega (arith, ap length (rows_is c.self.view_is), joined_count c.self.inside.places.rows c.self.inside.tag_classes.rows c.self.inside.tags.rows c.self.inside.organisations.rows c.self.inside.persons.rows c.self.inside.forums.rows c.self.inside.posts.rows c.self.inside.comments.rows c.self.inside.edges.rows c.self.inside.words.rows)

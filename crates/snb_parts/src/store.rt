@@ -1,0 +1,213 @@
+//! An ordered map in two parts.
+
+ghost use Rattle.std.specs.Prelude.{◌<◌, ◌^◌, ◌≡◌, ◌≤◌, [], None, length, IfOk, OnOk, OnErr, false};
+ghost use Rattle.std.specs.Option.{option_copied, is_some};
+ghost use Rattle.std.specs.BTreeMap.{insert_entry, is_at};
+ghost use Rattle.std.specs.Map.{remove_entry};
+ghost use Rattle.std.specs.Ordering.{is_gt};
+ghost use Rattle.snb_parts.specs.Merged.{value_at, all_of, entries_within, is_before_end, is_up_to_end, AreStored};
+
+use crate::kept::Apart;
+use crate::search;
+use crate::walk::Walk;
+use std::alloc::{AllocError, Global};
+use std::collections::BTreeMap;
+use std::marker::Model;
+use std::sync::Arc;
+
+// More entries than any memory holds, so that those of both parts can be counted.
+const MOST_ENTRIES: usize = 1152921504606846976;
+
+/// A map from keys to values. Its copies share the part that was frozen, a list in the order of keys.
+pub struct Store<K: Apart, V: Clone + Drop> {
+    alloc: Global,
+    frozen: Option<Arc<Vec<(K, V)>>>,
+    added: BTreeMap<K, V>,
+}
+
+impl<K: Apart, V: Clone + Drop> Drop for Store<K, V> {
+    fn drop(self) {
+        let Store {
+            alloc: _,
+            frozen: _,
+            added: _,
+        } = self;
+    }
+}
+
+impl<K: Apart, V: Clone + Drop> Model for Store<K, V> {
+    ghost use Rattle.std.specs.Prelude.{List};
+    ghost use Rattle.snb_parts.specs.Merged.{entries_of, AreStored};
+
+    // The frozen entries, and the others.
+    ghost Value = { List (K × V) × List (K × V) };
+
+    ghost view = { λ s. (entries_of s.frozen, s.added.entries) };
+
+    ghost invariant = { λ s. AreStored K.cmp (entries_of s.frozen) s.added.entries };
+}
+
+// Clones of the entries of a walk.
+fn cloned<K: Apart, V: Clone + Drop>(
+    alloc: Global,
+    walk: Walk<'_, K, V>,
+    room: usize,
+) -> Result<Vec<(K, V)>, AllocError>
+    requires { (v w : V) → V.is_clone v w → w ≡ v }
+    ensures { IfOk result (λ all. all.items ≡ walk.entry) }
+{
+    let mut all = Vec::with_capacity(alloc, room)?;
+    for (key, value) in walk {
+        let key = key.clone()?;
+        let value = value.clone()?;
+        all.push((key, value))?;
+    }
+    Ok(all)
+}
+
+impl<K: Apart, V: Clone + Drop> Store<K, V> {
+    /// No entries. Takes no memory.
+    pub fn empty(alloc: Global) -> Self
+        ensures { result ≡ ([], []) }
+    {
+        Store {
+            alloc,
+            frozen: None,
+            added: BTreeMap::new(alloc),
+        }
+    }
+
+    /// A law: both parts are in order and share no key, and their entries can be counted.
+    pub fn known(&self)
+        ensures { AreStored K.cmp self.now.0 self.now.1 }
+    {
+        let _ = &self.added;
+    }
+
+    // The frozen entries.
+    fn frozen(&self) -> &[(K, V)]
+        ensures lent { result.now ≡ self.now.0 }
+        ensures stored { AreStored K.cmp self.now.0 self.now.1 }
+    {
+        let _ = &self.added;
+        match &self.frozen {
+            Some(frozen) => frozen.as_slice(),
+            None => &[],
+        }
+    }
+
+    /// What is kept under a key. Takes no memory.
+    pub fn get(&self, key: &K) -> Option<&V>
+        ensures { option_copied result ≡ value_at K.cmp (all_of K.cmp self.now) key.now }
+    {
+        let _ = &self.alloc;
+        match search::find(self.frozen(), key) {
+            Some(value) => Some(value),
+            None => self.added.get(key),
+        }
+    }
+
+    /// Whether there is an entry of the key. Takes no memory.
+    pub fn has(&self, key: &K) -> bool
+        ensures { result ≡ is_some (value_at K.cmp (all_of K.cmp self.now) key.now) }
+    {
+        self.get(key).is_some()
+    }
+
+    /// Adds an entry. Want of memory leaves all as it was.
+    /// The condition: no entry has the key.
+    pub fn add(&mut self, key: K, value: V) -> Result<(), AllocError>
+        requires { value_at K.cmp (all_of K.cmp self.old) key ≡ None }
+        ensures ok { OnOk result (all_of K.cmp self.new ≡ insert_entry K.cmp (all_of K.cmp self.old) key value) }
+        ensures err { OnErr result (self.new ≡ self.old) }
+        ensures frozen { self.new.0 ≡ self.old.0 }
+    {
+        if self.len() >= MOST_ENTRIES {
+            return Err(AllocError);
+        }
+        self.added.insert(key, value)?;
+        Ok(())
+    }
+
+    /// Takes out the entry of a key, if there is one. Takes no memory.
+    /// The condition: no frozen entry has the key.
+    pub fn take_back(&mut self, key: &K)
+        requires { value_at K.cmp self.old.0 key.now ≡ None }
+        ensures gone { all_of K.cmp self.new ≡ remove_entry (is_at (K.cmp key.now)) (all_of K.cmp self.old) }
+        ensures frozen { self.new.0 ≡ self.old.0 }
+    {
+        let _ = self.added.remove(key);
+    }
+
+    /// How many entries there are.
+    pub fn len(&self) -> usize
+        ensures count { result ≡ length (all_of K.cmp self.now) }
+        ensures few { result ≤ 1152921504606846976 }
+    {
+        let _ = &self.alloc;
+        self.frozen().len() + self.added.len()
+    }
+
+    /// All entries, in order. Takes no memory.
+    pub fn all(&self) -> Walk<'_, K, V>
+        ensures { result ≡ all_of K.cmp self.now }
+    {
+        let _ = &self.alloc;
+        Walk::over(self.frozen(), self.added.range(..))
+    }
+
+    /// The entries from one key on and before another, which isn't below the first, in order. Takes no
+    /// memory.
+    pub fn range(&self, from: K, end: K) -> Walk<'_, K, V>
+        requires { is_gt (K.cmp from end) ≡ false }
+        ensures within { result ≡ entries_within K.cmp is_before_end from end (all_of K.cmp self.now) }
+        ensures few { length result < 2 ^ 63 }
+    {
+        let _ = &self.alloc;
+        let frozen = search::before(search::since(self.frozen(), &from), &end);
+        Walk::over(frozen, self.added.range(from..end))
+    }
+
+    /// The entries from one key up to another, which isn't below the first, in order. Takes no memory.
+    pub fn through(&self, from: K, last: K) -> Walk<'_, K, V>
+        requires { is_gt (K.cmp from last) ≡ false }
+        ensures within { result ≡ entries_within K.cmp is_up_to_end from last (all_of K.cmp self.now) }
+        ensures few { length result < 2 ^ 63 }
+    {
+        let _ = &self.alloc;
+        let frozen = search::through(search::since(self.frozen(), &from), &last);
+        Walk::over(frozen, self.added.range(from..=last))
+    }
+
+    /// Makes all entries the frozen part, which copies share. Where memory doesn't suffice, the store is
+    /// as it was.
+    /// The condition: a clone of a value is equal to it.
+    pub fn freeze(&mut self) -> Result<(), AllocError>
+        requires { (v w : V) → V.is_clone v w → w ≡ v }
+        ensures ok { OnOk result (self.new ≡ (all_of K.cmp self.old, [])) }
+        ensures err { OnErr result (self.new ≡ self.old) }
+    {
+        let all = cloned(self.alloc, self.all(), self.len())?;
+        self.frozen = Some(Arc::new(self.alloc, all)?);
+        self.added = BTreeMap::new(self.alloc);
+        Ok(())
+    }
+
+    /// A store with the same entries, which shares the frozen part and copies the others. An error says
+    /// that memory doesn't suffice.
+    /// The condition: a clone of a value is equal to it.
+    pub fn try_copy(&self) -> Result<Self, AllocError>
+        requires { (v w : V) → V.is_clone v w → w ≡ v }
+        ensures { IfOk result (λ copy. copy ≡ self.now) }
+    {
+        let frozen = match &self.frozen {
+            Some(frozen) => Some(Arc::try_clone(frozen)?),
+            None => None,
+        };
+        Ok(Store {
+            alloc: self.alloc,
+            frozen,
+            added: self.added.clone()?,
+        })
+    }
+}
