@@ -55,7 +55,8 @@ AnswersHaveStatus =
 
 -- what a run that is done has added to the channels, where the files and the channels are told: the log of a legal, complete history of the plan
 -- of the files, in which no insert that waits starts before every insert of a person or a forum has finished whose t is at most its t_d, and at
--- no time the completion time comes to the t of one that hasn't finished; the replies to its reads, each on the graph of its front; and the rows of the dataset and of each insert, each once
+-- no time the completion time comes to the t of one that hasn't finished; the replies to its reads, each on the graph of its front; and the
+-- rows of the dataset and of each insert, each once
 pub record IsRunInShort (files : Files) (folder : List ℕ) (workers ratio : ℕ) (frequencies : FrequencyTable) (old new : Written) : Type 0 where
   pub graph : List Row
   pub plan : Plan
