@@ -118,14 +118,10 @@ abbrev pub parent_ref : Parent → Missing
 parent_ref (parents.Post n) = ref kinds.Post n
 parent_ref (parents.Comment n) = ref kinds.Comment n
 
--- the organisations of studies or works, each of which has a year
-abbrev pub organisations : List (ℕ × ℕ) → List Missing
-organisations stays = map (λ s. ref kinds.Organisation s.0) stays
-
 -- what an insert refers to, in the order in which it is checked
 abbrev pub refs_of : Op → List Missing
 refs_of (ops.AddPerson person first last gender birthday created ip browser city languages emails tags study work) =
-    ref kinds.Place city ∷ map (ref kinds.Tag) tags ++ organisations study ++ organisations work
+    ref kinds.Place city ∷ map (ref kinds.Tag) tags ++ map (λ s. ref kinds.Organisation s.0) study ++ map (λ w. ref kinds.Organisation w.0) work
 refs_of (ops.LikePost person post date) = ref kinds.Person person ∷ ref kinds.Post post ∷ []
 refs_of (ops.LikeComment person comment date) = ref kinds.Person person ∷ ref kinds.Comment comment ∷ []
 refs_of (ops.AddForum forum title date moderator tags) = ref kinds.Person moderator ∷ map (ref kinds.Tag) tags
