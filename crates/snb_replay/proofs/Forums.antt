@@ -15,10 +15,10 @@ use Rattle.snb_schema.specs.declared.step.LaneKind.TheVariants as lane_kinds
 use Rattle.snb_schema.specs.declared.table.Kind.TheVariants as kinds
 use Rattle.snb_schema.specs.Awaiting.{adds_awaited, is_awaited}
 use Rattle.snb_schema.specs.LineLanes.{LineLanes}
-use Rattle.snb_schema.specs.References.{ref}
+use Rattle.snb_schema.specs.References.{added_node, ref}
 use Rattle.snb_schema.specs.StreamLines.{AreOfStream, AreOfStreams}
 use Rattle.snb_schema.specs.UpdateLines.{kind_of, person_inserts}
-use Rattle.snb_plan.specs.Closed.{added_node, is_in_lane}
+use Rattle.snb_plan.specs.Closed.{is_in_lane}
 use Rattle.snb_plan.specs.Plans.{kinds_of, lane_of, numbered_lanes}
 use Rattle.snb_base.proofs.Laws.{contains_cases}
 use Rattle.snb_replay.proofs.Lists.{at_contains, none_in}

@@ -18,11 +18,10 @@ use Rattle.snb_schema.specs.declared.table.Table.TheVariants as table
 use Rattle.snb_schema.specs.Awaiting.{is_awaited}
 use Rattle.snb_schema.specs.Awaiting.{waits as waits_op}
 use Rattle.snb_schema.specs.Inserts.{keys_of, parent_row, rows_of}
-use Rattle.snb_schema.specs.References.{ref, refs_of}
+use Rattle.snb_schema.specs.References.{added_node, ref, refs_of}
 use Rattle.snb_schema.specs.RowKeys.{RowKey, named_key, node_key, row_key}
 use Rattle.snb_base.proofs.Laws.{contains_cases, contains_here, contains_there}
 use Rattle.snb_tables.specs.Graphs.{HasKey, HoldsKey}
-use Rattle.snb_plan.specs.Closed.{added_node}
 
 -- ---- lists put together
 

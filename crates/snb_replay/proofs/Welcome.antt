@@ -14,13 +14,13 @@ use Rattle.snb_schema.specs.declared.step.LaneKind.{LaneKind}
 use Rattle.snb_schema.specs.History.{finished, finishes, hand}
 use Rattle.snb_schema.specs.Inserts.{keys_of}
 use Rattle.snb_schema.specs.Laws.{PrefixIsLegal}
-use Rattle.snb_schema.specs.References.{refs_of}
+use Rattle.snb_schema.specs.References.{added_node, refs_of}
 use Rattle.snb_schema.specs.RowKeys.{named_key, node_key}
 use Rattle.snb_schema.specs.Rules.{Fits, IsLegal, V5, V7}
 use Rattle.snb_schema.specs.Schedule.{IsInForum, Schedule, step_of}
 use Rattle.snb_schema.proofs.Laws.{forum_goes_in_turn, hand_has_start, keeps_legal}
 use Rattle.snb_tables.specs.Graphs.{HoldsKey}
-use Rattle.snb_plan.specs.Closed.{IsMet, Update, added_node}
+use Rattle.snb_plan.specs.Closed.{IsMet, Update}
 use Rattle.snb_plan.specs.Plans.{Plan, kinds_of, schedule_of, updates_in}
 use Rattle.snb_inserts.specs.Applying.{IsThere, IsWelcome}
 use Rattle.snb_replay.specs.Laws.{IsReplayed, WelcomeInTurn}
