@@ -32,6 +32,10 @@ two_held g k j = (
   λ has. elim has [ inl h ↦ (k, contains_here k (j ∷ []), h) | inr h ↦ (j, contains_there k (j ∷ []) j (contains_here j []), h) ],
 )
 
+-- where the first of two keys isn't held, one of them is held exactly where the other is
+pub other_held : (g : List Row) (k j : Key) → ¬ HoldsKey g k → HoldsKey g j ↔ IsAnyHeld g (k ∷ j ∷ [])
+other_held g k j lacks = (λ h. (two_held g k j).1 (inr h), λ any. elim ((two_held g k j).0 any) [ inl h ↦ absurd (lacks h) | inr h ↦ h ])
+
 -- ---- slots
 
 -- the slot of the key is filled
