@@ -60,7 +60,7 @@ stays_above t p r [] is all above = tt
 stays_above t p r (s ∷ rs) is all above =
     let here = All-head (IsStay t p) s rs all in
     let order : row_order r s ≡ nat_cmp (row_key r).2 (row_key s).2 =
-        ap (λ x. row_order x s) is ∙ ap (row_order (row.Yeared t p (row_key r).2 (year_of r))) here ∙ stay_order t p (row_key r).2 (year_of r) (row_key s).2 (year_of s) in
+    ap (λ x. row_order x s) is ∙ ap (row_order (row.Yeared t p (row_key r).2 (year_of r))) here ∙ stay_order t p (row_key r).2 (year_of r) (row_key s).2 (year_of s) in
     (sym order ∙ above.0, stays_above t p r rs is (All-tail (IsStay t p) s rs all) above.1)
 
 stays_rise : (t : Table) (p : ℕ) (rs : List Row) → All (IsStay t p) rs → IsStrictlySortedBy row_order rs → IsStrictlySortedBy nat_cmp (keys_of (map stay rs))

@@ -47,7 +47,13 @@ fn forget(added: &mut Vec<Row>)
 }
 
 // `insert_row` of a word, which makes no link.
-fn insert_word(tables: &mut Tables, links: &mut Indexes, table: Table, person: u64, text: Text) -> Result<(), Insert>
+fn insert_word(
+    tables: &mut Tables,
+    links: &mut Indexes,
+    table: Table,
+    person: u64,
+    text: Text,
+) -> Result<(), Insert>
     requires shaped { IsTableRow (row.Word table person text) }
     requires kept { IsKept tables.old links.old }
     ensures ok { OnOk result (HasGained tables.old.rows (row.Word table person text ∷ []) tables.new.rows) }
@@ -167,7 +173,12 @@ fn take_back(tables: &mut Tables, links: &mut Indexes, row: Row)
 }
 
 // Adds a row and notes it. Where that fails, the rows and the list are as they were.
-fn insert_noted(tables: &mut Tables, links: &mut Indexes, row: Row, added: &mut Vec<Row>) -> Result<(), Insert>
+fn insert_noted(
+    tables: &mut Tables,
+    links: &mut Indexes,
+    row: Row,
+    added: &mut Vec<Row>,
+) -> Result<(), Insert>
     requires shaped { IsTableRow row }
     requires kept { IsKept tables.old links.old }
     ensures ok { OnOk result (HasGained tables.old.rows (row ∷ []) tables.new.rows) }
@@ -206,7 +217,12 @@ pub(crate) fn take_all(tables: &mut Tables, links: &mut Indexes, added: Vec<Row>
 }
 
 /// Adds the rows one after another, up to the first that can't be added, and notes them.
-pub(crate) fn insert_each(tables: &mut Tables, links: &mut Indexes, rows: Vec<Row>, added: &mut Vec<Row>) -> Result<(), Insert>
+pub(crate) fn insert_each(
+    tables: &mut Tables,
+    links: &mut Indexes,
+    rows: Vec<Row>,
+    added: &mut Vec<Row>,
+) -> Result<(), Insert>
     requires shaped { All IsTableRow rows.items }
     requires graph { IsGraph tables.old.rows }
     requires none { added.old.items ≡ [] }
