@@ -8,7 +8,7 @@ ghost use Rattle.std.specs.Ordering.{is_gt};
 ghost use Rattle.snb_parts.specs.Merged.{value_at, all_of, entries_within, is_before_end, is_up_to_end, AreStored};
 
 use crate::kept::Apart;
-use crate::search;
+use crate::sorted::{Sorted, Span};
 use crate::walk::Walk;
 use std::alloc::{AllocError, Global};
 use std::collections::BTreeMap;
@@ -21,7 +21,7 @@ const MOST_ENTRIES: usize = 1152921504606846976;
 /// A map from keys to values. Its copies share the part that was frozen, a list in the order of keys.
 pub struct Store<K: Apart, V: Clone + Drop> {
     alloc: Global,
-    frozen: Option<Arc<Vec<(K, V)>>>,
+    frozen: Option<Arc<Sorted<K, V>>>,
     added: BTreeMap<K, V>,
 }
 
@@ -52,17 +52,30 @@ fn cloned<K: Apart, V: Clone + Drop>(
     alloc: Global,
     walk: Walk<'_, K, V>,
     room: usize,
-) -> Result<Vec<(K, V)>, AllocError>
+) -> Result<Sorted<K, V>, AllocError>
     requires { (v w : V) → V.is_clone v w → w ≡ v }
-    ensures { IfOk result (λ all. all.items ≡ walk.entry) }
+    ensures { IfOk result (λ all. all ≡ walk.entry) }
 {
-    let mut all = Vec::with_capacity(alloc, room)?;
+    let mut keys = Vec::with_capacity(alloc, room)?;
+    let mut values = Vec::with_capacity(alloc, room)?;
     for (key, value) in walk {
         let key = key.clone()?;
+        keys.push(key)?;
         let value = value.clone()?;
-        all.push((key, value))?;
+        values.push(value)?;
     }
-    Ok(all)
+    Ok(Sorted::of(keys, values))
+}
+
+// What is kept under a key in the added part. Where keys come in rising order, its last one tells that
+// a key is new.
+fn added_at<'a, K: Apart, V>(added: &'a BTreeMap<K, V>, key: &K) -> Option<&'a V>
+    ensures { option_copied result ≡ value_at K.cmp added.now.entries key.now }
+{
+    match added.last_key_value() {
+        Some((last, _)) if last.cmp(key).is_lt() => None,
+        _ => added.get(key),
+    }
 }
 
 impl<K: Apart, V: Clone + Drop> Store<K, V> {
@@ -85,14 +98,14 @@ impl<K: Apart, V: Clone + Drop> Store<K, V> {
     }
 
     // The frozen entries.
-    fn frozen(&self) -> &[(K, V)]
-        ensures lent { result.now ≡ self.now.0 }
+    fn frozen(&self) -> Span<'_, K, V>
+        ensures lent { result ≡ self.now.0 }
         ensures stored { AreStored K.cmp self.now.0 self.now.1 }
     {
         let _ = &self.added;
         match &self.frozen {
-            Some(frozen) => frozen.as_slice(),
-            None => &[],
+            Some(frozen) => Span::over(frozen.keys(), frozen.values()),
+            None => Span::over(&[], &[]),
         }
     }
 
@@ -101,9 +114,9 @@ impl<K: Apart, V: Clone + Drop> Store<K, V> {
         ensures { option_copied result ≡ value_at K.cmp (all_of K.cmp self.now) key.now }
     {
         let _ = &self.alloc;
-        match search::find(self.frozen(), key) {
+        match self.frozen().find(key) {
             Some(value) => Some(value),
-            None => self.added.get(key),
+            None => added_at(&self.added, key),
         }
     }
 
@@ -164,7 +177,7 @@ impl<K: Apart, V: Clone + Drop> Store<K, V> {
         ensures few { length result < 2 ^ 63 }
     {
         let _ = &self.alloc;
-        let frozen = search::before(search::since(self.frozen(), &from), &end);
+        let frozen = self.frozen().since(&from).before(&end);
         Walk::over(frozen, self.added.range(from..end))
     }
 
@@ -175,7 +188,7 @@ impl<K: Apart, V: Clone + Drop> Store<K, V> {
         ensures few { length result < 2 ^ 63 }
     {
         let _ = &self.alloc;
-        let frozen = search::through(search::since(self.frozen(), &from), &last);
+        let frozen = self.frozen().since(&from).through(&last);
         Walk::over(frozen, self.added.range(from..=last))
     }
 
