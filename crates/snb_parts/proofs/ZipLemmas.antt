@@ -57,7 +57,7 @@ module _ {K X : Type 0} where
       let long : length (zip ks vs) ≡ length ks = zip_length ks vs same in
       sym (take-zip i ks vs)
       ∙ take_is (λ (e : K × X). p e.0) (zip ks vs) i (within-zip (λ k. p k ≡ true) ks vs 0 i same le lo)
-        (subst (λ n. AllWithin (λ (e : K × X). p e.0 ≡ false) (zip ks vs) i n) (sym long) (within-zip (λ k. p k ≡ false) ks vs i (length ks) same (omega arith) hi)) (omega arith)
+      (subst (λ n. AllWithin (λ (e : K × X). p e.0 ≡ false) (zip ks vs) i n) (sym long) (within-zip (λ k. p k ≡ false) ks vs i (length ks) same (omega arith) hi)) (omega arith)
 
   pub left_beside : (p : K → Bool) (ks : List K) (vs : List X) (i : ℕ) → length vs ≡ length ks → AllWithin (λ k. p k ≡ true) ks 0 i → AllWithin (λ k. p k ≡ false) ks i (length ks) → i ≤ length ks
       → zip (drop i ks) (drop i vs) ≡ filter (λ e. not (p e.0)) (zip ks vs)
@@ -65,7 +65,7 @@ module _ {K X : Type 0} where
       let long : length (zip ks vs) ≡ length ks = zip_length ks vs same in
       sym (drop-zip i ks vs)
       ∙ drop_is (λ (e : K × X). p e.0) (zip ks vs) i (within-zip (λ k. p k ≡ true) ks vs 0 i same le lo)
-        (subst (λ n. AllWithin (λ (e : K × X). p e.0 ≡ false) (zip ks vs) i n) (sym long) (within-zip (λ k. p k ≡ false) ks vs i (length ks) same (omega arith) hi)) (omega arith)
+      (subst (λ n. AllWithin (λ (e : K × X). p e.0 ≡ false) (zip ks vs) i n) (sym long) (within-zip (λ k. p k ≡ false) ks vs i (length ks) same (omega arith) hi)) (omega arith)
 
 module _ {K : Type 0} (R : K → K → Ordering) (o : IsTotalOrder R) (exact : (x y : K) → R x y ≡ Equal → x ≡ y) where
   sorted : (ks : List K) → IsStrictlySortedBy R ks → IsSortedBy (λ a b. is_lt (R a b)) ks
