@@ -3,6 +3,7 @@
 ghost use Rattle.std.specs.Prelude.{◌≡◌, ◌∷◌, [], IfOk, MatchOption};
 ghost use Rattle.snb_schema.specs.declared.table.Kind.TheVariants as kinds;
 ghost use Rattle.snb_schema.specs.RowKeys.{node_key};
+ghost use Rattle.snb_parts.specs.Pairs.{rest};
 ghost use Rattle.snb_reads.specs.declared.cell.Cell.TheVariants.{Words};
 ghost use Rattle.snb_reads.specs.Around.{containers, is_friend, or_else, with_id};
 ghost use Rattle.snb_reads.specs.Distance.{IsPerson};
@@ -33,7 +34,7 @@ pub fn words(text: &Text) -> Result<Cell, AllocError>
 
 /// The pairs of a walk, in its order.
 pub fn collected(alloc: Global, links: Links<'_>) -> Result<Vec<(u64, u64)>, AllocError>
-    ensures { IfOk result (λ pairs. pairs.items ≡ links.entry) }
+    ensures { IfOk result (λ pairs. pairs.items ≡ rest links.entry) }
 {
     let mut pairs = Vec::new(alloc);
     for pair in links {

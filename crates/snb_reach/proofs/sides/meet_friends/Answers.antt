@@ -2,6 +2,7 @@ use Rattle.std.proofs.Common.{◌≡◌, suc, ◌-◌, Some, arith, nat_eq, sym,
 use Rattle.std.specs.HashMap.{get}
 use Rattle.snb_graph.specs.Walks.{AreFriendsOf}
 use Rattle.snb_reads.specs.Distance.{Walk}
+use Rattle.snb_parts.specs.Pairs.{rest}
 use Rattle.snb_shelf.proofs.Laws.{contains_here}
 use Rattle.snb_reach.proofs.LookLemmas.{all_looked, looked, looks}
 use Rattle.snb_reach.proofs.SideLemmas.{marked, met_other}
@@ -14,7 +15,7 @@ loop-friend-init c = record {
   keeps = λ q h. h;
   others = λ q. (λ h. h, λ h. h);
   looking = looks c.args.graph.now c.args.person _ _ c.requires.held
-      (subst (AreFriendsOf c.args.graph.now c.args.person) (sym c.into_iter-friend-iterator.ensures.into_iter_gives) c.friends-friend-items.ensures);
+      (subst (λ w. AreFriendsOf c.args.graph.now c.args.person (rest w)) (sym c.into_iter-friend-iterator.ensures.into_iter_gives) c.friends-friend-items.ensures);
   len = omega arith;
 }
 
@@ -22,7 +23,7 @@ pub loop-friend-preserved : goal.loop-friend-preserved
 loop-friend-preserved c =
     let g = c.args.graph.now in
     let up : c.args.level ≡ suc (c.args.level - 1) = omega (arith, c.requires.above) in
-    let (knows, known) = c.loop-friend.invariant.looking.friends c.in-Some.friend c.in-Some.field-0-1 (rw c.in-Some.ensures.steps (contains_here (c.in-Some.friend, c.in-Some.field-0-1) c.next.new.self)) in
+    let (knows, known) = c.loop-friend.invariant.looking.friends c.in-Some.friend c.in-Some.field-0-1 (rw c.in-Some.ensures.steps (contains_here (c.in-Some.friend, c.in-Some.field-0-1) (rest c.next.new.self))) in
     let has = subst (λ b. HasMarked c.in-Some.friend c.args.mark (get nat_eq c.loop-friend.met) c.loop-friend.next.items b (get nat_eq c.meet.new.met) c.meet.new.next.items) c.if-branch.false c.in_ok-meet.ensures.met in
     let (side, keeps, others, here) = marked g c.args.start c.args.mark c.args.level _ _ c.loop-friend.invariant.side c.args.person _ (c.args.level - 1) _ _ up c.requires.reached knows known has in
     record {
@@ -36,7 +37,7 @@ loop-friend-preserved c =
 pub returns-then-branch-clause-met : goal.returns-then-branch-clause-met
 returns-then-branch-clause-met c =
     let up : c.args.level ≡ suc (c.args.level - 1) = omega (arith, c.requires.above) in
-    let (knows, known) = c.loop-friend.invariant.looking.friends c.in-Some.friend c.in-Some.field-0-1 (rw c.in-Some.ensures.steps (contains_here (c.in-Some.friend, c.in-Some.field-0-1) c.next.new.self)) in
+    let (knows, known) = c.loop-friend.invariant.looking.friends c.in-Some.friend c.in-Some.field-0-1 (rw c.in-Some.ensures.steps (contains_here (c.in-Some.friend, c.in-Some.field-0-1) (rest c.next.new.self))) in
     record {
       person = c.in-Some.friend;
       walk = rw up (Walk.step c.args.start c.args.person c.in-Some.friend (c.args.level - 1) c.requires.reached knows known);
@@ -48,5 +49,5 @@ returns-clause-met c = record {
   side = c.loop-friend.invariant.side;
   keeps = c.loop-friend.invariant.keeps;
   others = c.loop-friend.invariant.others;
-  friends = all_looked c.args.graph.now c.args.person c.loop-friend.friend-iterator (λ q. get nat_eq c.loop-friend.met q ≡ Some c.args.mark) c.in-None.ensures.steps.0 c.loop-friend.invariant.looking;
+  friends = all_looked c.args.graph.now c.args.person (rest c.loop-friend.friend-iterator) (λ q. get nat_eq c.loop-friend.met q ≡ Some c.args.mark) c.in-None.ensures.steps.0 c.loop-friend.invariant.looking;
 }

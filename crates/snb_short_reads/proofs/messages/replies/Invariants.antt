@@ -1,5 +1,6 @@
+use Rattle.snb_parts.specs.Pairs.{rest}
 use Rattle.snb_short_reads.proofs.Laws.{IsFinding}
 use Rattle.snb_short_reads.proofs.messages.replies.Given as goal
 
 abbrev pub invariant-loop-id : goal.invariant-loop-id
-invariant-loop-id l = IsFinding l.graph l.message l.initial.id-iterator l.id-iterator l.found.items
+invariant-loop-id l = IsFinding l.graph l.message (rest l.initial.id-iterator) (rest l.id-iterator) l.found.items
