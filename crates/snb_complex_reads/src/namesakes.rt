@@ -6,6 +6,7 @@ ghost use Rattle.std.specs.List.{All, AllZip};
 ghost use Rattle.std.specs.Ordering.{nat_cmp};
 ghost use Rattle.snb_complex_reads.specs.Found.{IsStayFound};
 ghost use Rattle.snb_complex_reads.specs.Namesakes.{AreNamesakes, AreNamesakesWithin, IsNamesakeFound, IsNearFound, namesake_of, profile_of};
+ghost use Rattle.snb_parts.specs.Pairs.{rest};
 ghost use Rattle.snb_reads.specs.ComplexReads.{AreStays, Ic1, IsNamesake, IsStay, is_named};
 ghost use Rattle.snb_reads.specs.Order.{Answers, First, FirstOf, Rising, Whole};
 ghost use Rattle.snb_tables.specs.Soundness.{Sound};
@@ -58,8 +59,8 @@ fn stay(graph: &Graph, stay: (u64, u64)) -> Result<(Text, u32, Text), AllocError
 // The names of the stays of a walk, in order.
 fn stays(alloc: Global, graph: &Graph, found: Links<'_>) -> Result<Stays, AllocError>
     requires sound { Sound graph.now }
-    requires found { All (IsStayFound graph.now) found }
-    ensures { IfOk result (AreStays graph.now found.entry) }
+    requires found { All (IsStayFound graph.now) (rest found) }
+    ensures { IfOk result (AreStays graph.now (rest found.entry)) }
 {
     let mut named = Vec::new(alloc);
     for one in found {

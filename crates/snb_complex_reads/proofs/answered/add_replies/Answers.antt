@@ -1,4 +1,5 @@
 use Rattle.std.proofs.Common.{◌∷◌, [], sym, subst}
+use Rattle.snb_parts.specs.Pairs.{rest}
 use Rattle.snb_graph.specs.Walks.{AreRepliesOf}
 use Rattle.snb_short_reads.proofs.Laws.{replies_moved}
 use Rattle.snb_complex_reads.proofs.Moves.{appended_done, appended_next}
@@ -6,10 +7,10 @@ use Rattle.snb_complex_reads.proofs.answered.add_replies.Goals as goal
 
 pub loop-comment-preserved : goal.loop-comment-preserved
 loop-comment-preserved c =
-    appended_next _ _ ((c.in-Some.comment, c.in-Some.date) ∷ []) _ c.next.new.self _ c.in-Some.ensures.steps c.in_ok-push.ensures.items c.loop-comment.invariant
+    appended_next _ _ ((c.in-Some.comment, c.in-Some.date) ∷ []) _ (rest c.next.new.self) _ c.in-Some.ensures.steps c.in_ok-push.ensures.items c.loop-comment.invariant
 
 pub returns : goal.returns
 returns c =
     appended_done _ _ _ _ _
-    (replies_moved c.args.graph.now c.args.message _ c.known.ensures (subst (AreRepliesOf c.args.graph.now c.args.message) (sym c.into_iter-comment-iterator.ensures.into_iter_gives) c.replies-comment-items.ensures))
+    (replies_moved c.args.graph.now c.args.message _ c.known.ensures (subst (λ w. AreRepliesOf c.args.graph.now c.args.message (rest w)) (sym c.into_iter-comment-iterator.ensures.into_iter_gives) c.replies-comment-items.ensures))
     c.in-None.ensures.steps.0 c.loop-comment.invariant

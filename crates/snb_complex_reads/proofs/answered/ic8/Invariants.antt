@@ -1,9 +1,10 @@
 use Rattle.std.proofs.Common.{◌++◌, ℕ}
 use Rattle.std.specs.List.{flat_map}
 use Rattle.std.specs.List.Sorted.{IsPermutation}
+use Rattle.snb_parts.specs.Pairs.{rest}
 use Rattle.snb_reads.specs.Around.{replies}
 use Rattle.snb_complex_reads.proofs.answered.ic8.Given as goal
 
 abbrev pub invariant-loop-message : goal.invariant-loop-message
 invariant-loop-message l =
-    IsPermutation (flat_map (λ (m : ℕ × ℕ). replies l.graph m.0) l.initial.message-iterator) (l.found.items ++ flat_map (λ (m : ℕ × ℕ). replies l.graph m.0) l.message-iterator)
+    IsPermutation (flat_map (λ (m : ℕ × ℕ). replies l.graph m.0) (rest l.initial.message-iterator)) (l.found.items ++ flat_map (λ (m : ℕ × ℕ). replies l.graph m.0) (rest l.message-iterator))

@@ -1,5 +1,6 @@
 use Rattle.std.proofs.Common.{◌++◌, ℕ, List}
 use Rattle.std.specs.List.{All}
+use Rattle.snb_parts.specs.Pairs.{rest}
 use Rattle.snb_complex_reads.proofs.JobLemmas.{IsAddingJobs}
 use Rattle.snb_complex_reads.specs.Found.{IsStayFound}
 use Rattle.snb_complex_reads.specs.Jobs.{AreJobs, jobs_by}
@@ -7,6 +8,6 @@ use Rattle.snb_complex_reads.proofs.jobs.add_jobs.Given as goal
 
 abbrev pub invariant-loop-organisation : goal.invariant-loop-organisation
 invariant-loop-organisation l = record {
-  left : All (IsStayFound l.graph) l.organisation-iterator;
-  adding : (all : List (ℕ × ℕ × ℕ)) → AreJobs l.graph all l.fn.found.items → IsAddingJobs l.graph l.country l.year l.person (all ++ jobs_by l.graph l.country l.year l.person) l.organisation-iterator l.found.items;
+  left : All (IsStayFound l.graph) (rest l.organisation-iterator);
+  adding : (all : List (ℕ × ℕ × ℕ)) → AreJobs l.graph all l.fn.found.items → IsAddingJobs l.graph l.country l.year l.person (all ++ jobs_by l.graph l.country l.year l.person) (rest l.organisation-iterator) l.found.items;
 }

@@ -1,6 +1,7 @@
 use Rattle.std.proofs.Common.{◌≡◌, ◌++◌, map}
+use Rattle.snb_parts.specs.Pairs.{rest}
 use Rattle.snb_complex_reads.specs.Found.{like_of}
 use Rattle.snb_complex_reads.proofs.liked.add_likes.Given as goal
 
 abbrev pub invariant-loop-person : goal.invariant-loop-person
-invariant-loop-person l = l.found.items ++ map (like_of l.message) l.person-iterator ≡ l.fn.found.items ++ map (like_of l.message) l.initial.person-iterator
+invariant-loop-person l = l.found.items ++ map (like_of l.message) (rest l.person-iterator) ≡ l.fn.found.items ++ map (like_of l.message) (rest l.initial.person-iterator)

@@ -1,5 +1,6 @@
+use Rattle.snb_parts.specs.Pairs.{rest}
 use Rattle.snb_complex_reads.proofs.NamesakeLemmas.{IsNaming}
 use Rattle.snb_complex_reads.proofs.namesakes.stays.Given as goal
 
 abbrev pub invariant-loop-one : goal.invariant-loop-one
-invariant-loop-one l = IsNaming l.graph l.fn.found l.one-iterator l.named.items
+invariant-loop-one l = IsNaming l.graph (rest l.fn.found) (rest l.one-iterator) l.named.items

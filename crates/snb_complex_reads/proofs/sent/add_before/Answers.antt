@@ -1,4 +1,5 @@
 use Rattle.std.proofs.Common.{ℕ, sym, subst, nat_lt}
+use Rattle.snb_parts.specs.Pairs.{rest}
 use Rattle.snb_graph.specs.Walks.{AreMessagesOf}
 use Rattle.snb_short_reads.proofs.Laws.{messages_moved}
 use Rattle.snb_complex_reads.proofs.Columns.{lt_no, lt_yes}
@@ -7,16 +8,16 @@ use Rattle.snb_complex_reads.proofs.sent.add_before.Goals as goal
 
 pub loop-message-preserved : goal.loop-message-preserved
 loop-message-preserved c =
-    passed_over (λ (m : ℕ × ℕ). (c.args.person, m.0, m.1)) (λ m. nat_lt m.1 c.args.max_date) _ _ c.next.new.self (c.in-Some.message, c.in-Some.date) _ c.in-Some.ensures.steps
+    passed_over (λ (m : ℕ × ℕ). (c.args.person, m.0, m.1)) (λ m. nat_lt m.1 c.args.max_date) _ _ (rest c.next.new.self) (c.in-Some.message, c.in-Some.date) _ c.in-Some.ensures.steps
     (lt_no c.in-Some.date c.args.max_date c.if-date-max_date.false) c.loop-message.invariant
 
 pub loop-message-preserved-in-Continue-1 : goal.loop-message-preserved-in-Continue-1
 loop-message-preserved-in-Continue-1 c =
-    passed_next (λ (m : ℕ × ℕ). (c.args.person, m.0, m.1)) (λ m. nat_lt m.1 c.args.max_date) _ _ _ c.next.new.self (c.in-Some.message, c.in-Some.date) _ c.in-Some.ensures.steps
+    passed_next (λ (m : ℕ × ℕ). (c.args.person, m.0, m.1)) (λ m. nat_lt m.1 c.args.max_date) _ _ _ (rest c.next.new.self) (c.in-Some.message, c.in-Some.date) _ c.in-Some.ensures.steps
     (lt_yes c.in-Some.date c.args.max_date c.if-date-max_date.true) c.in_ok-push.ensures.items c.loop-message.invariant
 
 pub returns : goal.returns
 returns c =
     passed_done (λ (m : ℕ × ℕ). (c.args.person, m.0, m.1)) (λ m. nat_lt m.1 c.args.max_date) _ _ _ _ _
-    (messages_moved c.args.graph.now c.args.person _ c.known.ensures (subst (AreMessagesOf c.args.graph.now c.args.person) (sym c.into_iter-message-iterator.ensures.into_iter_gives) c.messages-message-items.ensures))
+    (messages_moved c.args.graph.now c.args.person _ c.known.ensures (subst (λ w. AreMessagesOf c.args.graph.now c.args.person (rest w)) (sym c.into_iter-message-iterator.ensures.into_iter_gives) c.messages-message-items.ensures))
     c.in-None.ensures.steps.0 c.loop-message.invariant

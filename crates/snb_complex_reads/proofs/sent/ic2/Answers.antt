@@ -1,6 +1,7 @@
 use Rattle.std.proofs.Common.{nat_le, sym, subst}
 use Rattle.std.proofs.lemmas.List.Sorted.{All-permutation, IsPermutation-refl}
 use Rattle.std.proofs.lemmas.Result.{IfOk-weaker}
+use Rattle.snb_parts.specs.Pairs.{rest}
 use Rattle.snb_graph.specs.Walks.{AreFriendsOf}
 use Rattle.snb_reads.specs.Around.{friends}
 use Rattle.snb_reads.specs.ComplexReads.{IsSent, latest}
@@ -17,19 +18,19 @@ loop-friend-init c = rw c.new-found.ensures.items (IsPermutation-refl _)
 
 pub loop-friend-preserved : goal.loop-friend-preserved
 loop-friend-preserved c =
-    joined_next (λ p. sent_by c.args.graph.now (λ date. nat_le date c.args.max_date) p.0) _ _ _ _ c.next.new.self (c.in-Some.friend, c.in-Some.field-0-1) c.in-Some.ensures.steps c.in_ok-add_until.ensures c.loop-friend.invariant
+    joined_next (λ p. sent_by c.args.graph.now (λ date. nat_le date c.args.max_date) p.0) _ _ _ _ (rest c.next.new.self) (c.in-Some.friend, c.in-Some.field-0-1) c.in-Some.ensures.steps c.in_ok-add_until.ensures c.loop-friend.invariant
 
 pub latest_sent-requires : goal.latest_sent-requires
 latest_sent-requires c =
     let g = c.args.graph.now in
     All-permutation (IsSentFound g) _ _
     (joined_done (λ p. sent_by g (λ date. nat_le date c.args.max_date) p.0) (friends g c.args.person) _ _ _ c.in-None.ensures.steps.0
-    (friends_moved g c.args.person _ c.known.ensures (subst (AreFriendsOf g c.args.person) (sym c.into_iter-friend-iterator.ensures.into_iter_gives) c.friends-friend-items.ensures)) c.loop-friend.invariant)
+    (friends_moved g c.args.person _ c.known.ensures (subst (λ w. AreFriendsOf g c.args.person (rest w)) (sym c.into_iter-friend-iterator.ensures.into_iter_gives) c.friends-friend-items.ensures)) c.loop-friend.invariant)
     (all_sent g c.known.ensures c.sound_graphs.ensures.numbers (λ date. nat_le date c.args.max_date) (friends g c.args.person) (friends_found g c.known.ensures c.sound_graphs.ensures.numbers c.requires.sound.held c.args.person))
 
 pub returns : goal.returns
 returns c =
     let g = c.args.graph.now in
     let moves = joined_done (λ p. sent_by g (λ date. nat_le date c.args.max_date) p.0) (friends g c.args.person) _ _ _ c.in-None.ensures.steps.0
-    (friends_moved g c.args.person _ c.known.ensures (subst (AreFriendsOf g c.args.person) (sym c.into_iter-friend-iterator.ensures.into_iter_gives) c.friends-friend-items.ensures)) c.loop-friend.invariant in
+    (friends_moved g c.args.person _ c.known.ensures (subst (λ w. AreFriendsOf g c.args.person (rest w)) (sym c.into_iter-friend-iterator.ensures.into_iter_gives) c.friends-friend-items.ensures)) c.loop-friend.invariant in
     IfOk-weaker c.latest_sent.result _ _ (λ a is. answers_moved (IsSent g) latest (First 20) _ _ a moves is) c.latest_sent.ensures
