@@ -9,8 +9,8 @@ use crate::inserts::applied;
 use crate::names::{kind_named, table_named};
 use crate::nodes::node;
 use crate::rows::{row_of, shown};
-use crate::state::State;
-use crate::walks::walking;
+use crate::state::{Graphs, State};
+use crate::walks::{parting, walking};
 use snb_graph::graph::Graph;
 use snb_schema::key::{Held, Key};
 use snb_schema::row::Row;
@@ -158,29 +158,70 @@ fn telling(alloc: Global, graph: &Graph, word: &str, rest: &str) -> Result<Optio
     Ok(Some(answer))
 }
 
-// `copy` and `other`
+// `freeze`, `copy` and `other`
 fn turning(
     alloc: Global,
-    state: &mut State,
+    graphs: &mut Graphs,
     word: &str,
     rest: &str,
 ) -> Result<Option<String>, Flaw> {
     match word {
+        "freeze" => {
+            nothing(rest)?;
+            graphs.graph.freeze()?;
+        }
         "copy" => {
             nothing(rest)?;
-            state.copy()?;
+            graphs.copy()?;
         }
         "other" => {
             nothing(rest)?;
-            state.change();
+            graphs.change();
         }
         _ => return Ok(None),
     }
     Ok(Some(String::new(alloc)))
 }
 
+// The answer of a call that doesn't depend on when the rows were frozen.
+fn called(
+    alloc: Global,
+    graphs: &mut Graphs,
+    word: &str,
+    rest: &str,
+) -> Result<Option<String>, Flaw> {
+    if let Some(answer) = changing(alloc, &mut graphs.graph, word, rest)? {
+        return Ok(Some(answer));
+    }
+    if let Some(answer) = telling(alloc, &graphs.graph, word, rest)? {
+        return Ok(Some(answer));
+    }
+    if let Some(answer) = walking(alloc, &graphs.graph, word, rest)? {
+        return Ok(Some(answer));
+    }
+    turning(alloc, graphs, word, rest)
+}
+
+// What came of a call on graphs that were frozen at other times: nothing where it is what came before.
+fn told_otherwise(
+    alloc: Global,
+    plain: &str,
+    came: Option<String>,
+    when: &str,
+) -> Result<Option<String>, Flaw> {
+    let Some(came) = came else {
+        return Err(Flaw::NoWord);
+    };
+    if came.as_str() == plain {
+        return Ok(None);
+    }
+    let came = came.as_str();
+    Ok(Some(format!(in alloc; "{came}, frozen {when}")?))
+}
+
 /// Makes the call that begins with this word, and tells what it answers; None where there is no such
-/// call of a graph. It looks at no file.
+/// call of a graph. It looks at no file. Where graphs that were frozen at other times answer otherwise,
+/// that is the answer, with when they were frozen.
 pub fn answer(
     alloc: Global,
     state: &mut State,
@@ -188,14 +229,20 @@ pub fn answer(
     word: &str,
     rest: &str,
 ) -> Result<Option<String>, Flaw> {
-    if let Some(answer) = changing(alloc, &mut state.graph, word, rest)? {
+    state.freeze_due()?;
+    if let Some(answer) = parting(alloc, &state.plain.graph, word, rest)? {
         return Ok(Some(answer));
     }
-    if let Some(answer) = telling(alloc, &state.graph, word, rest)? {
+    let Some(plain) = called(alloc, &mut state.plain, word, rest)? else {
+        return Ok(None);
+    };
+    let early = called(alloc, &mut state.early, word, rest)?;
+    if let Some(answer) = told_otherwise(alloc, plain.as_str(), early, "at the start")? {
         return Ok(Some(answer));
     }
-    if let Some(answer) = walking(alloc, &state.graph, word, rest)? {
+    let often = called(alloc, &mut state.often, word, rest)?;
+    if let Some(answer) = told_otherwise(alloc, plain.as_str(), often, "in the midst")? {
         return Ok(Some(answer));
     }
-    turning(alloc, state, word, rest)
+    Ok(Some(plain))
 }

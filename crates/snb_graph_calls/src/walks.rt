@@ -43,3 +43,30 @@ pub fn walking(
     };
     Ok(Some(told_links(alloc, links)?))
 }
+
+// The pairs of one part of a walk as a list.
+fn told_pairs(alloc: Global, pairs: &[(u64, u64)]) -> Result<String, Flaw> {
+    let mut list = List::new(alloc);
+    for pair in pairs {
+        match add_pair(alloc, &mut list, pair.0, pair.1) {
+            Ok(()) => {}
+            Err(_) => return Err(Flaw::Memory),
+        }
+    }
+    list.told(alloc)
+}
+
+/// The answer of `frozen PERSON` and `added PERSON`, which depends on when the rows were frozen.
+pub fn parting(
+    alloc: Global,
+    graph: &Graph,
+    word: &str,
+    rest: &str,
+) -> Result<Option<String>, Flaw> {
+    let pairs = match word {
+        "frozen" => graph.friends(number_of(rest)?).frozen(),
+        "added" => graph.friends(number_of(rest)?).added(),
+        _ => return Ok(None),
+    };
+    Ok(Some(told_pairs(alloc, pairs)?))
+}

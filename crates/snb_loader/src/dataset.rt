@@ -33,11 +33,11 @@ fn refusal_of(why: Unsound) -> Load
     }
 }
 
-/// Reads the tables of the folder, and gives their graph, which is sound. `used` is how much was read
-/// before, and after an Ok how much was read then. `Refused` says what is wrong first: with a file or
-/// with one of its lines, in the order of tables, parts and lines; or, where nothing is, `Lacks` or
-/// `Cycle`. `ReadFault` says that the shelf failed, and `Memory` that memory doesn't suffice. After an
-/// error `used` is as it was.
+/// Reads the tables of the folder, and gives their graph, which is sound; its rows are frozen, so that
+/// copies share them. `used` is how much was read before, and after an Ok how much was read then.
+/// `Refused` says what is wrong first: with a file or with one of its lines, in the order of tables,
+/// parts and lines; or, where nothing is, `Lacks` or `Cycle`. `ReadFault` says that the shelf failed, and
+/// `Memory` that memory doesn't suffice. After an error `used` is as it was.
 ///
 /// What was read before keeps within the limits (`bytes`, `rows`).
 pub fn load_dataset<S: Shelf>(
@@ -64,12 +64,15 @@ pub fn load_dataset<S: Shelf>(
         Err(load) => return Err(load),
     };
     let now = walk.used;
-    let graph = walk.taker.into_graph();
+    let mut graph = walk.taker.into_graph();
     match graph.sound() {
-        Ok(()) => {
-            *used = now;
-            Ok(graph)
-        }
+        Ok(()) => match graph.freeze() {
+            Ok(()) => {
+                *used = now;
+                Ok(graph)
+            }
+            Err(_) => Err(Load::Memory),
+        },
         Err(why) => Err(refusal_of(why)),
     }
 }

@@ -1,4 +1,4 @@
-use Rattle.std.proofs.Common.{List, [], Ok, Err, sym, subst}
+use Rattle.std.proofs.Common.{List, [], Ok, Err, sym, subst, ◌∙◌}
 use Rattle.snb_schema.specs.declared.row.Row.{Row}
 use Rattle.snb_input.specs.declared.load.Load.{Load}
 use Rattle.snb_soundness.specs.Outcomes.{IsWrong}
@@ -10,9 +10,9 @@ use Rattle.snb_loader.proofs.dataset.load_dataset.Goals as goal
 pub returns-in-Err-clause-answer : goal.returns-in-Err-clause-answer
 returns-in-Err-clause-answer g c = files_err (g.S.Shelf.contents c.args.shelf.now) c.args.folder.now c.args.used.now c.in-Err.load c.in-Err.ensures.answer
 
-pub returns-in-Ok-sound-clause-answer : goal.returns-in-Ok-sound-clause-answer
-returns-in-Ok-sound-clause-answer g c =
-    subst (λ (z : List Row). IsDatasetAnswer (g.S.Shelf.contents c.args.shelf.now) c.args.folder.now c.args.used.now c.in-Ok.walk.used (Ok z)) (sym c.into_graph-graph.ensures)
+pub returns-in-Ok-freeze-clause-answer : goal.returns-in-Ok-freeze-clause-answer
+returns-in-Ok-freeze-clause-answer g c =
+    subst (λ (z : List Row). IsDatasetAnswer (g.S.Shelf.contents c.args.shelf.now) c.args.folder.now c.args.used.now c.in-Ok.walk.used (Ok z)) (sym (c.freeze.ensures ∙ c.into_graph-graph.ensures))
     (graph_ok (g.S.Shelf.contents c.args.shelf.now) c.args.folder.now c.args.used.now c.in-Ok.walk c.in-Ok.ensures.answer (c.one_saying.ensures []) c.graphs_are_their_rows.ensures
     (subst (λ (z : List Row). Held z → Sound z) c.into_graph-graph.ensures c.in-Ok-sound.ensures.ok))
 
