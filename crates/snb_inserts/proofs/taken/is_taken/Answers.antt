@@ -1,12 +1,20 @@
-use Rattle.std.proofs.Common.{◌≡◌, ◌↔◌, List, [], ◌∷◌, Option, sym, ap, subst, ◌∙◌}
+use Rattle.std.proofs.Common.{◌≡◌, ◌↔◌, List, [], ◌∷◌, Option, refl, sym, ap, subst, ◌∙◌}
 use Rattle.std.specs.Option.{option_to_list}
 use Rattle.snb_schema.specs.declared.key.Key.{Key}
+use Rattle.snb_base.proofs.Laws.{contains_here}
 use Rattle.snb_schema.specs.Inserts.{keys_of}
 use Rattle.snb_tables.specs.Graphs.{HoldsKey}
 use Rattle.snb_inserts.specs.Applying.{IsAnyHeld}
 use Rattle.snb_inserts.proofs.MissingLemmas.{not_held}
 use Rattle.snb_inserts.proofs.TakenLemmas.{other_held}
 use Rattle.snb_inserts.proofs.taken.is_taken.Goals as goal
+
+pub returns-then-has : goal.returns-then-has
+returns-then-has c =
+    let one = c.keys_of-keys.result.one in (
+      λ is. subst (IsAnyHeld c.args.graph.now) c.keys_of-keys.ensures (one, contains_here one (option_to_list c.keys_of-keys.result.other), c.if-has.ensures.0 refl),
+      λ any. refl,
+    )
 
 pub returns-in-Some : goal.returns-in-Some
 returns-in-Some c =
