@@ -16,6 +16,13 @@ returns-in-Ok-freeze-clause-answer g c =
     (graph_ok (g.S.Shelf.contents c.args.shelf.now) c.args.folder.now c.args.used.now c.in-Ok.walk c.in-Ok.ensures.answer (c.one_saying.ensures []) c.graphs_are_their_rows.ensures
     (subst (λ (z : List Row). Held z → Sound z) c.into_graph-graph.ensures c.in-Ok-sound.ensures.ok))
 
+pub returns-in-Ok-freeze-clause-sound : goal.returns-in-Ok-freeze-clause-sound
+returns-in-Ok-freeze-clause-sound g c =
+    let dataset =
+    graph_ok (g.S.Shelf.contents c.args.shelf.now) c.args.folder.now c.args.used.now c.in-Ok.walk c.in-Ok.ensures.answer (c.one_saying.ensures []) c.graphs_are_their_rows.ensures
+    (subst (λ (z : List Row). Held z → Sound z) c.into_graph-graph.ensures c.in-Ok-sound.ensures.ok) in
+    subst Sound (sym (c.freeze.ensures ∙ c.into_graph-graph.ensures)) dataset.2.sound
+
 pub returns-in-Err-sound-clause-answer : goal.returns-in-Err-sound-clause-answer
 returns-in-Err-sound-clause-answer g c =
     subst (λ (load : Load). IsDatasetAnswer (g.S.Shelf.contents c.args.shelf.now) c.args.folder.now c.args.used.now c.args.used.now (Err load)) (sym c.refusal_of.ensures)
