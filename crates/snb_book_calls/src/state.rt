@@ -1,10 +1,9 @@
 //! What the calls of a case have made so far.
 
+use crate::tags::TagShelf;
 use snb_book::book::Book;
 use snb_completion::times::Times;
-use snb_schema::nodes::Named;
 use snb_schema::schedule::Schedule;
-use snb_shelf::shelf::Shelf;
 use std::alloc::Global;
 
 /// The schedule of the last plan, the book and the times over it, once they are made, and a shelf of
@@ -13,7 +12,7 @@ pub struct State {
     pub schedule: Option<Schedule>,
     pub book: Option<Book>,
     pub times: Option<Times>,
-    pub tags: Shelf<u64, Named>,
+    pub tags: TagShelf,
 }
 
 impl Drop for State {
@@ -34,7 +33,7 @@ impl State {
             schedule: None,
             book: None,
             times: None,
-            tags: Shelf::empty(alloc),
+            tags: TagShelf::none(alloc),
         }
     }
 }
