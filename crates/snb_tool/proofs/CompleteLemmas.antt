@@ -110,6 +110,15 @@ module _ (status : AnswersHaveStatus) (words : List (List ℕ)) (old new : Outsi
 
 -- ---- completeness
 
+-- the texts that belong to an end belong to another thing as well
+ends_as : (P Q : Option Files → Option ℕ → ℕ → Written → Type 0) (old new : Outside) (result : ℕ) → ((s : ℕ) (texts : Written) → P old.contents old.fixed s texts → Q old.contents old.fixed s texts)
+    → Ends P old new result → Ends Q old new result
+ends_as P Q old new result each (Whole h) = Whole (h.0, each result h.0 h.1, h.2)
+ends_as P Q old new result each (ReadFault e r n) = ReadFault e r n
+ends_as P Q old new result each (WriteFault s e r h) =
+    WriteFault s e r (record { texts = h.texts; part = h.part; are = each s h.texts h.are; front = h.front; wrote = h.wrote; unsure = h.unsure })
+ends_as P Q old new result each (OutOfMemory e n) = OutOfMemory e n
+
 module _ (one : WordsAreOne) (words : List (List ℕ)) (old new : Outside) (result : ℕ) (command : Command) (line : IsLineOf words command) where
   -- the command of words that were answered is this one
   module _ (c : Command) (l : IsLineOf words c) where
@@ -119,29 +128,24 @@ module _ (one : WordsAreOne) (words : List (List ℕ)) (old new : Outside) (resu
     as_that : (P : Command → Type 0) → P command → P c
     as_that P p = subst P (one words command c line l) p
 
-  -- what is answered where nothing is wrong with what the command finds, and nothing failed
-  pub complete : RefusedOrNot → Ends (IsAnswer words) old new result → IsFine old.contents command → ¬ Rose old.read_faults new.read_faults → ¬ Rose old.write_faults new.write_faults
-      → HasWritten old.written new.written (IsDoneAnswer command old.contents old.fixed result) ⊎ (result ≡ 6)
-  complete law (Whole (texts, inl usage, w)) fine a b = absurd (usage.1 command line)
-  complete law (Whole (texts, inr (c, l, (found, told, inl done)), w)) fine a b =
-      inl (texts, as_this c l (λ (d : Command). IsDoneAnswer d old.contents old.fixed result texts) (found, told, done.1), w)
-  complete law (Whole (texts, inr (c, l, (found, told, inr bad)), w)) fine a b =
-      absurd (law c found bad.0 bad.1 (as_that c l (λ (d : Command). IsFine old.contents d) fine found told))
-  complete law (ReadFault e r n) fine a b = absurd (a r)
-  complete law (WriteFault s e r h) fine a b = absurd (b r)
-  complete law (OutOfMemory e n) fine a b = inr e
+  -- what is answered where nothing is wrong with what the command finds
+  done_as : RefusedOrNot → IsFine old.contents command → (s : ℕ) (texts : Written) → IsAnswer words old.contents old.fixed s texts → IsDoneAnswer command old.contents old.fixed s texts
+  done_as law fine s texts (inl usage) = absurd (usage.1 command line)
+  done_as law fine s texts (inr (c, l, (found, told, inl done))) = as_this c l (λ (d : Command). IsDoneAnswer d old.contents old.fixed s texts) (found, told, done.1)
+  done_as law fine s texts (inr (c, l, (found, told, inr bad))) = absurd (law c found bad.0 bad.1 (as_that c l (λ (d : Command). IsFine old.contents d) fine found told))
 
   -- and where something is
-  pub refuses : RefusalIsOne → RefusedOrNot → Ends (IsAnswer words) old new result → (r : Refusal) → IsWrong old.contents command r → ¬ Rose old.read_faults new.read_faults
-      → ¬ Rose old.write_faults new.write_faults → HasWritten old.written new.written (IsRefused r result) ⊎ (result ≡ 6)
-  refuses once law (Whole (texts, inl usage, w)) r wrong a b = absurd (usage.1 command line)
-  refuses once law (Whole (texts, inr (c, l, (found, told, inl done)), w)) r wrong a b =
-      absurd (law c found r (as_that c l (λ (d : Command). IsWrong old.contents d r) wrong found told) done.0)
-  refuses once law (Whole (texts, inr (c, l, (found, told, inr bad)), w)) r wrong a b =
-      inl (texts, subst (λ (q : Refusal). IsRefused q result texts) (once c found bad.0 r bad.1 (as_that c l (λ (d : Command). IsWrong old.contents d r) wrong found told)) bad.2, w)
-  refuses once law (ReadFault e f n) r wrong a b = absurd (a f)
-  refuses once law (WriteFault s e f h) r wrong a b = absurd (b f)
-  refuses once law (OutOfMemory e n) r wrong a b = inr e
+  refused_as : RefusalIsOne → RefusedOrNot → (r : Refusal) → IsWrong old.contents command r → (s : ℕ) (texts : Written) → IsAnswer words old.contents old.fixed s texts → IsRefused r s texts
+  refused_as once law r wrong s texts (inl usage) = absurd (usage.1 command line)
+  refused_as once law r wrong s texts (inr (c, l, (found, told, inl done))) = absurd (law c found r (as_that c l (λ (d : Command). IsWrong old.contents d r) wrong found told) done.0)
+  refused_as once law r wrong s texts (inr (c, l, (found, told, inr bad))) =
+      subst (λ (q : Refusal). IsRefused q s texts) (once c found bad.0 r bad.1 (as_that c l (λ (d : Command). IsWrong old.contents d r) wrong found told)) bad.2
+
+  pub complete : RefusedOrNot → Ends (IsAnswer words) old new result → IsFine old.contents command → Ends (IsDoneAnswer command) old new result
+  complete law ends fine = ends_as (IsAnswer words) (IsDoneAnswer command) old new result (done_as law fine) ends
+
+  pub refuses : RefusalIsOne → RefusedOrNot → Ends (IsAnswer words) old new result → (r : Refusal) → IsWrong old.contents command r → Ends (λ contents fixed. IsRefused r) old new result
+  refuses once law ends r wrong = ends_as (IsAnswer words) (λ contents fixed. IsRefused r) old new result (refused_as once law r wrong) ends
 
 -- ---- a run in short
 

@@ -22,7 +22,7 @@ use Rattle.snb_input.specs.declared.load.Load.TheVariants.{Refused}
 use Rattle.snb_input.specs.Walk.{Before, Held}
 use Rattle.snb_loader.specs.Params.{AreParams}
 use Rattle.snb_plan.specs.Plans.{IsOfStreams, IsRead, IsUpdate, Operation, Plan, first_t, queries_in, query_from}
-use Rattle.snb_reads.proofs.Laws.{chosen_from}
+use Rattle.snb_tables.proofs.Laws.{chosen_from}
 use Rattle.snb_words.specs.declared.command.Command.TheVariants.{Expect}
 use Rattle.snb_expect.specs.CaseTexts.{count_text}
 use Rattle.snb_expect.specs.Expected.{HasExpected, HasWords, HaveWords}

@@ -192,12 +192,12 @@ pub fn snb<
     ensures memory { result ≡ 6 → O.written out.new ≡ O.written out.old }
     ensures other_line { IsOtherLine (texts_of words.now) → ((result ≡ 2) ⊎ (result ≡ 5)) × (shelf.new ≡ shelf.old) }
     ensures unread { (command : AnyCommand) → IsLineOf (texts_of words.now) command → folder_of command ≡ None → shelf.new ≡ shelf.old }
-    ensures complete { (command : AnyCommand) → IsLineOf (texts_of words.now) command → IsFine (S.contents shelf.old) command
-        → ¬ Rose (S.faults shelf.old) (S.faults shelf.new) → ¬ Rose (O.faults out.old) (O.faults out.new)
-        → HasWritten (O.written out.old) (O.written out.new) (IsDoneAnswer command (S.contents shelf.old) (C.fixed clock.now) result) ⊎ (result ≡ 6) }
-    ensures refuses { (command : AnyCommand) → IsLineOf (texts_of words.now) command → (r : Refused) → IsWrong (S.contents shelf.old) command r
-        → ¬ Rose (S.faults shelf.old) (S.faults shelf.new) → ¬ Rose (O.faults out.old) (O.faults out.new)
-        → HasWritten (O.written out.old) (O.written out.new) (IsRefused r result) ⊎ (result ≡ 6) }
+    ensures complete { (command : AnyCommand) → IsLineOf (texts_of words.now) command → IsFine (S.contents shelf.old) command → Ends (IsDoneAnswer command)
+        (seen (S.contents shelf.old) (C.fixed clock.now) (S.faults shelf.old) (O.faults out.old) (O.written out.old) (O.ready out.old))
+        (seen (S.contents shelf.new) (C.fixed clock.now) (S.faults shelf.new) (O.faults out.new) (O.written out.new) (O.ready out.new)) result }
+    ensures refuses { (command : AnyCommand) → IsLineOf (texts_of words.now) command → (r : Refused) → IsWrong (S.contents shelf.old) command r → Ends (λ contents fixed. IsRefused r)
+        (seen (S.contents shelf.old) (C.fixed clock.now) (S.faults shelf.old) (O.faults out.old) (O.written out.old) (O.ready out.old))
+        (seen (S.contents shelf.new) (C.fixed clock.now) (S.faults shelf.new) (O.faults out.new) (O.written out.new) (O.ready out.new)) result }
     ensures read_only { IsReadOnly (S.contents shelf.old) (S.faults shelf.old) (S.contents shelf.new) (S.faults shelf.new) }
     ensures writes_later { O.faults out.old ≤ O.faults out.new }
 {
