@@ -2,6 +2,7 @@
 
 use crate::state::State;
 use snb_base::text::Text;
+use snb_parts::half::Half;
 use snb_schema::nodes::Named;
 use snb_script::flaw::Flaw;
 use snb_script::told::told;
@@ -47,7 +48,7 @@ impl TagShelf {
         }
         let name = Text::new(alloc);
         let url = Text::new(alloc);
-        self.shelf.add(id, Named { id, name, url })
+        self.shelf.add(id, Named { id, name, url }, Half::Added)
     }
 
     // Takes out the tag of this id, if there is one.

@@ -6,8 +6,8 @@ use Rattle.snb_schema.specs.declared.row.Row.{Row}
 use Rattle.snb_tables.specs.Graphs.{IsGraph}
 use Rattle.snb_tables.specs.Soundness.{Held}
 use Rattle.snb_soundness.specs.SoundLaws.{NumbersFit}
-use Rattle.snb_reads.proofs.Laws.{friend_there, sent_there}
-use Rattle.snb_reads.specs.Around.{friends, messages}
+use Rattle.snb_tables.proofs.Laws.{friend_there, sent_there}
+use Rattle.snb_tables.specs.Around.{friends, messages}
 use Rattle.snb_reads.specs.Distance.{IsPerson, IsWithin, Walk}
 use Rattle.snb_short_reads.proofs.Laws.{found_person, friend_found, message_found, person_at}
 use Rattle.snb_short_reads.specs.Found.{IsMessageFound}

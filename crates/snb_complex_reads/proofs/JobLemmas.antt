@@ -21,7 +21,7 @@ use Rattle.snb_order.proofs.Laws.{answers_from, answers_mapped, chosen, then_ass
 use Rattle.snb_reads.specs.declared.cell.Cell.{Cell}
 use Rattle.snb_reads.specs.declared.cell.Cell.TheVariants as cell
 use Rattle.snb_reads.specs.Cells.{cell_cmp, number}
-use Rattle.snb_reads.specs.Around.{ends, organisations, places, work}
+use Rattle.snb_tables.specs.Around.{ends, organisations, places, work}
 use Rattle.snb_reads.specs.ComplexReads.{IsAt, IsJob, is_in}
 use Rattle.snb_reads.specs.Order.{Answers, Falling, First, FirstOf, Rising, by}
 use Rattle.snb_short_reads.proofs.Laws.{found_person, person_at}

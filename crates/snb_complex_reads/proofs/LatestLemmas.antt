@@ -15,7 +15,7 @@ use Rattle.snb_schema.specs.declared.row.Row.{Row}
 use Rattle.snb_soundness.specs.SoundLaws.{NumbersFit}
 use Rattle.snb_tables.specs.Graphs.{IsGraph}
 use Rattle.snb_order.specs.Laws.{SomeFirst}
-use Rattle.snb_reads.proofs.Laws.{in_filter}
+use Rattle.snb_tables.proofs.Laws.{in_filter}
 use Rattle.snb_reads.specs.declared.cell.Cell.{Cell}
 use Rattle.snb_reads.specs.ComplexReads.{IsSent, latest}
 use Rattle.snb_reads.specs.Order.{Answers, First}

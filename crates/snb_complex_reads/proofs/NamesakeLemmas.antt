@@ -22,11 +22,11 @@ use Rattle.snb_tables.specs.Graphs.{HasKey, IsGraph}
 use Rattle.snb_tables.specs.Soundness.{Held, Sound}
 use Rattle.snb_order.specs.Laws.{SomeFirst}
 use Rattle.snb_order.proofs.Laws.{answers_from, answers_mapped, chosen, then_assoc, zip_push, zip_with}
-use Rattle.snb_reads.proofs.Laws.{end_only, end_there}
+use Rattle.snb_tables.proofs.Laws.{end_only, end_there}
 use Rattle.snb_reads.specs.declared.cell.Cell.{Cell}
 use Rattle.snb_reads.specs.declared.cell.Cell.TheVariants as cell
 use Rattle.snb_reads.specs.Cells.{cell_cmp, number}
-use Rattle.snb_reads.specs.Around.{ends, persons, study, words, work}
+use Rattle.snb_tables.specs.Around.{ends, persons, study, words, work}
 use Rattle.snb_reads.specs.ComplexReads.{AreStays, IsNamesake, IsStay, Stay, is_named, stay_cmp}
 use Rattle.snb_reads.specs.Distance.{IsPerson, IsWithin}
 use Rattle.snb_reads.specs.Order.{Answers, First, FirstOf, Rising, Whole, by}

@@ -18,7 +18,7 @@ use Rattle.snb_tables.specs.Graphs.{IsGraph}
 use Rattle.snb_tables.specs.Soundness.{Sound}
 use Rattle.snb_order.specs.Laws.{SomeFirst}
 use Rattle.snb_order.proofs.Laws.{zip_length}
-use Rattle.snb_reads.proofs.Laws.{contains_none, in_filter}
+use Rattle.snb_tables.proofs.Laws.{contains_none, in_filter}
 use Rattle.snb_shelf.proofs.Laws.{contains_cases, contains_here, contains_there}
 use Rattle.snb_reads.specs.declared.cell.Cell.{Cell}
 use Rattle.snb_reads.specs.Cells.{cell_cmp, number}

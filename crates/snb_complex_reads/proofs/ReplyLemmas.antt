@@ -16,9 +16,9 @@ use Rattle.snb_soundness.specs.SoundLaws.{MessagesAreOfOneKind, MessagesHaveOneA
 use Rattle.snb_tables.specs.Graphs.{IsGraph}
 use Rattle.snb_tables.specs.Soundness.{Sound}
 use Rattle.snb_order.proofs.Laws.{answers_from, two_columns}
-use Rattle.snb_reads.proofs.Laws.{HasComment, comment_alone, replied_there}
+use Rattle.snb_tables.proofs.Laws.{HasComment, comment_alone, replied_there}
 use Rattle.snb_reads.specs.declared.cell.Cell.{Cell}
-use Rattle.snb_reads.specs.Around.{comment_shown, comments, replies}
+use Rattle.snb_tables.specs.Around.{comment_shown, comments, replies}
 use Rattle.snb_reads.specs.ComplexReads.{IsAnswered}
 use Rattle.snb_reads.specs.Order.{Answers, Falling, First, FirstOf, Rising, by}
 use Rattle.snb_short_reads.proofs.Laws.{comment_at, found_person, person_at, written}

@@ -12,7 +12,7 @@ use Rattle.snb_soundness.specs.SoundLaws.{NumbersFit}
 use Rattle.snb_tables.specs.Graphs.{IsGraph}
 use Rattle.snb_order.proofs.Laws.{answers_from, two_columns}
 use Rattle.snb_reads.specs.declared.cell.Cell.{Cell}
-use Rattle.snb_reads.specs.Around.{messages}
+use Rattle.snb_tables.specs.Around.{messages}
 use Rattle.snb_reads.specs.ComplexReads.{IsSent, latest, messages_of}
 use Rattle.snb_reads.specs.Distance.{IsPerson}
 use Rattle.snb_reads.specs.Order.{Answers, First, FirstOf, by}

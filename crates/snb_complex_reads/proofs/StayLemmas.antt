@@ -18,12 +18,11 @@ use Rattle.snb_schema.specs.RowLines.{row_shape, table_of}
 use Rattle.snb_schema.specs.TableRows.{IsTableRow}
 use Rattle.snb_shelf.specs.Keyed.{key_table}
 use Rattle.snb_store.specs.Words.{words_of}
-use Rattle.snb_graph.specs.Walks.{stays_of, year_of}
 use Rattle.snb_soundness.specs.SoundLaws.{RequiredEdgesAreThere}
 use Rattle.snb_tables.specs.Graphs.{HasKey, IsGraph, rows}
 use Rattle.snb_tables.specs.Soundness.{Held, Sound}
-use Rattle.snb_reads.proofs.Laws.{chosen_from, end_only, in_rows, one_chosen, rows_apart}
-use Rattle.snb_reads.specs.Around.{ends, organisation_in, organisations, place_in, places, stay_in, study, word_in, words, work}
+use Rattle.snb_tables.proofs.Laws.{end_only, in_rows, one_chosen, rows_apart, stay_there}
+use Rattle.snb_tables.specs.Around.{ends, organisation_in, organisations, place_in, places, study, word_in, words, work}
 use Rattle.snb_reads.specs.ComplexReads.{IsAt}
 use Rattle.snb_short_reads.proofs.Laws.{any, edge_key_held}
 use Rattle.snb_complex_reads.specs.Found.{IsStayFound}
@@ -128,21 +127,7 @@ module _ (g : List Row) (graph : IsGraph g) where
       let (p, at) = place_at there (site_held sound.held id there c) in
       (o, p, record { organisation = is; place = there; located = site_only id there c; held = at })
 
--- ---- stays and words
-
-stays_by : (p : ℕ) (xs : List Row) → All (λ r. row_shape r ≡ shapes.Yeared) xs → map (λ r. ((row_key r).2, year_of r)) (filter (λ r. nat_eq (row_key r).1 p) xs) ≡ filter_map (stay_in p) xs
-stays_by p [] all = refl
-stays_by p (x ∷ xs) all = one x (All-head (λ r. row_shape r ≡ shapes.Yeared) x xs all) (stays_by p xs (All-tail (λ r. row_shape r ≡ shapes.Yeared) x xs all))
-  where
-    one : (r : Row) → row_shape r ≡ shapes.Yeared → map (λ r. ((row_key r).2, year_of r)) (filter (λ r. nat_eq (row_key r).1 p) xs) ≡ filter_map (stay_in p) xs
-        → map (λ r. ((row_key r).2, year_of r)) (filter (λ r. nat_eq (row_key r).1 p) (r ∷ xs)) ≡ filter_map (stay_in p) (r ∷ xs)
-    one (row.Yeared t from to year) e h = by (from == p)
-      where
-        by : (b : Bool) → map (λ r. ((row_key r).2, year_of r)) (cond b (row.Yeared t from to year ∷ filter (λ r. nat_eq (row_key r).1 p) xs) (filter (λ r. nat_eq (row_key r).1 p) xs))
-            ≡ cons_option (cond b (Some (to, year)) None) (filter_map (stay_in p) xs)
-        by true = ap (λ l. (to, year) ∷ l) h
-        by false = h
-    one r e h = absurd cc
+-- ---- words and stays
 
 words_by : (p : ℕ) (xs : List Row) → All (λ r. row_shape r ≡ shapes.Word) xs → map (λ r. (row_key r).3) (filter (λ r. nat_eq (row_key r).1 p) xs) ≡ filter_map (word_in p) xs
 words_by p [] all = refl
@@ -164,41 +149,22 @@ module _ (g : List Row) (graph : IsGraph g) where
       All-weaker (Contains (rows g t)) (λ r. row_shape r ≡ shape t) (λ r c. (let (held, of) = (in_rows g t r).0 c in (All-contains IsTableRow g r graph.of_tables held).shaped ∙ ap shape of))
       (rows g t) (All-contains_itself (rows g t))
 
-  -- the walks over stays give those of the person
-  pub work_is : (p : ℕ) → stays_of g table.PersonWorkAtOrganisation p ≡ work g p
-  work_is p = stays_by p (rows g table.PersonWorkAtOrganisation) (shaped table.PersonWorkAtOrganisation)
-
-  pub study_is : (p : ℕ) → stays_of g table.PersonStudyAtOrganisation p ≡ study g p
-  study_is p = stays_by p (rows g table.PersonStudyAtOrganisation) (shaped table.PersonStudyAtOrganisation)
-
-  -- and those over words
+  -- the walks over words give those of the person
   pub emails_are : (p : ℕ) → words_of g table.PersonEmailEmailAddress p ≡ words g table.PersonEmailEmailAddress p
   emails_are p = words_by p (rows g table.PersonEmailEmailAddress) (shaped table.PersonEmailEmailAddress)
 
   pub languages_are : (p : ℕ) → words_of g table.PersonSpeaksLanguage p ≡ words g table.PersonSpeaksLanguage p
   languages_are p = words_by p (rows g table.PersonSpeaksLanguage) (shaped table.PersonSpeaksLanguage)
 
-  stay_row : (p : ℕ) (r : Row) (y : ℕ × ℕ) → stay_in p r ≡ Some y → r ≡ row.Yeared (table_of r) p y.0 y.1
-  stay_row p (row.Yeared t from to year) y e =
-      let (test, same) = passed (from == p) (to, year) y e in
-      λ i. row.Yeared t (eqb-true from p test i) ((same i).0) ((same i).1)
-  stay_row p r y e = absurd cc
-
-  stay_there : (t : Table) (p : ℕ) (s : ℕ × ℕ) → Contains (filter_map (stay_in p) (rows g t)) s → Contains g (row.Yeared t p s.0 s.1)
-  stay_there t p s c =
-      let (r, there, gives) = chosen_from (stay_in p) (rows g t) s c in
-      let (held, of) = (in_rows g t r).0 there in
-      subst (Contains g) (stay_row p r s gives ∙ ap (λ u. row.Yeared u p s.0 s.1) of) held
-
   -- the organisations of stays are held
   pub work_found : Held g → (p : ℕ) → All (IsStayFound g) (work g p)
-  work_found held p = All-weaker (Contains (work g p)) (IsStayFound g) (λ s c. (let there = stay_there table.PersonWorkAtOrganisation p s c in
+  work_found held p = All-weaker (Contains (work g p)) (IsStayFound g) (λ s c. (let there = stay_there g table.PersonWorkAtOrganisation p s.0 s.1 c in
       let fit = All-contains IsTableRow g (row.Yeared table.PersonWorkAtOrganisation p s.0 s.1) graph.of_tables there in
       let low : s.1 ≤ 9999 = fit.within.1.1.0 in
       record { held = held (row.Yeared table.PersonWorkAtOrganisation p s.0 s.1) there 1 any (omega arith); fits = omega (arith, low) })) (work g p) (All-contains_itself (work g p))
 
   pub study_found : Held g → (p : ℕ) → All (IsStayFound g) (study g p)
-  study_found held p = All-weaker (Contains (study g p)) (IsStayFound g) (λ s c. (let there = stay_there table.PersonStudyAtOrganisation p s c in
+  study_found held p = All-weaker (Contains (study g p)) (IsStayFound g) (λ s c. (let there = stay_there g table.PersonStudyAtOrganisation p s.0 s.1 c in
       let fit = All-contains IsTableRow g (row.Yeared table.PersonStudyAtOrganisation p s.0 s.1) graph.of_tables there in
       let low : s.1 ≤ 9999 = fit.within.1.1.0 in
       record { held = held (row.Yeared table.PersonStudyAtOrganisation p s.0 s.1) there 1 any (omega arith); fits = omega (arith, low) })) (study g p) (All-contains_itself (study g p))

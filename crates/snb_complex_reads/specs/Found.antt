@@ -8,7 +8,7 @@ use Rattle.snb_schema.specs.declared.table.Kind.TheVariants as kinds
 use Rattle.snb_schema.specs.RowKeys.{node_key}
 use Rattle.snb_tables.specs.Graphs.{HasKey}
 use Rattle.snb_reads.specs.declared.like.Like.{Like}
-use Rattle.snb_reads.specs.Around.{messages}
+use Rattle.snb_tables.specs.Around.{messages}
 use Rattle.snb_reads.specs.Distance.{IsPerson}
 use Rattle.snb_short_reads.specs.Found.{IsMessageFound}
 use Rattle.snb_short_reads.specs.Lookups.{IsCellNumber}

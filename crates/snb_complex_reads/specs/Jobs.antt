@@ -3,7 +3,7 @@ use Rattle.std.specs.Prelude.{◌≡◌, ℕ, ◌&&◌, nat_lt, List, [], ◌∷
 use Rattle.std.specs.List.{All}
 use Rattle.snb_schema.specs.declared.nodes.Organisation.{Organisation}
 use Rattle.snb_schema.specs.declared.row.Row.{Row}
-use Rattle.snb_reads.specs.Around.{organisations, work}
+use Rattle.snb_tables.specs.Around.{organisations, work}
 use Rattle.snb_reads.specs.ComplexReads.{is_in}
 use Rattle.snb_reads.specs.Distance.{IsPerson}
 use Rattle.snb_short_reads.specs.Lookups.{IsCellNumber}

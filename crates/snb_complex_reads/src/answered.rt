@@ -3,7 +3,7 @@
 ghost use Rattle.std.specs.Prelude.{◌∷◌, [], IfOk, OnOk};
 ghost use Rattle.std.specs.List.{All, AllZip};
 ghost use Rattle.snb_complex_reads.specs.Found.{HasAppended, IsCommentFound};
-ghost use Rattle.snb_reads.specs.Around.{replies};
+ghost use Rattle.snb_tables.specs.Around.{replies};
 ghost use Rattle.snb_reads.specs.ComplexReads.{Ic8, IsAnswered};
 ghost use Rattle.snb_reads.specs.Order.{Answers, Falling, First, Rising};
 ghost use Rattle.snb_tables.specs.Soundness.{Sound};
@@ -71,7 +71,6 @@ fn latest_replies(
 fn add_replies(graph: &Graph, message: u64, found: &mut Vec<(u64, u64)>) -> Result<(), AllocError>
     ensures { OnOk result (HasAppended (replies graph.now message) found.old.items found.new.items) }
 {
-    graph.known();
     for (comment, date) in graph.replies(message) {
         found.push((comment, date))?;
     }

@@ -4,7 +4,7 @@ ghost use Rattle.std.specs.Prelude.{◌≡◌, ◌∷◌, ◌==◌, [], IfOk, On
 ghost use Rattle.std.specs.List.{All, AllZip, filter, list_any};
 ghost use Rattle.std.specs.List.Sorted.{IsSorted};
 ghost use Rattle.snb_complex_reads.specs.Found.{HasAppended, IsLikeFound, like_of, weigh};
-ghost use Rattle.snb_reads.specs.Around.{likes};
+ghost use Rattle.snb_tables.specs.Around.{likes};
 ghost use Rattle.snb_reads.specs.ComplexReads.{Ic7, IsLiked, beats, minutes};
 ghost use Rattle.snb_reads.specs.Order.{Answers, Falling, First, Rising};
 ghost use Rattle.snb_short_reads.specs.Lookups.{IsCellNumber};
@@ -132,8 +132,6 @@ fn add_likes(graph: &Graph, message: (u64, u64), found: &mut Vec<Like>) -> Resul
     requires { Sound graph.now }
     ensures { OnOk result (HasAppended (map (like_of message) (likes graph.now message.0)) found.old.items found.new.items) }
 {
-    graph.known();
-    sound_graphs();
     for (person, date) in graph.likes(message.0) {
         found.push(Like {
             person,

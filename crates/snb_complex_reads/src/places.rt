@@ -1,7 +1,7 @@
 //! Places, and organisations with the places where they stand.
 
 ghost use Rattle.std.specs.Prelude.{◌≡◌, ◌∷◌, []};
-ghost use Rattle.snb_reads.specs.Around.{places};
+ghost use Rattle.snb_tables.specs.Around.{places};
 ghost use Rattle.snb_reads.specs.ComplexReads.{IsAt};
 ghost use Rattle.snb_schema.specs.declared.table.Kind.TheVariants as kinds;
 ghost use Rattle.snb_schema.specs.RowKeys.{node_key};

@@ -117,7 +117,6 @@ fn add_until(
 ) -> Result<(), AllocError>
     ensures { OnOk result (HasAppended (sent_by graph.now (λ date. nat_le date max_date) person) found.old.items found.new.items) }
 {
-    graph.known();
     for (message, date) in graph.messages(person) {
         if date <= max_date {
             found.push((person, message, date))?;
@@ -135,7 +134,6 @@ fn add_before(
 ) -> Result<(), AllocError>
     ensures { OnOk result (HasAppended (sent_by graph.now (λ date. nat_lt date max_date) person) found.old.items found.new.items) }
 {
-    graph.known();
     for (message, date) in graph.messages(person) {
         if date < max_date {
             found.push((person, message, date))?;

@@ -24,7 +24,7 @@ use Rattle.snb_replay.proofs.Laws.{before_none, before_some, read_inserts, work_
 use Rattle.snb_case_lines.specs.Cases.{SpellsCase}
 use Rattle.snb_case_lines.specs.declared.case.Case.{Case}
 use Rattle.snb_case_lines.specs.declared.case.Case.TheVariants as cases
-use Rattle.snb_reads.proofs.Laws.{in_chosen}
+use Rattle.snb_tables.proofs.Laws.{in_chosen}
 use Rattle.snb_expect.specs.CaseTexts.{case_line, case_text}
 use Rattle.snb_expect.specs.Expected.{HasExpected, HasWords, HaveWords, IsExpectedAt, insert_case}
 use Rattle.snb_expect.specs.Writing.{HasPut, HasPutAsk, HasPutInsert, HavePut, IsAt}

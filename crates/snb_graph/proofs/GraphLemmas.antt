@@ -1,5 +1,5 @@
 -- The rows of a graph, and the links that go with them.
-use Rattle.std.proofs.Common.{◌≡◌, ◌↔◌, ◌⊎◌, ◌++◌, ◌∷◌, [], ℕ, Bool, true, false, List, Result, Ok, Err, OnOk, OnErr, IsTrue, refl, sym, ap, ◌∙◌, subst, inl, inr, arith, length, suc, ◌<◌, ◌+◌, take, drop, get_or, add-one, drop-cons, append-nil, append_assoc, filter, map, nat_eq}
+use Rattle.std.proofs.Common.{◌≡◌, ◌↔◌, ◌⊎◌, ◌++◌, ◌∷◌, [], ℕ, Bool, true, false, List, Result, Ok, Err, OnOk, OnErr, IsTrue, refl, sym, ap, ◌∙◌, subst, inl, inr, arith, length, suc, ◌<◌, ◌+◌, take, drop, get_or, add-one, drop-cons, append-nil, append_assoc, map}
 use Rattle.std.specs.List.{AllByRecursion, Contains, IsDistinct}
 use Rattle.std.specs.List.Sorted.{IsPermutation}
 use Rattle.std.specs.Cmp.{eq_by_cmp_equiv, tied_itself}
@@ -10,102 +10,43 @@ use Rattle.std.proofs.lemmas.Map.Keys.{IsDistinct-IsPermutation, IsDistinct-from
 use Rattle.std.proofs.lemmas.List.Sorted.{Contains-permutation, IsPermutation-append_left, IsPermutation-refl, IsPermutation-sym, IsPermutation-trans}
 use mathlib.Core.Bool.{false≢true}
 use Rattle.snb_base.proofs.Laws.{push_split}
-use Rattle.snb_schema.specs.declared.layout.KeyColumns.{KeyColumns}
-use Rattle.snb_schema.specs.declared.layout.KeyColumns.TheVariants.{First, Second, FirstTwo}
-use Rattle.snb_schema.specs.declared.layout.Shape.{Shape}
-use Rattle.snb_schema.specs.declared.layout.Shape.TheVariants as shapes
 use Rattle.snb_schema.specs.declared.row.Row.{Row}
-use Rattle.snb_schema.specs.declared.row.Row.TheVariants as row
-use Rattle.snb_schema.specs.declared.table.Kind.TheVariants as kinds
-use Rattle.snb_schema.specs.declared.table.Table.{Table}
-use Rattle.snb_schema.specs.declared.table.Table.TheVariants as table
-use Rattle.snb_schema.specs.Layouts.{key_columns, shape}
-use Rattle.snb_schema.specs.References.{ref}
-use Rattle.snb_schema.specs.RowKeys.{RowKey, node_key, row_key, slot, slot_of}
-use Rattle.snb_schema.specs.RowLines.{table_of}
-use Rattle.snb_schema.specs.TableOrder.{same_table}
-use Rattle.snb_shelf.proofs.Laws.{contains_cases, contains_here, contains_there, in_filter}
-use Rattle.snb_parts.specs.Pairs.{ArePairsOf}
+use Rattle.snb_schema.specs.RowKeys.{RowKey, row_key, slot, slot_of}
+use Rattle.snb_shelf.proofs.Laws.{contains_cases, contains_here}
 use Rattle.snb_shelf.specs.Rows.{Stock}
 use Rattle.snb_tables.specs.Graphs.{HasGained, HasKey, HasSlot, IsGraph, row_order, rows}
 use Rattle.snb_tables.specs.Laws.{GraphsAreTheirRows}
-use Rattle.snb_tables.specs.Soundness.{Held}
-use Rattle.snb_tables.proofs.Laws.{row_total, same_is}
+use Rattle.snb_tables.proofs.Laws.{contains_none, row_total}
 use Rattle.snb_links.specs.declared.indexes.Indexes.{Indexes}
 use Rattle.snb_links.specs.declared.link.Link.{Link}
 use Rattle.snb_links.specs.declared.link.Walk.{Walk}
 use Rattle.snb_links.specs.declared.link.Walk.TheVariants.{Friends, Messages, Replies, PostLikes, CommentLikes, Work, Study}
 use Rattle.snb_links.specs.Concerns.{concerns}
-use Rattle.snb_links.specs.Kept.{HasFrozenLink, HasLink, IsBacked, IsIndexed, at}
-use Rattle.snb_links.specs.Links.{LikesComment, LikesPost, Tells}
-use Rattle.snb_links.specs.News.{link}
-use Rattle.snb_links.proofs.Laws.{mute_indexed, mute_left}
+use Rattle.snb_links.specs.Kept.{HasFrozenLink, HasLink, IsAlong, IsIndexed, along}
+use Rattle.snb_links.proofs.Laws.{more_backed, mute_indexed}
 use Rattle.snb_store.proofs.Laws.{contains_gained}
 use Rattle.snb_store.specs.Parts.{HasGivenBack}
 use Rattle.snb_graph.specs.Additions.{AddsUp, HasClash, HasTaken, HoldsAll, IsKept}
-use Rattle.snb_graph.specs.Walks.{ArePairs, Likes}
 
 pub not_held : {H : Type 0} (test : Bool) → IsTrue test ↔ H → test ≡ false → ¬ H
 not_held true same e = absurd (false≢true (sym e))
 not_held false same e = λ h. false≢true (same.1 h)
 
--- ---- walks
-
-pub walk_pairs : (g : List Row) (s : Indexes) (w : Walk) (of : ℕ) (ps : List (ℕ × ℕ)) → IsIndexed g s → ArePairsOf (at s w) of ps → ArePairs (Tells g w of) ps
-walk_pairs g s w of ps is are = record {
-  rises = are.rises;
-  same = λ id date. (λ c. (is.same (link w of id date)).0 ((are.same id date).0 c), λ h. (are.same id date).1 ((is.same (link w of id date)).1 h));
-}
-
--- the rows of the keys of a post and a comment aren't in one graph
-post_or_comment : (g : List Row) (m : ℕ) → IsGraph g → HasKey g (node_key kinds.Post m) → HasKey g (node_key kinds.Comment m) → ⊥
-post_or_comment g m graph post comment =
-    let one = graph.apart post.it comment.it post.held comment.held (ap slot post.keyed ∙ sym (ap slot comment.keyed)) in
-    apart (ap (λ (k : RowKey). k.0) (sym post.keyed ∙ ap row_key one ∙ comment.keyed))
-  where
-    apart : table.Post ≡ table.Comment → ⊥
-    apart e = absurd cc
-
-liked_post : (g : List Row) (m p d : ℕ) → Held g → LikesPost g m p d → HasKey g (node_key kinds.Post m)
-liked_post g m p d held c = held (row.Dated table.PersonLikesPost p m d) c 1 (2, ref kinds.Post m) (omega arith)
-
-liked_comment : (g : List Row) (m p d : ℕ) → Held g → LikesComment g m p d → HasKey g (node_key kinds.Comment m)
-liked_comment g m p d held c = held (row.Dated table.PersonLikesComment p m d) c 1 (2, ref kinds.Comment m) (omega arith)
-
-pub post_likes : (g : List Row) (m : ℕ) (ps : List (ℕ × ℕ)) → IsGraph g → Held g → HasKey g (node_key kinds.Post m) → ArePairs (Tells g PostLikes m) ps → ArePairs (Likes g m) ps
-post_likes g m ps graph held post are = record {
-  rises = are.rises;
-  same = λ p d. (
-    λ c. inl ((are.same p d).0 c),
-    λ h. elim h [ inl one ↦ (are.same p d).1 one | inr two ↦ absurd (post_or_comment g m graph post (liked_comment g m p d held two)) ],
-  );
-}
-
-pub comment_likes : (g : List Row) (m : ℕ) (ps : List (ℕ × ℕ)) → Held g → ¬ HasKey g (node_key kinds.Post m) → ArePairs (Tells g CommentLikes m) ps → ArePairs (Likes g m) ps
-comment_likes g m ps held none are = record {
-  rises = are.rises;
-  same = λ p d. (
-    λ c. inr ((are.same p d).0 c),
-    λ h. elim h [ inl one ↦ absurd (none (liked_post g m p d held one)) | inr two ↦ (are.same p d).1 two ],
-  );
-}
-
 -- ---- rows added and taken out
 
-tells_none : (w : Walk) (of id date : ℕ) → ¬ Tells [] w of id date
-tells_none Friends of id date (inl c) = omega (arith, c.1)
-tells_none Friends of id date (inr c) = omega (arith, c.1)
-tells_none Messages of id date l = let c = l.held in omega (arith, c.1)
-tells_none Replies of id date l = let c = l.held in omega (arith, c.1)
-tells_none PostLikes of id date c = omega (arith, c.1)
-tells_none CommentLikes of id date c = omega (arith, c.1)
-tells_none Work of id date c = omega (arith, c.1)
-tells_none Study of id date c = omega (arith, c.1)
+none_along : (w : Walk) (of : ℕ) (pair : ℕ × ℕ) → ¬ Contains (along [] w of) pair
+none_along Friends of pair c = contains_none pair c
+none_along Messages of pair c = contains_none pair c
+none_along Replies of pair c = contains_none pair c
+none_along PostLikes of pair c = contains_none pair c
+none_along CommentLikes of pair c = contains_none pair c
+none_along Work of pair c = contains_none pair c
+none_along Study of pair c = contains_none pair c
 
 pub none_indexed : (g : List Row) (s : Indexes) → g ≡ [] → IsGraph g → ((l : Link) → ¬ HasLink s l) → IsIndexed g s
 none_indexed g s is graph none = record {
   graph = graph;
-  same = λ l. (λ x. absurd (none l x), λ x. absurd (tells_none l.walk l.of l.id l.date (subst (λ h. Tells h l.walk l.of l.id l.date) is x)));
+  same = λ l. (λ x. absurd (none l x), λ x. absurd (none_along l.walk l.of (l.id, l.date) (subst (λ h. IsAlong h l) is x)));
 }
 
 -- a row along which no walk goes was added, or wasn't
@@ -248,6 +189,6 @@ pub none_kept : (g : Stock) (s : Indexes) → g.rows ≡ [] → IsGraph g.rows �
 none_kept g s is graph none free = record { indexed = none_indexed g.rows s is graph none; backed = λ l has. absurd (free l has) }
 
 -- a row along which no walk goes was added, or wasn't
-pub mute_kept : {E : Type 0} (result : Result (Unit {0}) E) (old new : Stock) (r : Row) (s : Indexes) → ((w : Walk) → concerns w r ≡ false) → IsKept old s → OnOk result (HasGained old.rows (r ∷ []) new.rows) → OnErr result (new ≡ old) → new.frozen ≡ old.frozen → IsKept new s
-mute_kept (Ok x) old new r s mute is ok err frozen = record { indexed = mute_indexed old.rows new.rows r s mute is.indexed ok; backed = subst (λ g. IsBacked g s) (sym frozen) is.backed }
-mute_kept (Err e) old new r s mute is ok err frozen = subst (λ (g : Stock). IsKept g s) (sym err) is
+pub mute_kept : {E : Type 0} (result : Result (Unit {0}) E) (old new : Stock) (r : Row) (s : Indexes) → ((w : Walk) → concerns w r ≡ false) → IsKept old s → OnOk result (HasGained old.rows (r ∷ []) new.rows) → OnErr result (new ≡ old) → ((x : Row) → Contains old.frozen x → Contains new.frozen x) → IsKept new s
+mute_kept (Ok x) old new r s mute is ok err more = record { indexed = mute_indexed old.rows new.rows r s mute is.indexed ok; backed = more_backed old.frozen new.frozen s more is.backed }
+mute_kept (Err e) old new r s mute is ok err more = subst (λ (g : Stock). IsKept g s) (sym err) is

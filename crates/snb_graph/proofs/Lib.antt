@@ -1,3 +1,2 @@
-mod FilterLemmas
 mod GraphLemmas
-mod StayLemmas
+mod WalkLemmas

@@ -1,4 +1,2 @@
 pub mod Additions
-pub mod Filters
-pub mod Laws
 pub mod Walks

@@ -1,6 +1,7 @@
 //! Rows that are added to a graph with their links, and taken out again.
 
 ghost use Rattle.std.specs.Prelude.{◌≡◌, ◌++◌, ◌∷◌, [], ◌↔◌, All, Contains, Err, IfOk, List, OnErr, OnOk};
+ghost use Rattle.snb_parts.specs.declared.half.Half.TheVariants as Half;
 ghost use Rattle.snb_schema.specs.declared.row.Row.{Row};
 ghost use Rattle.snb_schema.specs.declared.row.Row.TheVariants as row;
 ghost use Rattle.snb_schema.specs.RowKeys.{row_key, slot_of};
@@ -14,6 +15,7 @@ ghost use Rattle.snb_graph.specs.Additions.{AddsUp, HasClash, HasTaken, HoldsAll
 use snb_base::text::Text;
 use snb_links::indexes::Indexes;
 use snb_links::news::news_of;
+use snb_parts::half::Half;
 use snb_schema::row::Row;
 use snb_schema::table::Table;
 use snb_shelf::keys::WordKey;
@@ -53,32 +55,39 @@ fn insert_word(
     table: Table,
     person: u64,
     text: Text,
+    half: Half,
 ) -> Result<(), Insert>
     requires shaped { IsTableRow (row.Word table person text) }
     requires kept { IsKept tables.old links.old }
     ensures ok { OnOk result (HasGained tables.old.rows (row.Word table person text ∷ []) tables.new.rows) }
     ensures duplicate { (result ≡ Err Insert.Duplicate) ↔ HasSlot tables.old.rows (slot_of (row.Word table person text)) }
     ensures err { OnErr result (tables.new.rows ≡ tables.old.rows) }
-    ensures frozen { tables.new.frozen ≡ tables.old.frozen }
+    ensures frozen { half ≡ Half.Added → tables.new.frozen ≡ tables.old.frozen }
     ensures kept { IsKept tables.new links.new }
 {
     let _ = links;
-    tables.insert_row(Row::Word {
+    let row = Row::Word {
         table,
         person,
         text,
-    })
+    };
+    tables.insert_row(row, half)
 }
 
 // `insert_row` of a row that is no word.
-fn insert_other(tables: &mut Tables, links: &mut Indexes, row: Row) -> Result<(), Insert>
+fn insert_other(
+    tables: &mut Tables,
+    links: &mut Indexes,
+    row: Row,
+    half: Half,
+) -> Result<(), Insert>
     requires shaped { IsTableRow row }
     requires no_word { IsNoWord row }
     requires kept { IsKept tables.old links.old }
     ensures ok { OnOk result (HasGained tables.old.rows (row ∷ []) tables.new.rows) }
     ensures duplicate { (result ≡ Err Insert.Duplicate) ↔ HasSlot tables.old.rows (slot_of row) }
     ensures err { OnErr result (tables.new.rows ≡ tables.old.rows) }
-    ensures frozen { tables.new.frozen ≡ tables.old.frozen }
+    ensures frozen { half ≡ Half.Added → tables.new.frozen ≡ tables.old.frozen }
     ensures kept { IsKept tables.new links.new }
 {
     if tables.holds(&row) {
@@ -89,23 +98,28 @@ fn insert_other(tables: &mut Tables, links: &mut Indexes, row: Row) -> Result<()
     if links.add_news(news).is_err() {
         return Err(Insert::Memory);
     }
-    if tables.put(row).is_err() {
+    if tables.put(row, half).is_err() {
         links.drop_news(news);
         return Err(Insert::Memory);
     }
     Ok(())
 }
 
-/// Adds a row with its links. `Duplicate` says that a row of its slot is held, and `Memory` that memory
+/// Adds a row with its links; it is frozen only if it goes into that half. `Duplicate` says that a row of its slot is held, and `Memory` that memory
 /// doesn't suffice. After either the rows are as they were. It doesn't look at references.
 /// The condition: the row is one that its table can have.
-pub(crate) fn insert(tables: &mut Tables, links: &mut Indexes, row: Row) -> Result<(), Insert>
+pub(crate) fn insert(
+    tables: &mut Tables,
+    links: &mut Indexes,
+    row: Row,
+    half: Half,
+) -> Result<(), Insert>
     requires shaped { IsTableRow row }
     requires kept { IsKept tables.old links.old }
     ensures ok { OnOk result (HasGained tables.old.rows (row ∷ []) tables.new.rows) }
     ensures duplicate { (result ≡ Err Insert.Duplicate) ↔ HasSlot tables.old.rows (slot_of row) }
     ensures err { OnErr result (tables.new.rows ≡ tables.old.rows) }
-    ensures frozen { tables.new.frozen ≡ tables.old.frozen }
+    ensures frozen { half ≡ Half.Added → tables.new.frozen ≡ tables.old.frozen }
     ensures kept { IsKept tables.new links.new }
 {
     match row {
@@ -113,8 +127,8 @@ pub(crate) fn insert(tables: &mut Tables, links: &mut Indexes, row: Row) -> Resu
             table,
             person,
             text,
-        } => insert_word(tables, links, table, person, text),
-        other => insert_other(tables, links, other),
+        } => insert_word(tables, links, table, person, text, half),
+        other => insert_other(tables, links, other, half),
     }
 }
 
@@ -193,7 +207,7 @@ fn insert_noted(
     if note(added, &row).is_err() {
         return Err(Insert::Memory);
     }
-    match insert(tables, links, row) {
+    match insert(tables, links, row, Half::Added) {
         Ok(()) => Ok(()),
         Err(why) => {
             forget(added);

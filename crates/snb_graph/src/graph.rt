@@ -10,6 +10,7 @@ ghost use Rattle.snb_schema.specs.declared.table.Table.TheVariants as table;
 ghost use Rattle.snb_schema.specs.Layouts.{key_columns, shape};
 ghost use Rattle.snb_schema.specs.RowKeys.{node_key, slot_of};
 ghost use Rattle.snb_schema.specs.TableRows.{IsTableRow};
+ghost use Rattle.snb_tables.specs.Around.{friends, likes, likes_in, messages, replies, study, work};
 ghost use Rattle.snb_tables.specs.Graphs.{HasGained, HasKey, HasSlot, IsGraph, count, rows};
 ghost use Rattle.snb_tables.specs.Soundness.{Held as IsHeld, Sound};
 ghost use Rattle.snb_soundness.specs.Outcomes.{IsWrong};
@@ -17,13 +18,13 @@ ghost use Rattle.snb_shelf.specs.Edges.{link_of};
 ghost use Rattle.snb_store.specs.declared.insert.Insert.TheVariants as Insert;
 ghost use Rattle.snb_store.specs.Words.{words_of};
 ghost use Rattle.snb_graph.specs.Additions.{AreNew, HasClash};
-ghost use Rattle.snb_links.specs.Links.{LikesComment, LikesPost};
+ghost use Rattle.snb_graph.specs.Walks.{IsWalkOver};
 ghost use Rattle.snb_parts.specs.Pairs.{rest};
-ghost use Rattle.snb_graph.specs.Walks.{AreFriendsOf, AreLikesOf, AreMessagesOf, ArePairs, AreRepliesOf, stays_of};
 
 use crate::additions::{insert, insert_each, take_all};
 use snb_links::indexes::Indexes;
 use snb_links::link::Walk;
+use snb_parts::half::Half;
 use snb_parts::links::Links;
 use snb_schema::key::{Held, Key};
 use snb_schema::nodes::{Comment, Forum, Named, Organisation, Place, Post};
@@ -207,7 +208,7 @@ impl Graph {
 
     /// The friends of a person with the dates of their friendships, by rising id. Takes no memory.
     pub fn friends(&self, person: u64) -> Links<'_>
-        ensures { AreFriendsOf self.now person (rest result) }
+        ensures { IsWalkOver (friends self.now person) (rest result) }
     {
         let _ = &self.tables;
         self.links.pairs(Walk::Friends, person)
@@ -215,7 +216,7 @@ impl Graph {
 
     /// The messages of a person with their creation dates, by rising id. Takes no memory.
     pub fn messages(&self, person: u64) -> Links<'_>
-        ensures { AreMessagesOf self.now person (rest result) }
+        ensures { IsWalkOver (messages self.now person) (rest result) }
     {
         let _ = &self.tables;
         self.links.pairs(Walk::Messages, person)
@@ -223,7 +224,7 @@ impl Graph {
 
     /// The comments that reply to a message with their creation dates, by rising id. Takes no memory.
     pub fn replies(&self, message: u64) -> Links<'_>
-        ensures { AreRepliesOf self.now message (rest result) }
+        ensures { IsWalkOver (replies self.now message) (rest result) }
     {
         let _ = &self.tables;
         self.links.pairs(Walk::Replies, message)
@@ -233,9 +234,9 @@ impl Graph {
     /// post of this id, if it is held, and else those who like the comment. Where each node that a row
     /// refers to is held, these are all. Takes no memory.
     pub fn likes(&self, message: u64) -> Links<'_>
-        ensures post { HasKey self.now (node_key kinds.Post message) → ArePairs (LikesPost self.now message) (rest result) }
-        ensures comment { ¬ HasKey self.now (node_key kinds.Post message) → ArePairs (LikesComment self.now message) (rest result) }
-        ensures held { IsHeld self.now → AreLikesOf self.now message (rest result) }
+        ensures post { HasKey self.now (node_key kinds.Post message) → IsWalkOver (likes_in self.now table.PersonLikesPost message) (rest result) }
+        ensures comment { ¬ HasKey self.now (node_key kinds.Post message) → IsWalkOver (likes_in self.now table.PersonLikesComment message) (rest result) }
+        ensures held { IsHeld self.now → IsWalkOver (likes self.now message) (rest result) }
     {
         match self.tables.post(message) {
             Some(_) => self.links.pairs(Walk::PostLikes, message),
@@ -246,7 +247,7 @@ impl Graph {
     /// The organisations where a person works with the years since when, by rising id. Takes no
     /// memory.
     pub fn work(&self, person: u64) -> Links<'_>
-        ensures { rest result ≡ stays_of self.now table.PersonWorkAtOrganisation person }
+        ensures { rest result ≡ work self.now person }
     {
         let _ = &self.tables;
         self.links.pairs(Walk::Work, person)
@@ -255,7 +256,7 @@ impl Graph {
     /// The organisations where a person studied with the years since when, by rising id. Takes no
     /// memory.
     pub fn study(&self, person: u64) -> Links<'_>
-        ensures { rest result ≡ stays_of self.now table.PersonStudyAtOrganisation person }
+        ensures { rest result ≡ study self.now person }
     {
         let _ = &self.tables;
         self.links.pairs(Walk::Study, person)
@@ -270,7 +271,7 @@ impl Graph {
         ensures duplicate { (result ≡ Err Insert.Duplicate) ↔ HasSlot self.old (slot_of row) }
         ensures err { OnErr result (self.new ≡ self.old) }
     {
-        insert(&mut self.tables, &mut self.links, row)
+        insert(&mut self.tables, &mut self.links, row, Half::Frozen)
     }
 
     /// Adds all of the rows, or none. `Duplicate` says that a row of the slot of one of them is held,

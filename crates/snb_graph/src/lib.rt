@@ -3,5 +3,4 @@
 
 mod additions;
 pub mod graph;
-pub mod law;
 pub mod walk;

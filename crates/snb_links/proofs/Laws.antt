@@ -1,5 +1,5 @@
 -- Laws that proofs above cite: what one row more or fewer makes of the links kept beside the rows.
-use Rattle.std.proofs.Common.{◌≡◌, ◌++◌, ◌∷◌, [], ℕ, false, List, refl, inl, inr}
+use Rattle.std.proofs.Common.{◌≡◌, ◌∙◌, ◌++◌, ◌∷◌, [], ℕ, false, List, refl, inl, inr}
 use Rattle.std.specs.List.{Contains}
 use Rattle.std.specs.List.Sorted.{IsPermutation}
 use Rattle.snb_schema.specs.declared.row.Row.{Row}
@@ -16,52 +16,41 @@ use Rattle.snb_links.specs.Concerns.{concerns}
 use Rattle.snb_links.specs.Kept.{AreOwn, HasFrozenLink, HasLink, HasLostNews, HasNews, IsBacked, IsFresh, IsIndexed, SameFrozen, SameLinks}
 use Rattle.snb_links.specs.News.{IsNews}
 use Rattle.snb_links.proofs.NewsLemmas.{silent, still_tells}
+use Rattle.snb_links.proofs.TellLemmas.{along_tells, links_told, told_indexed}
 
 -- with the news the links go with the rows and one more
 pub news_indexed : (old new : List Row) (r : Row) (s t : Indexes) (news : News) → IsIndexed old s → IsNews old r news → HasNews s news t → HasGained old (r ∷ []) new → IsIndexed new t
-news_indexed old new r s t news is says has gained = record {
-  graph = gained.graph;
-  same = λ l. (
-    λ x. (says.says new gained.rows l).1 (elim ((has l).0 x) [ inl was ↦ inl ((is.same l).0 was) | inr told ↦ inr told ]),
-    λ x. (has l).1 (elim ((says.says new gained.rows l).0 x) [ inl was ↦ inl ((is.same l).1 was) | inr told ↦ inr told ]),
-  );
-}
+news_indexed old new r s t news is says has gained = told_indexed new t gained.graph (λ l. (
+  λ x. (says.says new gained.rows l).1 (elim ((has l).0 x) [ inl was ↦ inl ((links_told old s is l).0 was) | inr told ↦ inr told ]),
+  λ x. (has l).1 (elim ((says.says new gained.rows l).0 x) [ inl was ↦ inl ((links_told old s is l).1 was) | inr told ↦ inr told ]),
+))
 
 -- the news are new, where the row's slot is free
 pub news_fresh : (g : List Row) (r : Row) (s : Indexes) (news : News) → IsIndexed g s → IsNews g r news → ¬ HasSlot g (slot_of r) → IsFresh s news
-news_fresh g r s news is says free = record { new = λ k told l same x. says.fresh free k told l same ((is.same l).0 x); apart = says.apart }
+news_fresh g r s news is says free = record { new = λ k told l same x. says.fresh free k told l same ((links_told g s is l).0 x); apart = says.apart }
 
 -- a row along which no walk goes changes no link
 pub mute_indexed : (old new : List Row) (r : Row) (s : Indexes) → ((w : Walk) → concerns w r ≡ false) → IsIndexed old s → HasGained old (r ∷ []) new → IsIndexed new s
-mute_indexed old new r s mute is gained = record {
-  graph = gained.graph;
-  same = λ l. (
-    λ x. still_tells old new r l.walk gained.rows l.of l.id l.date ((is.same l).0 x),
-    λ x. (is.same l).1 (silent old new r l.walk gained.rows (mute l.walk) l.of l.id l.date x),
-  );
-}
+mute_indexed old new r s mute is gained = told_indexed new s gained.graph (λ l. (
+  λ x. still_tells old new r l.walk gained.rows l.of l.id l.date ((links_told old s is l).0 x),
+  λ x. (links_told old s is l).1 (silent old new r l.walk gained.rows (mute l.walk) l.of l.id l.date x),
+))
 
 -- the same of one row fewer
 pub mute_left : (old new : List Row) (r : Row) (s : Indexes) → ((w : Walk) → concerns w r ≡ false) → IsIndexed old s → IsGraph new → IsPermutation old (new ++ r ∷ []) → IsIndexed new s
-mute_left old new r s mute is graph rows = record {
-  graph = graph;
-  same = λ l. (
-    λ x. silent new old r l.walk rows (mute l.walk) l.of l.id l.date ((is.same l).0 x),
-    λ x. (is.same l).1 (still_tells new old r l.walk rows l.of l.id l.date x),
-  );
-}
+mute_left old new r s mute is graph rows = told_indexed new s graph (λ l. (
+  λ x. silent new old r l.walk rows (mute l.walk) l.of l.id l.date ((links_told old s is l).0 x),
+  λ x. (links_told old s is l).1 (still_tells new old r l.walk rows l.of l.id l.date x),
+))
 
 -- without the news the links go with the rows without one
 pub news_left : (old new : List Row) (r : Row) (s t : Indexes) (news : News) → IsIndexed old s → IsGraph new → IsPermutation old (new ++ r ∷ []) → IsNews new r news → ¬ HasSlot new (slot_of r) → HasLostNews s news t → IsIndexed new t
-news_left old new r s t news is graph rows says free lost = record {
-  graph = graph;
-  same = λ l. (
-    λ x.
-        let was = (lost l).0 x in
-        elim ((says.says old rows l).0 ((is.same l).0 was.0)) [ inl still ↦ still | inr told ↦ absurd (was.1 l told (refl, refl, refl)) ],
-    λ x. (lost l).1 ((is.same l).1 ((says.says old rows l).1 (inl x)), λ k told same. says.fresh free k told l same x),
-  );
-}
+news_left old new r s t news is graph rows says free lost = told_indexed new t graph (λ l. (
+  λ x.
+      let was = (lost l).0 x in
+      elim ((says.says old rows l).0 ((links_told old s is l).0 was.0)) [ inl still ↦ still | inr told ↦ absurd (was.1 l told (refl, refl, refl)) ],
+  λ x. (lost l).1 ((links_told old s is l).1 ((says.says old rows l).1 (inl x)), λ k told same. says.fresh free k told l same x),
+))
 
 -- undone news leave what goes with the rows
 pub same_indexed : (g : List Row) (s t : Indexes) → SameLinks s t → IsIndexed g s → IsIndexed g t
@@ -89,19 +78,23 @@ tells_more g h more Study of id date c = more _ c
 
 -- frozen links are backed by more frozen rows, and fewer frozen links by the same
 pub more_backed : (g h : List Row) (s : Indexes) → ((r : Row) → Contains g r → Contains h r) → IsBacked g s → IsBacked h s
-more_backed g h s more is l has = tells_more g h more l.walk l.of l.id l.date (is l has)
+more_backed g h s more is l has = (along_tells h l).1 (tells_more g h more l.walk l.of l.id l.date ((along_tells g l).0 (is l has)))
 
 pub still_backed : (g : List Row) (s t : Indexes) → SameFrozen s t → IsBacked g s → IsBacked g t
 still_backed g s t same is l has = is l (frozen_before s t same l has)
 
--- where all links are told of, so are the frozen ones among them
+-- where the links go with the rows, so do the frozen ones among them
 pub all_backed : (g : List Row) (s t : Indexes) → IsIndexed g s → SameLinks s t → ((l : Link) → HasFrozenLink t l → HasLink t l) → IsBacked g t
 all_backed g s t is same among l has = (is.same l).0 ((same l).0 (among l has))
 
 -- the news of a row that isn't there are of no frozen link
 pub news_own : (g frozen : List Row) (r : Row) (s : Indexes) (news : News) → IsBacked frozen s → ((x : Row) → Contains frozen x → Contains g x) → IsNews g r news → ¬ HasSlot g (slot_of r) → AreOwn s news
-news_own g frozen r s news backed among says free k told l same has = says.fresh free k told l same (more_backed frozen g s among backed l has)
+news_own g frozen r s news backed among says free k told l same has = says.fresh free k told l same ((along_tells g l).0 (more_backed frozen g s among backed l has))
 
 -- fresh news are of no frozen link, after a change that freezes nothing
 pub fresh_own : (s t : Indexes) (news : News) → IsFresh s news → ((l : Link) → HasFrozenLink s l → HasLink s l) → SameFrozen s t → AreOwn t news
 fresh_own s t news fresh among same k told = still_own s t k same (new_own s k among (fresh.new k told))
+
+-- two changes that freeze nothing
+pub frozen_twice : (one two three : Indexes) → SameFrozen one two → SameFrozen two three → SameFrozen one three
+frozen_twice one two three p q w = q w ∙ p w

@@ -1,3 +1,4 @@
 pub mod Laws
 pub mod LinkLemmas
 pub mod NewsLemmas
+mod TellLemmas

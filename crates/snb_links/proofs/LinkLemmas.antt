@@ -1,5 +1,5 @@
 -- Links kept.
-use Rattle.std.proofs.Common.{◌≡◌, ◌≢◌, ◌⊎◌, ℕ, List, Option, Some, None, refl, sym, ap, ◌∙◌, subst, inl, inr}
+use Rattle.std.proofs.Common.{◌≡◌, ◌≢◌, ◌⊎◌, ℕ, Option, Some, None, refl, sym, ap, ◌∙◌, subst, inl, inr}
 use Rattle.std.specs.Option.{unwrap_or}
 use Rattle.std.specs.List.{Contains}
 use Rattle.snb_parts.specs.Pairs.{HasAdded, HasDropped, HasFrozenPair, HasPair, Lists, SamePairs, pairs_at}
@@ -84,9 +84,6 @@ same_at old new w same alone l = elim (same_walk l.walk w) [
 -- a frozen link is a frozen link before
 pub frozen_before : (old new : Indexes) → SameFrozen old new → (l : Link) → HasFrozenLink new l → HasFrozenLink old l
 frozen_before old new same l has = subst (λ es. Contains (pairs_at es l.of) (l.id, l.date)) (same l.walk) has
-
-pub frozen_twice : (one two three : Indexes) → SameFrozen one two → SameFrozen two three → SameFrozen one three
-frozen_twice one two three p q w = q w ∙ p w
 
 -- a new link isn't frozen
 pub new_own : (s : Indexes) (k : Link) → ((l : Link) → HasFrozenLink s l → HasLink s l) → IsNewLink s k → IsOwnLink s k

@@ -1,14 +1,15 @@
 -- The links that are kept beside the rows of a graph.
-use Rattle.std.specs.Prelude.{◌≡◌, ◌↔◌, ◌⊎◌, Option, Some, List}
+use Rattle.std.specs.Prelude.{◌≡◌, ◌↔◌, ◌⊎◌, ℕ, Option, Some, List, Contains}
 use Rattle.snb_schema.specs.declared.row.Row.{Row}
+use Rattle.snb_schema.specs.declared.table.Table.TheVariants as table
 use Rattle.snb_parts.specs.Pairs.{HasFrozenPair, HasPair, Lists}
+use Rattle.snb_tables.specs.Around.{friends, likes_in, messages, replies, study, work}
 use Rattle.snb_tables.specs.Graphs.{IsGraph}
 use Rattle.snb_links.specs.declared.indexes.Indexes.{Indexes}
 use Rattle.snb_links.specs.declared.link.Link.{Link}
 use Rattle.snb_links.specs.declared.link.News.{News}
 use Rattle.snb_links.specs.declared.link.Walk.{Walk}
 use Rattle.snb_links.specs.declared.link.Walk.TheVariants.{Friends, Messages, Replies, PostLikes, CommentLikes, Work, Study}
-use Rattle.snb_links.specs.Links.{Tells}
 
 -- the pairs of a walk
 abbrev pub at : Indexes → Walk → Lists × Lists
@@ -89,11 +90,25 @@ HasNews old news new = (l : Link) → HasLink new l ↔ (HasLink old l ⊎ IsTol
 abbrev pub HasLostNews : Indexes → News → Indexes → Type 0
 HasLostNews old news new = (l : Link) → HasLink new l ↔ (HasLink old l × ((k : Link) → IsTold news k → ¬ SameEnds k l))
 
--- the links are those that the rows of a graph tell of
+-- what a walk from an id gives: a filter over the rows
+abbrev pub along : List Row → Walk → ℕ → List (ℕ × ℕ)
+along g Friends of = friends g of
+along g Messages of = messages g of
+along g Replies of = replies g of
+along g PostLikes of = likes_in g table.PersonLikesPost of
+along g CommentLikes of = likes_in g table.PersonLikesComment of
+along g Work of = work g of
+along g Study of = study g of
+
+-- the link is one of those that its walk gives
+abbrev pub IsAlong : List Row → Link → Type 0
+IsAlong g l = Contains (along g l.walk l.of) (l.id, l.date)
+
+-- the links are those that the walks over the rows of a graph give
 pub record IsIndexed (g : List Row) (s : Indexes) : Type 0 where
   pub graph : IsGraph g
-  pub same : (l : Link) → HasLink s l ↔ Tells g l.walk l.of l.id l.date
+  pub same : (l : Link) → HasLink s l ↔ IsAlong g l
 
--- the frozen links are told of by the frozen rows
+-- the frozen links are among those of the frozen rows
 abbrev pub IsBacked : List Row → Indexes → Type 0
-IsBacked frozen s = (l : Link) → HasFrozenLink s l → Tells frozen l.walk l.of l.id l.date
+IsBacked frozen s = (l : Link) → HasFrozenLink s l → IsAlong frozen l

@@ -1,18 +1,21 @@
 -- Keys and values in a list each, seen as entries.
-use Rattle.std.proofs.Common.{◌≡◌, ℕ, zero, suc, ◌+◌, ◌<◌, ◌≤◌, ◌++◌, ◌⊎◌, inl, inr, List, [], ◌∷◌, Option, Some, None, Bool, true, false, not, length, get_or, map, take, drop, filter, refl, sym, ◌∙◌, ap, subst, arith}
+use Rattle.std.proofs.Common.{◌≡◌, ℕ, zero, suc, ◌+◌, ◌-◌, ◌<◌, ◌≤◌, ◌++◌, inl, inr, List, [], ◌∷◌, Some, None, Bool, true, false, not, Result, Ok, Err, length, get_or, slice_get, map, take, drop, filter, refl, sym, ◌∙◌, ap, subst, arith}
 use Rattle.std.specs.declared.cmp.Ordering.{Ordering}
 use Rattle.std.specs.declared.cmp.Ordering.TheVariants.{Less, Equal, Greater}
-use Rattle.std.specs.Ordering.{is_le, is_lt, ordering_index, ordering_reverse}
+use Rattle.std.specs.Ordering.{is_le, is_lt, match_ordering, ordering_index, ordering_reverse}
+use Rattle.std.specs.BTreeMap.{insert_entry}
 use Rattle.std.specs.Cmp.{IsTotalOrder}
 use Rattle.std.specs.List.{AllWithin, zip}
 use Rattle.std.specs.List.Sorted.{IsNonDecreasingBy, IsPartitionedBy, IsSortedBy, IsStrictlySortedBy}
 use Rattle.std.specs.Map.{keys_of}
+use Rattle.std.specs.Result.{is_err, is_ok}
+use mathlib.Core.Bool.{false≢true}
 use Rattle.std.proofs.lemmas.List.Sorted.{searchable_from_sorted}
 use Rattle.std.proofs.lemmas.Map.Keys.{Less-from_sorted}
 use Rattle.std.proofs.lemmas.Map.Made.{keys_of-zip}
 use Rattle.std.proofs.lemmas.Slice.Zip.{get_or-zip, length-zip}
 use Rattle.snb_parts.specs.Merged.{Rises, value_at}
-use Rattle.snb_parts.proofs.SearchLemmas.{below_or_same, drop_is, found_at, less, less_or_equal, missed_at, take_is}
+use Rattle.snb_parts.proofs.SearchLemmas.{below_or_same, drop_is, found_at, got_place, less, less_or_equal, missed_at, take_is}
 
 module _ {K X : Type 0} where
   pub zip-none : (ks : List K) → zip {K = K} {X = X} ks [] ≡ []
@@ -67,6 +70,16 @@ module _ {K X : Type 0} where
       ∙ drop_is (λ (e : K × X). p e.0) (zip ks vs) i (within-zip (λ k. p k ≡ true) ks vs 0 i same le lo)
       (subst (λ n. AllWithin (λ (e : K × X). p e.0 ≡ false) (zip ks vs) i n) (sym long) (within-zip (λ k. p k ≡ false) ks vs i (length ks) same (omega arith) hi)) (omega arith)
 
+-- a result that isn't an error
+pub not_err : {T E : Type 0} (r : Result T E) → false ≡ is_err r → is_ok r ≡ true
+not_err (Ok x) e = refl
+not_err (Err x) e = absurd (false≢true e)
+
+got_at : {X : Type 0} (xs : List X) (i : ℕ) (x d : X) → slice_get xs i ≡ Some x → get_or xs i d ≡ x
+got_at [] i x d e = absurd cc
+got_at (y ∷ xs) zero x d e = cc
+got_at (y ∷ xs) (suc i) x d e = got_at xs i x d e
+
 module _ {K : Type 0} (R : K → K → Ordering) (o : IsTotalOrder R) (exact : (x y : K) → R x y ≡ Equal → x ≡ y) where
   sorted : (ks : List K) → IsStrictlySortedBy R ks → IsSortedBy (λ a b. is_lt (R a b)) ks
   sorted ks h k d le lt = ap is_lt (o.antisymm (get_or ks (k + 1) d) (get_or ks k d) ∙ ap ordering_reverse (Less-from_sorted R ks k (k + 1) d h (omega arith) lt))
@@ -92,6 +105,16 @@ module _ {K : Type 0} (R : K → K → Ordering) (o : IsTotalOrder R) (exact : (
     | inr same ↦ ap (λ n. is_le (R (get_or ks n d) q)) same ∙ passes
   ]
 
+  -- a key above the last is above all
+  pub all_below : (ks : List K) (x q : K) → IsStrictlySortedBy R ks → slice_get ks (length ks - 1) ≡ Some x → R x q ≡ Less → AllWithin (λ k. R k q ≡ Less) ks 0 (length ks)
+  all_below ks x q h last below j d lo hi =
+      let bound = got_place ks (length ks - 1) x last in
+      let is : get_or ks (length ks - 1) d ≡ x = got_at ks (length ks - 1) x d last in
+      elim (below_or_same j (length ks - 1) (omega arith)) [
+        | inl lt ↦ o.trans (get_or ks j d) x q (subst (λ y. R (get_or ks j d) y ≡ Less) is (Less-from_sorted R ks j (length ks - 1) d h lt bound.0)) below
+        | inr same ↦ ap (λ n. R (get_or ks n d) q) same ∙ ap (λ y. R y q) is ∙ below
+      ]
+
 module _ {K X : Type 0} (R : K → K → Ordering) (o : IsTotalOrder R) (exact : (x y : K) → R x y ≡ Equal → x ≡ y) where
   pub keys_rise : (ks : List K) (vs : List X) → length vs ≡ length ks → Rises R (zip ks vs) → IsStrictlySortedBy R ks
   keys_rise ks vs same h = subst (IsStrictlySortedBy R) (keys_of-zip ks vs same) h
@@ -108,3 +131,13 @@ module _ {K X : Type 0} (R : K → K → Ordering) (o : IsTotalOrder R) (exact :
       let long : length (zip ks vs) ≡ length ks = zip_length ks vs same in
       missed_at R o exact (zip ks vs) q i h (within-zip (λ k. R k q ≡ Less) ks vs 0 i same le lo)
       (subst (λ n. AllWithin (λ (e : K × X). R e.0 q ≡ Greater) (zip ks vs) i n) (sym long) (within-zip (λ k. R k q ≡ Greater) ks vs i (length ks) same (omega arith) hi))
+
+  -- an entry above all goes to the end
+  pub insert_last : (ks : List K) (vs : List X) (q : K) (v : X) → length vs ≡ length ks → AllWithin (λ k. R k q ≡ Less) ks 0 (length ks) → insert_entry R (zip ks vs) q v ≡ zip ks vs ++ (q, v) ∷ []
+  insert_last [] [] q v same all = refl
+  insert_last [] (w ∷ vs) q v same all = absurd (omega arith)
+  insert_last (k ∷ ks) [] q v same all = absurd (omega arith)
+  insert_last (k ∷ ks) (w ∷ vs) q v same all =
+      let above : R q k ≡ Greater = o.antisymm q k ∙ ap ordering_reverse (all 0 k (omega arith) (omega arith)) in
+      ap (λ r. match_ordering r ((q, v) ∷ (k, w) ∷ zip ks vs) ((k, v) ∷ zip ks vs) ((k, w) ∷ insert_entry R (zip ks vs) q v)) above
+      ∙ ap (λ es. (k, w) ∷ es) (insert_last ks vs q v (omega arith) (λ j d l h. all (suc j) d (omega arith) (omega arith)))

@@ -1,14 +1,16 @@
 //! Entries in the order of their keys, the keys in an array of their own: a search reads no values.
 
-ghost use Rattle.std.specs.Prelude.{◌≡◌, filter, length, map, not};
+ghost use Rattle.std.specs.Prelude.{◌≡◌, ◌++◌, ◌∷◌, [], ℕ, ◌↔◌, IsTrue, IfOk, OnOk, OnErr, filter, length, map, not, true};
 ghost use Rattle.std.specs.Option.{option_copied};
 ghost use Rattle.std.specs.Ordering.{is_le, is_lt};
 ghost use Rattle.std.specs.Map.{keys_of};
 ghost use Rattle.std.specs.Map.Iter.{TakesFirst, deref_pair};
 ghost use Rattle.std.specs.List.{zip};
-ghost use Rattle.snb_parts.specs.Merged.{Rises, first_key, value_at};
+ghost use Rattle.std.specs.BTreeMap.{insert_entry};
+ghost use Rattle.snb_parts.specs.Merged.{HasAppended, Rises, first_key, value_at};
 
 use crate::kept::Apart;
+use std::alloc::AllocError;
 use std::marker::Model;
 
 /// Entries that are lent, the keys and the values in a slice each.
@@ -68,11 +70,16 @@ impl<'a, K: Apart, V> Span<'a, K, V> {
         }
     }
 
-    // What is kept under a key.
+    // What is kept under a key. Where keys are asked for in rising order, the last one tells that a key is new.
     pub(crate) fn find(&self, key: &K) -> Option<&'a V>
         requires { Rises K.cmp self.now }
         ensures { option_copied result ≡ value_at K.cmp self.now key.now }
     {
+        if let Some(last) = self.keys.last()
+            && last.cmp(key).is_lt()
+        {
+            return None;
+        }
         match self.keys.binary_search_by(|kept| kept.cmp(key)) {
             Ok(at) => Some(&self.values[at]),
             Err(_) => None,
@@ -162,5 +169,44 @@ impl<K: Apart, V: Drop> Sorted<K, V> {
     {
         let _ = &self.keys;
         self.values.as_slice()
+    }
+
+    // Whether a key is above all of these.
+    fn is_below(&self, key: &K) -> bool
+        requires { Rises K.cmp self.now }
+        ensures { result ≡ true → (v : V) → insert_entry K.cmp self.now key.now v ≡ self.now ++ (key.now, v) ∷ [] }
+    {
+        let _ = &self.values;
+        match self.keys.last() {
+            Some(last) => last.cmp(key).is_lt(),
+            None => true,
+        }
+    }
+
+    // Adds an entry after all others. Want of memory leaves them as they were.
+    fn push(&mut self, key: K, value: V) -> Result<(), AllocError>
+        ensures ok { OnOk result (self.new ≡ self.old ++ (key, value) ∷ []) }
+        ensures err { OnErr result (self.new ≡ self.old) }
+    {
+        self.keys.push(key)?;
+        if self.values.push(value).is_err() {
+            let _ = self.keys.pop();
+            return Err(AllocError);
+        }
+        Ok(())
+    }
+
+    // Adds an entry where its key is above all others, and else gives it back. Want of memory leaves the entries
+    // as they were.
+    pub(crate) fn append(&mut self, key: K, value: V) -> Result<Option<(K, V)>, AllocError>
+        requires { Rises K.cmp self.old }
+        ensures ok { IfOk result (λ left. HasAppended K.cmp self.old key value left self.new) }
+        ensures err { OnErr result (self.new ≡ self.old) }
+    {
+        if !self.is_below(&key) {
+            return Ok(Some((key, value)));
+        }
+        self.push(key, value)?;
+        Ok(None)
     }
 }

@@ -1,12 +1,15 @@
 //! An ordered map in two parts.
 
-ghost use Rattle.std.specs.Prelude.{◌<◌, ◌^◌, ◌≡◌, ◌≤◌, [], None, length, IfOk, OnOk, OnErr, false};
+ghost use Rattle.std.specs.Prelude.{◌<◌, ◌^◌, ◌≡◌, ◌≤◌, ◌∷◌, [], None, length, IfOk, OnOk, OnErr, false};
 ghost use Rattle.std.specs.Option.{option_copied, is_some};
 ghost use Rattle.std.specs.BTreeMap.{insert_entry, is_at};
 ghost use Rattle.std.specs.Map.{remove_entry};
 ghost use Rattle.std.specs.Ordering.{is_gt};
-ghost use Rattle.snb_parts.specs.Merged.{value_at, all_of, entries_within, is_before_end, is_up_to_end, AreStored};
+ghost use Rattle.std.specs.Arc.{arc_value};
+ghost use Rattle.snb_parts.specs.Merged.{value_at, all_of, entries_of, entries_within, is_before_end, is_up_to_end, most_entries, AreStored, HasAllOf, HasAppended, Rises};
+ghost use Rattle.snb_parts.specs.declared.half.Half.TheVariants as Half;
 
+use crate::half::Half;
 use crate::kept::Apart;
 use crate::sorted::{Sorted, Span};
 use crate::walk::Walk;
@@ -65,6 +68,58 @@ fn cloned<K: Apart, V: Clone + Drop>(
         values.push(value)?;
     }
     Ok(Sorted::of(keys, values))
+}
+
+// Adds an entry after the frozen ones, where nobody shares them and its key is above theirs, and else gives it
+// back.
+fn append<K: Apart, V: Clone + Drop>(
+    frozen: &mut Arc<Sorted<K, V>>,
+    key: K,
+    value: V,
+) -> Result<Option<(K, V)>, AllocError>
+    requires { Rises K.cmp (arc_value frozen.old) }
+    ensures ok { IfOk result (λ left. HasAppended K.cmp (arc_value frozen.old) key value left (arc_value frozen.new)) }
+    ensures err { OnErr result (arc_value frozen.new ≡ arc_value frozen.old) }
+{
+    match Arc::get_mut(frozen) {
+        Some(own) => own.append(key, value),
+        None => Ok(Some((key, value))),
+    }
+}
+
+// One entry.
+fn single<K: Apart, V: Clone + Drop>(
+    alloc: Global,
+    key: K,
+    value: V,
+) -> Result<Arc<Sorted<K, V>>, AllocError>
+    ensures { IfOk result (λ shared. arc_value shared ≡ (key, value) ∷ []) }
+{
+    let mut keys = Vec::new(alloc);
+    keys.push(key)?;
+    let mut values = Vec::new(alloc);
+    values.push(value)?;
+    Ok(Arc::new(alloc, Sorted::of(keys, values))?)
+}
+
+// `append` where there may be no frozen part yet.
+fn appended<K: Apart, V: Clone + Drop>(
+    alloc: Global,
+    frozen: &mut Option<Arc<Sorted<K, V>>>,
+    key: K,
+    value: V,
+) -> Result<Option<(K, V)>, AllocError>
+    requires { Rises K.cmp (entries_of frozen.old) }
+    ensures ok { IfOk result (λ left. HasAppended K.cmp (entries_of frozen.old) key value left (entries_of frozen.new)) }
+    ensures err { OnErr result (entries_of frozen.new ≡ entries_of frozen.old) }
+{
+    match frozen {
+        Some(shared) => append(shared, key, value),
+        None => {
+            *frozen = Some(single(alloc, key, value)?);
+            Ok(None)
+        }
+    }
 }
 
 // What is kept under a key in the added part. Where keys come in rising order, its last one tells that
@@ -127,19 +182,48 @@ impl<K: Apart, V: Clone + Drop> Store<K, V> {
         self.get(key).is_some()
     }
 
-    /// Adds an entry. Want of memory leaves all as it was.
-    /// The condition: no entry has the key.
-    pub fn add(&mut self, key: K, value: V) -> Result<(), AllocError>
-        requires { value_at K.cmp (all_of K.cmp self.old) key ≡ None }
+    // Adds an entry to the added ones.
+    fn insert(&mut self, key: K, value: V) -> Result<(), AllocError>
+        requires new { value_at K.cmp (all_of K.cmp self.old) key ≡ None }
+        requires room { length (all_of K.cmp self.old) < most_entries }
         ensures ok { OnOk result (all_of K.cmp self.new ≡ insert_entry K.cmp (all_of K.cmp self.old) key value) }
         ensures err { OnErr result (self.new ≡ self.old) }
         ensures frozen { self.new.0 ≡ self.old.0 }
     {
+        self.added.insert(key, value)?;
+        Ok(())
+    }
+
+    // Adds an entry to the frozen ones, where it may go there, and else to the added ones.
+    fn settle(&mut self, key: K, value: V) -> Result<(), AllocError>
+        requires new { value_at K.cmp (all_of K.cmp self.old) key ≡ None }
+        requires room { length (all_of K.cmp self.old) < most_entries }
+        ensures ok { OnOk result (all_of K.cmp self.new ≡ insert_entry K.cmp (all_of K.cmp self.old) key value) }
+        ensures err { OnErr result (self.new ≡ self.old) }
+        ensures more { OnOk result (HasAllOf self.old.0 self.new.0) }
+    {
+        match appended(self.alloc, &mut self.frozen, key, value)? {
+            Some((key, value)) => self.insert(key, value),
+            None => Ok(()),
+        }
+    }
+
+    /// Adds an entry to one of the parts. Want of memory leaves all as it was.
+    /// The condition: no entry has the key.
+    pub fn add(&mut self, key: K, value: V, half: Half) -> Result<(), AllocError>
+        requires { value_at K.cmp (all_of K.cmp self.old) key ≡ None }
+        ensures ok { OnOk result (all_of K.cmp self.new ≡ insert_entry K.cmp (all_of K.cmp self.old) key value) }
+        ensures err { OnErr result (self.new ≡ self.old) }
+        ensures frozen { half ≡ Half.Added → self.new.0 ≡ self.old.0 }
+        ensures more { HasAllOf self.old.0 self.new.0 }
+    {
         if self.len() >= MOST_ENTRIES {
             return Err(AllocError);
         }
-        self.added.insert(key, value)?;
-        Ok(())
+        match half {
+            Half::Frozen => self.settle(key, value),
+            Half::Added => self.insert(key, value),
+        }
     }
 
     /// Takes out the entry of a key, if there is one. Takes no memory.
@@ -200,6 +284,9 @@ impl<K: Apart, V: Clone + Drop> Store<K, V> {
         ensures ok { OnOk result (self.new ≡ (all_of K.cmp self.old, [])) }
         ensures err { OnErr result (self.new ≡ self.old) }
     {
+        if self.added.is_empty() {
+            return Ok(());
+        }
         let all = cloned(self.alloc, self.all(), self.len())?;
         self.frozen = Some(Arc::new(self.alloc, all)?);
         self.added = BTreeMap::new(self.alloc);

@@ -3,7 +3,7 @@ use Rattle.std.proofs.Common.{◌≡◌, ◌∙◌, ◌↔◌, ℕ, suc, ◌<◌
 use Rattle.std.specs.List.{AllPairs, Contains}
 use Rattle.snb_schema.specs.declared.row.Row.{Row}
 use Rattle.snb_shelf.proofs.Laws.{contains_cases, contains_here, contains_there}
-use Rattle.snb_reads.proofs.Laws.{contains_none}
+use Rattle.snb_tables.proofs.Laws.{contains_none}
 use Rattle.snb_reads.specs.Distance.{IsWithin}
 
 -- pairs by rising id

@@ -2,18 +2,18 @@
 use Rattle.std.proofs.Common.{◌≡◌, ◌⊎◌, ℕ, ◌+◌, ◌<◌, ◌≤◌, true, List, [], ◌∷◌, length, get_or, ap, subst, inl, inr, arith}
 use Rattle.std.proofs.lemmas.Bool.{cases_lt}
 use Rattle.std.proofs.lemmas.List.{get_or_default}
+use Rattle.std.proofs.lemmas.List.Sorted.{Contains-permutation, IsPermutation-sym}
 use Rattle.std.specs.List.{All, Contains}
+use Rattle.std.specs.List.Sorted.{IsPermutation}
 use Rattle.snb_schema.specs.declared.row.Row.{Row}
 use Rattle.snb_schema.specs.declared.row.Row.TheVariants as row
 use Rattle.snb_schema.specs.declared.table.Kind.TheVariants as kinds
 use Rattle.snb_schema.specs.declared.table.Table.TheVariants as table
 use Rattle.snb_tables.specs.Soundness.{Held}
 use Rattle.snb_shelf.proofs.Laws.{contains_cases, contains_there}
-use Rattle.snb_links.specs.Links.{IsFriendship}
-use Rattle.snb_graph.specs.Walks.{AreFriendsOf}
-use Rattle.snb_reads.specs.Around.{is_friend}
+use Rattle.snb_tables.specs.Around.{friends, is_friend}
 use Rattle.snb_reads.specs.Distance.{IsPerson}
-use Rattle.snb_reads.proofs.Laws.{friend_tells, friend_told}
+use Rattle.snb_tables.proofs.Laws.{Friendship, friend_here, friend_tells, friend_there, friend_told}
 
 -- the friends that a walk has still to give are friends held, and all others are met
 pub record IsLooking (g : List Row) (p : ℕ) (left : List (ℕ × ℕ)) (IsMet : ℕ → Type 0) : Type 0 where
@@ -21,13 +21,13 @@ pub record IsLooking (g : List Row) (p : ℕ) (left : List (ℕ × ℕ)) (IsMet 
   pub others : (q : ℕ) → is_friend g p q ≡ true → IsMet q ⊎ ((d : ℕ) × Contains left (q, d))
 
 module _ (g : List Row) (p : ℕ) where
-  pub looks : (left : List (ℕ × ℕ)) (IsMet : ℕ → Type 0) → Held g → AreFriendsOf g p left → IsLooking g p left IsMet
+  pub looks : (left : List (ℕ × ℕ)) (IsMet : ℕ → Type 0) → Held g → IsPermutation (friends g p) left → IsLooking g p left IsMet
   looks left IsMet held are = record {
-    friends = λ q d c. (let f = (are.same q d).0 c in (friend_tells g p q d f, known q d f));
-    others = λ q e. (let (d, f) = friend_told g p q e in inr (d, (are.same q d).1 f));
+    friends = λ q d c. (let f = friend_there g p q d (Contains-permutation left (friends g p) (q, d) (IsPermutation-sym (friends g p) left are) c) in (friend_tells g p q d f, known q d f));
+    others = λ q e. (let (d, f) = friend_told g p q e in inr (d, Contains-permutation (friends g p) left (q, d) are (friend_here g p q d f)));
   }
     where
-      known : (q d : ℕ) → IsFriendship g p q d → IsPerson g q
+      known : (q d : ℕ) → Friendship g p q d → IsPerson g q
       known q d (inl c) = held (row.Dated table.PersonKnowsPerson p q d) c 1 (0, record { kind = kinds.Person; id = 0 }) (omega arith)
       known q d (inr c) = held (row.Dated table.PersonKnowsPerson q p d) c 0 (0, record { kind = kinds.Person; id = 0 }) (omega arith)
 

@@ -2,17 +2,16 @@
 use Rattle.std.proofs.Common.{◌≡◌, ℕ, zero, suc, ◌+◌, ◌-◌, ◌≤◌, List, true, inl, inr, refl, arith}
 use Rattle.std.proofs.lemmas.Bool.{cases_lt}
 use Rattle.snb_schema.specs.declared.row.Row.{Row}
-use Rattle.snb_links.specs.Links.{IsFriendship}
-use Rattle.snb_reads.specs.Around.{is_friend}
+use Rattle.snb_tables.specs.Around.{is_friend}
 use Rattle.snb_reads.specs.Distance.{IsDistance, IsPerson, Walk}
-use Rattle.snb_reads.proofs.Laws.{friend_tells, friend_told}
+use Rattle.snb_tables.proofs.Laws.{Friendship, friend_tells, friend_told}
 
 module _ (g : List Row) where
   -- friends know each other
   pub friend_turned : (p q : ℕ) → is_friend g p q ≡ true → is_friend g q p ≡ true
   friend_turned p q f = let (d, k) = friend_told g p q f in friend_tells g q p d (turned d k)
     where
-      turned : (d : ℕ) → IsFriendship g p q d → IsFriendship g q p d
+      turned : (d : ℕ) → Friendship g p q d → Friendship g q p d
       turned d (inl c) = inr c
       turned d (inr c) = inl c
 

@@ -3,7 +3,7 @@
 use Rattle.std.specs.Prelude.{◌≡◌, ◌↔◌, ◌⊎◌, ℕ, ◌+◌, ◌<◌, ◌==◌, Bool, true, not, List, [], ◌∷◌, ◌++◌, Option, Some, None, MatchBool, if◌then◌else◌}
 use Rattle.std.specs.List.{All, Contains}
 use Rattle.snb_schema.specs.declared.row.Row.{Row}
-use Rattle.snb_reads.specs.Around.{is_friend}
+use Rattle.snb_tables.specs.Around.{is_friend}
 use Rattle.snb_reads.specs.Distance.{Walk}
 
 -- whoever has the mark keeps it

@@ -3,7 +3,7 @@
 ghost use Rattle.std.specs.Prelude.{◌≡◌, ◌<◌, ◌-◌, ℕ, IsSome, OnOk, IfOk, nat_eq, nat_lt, true};
 ghost use Rattle.std.specs.HashMap.{IsUnique, get};
 ghost use Rattle.std.specs.List.{filter};
-ghost use Rattle.snb_reads.specs.Around.{is_friend};
+ghost use Rattle.snb_tables.specs.Around.{is_friend};
 ghost use Rattle.snb_reads.specs.Distance.{IsDistance};
 ghost use Rattle.snb_reach.specs.Levels.{HasMet, IsGrowing, IsGrown, StaysMet};
 ghost use Rattle.snb_tables.specs.Soundness.{Held};

@@ -8,7 +8,7 @@ use Rattle.snb_schema.specs.declared.table.Kind.TheVariants as kinds
 use Rattle.snb_schema.specs.RowKeys.{node_key, row_key}
 use Rattle.snb_tables.specs.Graphs.{HasKey}
 use Rattle.snb_reads.specs.declared.cell.Cell.{Cell}
-use Rattle.snb_reads.specs.Around.{is_friend}
+use Rattle.snb_tables.specs.Around.{is_friend}
 use Rattle.snb_reads.specs.Distance.{IsPerson, Walk}
 use Rattle.snb_reads.specs.Order.{Answers, Cut, Way, cut_at}
 

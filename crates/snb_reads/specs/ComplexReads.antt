@@ -18,7 +18,7 @@ use Rattle.snb_reads.specs.Cells.{number}
 use Rattle.snb_reads.specs.Distance.{IsLength, IsWithin}
 use Rattle.snb_reads.specs.Order.{Answers, FirstOf, Whole, First, Way, Rising, Falling}
 use Rattle.snb_reads.specs.ShortReads.{IsAuthor}
-use Rattle.snb_reads.specs.Around.{Message, comments, ends, friends, is_friend, likes, messages, organisations, persons, places, replies, study, with_id, words, work}
+use Rattle.snb_tables.specs.Around.{Message, comments, ends, friends, is_friend, likes, messages, organisations, persons, places, replies, study, with_id, words, work}
 
 -- the same person's like that stands before another: a greater date, or the same and a lower message id
 abbrev pub beats : Like → Like → Bool

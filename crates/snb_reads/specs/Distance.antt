@@ -5,7 +5,7 @@ use Rattle.snb_schema.specs.declared.row.Row.{Row}
 use Rattle.snb_schema.specs.declared.table.Kind.TheVariants as kinds
 use Rattle.snb_schema.specs.RowKeys.{node_key}
 use Rattle.snb_tables.specs.Graphs.{HasKey}
-use Rattle.snb_reads.specs.Around.{is_friend}
+use Rattle.snb_tables.specs.Around.{is_friend}
 
 module _ (g : List Row) where
   -- the person is held

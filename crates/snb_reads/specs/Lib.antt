@@ -1,4 +1,3 @@
-pub mod Around
 pub mod Cells
 pub mod ComplexReads
 pub mod Distance

@@ -7,7 +7,7 @@ use Rattle.snb_schema.specs.declared.table.Table.TheVariants as table
 use Rattle.snb_tables.specs.Messages.{IsRoot}
 use Rattle.snb_reads.specs.declared.cell.Cell.{Cell}
 use Rattle.snb_reads.specs.declared.cell.Cell.TheVariants.{Flag, Words}
-use Rattle.snb_reads.specs.Around.{Message, authors, comments, containers, ends, forums, friends, is_friend, messages, persons, replies, with_id}
+use Rattle.snb_tables.specs.Around.{Message, authors, comments, containers, ends, forums, friends, is_friend, messages, persons, replies, with_id}
 use Rattle.snb_reads.specs.Cells.{number}
 use Rattle.snb_reads.specs.Order.{Answers, Whole, First, Rising, Falling}
 

@@ -9,7 +9,7 @@ use Rattle.snb_reads.specs.declared.cell.Cell.{Cell}
 use Rattle.snb_reads.specs.ComplexReads.{Stay, stay_cmp}
 use Rattle.snb_reads.specs.Order.{Answers, Cut, FirstOf, Way, by}
 use Rattle.snb_base.proofs.Laws.{contains_cases, contains_here, contains_there}
-use Rattle.snb_reads.proofs.Laws.{contains_none}
+use Rattle.snb_tables.proofs.Laws.{contains_none}
 use Rattle.snb_order.specs.Laws.{OneFirst}
 use Rattle.snb_replies.proofs.Ties.{by_total, equal_stays, equal_texts, stay_total}
 

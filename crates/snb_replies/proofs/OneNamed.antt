@@ -5,7 +5,7 @@ use Rattle.snb_schema.specs.declared.table.Table.TheVariants as table
 use Rattle.snb_order.specs.Laws.{OneFirst}
 use Rattle.snb_reads.specs.declared.cell.Cell.{Cell}
 use Rattle.snb_reads.specs.declared.cell.Cell.TheVariants as cell
-use Rattle.snb_reads.specs.Around.{ends, organisations, persons, places, study, words, work}
+use Rattle.snb_tables.specs.Around.{ends, organisations, persons, places, study, words, work}
 use Rattle.snb_reads.specs.Cells.{column, number}
 use Rattle.snb_reads.specs.ComplexReads.{AreStays, Ic1, Ic11, IsJob, IsNamesake, IsStay, Stay, is_named, jobs, stay_cmp}
 use Rattle.snb_reads.specs.Order.{Answers, Falling, First, FirstOf, Rising, Whole}

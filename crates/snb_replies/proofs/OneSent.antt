@@ -9,11 +9,11 @@ use Rattle.snb_tables.specs.Soundness.{Sound}
 use Rattle.snb_soundness.specs.SoundLaws.{MessagesHaveOneAuthor}
 use Rattle.snb_order.specs.Laws.{OneFirst}
 use Rattle.snb_base.proofs.Laws.{contains_cases, contains_here, contains_there}
-use Rattle.snb_reads.proofs.Laws.{any_from, contains_none, in_filter}
+use Rattle.snb_tables.proofs.Laws.{any_from, contains_none, in_filter}
 use Rattle.snb_reads.specs.declared.cell.Cell.{Cell}
 use Rattle.snb_reads.specs.declared.cell.Cell.TheVariants as cell
 use Rattle.snb_reads.specs.declared.like.Like.{Like}
-use Rattle.snb_reads.specs.Around.{Message, comments, friends, is_friend, likes, messages, persons, replies, with_id}
+use Rattle.snb_tables.specs.Around.{Message, comments, friends, is_friend, likes, messages, persons, replies, with_id}
 use Rattle.snb_reads.specs.Cells.{column, number}
 use Rattle.snb_reads.specs.ComplexReads.{Ic2, Ic7, Ic8, Ic9, IsAnswered, IsLiked, IsSent, beats, best_likes, latest, liked, messages_of, minutes}
 use Rattle.snb_reads.specs.Order.{Answers, Falling, First, Rising}

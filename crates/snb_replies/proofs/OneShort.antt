@@ -9,7 +9,7 @@ use Rattle.snb_soundness.specs.SoundLaws.{MessagesHaveOneRoot, RepliesAreHeld}
 use Rattle.snb_order.specs.Laws.{OneFirst}
 use Rattle.snb_reads.specs.declared.cell.Cell.{Cell}
 use Rattle.snb_reads.specs.declared.cell.Cell.TheVariants.{Flag, Words}
-use Rattle.snb_reads.specs.Around.{Message, authors, comments, containers, ends, forums, friends, is_friend, messages, persons, replies, with_id}
+use Rattle.snb_tables.specs.Around.{Message, authors, comments, containers, ends, forums, friends, is_friend, messages, persons, replies, with_id}
 use Rattle.snb_reads.specs.Cells.{column, number}
 use Rattle.snb_reads.specs.Order.{Falling, First, Rising, Whole}
 use Rattle.snb_reads.specs.ShortReads.{Is1, Is2, Is3, Is4, Is5, Is6, Is7, IsAuthor, IsCreator, IsForum, IsFriend, IsProfile, IsRecent, IsReplyTo}

@@ -15,9 +15,9 @@ use Rattle.snb_tables.specs.Graphs.{IsGraph, rows}
 use Rattle.snb_tables.specs.Messages.{HasMessage, IsRoot, Wrote}
 use Rattle.snb_tables.specs.Soundness.{Sound}
 use Rattle.snb_soundness.specs.SoundLaws.{MessagesHaveOneAuthor, MessagesHaveOneRoot, RepliesAreHeld}
-use Rattle.snb_reads.proofs.Laws.{chosen_from, comment_only, contains_none, in_rows, person_only, post_only, sent_there}
+use Rattle.snb_tables.proofs.Laws.{chosen_from, comment_only, contains_none, in_rows, person_only, post_only, sent_there}
 use Rattle.snb_base.proofs.Laws.{contains_cases}
-use Rattle.snb_reads.specs.Around.{Message, authors, comment_shown, message_in, messages, person_in, persons, post_shown, with_id}
+use Rattle.snb_tables.specs.Around.{Message, authors, comment_shown, message_in, messages, person_in, persons, post_shown, with_id}
 use Rattle.snb_reads.specs.ShortReads.{IsAuthor}
 use Rattle.snb_replies.proofs.OneAnswers.{same_only}
 

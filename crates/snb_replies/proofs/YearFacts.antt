@@ -16,11 +16,11 @@ use Rattle.snb_schema.specs.TableRows.{AreWithin, IsTableRow}
 use Rattle.snb_tables.specs.Graphs.{IsGraph, rows}
 use Rattle.snb_reads.specs.declared.cell.Cell.{Cell}
 use Rattle.snb_reads.specs.declared.cell.Cell.TheVariants as cell
-use Rattle.snb_reads.specs.Around.{stay_in}
+use Rattle.snb_tables.specs.Around.{stay_in}
 use Rattle.snb_reads.specs.ComplexReads.{AreStays, IsNamesake, IsStay, Stay, stay_cmp}
 use Rattle.snb_reads.specs.Order.{Whole}
 use Rattle.snb_reads.specs.Replies.{IsAnswer}
-use Rattle.snb_reads.proofs.Laws.{chosen_from, in_rows}
+use Rattle.snb_tables.proofs.Laws.{chosen_from, in_rows}
 use Rattle.snb_order.proofs.Laws.{chosen}
 use Rattle.snb_replies.specs.Columns.{Column, Stays, HasColumns, IsOfColumn, columns_of}
 use Rattle.snb_replies.specs.Laws.{AnswersHaveYears, HasYears}

@@ -26,8 +26,8 @@ use Rattle.snb_soundness.specs.SoundLaws.{HasOneEdge, MessagesAreOfOneKind}
 use Rattle.snb_tables.specs.Graphs.{HasKey, IsGraph, rows}
 use Rattle.snb_tables.specs.Messages.{HasMessage, Wrote}
 use Rattle.snb_tables.specs.Soundness.{Held}
-use Rattle.snb_reads.proofs.Laws.{chosen_from, comment_alone, comment_author, comment_only, forum_only, in_rows, one_chosen, person_only, post_author, post_only, rows_apart}
-use Rattle.snb_reads.specs.Around.{Message, authors, comment_shown, comments, forums, message_in, organisation_in, organisations, person_in, persons, place_in, places, post_shown, with_id}
+use Rattle.snb_tables.proofs.Laws.{chosen_from, comment_alone, comment_author, comment_only, forum_only, in_rows, one_chosen, person_only, post_author, post_only, rows_apart}
+use Rattle.snb_tables.specs.Around.{Message, authors, comment_shown, comments, forums, message_in, organisation_in, organisations, person_in, persons, place_in, places, post_shown, with_id}
 use Rattle.snb_reads.specs.Distance.{IsPerson}
 
 -- any reference

@@ -6,7 +6,7 @@ use Rattle.std.proofs.lemmas.List.Kept.{AllPairs-cons}
 use Rattle.std.specs.List.{AllPairs, Contains}
 use Rattle.snb_schema.specs.declared.row.Row.{Row}
 use Rattle.snb_base.proofs.Laws.{contains_cases, contains_here, contains_there}
-use Rattle.snb_reads.proofs.Laws.{contains_none}
+use Rattle.snb_tables.proofs.Laws.{contains_none}
 use Rattle.snb_reads.specs.Distance.{IsDistance, IsLength, IsPerson, IsWithin, Walk}
 use Rattle.snb_reply_laws.proofs.Walks.{Decided, among_ids, distance, ids, walk_end}
 

@@ -6,7 +6,7 @@ use Rattle.std.specs.Cmp.{IsTotalOrder}
 use Rattle.std.specs.List.{AllZip, Contains, flat_map}
 use Rattle.snb_order.specs.Laws.{SomeFirst}
 use Rattle.snb_base.proofs.Laws.{contains_cases, contains_here, contains_there}
-use Rattle.snb_reads.proofs.Laws.{contains_none}
+use Rattle.snb_tables.proofs.Laws.{contains_none}
 use Rattle.snb_reads.specs.declared.cell.Cell.{Cell}
 use Rattle.snb_reads.specs.Cells.{cell_cmp, column, number_in, text_in}
 use Rattle.snb_reads.specs.ComplexReads.{Stay, stay_cmp}

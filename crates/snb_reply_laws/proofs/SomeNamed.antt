@@ -17,9 +17,9 @@ use Rattle.snb_soundness.specs.SoundLaws.{RequiredEdgesAreThere}
 use Rattle.snb_tables.specs.Graphs.{HasKey, IsGraph, rows}
 use Rattle.snb_tables.specs.Soundness.{Sound}
 use Rattle.snb_order.specs.Laws.{SomeFirst}
-use Rattle.snb_reads.proofs.Laws.{chosen_from, end_only, in_filter, in_rows}
+use Rattle.snb_tables.proofs.Laws.{chosen_from, end_only, in_filter, in_rows}
 use Rattle.snb_reads.specs.declared.cell.Cell.{Cell}
-use Rattle.snb_reads.specs.Around.{ends, places, stay_in, study, words, work}
+use Rattle.snb_tables.specs.Around.{ends, places, stay_in, study, words, work}
 use Rattle.snb_reads.specs.ComplexReads.{AreStays, Ic1, Ic11, Ic9, IsJob, IsNamesake, IsStay, Stay, is_in, is_named, jobs, stay_cmp}
 use Rattle.snb_reads.specs.Distance.{IsPerson}
 use Rattle.snb_reads.specs.Order.{Falling, First, Rising, Whole}

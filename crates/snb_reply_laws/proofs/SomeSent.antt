@@ -1,22 +1,18 @@
 -- The complex reads of messages and likes have an answer: IC2, IC7, IC8 and, with those near, IC9.
-use Rattle.std.proofs.Common.{◌≡◌, ◌==◌, ℕ, Bool, true, false, cond, List, [], ◌∷◌, ◌++◌, Option, Some, None, refl, ap, ◌∙◌, subst, filter, inl, inr, map, nat_le, not, arith}
-use Rattle.std.proofs.lemmas.Bool.{eqb-true}
-use Rattle.std.proofs.lemmas.List.Elements.{Contains-append_cases}
+use Rattle.std.proofs.Common.{ℕ, Bool, cond, List, [], ◌∷◌, refl, subst, filter, inl, inr, map, nat_le, not, arith}
 use Rattle.std.specs.List.{Contains, flat_map, list_any}
 use Rattle.snb_schema.specs.declared.row.Row.{Row}
 use Rattle.snb_schema.specs.declared.row.Row.TheVariants as row
-use Rattle.snb_schema.specs.declared.table.Table.{Table}
 use Rattle.snb_schema.specs.declared.table.Table.TheVariants as table
-use Rattle.snb_schema.specs.RowLines.{table_of}
 use Rattle.snb_soundness.specs.SoundLaws.{MessagesAreOfOneKind, MessagesHaveOneAuthor}
-use Rattle.snb_tables.specs.Graphs.{IsGraph, rows}
+use Rattle.snb_tables.specs.Graphs.{IsGraph}
 use Rattle.snb_tables.specs.Messages.{HasMessage}
 use Rattle.snb_tables.specs.Soundness.{Sound}
 use Rattle.snb_order.specs.Laws.{SomeFirst}
-use Rattle.snb_reads.proofs.Laws.{chosen_from, in_filter, in_rows}
+use Rattle.snb_tables.proofs.Laws.{in_filter, like_there}
 use Rattle.snb_reads.specs.declared.cell.Cell.{Cell}
 use Rattle.snb_reads.specs.declared.like.Like.{Like}
-use Rattle.snb_reads.specs.Around.{friends, liker_in, likes, messages, replies}
+use Rattle.snb_tables.specs.Around.{friends, likes, messages, replies}
 use Rattle.snb_reads.specs.ComplexReads.{Ic2, Ic7, Ic8, IsAnswered, IsLiked, IsSent, beats, best_likes, latest, liked, messages_of}
 use Rattle.snb_reads.specs.Distance.{IsPerson}
 use Rattle.snb_reads.specs.Order.{Answers, Falling, First, Rising}
@@ -24,31 +20,13 @@ use Rattle.snb_reply_laws.proofs.Lookups.{any, comment_at, message_at, person_at
 use Rattle.snb_reply_laws.proofs.SomeAnswers.{in_flat, in_map, some_answers}
 use Rattle.snb_reply_laws.proofs.SomeShort.{friend_held, reply_held, sent_held, some_author}
 
--- the row of a like
-liker_row : (m : ℕ) (r : Row) (y : ℕ × ℕ) → liker_in m r ≡ Some y → r ≡ row.Dated (table_of r) y.0 m y.1
-liker_row m (row.Dated t from to date) y e = by (to == m) refl e
-  where
-    by : (b : Bool) → (to == m) ≡ b → ◌≡◌ {A = Option (ℕ × ℕ)} (cond b (Some (from, date)) None) (Some y) → row.Dated t from to date ≡ row.Dated t y.0 m y.1
-    by true is h =
-        let same : ◌≡◌ {A = ℕ × ℕ} (from, date) y = cc in
-        λ i. row.Dated t ((same i).0) (eqb-true to m is i) ((same i).1)
-    by false is h = absurd cc
-liker_row m r y e = absurd cc
-
 module _ (g : List Row) (graph : IsGraph g) (sound : Sound g) where
-  liker_there : (t : Table) (m : ℕ) (y : ℕ × ℕ) (r : Row) → Contains (rows g t) r → liker_in m r ≡ Some y → Contains g (row.Dated t y.0 m y.1)
-  liker_there t m y r c e =
-      let (held, of) = (in_rows g t r).0 c in
-      subst (Contains g) (liker_row m r y e ∙ ap (λ u. row.Dated u y.0 m y.1) of) held
-
   -- who likes a message is held
   liker_held : (m : ℕ) (l : ℕ × ℕ) → Contains (likes g m) l → IsPerson g l.0
-  liker_held m l c =
-      let (r, there, gives) = chosen_from (liker_in m) (rows g table.PersonLikesPost ++ rows g table.PersonLikesComment) l c in
-      elim (Contains-append_cases (rows g table.PersonLikesPost) (rows g table.PersonLikesComment) r there) [
-        | inl a ↦ sound.held (row.Dated table.PersonLikesPost l.0 m l.1) (liker_there table.PersonLikesPost m l r a gives) 0 any (omega arith)
-        | inr a ↦ sound.held (row.Dated table.PersonLikesComment l.0 m l.1) (liker_there table.PersonLikesComment m l r a gives) 0 any (omega arith)
-      ]
+  liker_held m l c = elim (like_there g m l.0 l.1 c) [
+    | inl a ↦ sound.held (row.Dated table.PersonLikesPost l.0 m l.1) a 0 any (omega arith)
+    | inr a ↦ sound.held (row.Dated table.PersonLikesComment l.0 m l.1) a 0 any (omega arith)
+  ]
 
   like_held : (person : ℕ) (l : Like) → Contains (liked g person) l → IsPerson g l.person × HasMessage g l.message
   like_held person l c =

@@ -13,9 +13,9 @@ use Rattle.snb_tables.specs.Graphs.{HasKey, IsGraph}
 use Rattle.snb_tables.specs.Messages.{HasMessage, IsRoot}
 use Rattle.snb_tables.specs.Soundness.{Sound}
 use Rattle.snb_order.specs.Laws.{SomeFirst}
-use Rattle.snb_reads.proofs.Laws.{container_only, end_only, friend_there, replied_there, sent_there}
+use Rattle.snb_tables.proofs.Laws.{container_only, end_only, friend_there, replied_there, sent_there}
 use Rattle.snb_reads.specs.declared.cell.Cell.{Cell}
-use Rattle.snb_reads.specs.Around.{containers, ends, forums, friends, messages, persons, replies, with_id}
+use Rattle.snb_tables.specs.Around.{containers, ends, forums, friends, messages, persons, replies, with_id}
 use Rattle.snb_reads.specs.Distance.{IsPerson}
 use Rattle.snb_reads.specs.Order.{Falling, First, Rising, Whole}
 use Rattle.snb_reads.specs.ShortReads.{Is1, Is2, Is3, Is4, Is5, Is6, Is7, IsAuthor, IsCreator, IsForum, IsFriend, IsProfile, IsRecent, IsReplyTo}

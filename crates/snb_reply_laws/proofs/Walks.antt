@@ -16,8 +16,8 @@ use Rattle.snb_schema.specs.RowKeys.{RowKey, node_key, row_key, sharing, slot}
 use Rattle.snb_soundness.proofs.Laws.{fills_decides}
 use Rattle.snb_tables.specs.Graphs.{HasSlot, fills}
 use Rattle.snb_base.proofs.Laws.{contains_cases, contains_here, contains_there}
-use Rattle.snb_reads.proofs.Laws.{contains_none}
-use Rattle.snb_reads.specs.Around.{is_friend}
+use Rattle.snb_tables.proofs.Laws.{contains_none}
+use Rattle.snb_tables.specs.Around.{is_friend}
 use Rattle.snb_reads.specs.Distance.{IsDistance, IsPerson, Walk}
 
 -- ---- decisions

@@ -1,5 +1,5 @@
 -- The rows of entries, and their keys.
-use Rattle.std.proofs.Common.{◌≡◌, ◌↔◌, ℕ, ◌<◌, ◌≤◌, length, Bool, filter, Some, None, Option, false, true, List, [], ◌∷◌, ◌++◌, map, refl, sym, ap, ◌∙◌, subst, cond, arith}
+use Rattle.std.proofs.Common.{◌≡◌, ◌↔◌, ℕ, Bool, filter, Some, None, Option, false, true, List, [], ◌∷◌, ◌++◌, map, refl, sym, ap, ◌∙◌, subst, cond, arith}
 use Rattle.std.specs.declared.cmp.Ordering.{Ordering}
 use Rattle.std.specs.declared.cmp.Ordering.TheVariants.{Less, Equal, Greater}
 use Rattle.std.specs.Ordering.{match_ordering, is_eq, nat_cmp, ordering_then}
@@ -13,7 +13,7 @@ use Rattle.std.proofs.lemmas.Map.Lookups.{CmpEqualImpliesEq}
 use Rattle.std.proofs.lemmas.Map.Views.{All-map-remove_entry, Contains-keys_from_lookup, IsSome-lookup_from_Contains, Contains-from_lookup, lookup-from_Contains, tells_apart}
 use Rattle.std.proofs.lemmas.Map.Keys.{IsDistinct-from_sorted}
 use Rattle.std.proofs.lemmas.List.Elements.{All-cons, All-contains, All-contains_itself, All-tail, All-weaker}
-use Rattle.std.proofs.lemmas.List.Sorted.{IsPermutation-refl, IsPermutation-cons, IsPermutation-trans, IsPermutation-sym, IsPermutation-map, IsPermutation-append_left, IsPermutation-append_comm, IsPermutation-to_front, All-permutation, Contains-permutation, length_permutation}
+use Rattle.std.proofs.lemmas.List.Sorted.{IsPermutation-refl, IsPermutation-cons, IsPermutation-trans, IsPermutation-sym, IsPermutation-map, IsPermutation-append_left, IsPermutation-append_comm, IsPermutation-to_front, All-permutation, Contains-permutation}
 use mathlib.Core.Bool.{false≢true}
 use Rattle.snb_schema.specs.declared.row.Row.{Row}
 use Rattle.snb_schema.specs.Layouts.{shape}
@@ -21,9 +21,15 @@ use Rattle.snb_schema.specs.RowKeys.{RowKey, row_key}
 use Rattle.snb_shelf.specs.Keyed.{key_table, IsPart}
 use Rattle.snb_tables.specs.Graphs.{part, part_of, key_order, row_order, HasKey}
 use Rattle.snb_shelf.specs.Rows.{entry_row, rows_by, Fits, AreKept, HasLost}
-use Rattle.snb_parts.specs.Merged.{AreParts, merged}
-use Rattle.snb_parts.proofs.ListLemmas.{frozen_within}
+use Rattle.snb_parts.specs.Merged.{AreParts, HasAllOf, merged}
+use Rattle.snb_parts.proofs.Laws.{frozen_within}
 use Rattle.snb_shelf.proofs.Laws.{contains_here, contains_map, map_contains, filter_map}
+
+-- more entries have more rows
+pub rows_more : {K V : Type 0} (f : K → V → Row) (es gs : List (K × V)) → HasAllOf es gs → (r : Row) → Contains (rows_by f es) r → Contains (rows_by f gs) r
+rows_more {K} {V} f es gs more r c =
+    let e = map_contains (λ (x : K × V). f x.0 x.1) es r c in
+    subst (λ (x : Row). Contains (rows_by f gs) x) e.2 (contains_map (λ (x : K × V). f x.0 x.1) gs e.0 (more e.0 e.1))
 
 -- what a test doesn't find isn't there
 pub none_from_test : {X : Type 0} (o : Option X) → is_some o ≡ false → o ≡ None
@@ -186,9 +192,7 @@ module _ {K V : Type 0} (cmp : K → K → Ordering) (total : IsTotalOrder cmp) 
 
   -- the frozen rows are among all
   pub frozen_among : (es fs : List (K × V)) → AreParts cmp es fs → (r : Row) → Contains (rows_by f es) r → Contains (rows_by f (merged cmp es fs)) r
-  frozen_among es fs parts r c =
-      let e = map_contains (λ (x : K × V). f x.0 x.1) es r c in
-      subst (λ (x : Row). Contains (rows_by f (merged cmp es fs)) x) e.2 (contains_map (λ (x : K × V). f x.0 x.1) (merged cmp es fs) e.0 (frozen_within cmp total exact es fs parts e.0 e.1))
+  frozen_among es fs parts = rows_more f es (merged cmp es fs) (frozen_within cmp total exact es fs parts)
 
   -- the rows of a range
   within : (test : Ordering → Ordering → Bool) (lo hi : K) (es : List (K × V)) → All (λ e. fits e.0 e.1) es →

@@ -1,5 +1,5 @@
 -- The rows of a map's entries.
-use Rattle.std.specs.Prelude.{◌≡◌, ◌≤◌, ℕ, length, ◌++◌, ◌∷◌, [], List, map, All, Contains, IsPermutation, Bool, true, false, not, ◌&&◌, filter, Option, Result, MatchOption, MatchResult}
+use Rattle.std.specs.Prelude.{◌≡◌, ℕ, ◌++◌, ◌∷◌, [], List, map, All, Contains, IsPermutation, Bool, true, false, not, ◌&&◌, filter, Option, Result, MatchOption, MatchResult}
 use Rattle.std.specs.declared.cmp.Ordering.{Ordering}
 use Rattle.std.specs.List.Sorted.{IsStrictlySortedBy}
 use Rattle.std.specs.Map.{keys_of}

@@ -2,6 +2,7 @@
 
 ghost use Rattle.std.specs.Prelude.{◌<◌, ◌^◌, ◌≡◌, ◌≤◌, ◌++◌, ◌∷◌, [], ◌↔◌, false, Contains, IsPermutation, IsTrue, IsSome, IfSome, IfOk, OnOk, OnErr, length};
 ghost use Rattle.std.specs.Option.{option_copied};
+ghost use Rattle.snb_parts.specs.declared.half.Half.TheVariants as Half;
 ghost use Rattle.snb_schema.specs.declared.row.Row.{Row};
 ghost use Rattle.snb_tables.specs.Graphs.{HasKey};
 ghost use Rattle.snb_shelf.specs.Keyed.{IsPart};
@@ -9,6 +10,7 @@ ghost use Rattle.snb_shelf.specs.Rows.{entry_row, rows_by, Fits, HasLost, rows_w
 ghost use Rattle.std.specs.Ordering.{is_gt};
 
 use crate::kept::{Kept, Key};
+use snb_parts::half::Half;
 use snb_parts::store::Store;
 use snb_parts::walk::Walk;
 use std::alloc::{AllocError, Global};
@@ -71,17 +73,18 @@ impl<K: Key, V: Kept> Shelf<K, V> {
         self.store.has(key)
     }
 
-    /// Adds a row of a key that is new, where the row has this key and is of this part. Want of memory
-    /// leaves the rows as they were.
-    pub fn add(&mut self, key: K, value: V) -> Result<(), AllocError>
+    /// Adds a row of a key that is new, where the row has this key and is of this part; the row is frozen only if
+    /// it goes into that half. Want of memory leaves the rows as they were.
+    pub fn add(&mut self, key: K, value: V, half: Half) -> Result<(), AllocError>
         requires fits { Fits V.part (K.name V.table) V.as_row key value }
         requires new { ¬ HasKey self.old.rows (K.name V.table key) }
         ensures ok { OnOk result (IsPermutation self.new.rows (self.old.rows ++ V.as_row (K.name V.table key) value ∷ [])) }
         ensures err { OnErr result (self.new ≡ self.old) }
-        ensures frozen { self.new.frozen ≡ self.old.frozen }
+        ensures frozen { half ≡ Half.Added → self.new.frozen ≡ self.old.frozen }
+        ensures more { (r : Row) → Contains self.old.frozen r → Contains self.new.frozen r }
         ensures whole { IsPart V.part self.new.rows }
     {
-        self.store.add(key, value)?;
+        self.store.add(key, value, half)?;
         Ok(())
     }
 

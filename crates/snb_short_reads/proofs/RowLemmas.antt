@@ -13,9 +13,9 @@ use Rattle.snb_soundness.specs.SoundLaws.{MessagesAreOfOneKind, MessagesHaveOneA
 use Rattle.snb_tables.specs.Graphs.{IsGraph}
 use Rattle.snb_tables.specs.Soundness.{Sound}
 use Rattle.snb_order.proofs.Laws.{answers_from, answers_mapped, answers_whole, chosen, then_assoc, three_columns, two_columns, zip_with}
-use Rattle.snb_reads.proofs.Laws.{person_named}
+use Rattle.snb_tables.proofs.Laws.{person_named}
 use Rattle.snb_reads.specs.declared.cell.Cell.{Cell}
-use Rattle.snb_reads.specs.Around.{authors, friends, messages, replies}
+use Rattle.snb_tables.specs.Around.{authors, friends, messages, replies}
 use Rattle.snb_reads.specs.Order.{Falling, First, FirstOf, Rising, Whole, by}
 use Rattle.snb_reads.specs.ShortReads.{Is2, Is3, Is7, IsFriend, IsRecent, IsReplyTo}
 use Rattle.snb_short_reads.proofs.Laws.{found_person, person_at, shows, written}

@@ -7,7 +7,7 @@ use Rattle.snb_schema.specs.declared.table.Kind.TheVariants as kinds
 use Rattle.snb_schema.specs.RowKeys.{node_key}
 use Rattle.snb_tables.specs.Graphs.{HasKey}
 use Rattle.snb_tables.specs.Messages.{HasMessage}
-use Rattle.snb_reads.specs.Around.{authors, replies}
+use Rattle.snb_tables.specs.Around.{authors, replies}
 use Rattle.snb_reads.specs.Distance.{IsPerson}
 use Rattle.snb_short_reads.specs.Lookups.{IsCellNumber}
 

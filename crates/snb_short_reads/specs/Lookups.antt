@@ -8,7 +8,7 @@ use Rattle.snb_schema.specs.declared.table.Table.TheVariants as table
 use Rattle.snb_schema.specs.RowKeys.{node_key}
 use Rattle.snb_tables.specs.Graphs.{HasKey}
 use Rattle.snb_tables.specs.Messages.{HasMessage, IsRoot}
-use Rattle.snb_reads.specs.Around.{authors, containers, ends, forums, persons, with_id}
+use Rattle.snb_tables.specs.Around.{authors, containers, ends, forums, persons, with_id}
 use Rattle.snb_reads.specs.Distance.{IsPerson}
 
 -- a number that a cell can hold

@@ -5,7 +5,7 @@ ghost use Rattle.snb_schema.specs.declared.table.Kind.TheVariants as kinds;
 ghost use Rattle.snb_schema.specs.RowKeys.{node_key};
 ghost use Rattle.snb_parts.specs.Pairs.{rest};
 ghost use Rattle.snb_reads.specs.declared.cell.Cell.TheVariants.{Words};
-ghost use Rattle.snb_reads.specs.Around.{containers, is_friend, or_else, with_id};
+ghost use Rattle.snb_tables.specs.Around.{containers, is_friend, or_else, with_id};
 ghost use Rattle.snb_reads.specs.Distance.{IsPerson};
 ghost use Rattle.snb_short_reads.specs.Lookups.{IsOnlyAuthor, IsOnlyCity, IsOnlyForum, IsOnlyMessage, IsOnlyModerator, IsOnlyPerson};
 ghost use Rattle.snb_tables.specs.Graphs.{HasKey};

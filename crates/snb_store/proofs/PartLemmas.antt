@@ -23,13 +23,6 @@ use Rattle.snb_shelf.specs.Rows.{HasLost, Stock}
 use Rattle.snb_store.specs.Parts.{joined, AreParts, IsWhole, HasGivenBack}
 use Rattle.snb_store.proofs.Laws.{contains_gained}
 
--- equal stocks have equal rows
-pub rows_is : {s t : Stock} → s ≡ t → s.rows ≡ t.rows
-rows_is e = ap (λ (x : Stock). x.rows) e
-
-pub frozen_is : {s t : Stock} → s ≡ t → s.frozen ≡ t.frozen
-frozen_is e = ap (λ (x : Stock). x.frozen) e
-
 -- the rows of parts, and what copies share of them
 abbrev pub stock_of : List (List Row) → List (List Row) → Stock
 stock_of ss fs = record { rows = joined ss; frozen = joined fs }
@@ -52,6 +45,20 @@ abbrev pub with_part : List (List Row) → ℕ → List Row → List (List Row)
 with_part [] i new = []
 with_part (s ∷ ss) zero new = new ∷ ss
 with_part (s ∷ ss) (suc i) new = s ∷ with_part ss i new
+
+-- a part with more rows
+pub joined_more : (ss : List (List Row)) (i : ℕ) (new : List Row) → ((r : Row) → Contains (at ss i) r → Contains new r) → (r : Row) → Contains (joined ss) r → Contains (joined (with_part ss i new)) r
+joined_more [] i new more r c = c
+joined_more (s ∷ ss) zero new more r c =
+    elim (Contains-append_cases s (joined ss) r c) [
+      | inl h ↦ Contains-append_left new (joined ss) r (more r h)
+      | inr h ↦ Contains-append_right new (joined ss) r h
+    ]
+joined_more (s ∷ ss) (suc i) new more r c =
+    elim (Contains-append_cases s (joined ss) r c) [
+      | inl h ↦ Contains-append_left s (joined (with_part ss i new)) r h
+      | inr h ↦ Contains-append_right s (joined (with_part ss i new)) r (joined_more ss i new more r h)
+    ]
 
 -- a part's rows are among the whole's
 pub part_among : (ss : List (List Row)) (i : ℕ) (r : Row) → Contains (at ss i) r → Contains (joined ss) r

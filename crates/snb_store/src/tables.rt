@@ -2,6 +2,7 @@
 
 ghost use Rattle.std.specs.Prelude.{◌≢◌, filter, nat_eq, ◌+◌, ◌⊎◌, ◌≤◌, length, ◌<◌, ◌^◌, ◌≡◌, ◌∷◌, [], ◌↔◌, IsTrue, IsSome, IfSome, IfOk, Contains, OnOk, OnErr, Err};
 ghost use Rattle.std.specs.Option.{option_copied};
+ghost use Rattle.snb_parts.specs.declared.half.Half.TheVariants as Half;
 ghost use Rattle.snb_schema.specs.declared.table.Kind.TheVariants as kinds;
 ghost use Rattle.snb_schema.specs.declared.layout.KeyColumns.TheVariants as columns;
 ghost use Rattle.snb_schema.specs.declared.layout.Shape.TheVariants as shapes;
@@ -28,6 +29,7 @@ use crate::insert::Insert;
 use crate::links::{link_entry, twin_of};
 use crate::words::Words;
 use snb_base::text::Text;
+use snb_parts::half::Half;
 use snb_parts::walk::Walk;
 use snb_schema::key::{Held, Key};
 use snb_schema::layout::{KeyColumns, Shape, key_columns_of, shape_of};
@@ -626,43 +628,48 @@ impl Tables {
         self.has_row(row) || self.has_twin(row)
     }
 
-    /// Adds a row. `Duplicate` says that a row of its slot is held, and `Memory` that memory doesn't
-    /// suffice. After either the graph is as it was.
+    /// Adds a row; it is frozen only if it goes into that half. `Duplicate` says that a row of its slot is
+    /// held, and `Memory` that memory doesn't suffice. After either the graph is as it was.
     /// The condition: the row is one that its table can have.
-    pub fn insert_row(&mut self, row: Row) -> Result<(), Insert>
+    pub fn insert_row(&mut self, row: Row, half: Half) -> Result<(), Insert>
         requires { IsTableRow row }
         ensures ok { OnOk result (HasGained self.old.rows (row ∷ []) self.new.rows) }
         ensures duplicate { (result ≡ Err Insert.Duplicate) ↔ HasSlot self.old.rows (slot_of row) }
         ensures err { OnErr result (self.new ≡ self.old) }
-        ensures frozen { self.new.frozen ≡ self.old.frozen }
+        ensures frozen { half ≡ Half.Added → self.new.frozen ≡ self.old.frozen }
+        ensures more { (r : Row) → Contains self.old.frozen r → Contains self.new.frozen r }
     {
         match row {
             Row::Word {
                 table,
                 person,
                 text,
-            } => self.insert_word(WordKey {
-                table,
-                person,
-                text,
-            }),
-            other => self.insert_other(other),
+            } => {
+                let key = WordKey {
+                    table,
+                    person,
+                    text,
+                };
+                self.insert_word(key, half)
+            }
+            other => self.insert_other(other, half),
         }
     }
 
     // `insert_row` of a row that is no word.
-    fn insert_other(&mut self, row: Row) -> Result<(), Insert>
+    fn insert_other(&mut self, row: Row, half: Half) -> Result<(), Insert>
         requires shaped { IsTableRow row }
         requires no_word { IsNoWord row }
         ensures ok { OnOk result (HasGained self.old.rows (row ∷ []) self.new.rows) }
         ensures duplicate { (result ≡ Err Insert.Duplicate) ↔ HasSlot self.old.rows (slot_of row) }
         ensures err { OnErr result (self.new ≡ self.old) }
-        ensures frozen { self.new.frozen ≡ self.old.frozen }
+        ensures frozen { half ≡ Half.Added → self.new.frozen ≡ self.old.frozen }
+        ensures more { (r : Row) → Contains self.old.frozen r → Contains self.new.frozen r }
     {
         if self.holds(&row) {
             return Err(Insert::Duplicate);
         }
-        match self.put(row) {
+        match self.put(row, half) {
             Ok(()) => Ok(()),
             Err(_) => Err(Insert::Memory),
         }
@@ -677,57 +684,60 @@ impl Tables {
     }
 
     // Adds a word that is new.
-    fn put_word(&mut self, key: WordKey) -> Result<(), AllocError>
+    fn put_word(&mut self, key: WordKey, half: Half) -> Result<(), AllocError>
         requires shaped { IsTableRow (row.Word key.table key.person key.text) }
         requires free { ¬ HasSlot self.old.rows (slot_of (row.Word key.table key.person key.text)) }
         ensures ok { OnOk result (HasGained self.old.rows (row.Word key.table key.person key.text ∷ []) self.new.rows) }
         ensures err { OnErr result (self.new ≡ self.old) }
-        ensures frozen { self.new.frozen ≡ self.old.frozen }
+        ensures frozen { half ≡ Half.Added → self.new.frozen ≡ self.old.frozen }
+        ensures more { (r : Row) → Contains self.old.frozen r → Contains self.new.frozen r }
     {
-        self.words.add(key, Mark {})
+        self.words.add(key, Mark {}, half)
     }
 
     // `insert_row` of a word.
-    fn insert_word(&mut self, key: WordKey) -> Result<(), Insert>
+    fn insert_word(&mut self, key: WordKey, half: Half) -> Result<(), Insert>
         requires { IsTableRow (row.Word key.table key.person key.text) }
         ensures ok { OnOk result (HasGained self.old.rows (row.Word key.table key.person key.text ∷ []) self.new.rows) }
         ensures duplicate { (result ≡ Err Insert.Duplicate) ↔ HasSlot self.old.rows (slot_of (row.Word key.table key.person key.text)) }
         ensures err { OnErr result (self.new ≡ self.old) }
-        ensures frozen { self.new.frozen ≡ self.old.frozen }
+        ensures frozen { half ≡ Half.Added → self.new.frozen ≡ self.old.frozen }
+        ensures more { (r : Row) → Contains self.old.frozen r → Contains self.new.frozen r }
     {
         if self.has_word(&key) {
             return Err(Insert::Duplicate);
         }
-        match self.put_word(key) {
+        match self.put_word(key, half) {
             Ok(()) => Ok(()),
             Err(_) => Err(Insert::Memory),
         }
     }
 
-    /// Adds a row whose slot is free.
+    /// Adds a row whose slot is free; it is frozen only if it goes into that half.
     /// The conditions: the row is one that its table can have, and no email or language.
-    pub fn put(&mut self, row: Row) -> Result<(), AllocError>
+    pub fn put(&mut self, row: Row, half: Half) -> Result<(), AllocError>
         requires shaped { IsTableRow row }
         requires no_word { IsNoWord row }
         requires free { ¬ HasSlot self.old.rows (slot_of row) }
         ensures ok { OnOk result (HasGained self.old.rows (row ∷ []) self.new.rows) }
         ensures err { OnErr result (self.new ≡ self.old) }
-        ensures frozen { self.new.frozen ≡ self.old.frozen }
+        ensures frozen { half ≡ Half.Added → self.new.frozen ≡ self.old.frozen }
+        ensures more { (r : Row) → Contains self.old.frozen r → Contains self.new.frozen r }
     {
         match row {
-            Row::Place { place } => self.places.add(place.id, place),
-            Row::TagClass { named } => self.tag_classes.add(named.id, Class { named }),
-            Row::Tag { named } => self.tags.add(named.id, named),
+            Row::Place { place } => self.places.add(place.id, place, half),
+            Row::TagClass { named } => self.tag_classes.add(named.id, Class { named }, half),
+            Row::Tag { named } => self.tags.add(named.id, named, half),
             Row::Organisation { organisation } => self
                 .organisations
-                .add(organisation.id, organisation),
-            Row::Person { person } => self.persons.add(person.id, person),
-            Row::Forum { forum } => self.forums.add(forum.id, forum),
-            Row::Post { post } => self.posts.add(post.id, post),
-            Row::Comment { comment } => self.comments.add(comment.id, comment),
+                .add(organisation.id, organisation, half),
+            Row::Person { person } => self.persons.add(person.id, person, half),
+            Row::Forum { forum } => self.forums.add(forum.id, forum, half),
+            Row::Post { post } => self.posts.add(post.id, post, half),
+            Row::Comment { comment } => self.comments.add(comment.id, comment, half),
             Row::Link { table, from, to } => {
                 let (key, other) = link_entry(table, from, to);
-                self.edges.add(key, other)
+                self.edges.add(key, other, half)
             }
             Row::Dated {
                 table,
@@ -740,7 +750,7 @@ impl Tables {
                     first: from,
                     second: to,
                 };
-                self.edges.add(key, date)
+                self.edges.add(key, date, half)
             }
             Row::Yeared {
                 table,
@@ -753,7 +763,7 @@ impl Tables {
                     first: from,
                     second: to,
                 };
-                self.edges.add(key, year as u64)
+                self.edges.add(key, year as u64, half)
             }
             Row::Word { .. } => unreachable!(),
         }

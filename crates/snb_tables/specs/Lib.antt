@@ -1,3 +1,4 @@
+pub mod Around
 pub mod FinalText
 pub mod Graphs
 pub mod Laws

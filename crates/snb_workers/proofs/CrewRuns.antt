@@ -39,7 +39,7 @@ use Rattle.snb_base.proofs.Laws.{contains_cases, contains_here}
 use Rattle.snb_workers.proofs.Gathered.{all_from, of_all}
 use Rattle.snb_workers.proofs.TurnEvents.{all_done, front_within}
 use Rattle.snb_workers.proofs.WorkEvents.{prefix-trans}
-use Rattle.snb_reads.proofs.Laws.{in_filter}
+use Rattle.snb_tables.proofs.Laws.{in_filter}
 
 -- a worker's seat and replica at first
 abbrev pub fresh : Site → ℕ → Sitting

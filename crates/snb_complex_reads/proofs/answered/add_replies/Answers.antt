@@ -1,7 +1,7 @@
 use Rattle.std.proofs.Common.{◌∷◌, [], sym, subst}
+use Rattle.std.specs.List.Sorted.{IsPermutation}
 use Rattle.snb_parts.specs.Pairs.{rest}
-use Rattle.snb_graph.specs.Walks.{AreRepliesOf}
-use Rattle.snb_short_reads.proofs.Laws.{replies_moved}
+use Rattle.snb_tables.specs.Around.{replies}
 use Rattle.snb_complex_reads.proofs.Moves.{appended_done, appended_next}
 use Rattle.snb_complex_reads.proofs.answered.add_replies.Goals as goal
 
@@ -12,5 +12,5 @@ loop-comment-preserved c =
 pub returns : goal.returns
 returns c =
     appended_done _ _ _ _ _
-    (replies_moved c.args.graph.now c.args.message _ c.known.ensures (subst (λ w. AreRepliesOf c.args.graph.now c.args.message (rest w)) (sym c.into_iter-comment-iterator.ensures.into_iter_gives) c.replies-comment-items.ensures))
+    (subst (λ w. IsPermutation (replies c.args.graph.now c.args.message) (rest w)) (sym c.into_iter-comment-iterator.ensures.into_iter_gives) c.replies-comment-items.ensures.same)
     c.in-None.ensures.steps.0 c.loop-comment.invariant

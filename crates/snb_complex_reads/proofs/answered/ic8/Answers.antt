@@ -1,12 +1,11 @@
 use Rattle.std.proofs.Common.{ℕ, ◌∷◌, [], sym, subst}
 use Rattle.std.proofs.lemmas.List.Sorted.{All-permutation, IsPermutation-refl}
 use Rattle.std.proofs.lemmas.Result.{IfOk-weaker}
+use Rattle.std.specs.List.Sorted.{IsPermutation}
 use Rattle.snb_parts.specs.Pairs.{rest}
-use Rattle.snb_graph.specs.Walks.{AreMessagesOf}
-use Rattle.snb_reads.specs.Around.{messages, replies}
+use Rattle.snb_tables.specs.Around.{messages, replies}
 use Rattle.snb_reads.specs.ComplexReads.{IsAnswered}
 use Rattle.snb_reads.specs.Order.{Falling, First, Rising}
-use Rattle.snb_short_reads.proofs.Laws.{messages_moved}
 use Rattle.snb_complex_reads.proofs.Moves.{answers_moved, joined_done, joined_next}
 use Rattle.snb_complex_reads.proofs.ReplyLemmas.{all_replied}
 use Rattle.snb_complex_reads.specs.Found.{IsCommentFound}
@@ -24,12 +23,12 @@ latest_replies-requires-clause-found c =
     let g = c.args.graph.now in
     All-permutation (IsCommentFound g) _ _
     (joined_done (λ (m : ℕ × ℕ). replies g m.0) (messages g c.args.person) _ _ _ c.in-None.ensures.steps.0
-    (messages_moved g c.args.person _ c.known.ensures (subst (λ w. AreMessagesOf g c.args.person (rest w)) (sym c.into_iter-message-iterator.ensures.into_iter_gives) c.messages-message-items.ensures)) c.loop-message.invariant)
+    (subst (λ w. IsPermutation (messages g c.args.person) (rest w)) (sym c.into_iter-message-iterator.ensures.into_iter_gives) c.messages-message-items.ensures.same) c.loop-message.invariant)
     (all_replied g c.known.ensures c.sound_graphs.ensures.numbers (messages g c.args.person))
 
 pub returns : goal.returns
 returns c =
     let g = c.args.graph.now in
     let moves = joined_done (λ (m : ℕ × ℕ). replies g m.0) (messages g c.args.person) _ _ _ c.in-None.ensures.steps.0
-    (messages_moved g c.args.person _ c.known.ensures (subst (λ w. AreMessagesOf g c.args.person (rest w)) (sym c.into_iter-message-iterator.ensures.into_iter_gives) c.messages-message-items.ensures)) c.loop-message.invariant in
+    (subst (λ w. IsPermutation (messages g c.args.person) (rest w)) (sym c.into_iter-message-iterator.ensures.into_iter_gives) c.messages-message-items.ensures.same) c.loop-message.invariant in
     IfOk-weaker c.latest_replies.result _ _ (λ a is. answers_moved (IsAnswered g) (Falling 4 ∷ Rising 5 ∷ []) (First 20) _ _ a moves is) c.latest_replies.ensures

@@ -3,18 +3,18 @@ use Rattle.std.proofs.lemmas.Bool.{le-ltb}
 use Rattle.std.proofs.lemmas.List.Elements.{All-head, All-tail}
 use Rattle.std.specs.List.{All}
 use Rattle.snb_parts.specs.Pairs.{rest}
-use Rattle.snb_reads.specs.Around.{work}
+use Rattle.snb_tables.specs.Around.{work}
 use Rattle.snb_reads.specs.ComplexReads.{is_in}
 use Rattle.snb_complex_reads.proofs.FoundLemmas.{person_fits}
 use Rattle.snb_complex_reads.proofs.JobLemmas.{in_country, job_next, job_over, jobs_begin, jobs_done}
-use Rattle.snb_complex_reads.proofs.StayLemmas.{work_found, work_is}
+use Rattle.snb_complex_reads.proofs.StayLemmas.{work_found}
 use Rattle.snb_complex_reads.specs.Found.{IsStayFound}
 use Rattle.snb_complex_reads.proofs.jobs.add_jobs.Goals as goal
 
 pub loop-organisation-init : goal.loop-organisation-init
 loop-organisation-init c =
     let g = c.args.graph.now in
-    let walk : rest c.into_iter-organisation-iterator.result ≡ work g c.args.person = ap rest c.into_iter-organisation-iterator.ensures.into_iter_gives ∙ c.work-organisation-items.ensures ∙ work_is g c.known.ensures c.args.person in
+    let walk : rest c.into_iter-organisation-iterator.result ≡ work g c.args.person = ap rest c.into_iter-organisation-iterator.ensures.into_iter_gives ∙ c.work-organisation-items.ensures in
     record {
       left = subst (All (IsStayFound g)) (sym walk) (work_found g c.known.ensures c.requires.sound.held c.args.person);
       adding = λ all are. jobs_begin g c.args.country.now c.args.year c.args.person _ all _ walk are;

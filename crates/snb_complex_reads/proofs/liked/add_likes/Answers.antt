@@ -1,8 +1,8 @@
 use Rattle.std.proofs.Common.{◌∷◌, [], sym, ap, subst, map}
 use Rattle.std.proofs.lemmas.List.Sorted.{IsPermutation-map}
+use Rattle.std.specs.List.Sorted.{IsPermutation}
 use Rattle.snb_parts.specs.Pairs.{rest}
-use Rattle.snb_graph.specs.Walks.{AreLikesOf}
-use Rattle.snb_complex_reads.proofs.LikeLemmas.{likes_moved}
+use Rattle.snb_tables.specs.Around.{likes}
 use Rattle.snb_complex_reads.proofs.Moves.{appended_done, appended_next}
 use Rattle.snb_complex_reads.specs.Found.{like_of}
 use Rattle.snb_complex_reads.proofs.liked.add_likes.Goals as goal
@@ -14,6 +14,5 @@ loop-person-preserved c =
 pub returns : goal.returns
 returns c =
     let g = c.args.graph.now in
-    let moves = likes_moved g c.args.message.0 c.known.ensures c.requires.held c.sound_graphs.ensures.kinds _
-    (subst (λ w. AreLikesOf g c.args.message.0 (rest w)) (sym c.into_iter-person-iterator.ensures.into_iter_gives) (c.likes-person-items.ensures.held c.requires.held)) in
+    let moves = subst (λ w. IsPermutation (likes g c.args.message.0) (rest w)) (sym c.into_iter-person-iterator.ensures.into_iter_gives) (c.likes-person-items.ensures.held c.requires.held).same in
     appended_done _ _ _ _ _ (IsPermutation-map (like_of c.args.message) _ _ moves) (ap (map (like_of c.args.message)) c.in-None.ensures.steps.0) c.loop-person.invariant

@@ -1,14 +1,12 @@
 use Rattle.std.proofs.Common.{ℕ, ◌∷◌, [], map, rules, sym, subst}
 use Rattle.std.proofs.lemmas.List.Sorted.{All-permutation, IsPermutation-refl, IsPermutation-trans}
 use Rattle.std.proofs.lemmas.Result.{IfOk-weaker}
-use Rattle.std.specs.List.Sorted.{IsSorted}
+use Rattle.std.specs.List.Sorted.{IsPermutation, IsSorted}
 use Rattle.snb_parts.specs.Pairs.{rest}
 use Rattle.snb_order.proofs.Laws.{compares}
-use Rattle.snb_graph.specs.Walks.{AreMessagesOf}
-use Rattle.snb_reads.specs.Around.{likes, messages}
+use Rattle.snb_tables.specs.Around.{likes, messages}
 use Rattle.snb_reads.specs.ComplexReads.{IsLiked, best_likes, liked}
 use Rattle.snb_reads.specs.Order.{Falling, First, Rising}
-use Rattle.snb_short_reads.proofs.Laws.{messages_moved}
 use Rattle.snb_complex_reads.proofs.Heads.{weigh_total}
 use Rattle.snb_complex_reads.proofs.LikeLemmas.{best_found, best_moved}
 use Rattle.snb_complex_reads.proofs.Moves.{answers_moved, joined_done, joined_next, ordered_moved, ordered_sorted}
@@ -30,7 +28,7 @@ pub latest_likes-requires : goal.latest_likes-requires
 latest_likes-requires c =
     let g = c.args.graph.now in
     let moves = joined_done (λ (m : ℕ × ℕ). map (like_of m) (likes g m.0)) (messages g c.args.person) _ _ _ c.in-None.ensures.steps.0
-    (messages_moved g c.args.person _ c.known.ensures (subst (λ w. AreMessagesOf g c.args.person (rest w)) (sym c.into_iter-message-iterator.ensures.into_iter_gives) c.messages-message-items.ensures)) c.loop-message.invariant in
+    (subst (λ w. IsPermutation (messages g c.args.person) (rest w)) (sym c.into_iter-message-iterator.ensures.into_iter_gives) c.messages-message-items.ensures.same) c.loop-message.invariant in
     let ordered = ordered_moved weigh _ _ (c.in_order-ordered.ensures weigh weigh_total (compares _ _ weigh (λ a r q k. search rules))) in
     All-permutation (IsLikeFound g) (best_likes g c.args.person) _
     (best_moved (liked g c.args.person) _ _ (IsPermutation-trans _ _ _ moves ordered) (rw c.deref.ensures.value at c.in_ok-best.ensures))
@@ -40,7 +38,7 @@ pub returns : goal.returns
 returns c =
     let g = c.args.graph.now in
     let moves = joined_done (λ (m : ℕ × ℕ). map (like_of m) (likes g m.0)) (messages g c.args.person) _ _ _ c.in-None.ensures.steps.0
-    (messages_moved g c.args.person _ c.known.ensures (subst (λ w. AreMessagesOf g c.args.person (rest w)) (sym c.into_iter-message-iterator.ensures.into_iter_gives) c.messages-message-items.ensures)) c.loop-message.invariant in
+    (subst (λ w. IsPermutation (messages g c.args.person) (rest w)) (sym c.into_iter-message-iterator.ensures.into_iter_gives) c.messages-message-items.ensures.same) c.loop-message.invariant in
     let ordered = ordered_moved weigh _ _ (c.in_order-ordered.ensures weigh weigh_total (compares _ _ weigh (λ a r q k. search rules))) in
     let best = best_moved (liked g c.args.person) _ _ (IsPermutation-trans _ _ _ moves ordered) (rw c.deref.ensures.value at c.in_ok-best.ensures) in
     IfOk-weaker c.latest_likes.result _ _ (λ a is. answers_moved (IsLiked g c.args.person) (Falling 4 ∷ Rising 1 ∷ []) (First 20) _ _ a best is) c.latest_likes.ensures

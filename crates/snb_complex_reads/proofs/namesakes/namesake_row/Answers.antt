@@ -5,7 +5,7 @@ use Rattle.std.specs.Ordering.{nat_cmp}
 use Rattle.snb_reads.specs.ComplexReads.{AreStays}
 use Rattle.snb_reads.specs.Order.{FirstOf, Whole}
 use Rattle.snb_complex_reads.proofs.NamesakeLemmas.{city_place}
-use Rattle.snb_complex_reads.proofs.StayLemmas.{emails_are, languages_are, study_found, study_is, work_found, work_is}
+use Rattle.snb_complex_reads.proofs.StayLemmas.{emails_are, languages_are, study_found, work_found}
 use Rattle.snb_complex_reads.specs.Found.{IsStayFound}
 use Rattle.snb_complex_reads.proofs.namesakes.namesake_row.Goals as goal
 
@@ -15,12 +15,12 @@ place-home-requires c = record { held = city_place c.args.graph.now c.requires.s
 pub stays-requires-clause-found : goal.stays-requires-clause-found
 stays-requires-clause-found c =
     let g = c.args.graph.now in
-    subst (All (IsStayFound g)) (sym (c.study.ensures ∙ study_is g c.known.ensures c.args.one.now.0.now.id)) (study_found g c.known.ensures c.requires.sound.held c.args.one.now.0.now.id)
+    subst (All (IsStayFound g)) (sym c.study.ensures) (study_found g c.known.ensures c.requires.sound.held c.args.one.now.0.now.id)
 
 pub stays-requires-2-clause-found : goal.stays-requires-2-clause-found
 stays-requires-2-clause-found c =
     let g = c.args.graph.now in
-    subst (All (IsStayFound g)) (sym (c.work.ensures ∙ work_is g c.known.ensures c.args.one.now.0.now.id)) (work_found g c.known.ensures c.requires.sound.held c.args.one.now.0.now.id)
+    subst (All (IsStayFound g)) (sym c.work.ensures) (work_found g c.known.ensures c.requires.sound.held c.args.one.now.0.now.id)
 
 pub returns : goal.returns
 returns c =
@@ -38,8 +38,8 @@ returns c =
       languages = c.in_ok-languages.languages;
       speaks = subst (λ l. FirstOf (slice_cmp nat_cmp) Whole l c.in_ok-languages.languages) (c.words-2.ensures ∙ languages_are g c.known.ensures id) c.in_ok-languages.ensures;
       universities = c.in_ok-universities.universities;
-      studied = subst (λ l. AreStays g l c.in_ok-universities.universities) (c.study.ensures ∙ study_is g c.known.ensures id) c.in_ok-universities.ensures;
+      studied = subst (λ l. AreStays g l c.in_ok-universities.universities) c.study.ensures c.in_ok-universities.ensures;
       companies = c.in_ok-companies.companies;
-      worked = subst (λ l. AreStays g l c.in_ok-companies.companies) (c.work.ensures ∙ work_is g c.known.ensures id) c.in_ok-companies.ensures;
+      worked = subst (λ l. AreStays g l c.in_ok-companies.companies) c.work.ensures c.in_ok-companies.ensures;
       is = search rules;
     }

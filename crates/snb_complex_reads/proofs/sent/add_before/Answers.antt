@@ -1,7 +1,7 @@
 use Rattle.std.proofs.Common.{ℕ, sym, subst, nat_lt}
+use Rattle.std.specs.List.Sorted.{IsPermutation}
 use Rattle.snb_parts.specs.Pairs.{rest}
-use Rattle.snb_graph.specs.Walks.{AreMessagesOf}
-use Rattle.snb_short_reads.proofs.Laws.{messages_moved}
+use Rattle.snb_tables.specs.Around.{messages}
 use Rattle.snb_complex_reads.proofs.Columns.{lt_no, lt_yes}
 use Rattle.snb_complex_reads.proofs.Moves.{passed_done, passed_next, passed_over}
 use Rattle.snb_complex_reads.proofs.sent.add_before.Goals as goal
@@ -19,5 +19,5 @@ loop-message-preserved-in-Continue-1 c =
 pub returns : goal.returns
 returns c =
     passed_done (λ (m : ℕ × ℕ). (c.args.person, m.0, m.1)) (λ m. nat_lt m.1 c.args.max_date) _ _ _ _ _
-    (messages_moved c.args.graph.now c.args.person _ c.known.ensures (subst (λ w. AreMessagesOf c.args.graph.now c.args.person (rest w)) (sym c.into_iter-message-iterator.ensures.into_iter_gives) c.messages-message-items.ensures))
+    (subst (λ w. IsPermutation (messages c.args.graph.now c.args.person) (rest w)) (sym c.into_iter-message-iterator.ensures.into_iter_gives) c.messages-message-items.ensures.same)
     c.in-None.ensures.steps.0 c.loop-message.invariant

@@ -1,12 +1,11 @@
 use Rattle.std.proofs.Common.{nat_le, sym, subst}
 use Rattle.std.proofs.lemmas.List.Sorted.{All-permutation, IsPermutation-refl}
 use Rattle.std.proofs.lemmas.Result.{IfOk-weaker}
+use Rattle.std.specs.List.Sorted.{IsPermutation}
 use Rattle.snb_parts.specs.Pairs.{rest}
-use Rattle.snb_graph.specs.Walks.{AreFriendsOf}
-use Rattle.snb_reads.specs.Around.{friends}
+use Rattle.snb_tables.specs.Around.{friends}
 use Rattle.snb_reads.specs.ComplexReads.{IsSent, latest}
 use Rattle.snb_reads.specs.Order.{First}
-use Rattle.snb_short_reads.proofs.Laws.{friends_moved}
 use Rattle.snb_complex_reads.proofs.FoundLemmas.{friends_found}
 use Rattle.snb_complex_reads.proofs.Moves.{answers_moved, joined_done, joined_next}
 use Rattle.snb_complex_reads.proofs.SentLemmas.{all_sent}
@@ -25,12 +24,12 @@ latest_sent-requires c =
     let g = c.args.graph.now in
     All-permutation (IsSentFound g) _ _
     (joined_done (λ p. sent_by g (λ date. nat_le date c.args.max_date) p.0) (friends g c.args.person) _ _ _ c.in-None.ensures.steps.0
-    (friends_moved g c.args.person _ c.known.ensures (subst (λ w. AreFriendsOf g c.args.person (rest w)) (sym c.into_iter-friend-iterator.ensures.into_iter_gives) c.friends-friend-items.ensures)) c.loop-friend.invariant)
+    (subst (λ w. IsPermutation (friends g c.args.person) (rest w)) (sym c.into_iter-friend-iterator.ensures.into_iter_gives) c.friends-friend-items.ensures.same) c.loop-friend.invariant)
     (all_sent g c.known.ensures c.sound_graphs.ensures.numbers (λ date. nat_le date c.args.max_date) (friends g c.args.person) (friends_found g c.known.ensures c.sound_graphs.ensures.numbers c.requires.sound.held c.args.person))
 
 pub returns : goal.returns
 returns c =
     let g = c.args.graph.now in
     let moves = joined_done (λ p. sent_by g (λ date. nat_le date c.args.max_date) p.0) (friends g c.args.person) _ _ _ c.in-None.ensures.steps.0
-    (friends_moved g c.args.person _ c.known.ensures (subst (λ w. AreFriendsOf g c.args.person (rest w)) (sym c.into_iter-friend-iterator.ensures.into_iter_gives) c.friends-friend-items.ensures)) c.loop-friend.invariant in
+    (subst (λ w. IsPermutation (friends g c.args.person) (rest w)) (sym c.into_iter-friend-iterator.ensures.into_iter_gives) c.friends-friend-items.ensures.same) c.loop-friend.invariant in
     IfOk-weaker c.latest_sent.result _ _ (λ a is. answers_moved (IsSent g) latest (First 20) _ _ a moves is) c.latest_sent.ensures

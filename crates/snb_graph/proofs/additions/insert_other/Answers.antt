@@ -1,8 +1,7 @@
-use Rattle.std.proofs.Common.{sym, subst, ap}
+use Rattle.std.proofs.Common.{sym, subst}
 use Rattle.snb_links.specs.Kept.{IsBacked, IsIndexed}
-use Rattle.snb_links.proofs.LinkLemmas.{frozen_twice}
-use Rattle.snb_links.proofs.Laws.{fresh_own, news_fresh, news_indexed, news_undone, same_indexed, still_backed}
-use Rattle.snb_store.proofs.PartLemmas.{frozen_is, rows_is}
+use Rattle.snb_links.proofs.Laws.{fresh_own, frozen_twice, more_backed, news_fresh, news_indexed, news_undone, same_indexed, still_backed}
+use Rattle.snb_store.proofs.Laws.{frozen_is, rows_is}
 use Rattle.snb_graph.proofs.GraphLemmas.{not_held}
 use Rattle.snb_tables.proofs.Laws.{err_of, ok_of}
 use Rattle.snb_graph.proofs.additions.insert_other.Goals as goal
@@ -40,5 +39,5 @@ pub returns-clause-kept : goal.returns-clause-kept
 returns-clause-kept c = record {
   indexed = news_indexed c.args.tables.now.rows c.put.new.self.rows c.args.row c.args.links.now c.add_news.new.self c.news_of-news.result c.requires.kept.indexed c.news_of-news.ensures
       (ok_of c.add_news.result c.if-is_err.ensures.value c.add_news.ensures.ok) (ok_of c.put.result c.if-is_err-2.ensures.value c.put.ensures.ok);
-  backed = subst (λ g. IsBacked g c.add_news.new.self) (sym c.put.ensures.frozen) (still_backed c.args.tables.now.frozen c.args.links.now c.add_news.new.self c.add_news.ensures.frozen c.requires.kept.backed);
+  backed = more_backed c.args.tables.now.frozen c.put.new.self.frozen c.add_news.new.self c.put.ensures.more (still_backed c.args.tables.now.frozen c.args.links.now c.add_news.new.self c.add_news.ensures.frozen c.requires.kept.backed);
 }

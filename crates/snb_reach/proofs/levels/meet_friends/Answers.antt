@@ -1,6 +1,7 @@
 use Rattle.std.proofs.Common.{◌≡◌, suc, ◌-◌, IsSome, arith, nat_eq, sym, subst}
 use Rattle.std.specs.HashMap.{get}
-use Rattle.snb_graph.specs.Walks.{AreFriendsOf}
+use Rattle.std.specs.List.Sorted.{IsPermutation}
+use Rattle.snb_tables.specs.Around.{friends}
 use Rattle.snb_parts.specs.Pairs.{rest}
 use Rattle.snb_shelf.proofs.Laws.{contains_here}
 use Rattle.snb_reach.proofs.LevelLemmas.{growing_met, met_stays}
@@ -12,7 +13,7 @@ loop-friend-init c = record {
   growing = c.requires.growing;
   stays = λ q h. h;
   looking = looks c.args.graph.now c.args.person _ _ c.requires.held
-      (subst (λ w. AreFriendsOf c.args.graph.now c.args.person (rest w)) (sym c.into_iter-friend-iterator.ensures.into_iter_gives) c.friends-friend-items.ensures);
+      (subst (λ w. IsPermutation (friends c.args.graph.now c.args.person) (rest w)) (sym c.into_iter-friend-iterator.ensures.into_iter_gives) c.friends-friend-items.ensures.same);
 }
 
 pub loop-friend-preserved : goal.loop-friend-preserved

@@ -1,6 +1,6 @@
 use Rattle.std.proofs.Common.{◌≡◌, ℕ, zero, suc, ◌≤◌, true, refl, arith, inl}
 use Rattle.snb_reads.proofs.WorkedFacts.{last_step, no_row_has, no_step, walk_end}
-use Rattle.snb_reads.specs.Around.{is_friend}
+use Rattle.snb_tables.specs.Around.{is_friend}
 use Rattle.snb_reads.specs.Distance.{IsDistance, IsPerson, Walk}
 use Rattle.snb_reads.specs.Worked.{ring}
 use Rattle.snb_reads.proofs.worked.distances_on_a_ring.Goals as goal

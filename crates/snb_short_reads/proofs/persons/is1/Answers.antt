@@ -1,8 +1,8 @@
 use Rattle.std.proofs.Common.{◌≡◌, ◌∷◌, [], subst}
 use Rattle.std.proofs.lemmas.Result.{IfOk-weaker}
 use Rattle.snb_order.proofs.Laws.{no_row, one_row}
-use Rattle.snb_reads.proofs.Laws.{no_person, person_only}
-use Rattle.snb_reads.specs.Around.{persons}
+use Rattle.snb_tables.proofs.Laws.{no_person, person_only}
+use Rattle.snb_tables.specs.Around.{persons}
 use Rattle.snb_reads.specs.ShortReads.{IsProfile}
 use Rattle.snb_short_reads.proofs.persons.is1.Goals as goal
 

@@ -3,10 +3,10 @@ use Rattle.std.proofs.lemmas.List.Elements.{All-contains_itself, All-weaker}
 use Rattle.std.proofs.lemmas.Result.{IfOk-weaker}
 use Rattle.std.specs.List.{All, Contains}
 use Rattle.snb_order.proofs.Laws.{compares, walked}
-use Rattle.snb_reads.proofs.Laws.{sent_there}
-use Rattle.snb_reads.specs.Around.{messages}
+use Rattle.snb_tables.proofs.Laws.{sent_there}
+use Rattle.snb_tables.specs.Around.{messages}
 use Rattle.snb_reads.specs.Order.{First}
-use Rattle.snb_short_reads.proofs.Laws.{message_found, messages_moved}
+use Rattle.snb_short_reads.proofs.Laws.{message_found}
 use Rattle.snb_short_reads.proofs.RowLemmas.{is2_answers, latest_first, latest_total}
 use Rattle.snb_short_reads.specs.Found.{IsMessageFound}
 use Rattle.snb_short_reads.proofs.persons.is2.Goals as goal
@@ -16,7 +16,7 @@ recents-requires-clause-found c =
     let g = c.args.graph.now in
     let all : All (IsMessageFound g) (messages g c.args.person) = All-weaker (Contains (messages g c.args.person)) (IsMessageFound g)
     (λ m d. message_found g c.known.ensures c.sound_graphs.ensures.numbers c.args.person m.0 m.1 (sent_there g c.args.person m.0 m.1 d)) (messages g c.args.person) (All-contains_itself (messages g c.args.person)) in
-    walked (IsMessageFound g) latest_first (First 10) _ _ _ _ _ all (messages_moved g c.args.person _ c.known.ensures c.messages.ensures) c.in_ok-found.ensures
+    walked (IsMessageFound g) latest_first (First 10) _ _ _ _ _ all c.messages.ensures.same c.in_ok-found.ensures
     (c.first_of-latest.ensures latest_first latest_total (compares _ _ latest_first (λ a r q k. search rules))) c.deref.ensures.value
 
 pub returns : goal.returns
@@ -26,5 +26,5 @@ returns c =
     (λ m d. message_found g c.known.ensures c.sound_graphs.ensures.numbers c.args.person m.0 m.1 (sent_there g c.args.person m.0 m.1 d)) (messages g c.args.person) (All-contains_itself (messages g c.args.person)) in
     let laws = c.sound_graphs.ensures in
     IfOk-weaker c.recents.result _ _ (λ a z. is2_answers g c.known.ensures c.requires.sound laws.numbers laws.kinds laws.author laws.root c.args.person _ _ _ a
-    (messages_moved g c.args.person _ c.known.ensures c.messages.ensures) c.in_ok-found.ensures all
+    c.messages.ensures.same c.in_ok-found.ensures all
     (c.first_of-latest.ensures latest_first latest_total (compares _ _ latest_first (λ a r q k. search rules))) (rw c.deref.ensures.value at z)) c.recents.ensures

@@ -3,10 +3,10 @@ use Rattle.std.proofs.lemmas.List.Elements.{All-contains_itself, All-weaker}
 use Rattle.std.proofs.lemmas.Result.{IfOk-weaker}
 use Rattle.std.specs.List.{All, Contains}
 use Rattle.snb_order.proofs.Laws.{compares, walked}
-use Rattle.snb_reads.proofs.Laws.{friend_there}
-use Rattle.snb_reads.specs.Around.{friends}
+use Rattle.snb_tables.proofs.Laws.{friend_there}
+use Rattle.snb_tables.specs.Around.{friends}
 use Rattle.snb_reads.specs.Order.{Whole}
-use Rattle.snb_short_reads.proofs.Laws.{friend_found, friends_moved}
+use Rattle.snb_short_reads.proofs.Laws.{friend_found}
 use Rattle.snb_short_reads.proofs.RowLemmas.{friends_first, friends_total, is3_answers}
 use Rattle.snb_short_reads.specs.Found.{IsFriendFound}
 use Rattle.snb_short_reads.proofs.persons.is3.Goals as goal
@@ -16,12 +16,12 @@ friend_rows-requires c =
     let g = c.args.graph.now in
     let all : All (IsFriendFound g) (friends g c.args.person) = All-weaker (Contains (friends g c.args.person)) (IsFriendFound g)
     (λ f d. friend_found g c.known.ensures c.sound_graphs.ensures.numbers c.requires.sound.held c.args.person f.0 f.1 (friend_there g c.args.person f.0 f.1 d)) (friends g c.args.person) (All-contains_itself (friends g c.args.person)) in
-    walked (IsFriendFound g) friends_first Whole _ _ _ _ _ all (friends_moved g c.args.person _ c.known.ensures c.friends.ensures) c.in_ok-found.ensures
+    walked (IsFriendFound g) friends_first Whole _ _ _ _ _ all c.friends.ensures.same c.in_ok-found.ensures
     (c.in_order-ordered.ensures friends_first friends_total (compares _ _ friends_first (λ a r q k. search rules))) c.deref.ensures.value
 
 pub returns : goal.returns
 returns c =
     let g = c.args.graph.now in
     IfOk-weaker c.friend_rows.result _ _ (λ a z. is3_answers g c.args.person _ _ _ a
-    (friends_moved g c.args.person _ c.known.ensures c.friends.ensures) c.in_ok-found.ensures
+    c.friends.ensures.same c.in_ok-found.ensures
     (c.in_order-ordered.ensures friends_first friends_total (compares _ _ friends_first (λ a r q k. search rules))) (rw c.deref.ensures.value at z)) c.friend_rows.ensures

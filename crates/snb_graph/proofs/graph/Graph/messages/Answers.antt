@@ -1,7 +1,6 @@
-use Rattle.snb_links.specs.declared.link.Walk.TheVariants.{Messages}
 use Rattle.snb_parts.specs.Pairs.{rest}
-use Rattle.snb_graph.proofs.GraphLemmas.{walk_pairs}
+use Rattle.snb_graph.proofs.WalkLemmas.{messages_walk}
 use Rattle.snb_graph.proofs.graph.Graph.messages.Goals as goal
 
 pub returns : goal.returns
-returns c = rw (← c.self.view_is) (walk_pairs c.self.inside.tables.rows c.self.inside.links Messages c.args.person (rest c.pairs.result) c.self.invariant.indexed c.pairs.ensures)
+returns c = rw (← c.self.view_is) (messages_walk c.self.inside.tables.rows c.self.inside.links c.self.invariant.indexed c.args.person (rest c.pairs.result) c.pairs.ensures)

@@ -1,7 +1,6 @@
-use Rattle.snb_links.specs.declared.link.Walk.TheVariants.{Replies}
 use Rattle.snb_parts.specs.Pairs.{rest}
-use Rattle.snb_graph.proofs.GraphLemmas.{walk_pairs}
+use Rattle.snb_graph.proofs.WalkLemmas.{replies_walk}
 use Rattle.snb_graph.proofs.graph.Graph.replies.Goals as goal
 
 pub returns : goal.returns
-returns c = rw (← c.self.view_is) (walk_pairs c.self.inside.tables.rows c.self.inside.links Replies c.args.message (rest c.pairs.result) c.self.invariant.indexed c.pairs.ensures)
+returns c = rw (← c.self.view_is) (replies_walk c.self.inside.tables.rows c.self.inside.links c.self.invariant.indexed c.args.message (rest c.pairs.result) c.pairs.ensures)

@@ -1,12 +1,6 @@
-use Rattle.std.proofs.Common.{refl}
-use Rattle.snb_links.specs.declared.link.Walk.TheVariants.{Study}
-use Rattle.snb_schema.specs.declared.table.Table.TheVariants as table
 use Rattle.snb_parts.specs.Pairs.{rest}
-use Rattle.snb_graph.proofs.GraphLemmas.{walk_pairs}
-use Rattle.snb_graph.proofs.StayLemmas.{stays_are}
+use Rattle.snb_graph.proofs.WalkLemmas.{study_walk}
 use Rattle.snb_graph.proofs.graph.Graph.study.Goals as goal
 
 pub returns : goal.returns
-returns c =
-    rw (← c.self.view_is) (stays_are c.self.inside.tables.rows table.PersonStudyAtOrganisation c.args.person c.self.invariant.indexed.graph refl (rest c.pairs.result)
-    (walk_pairs c.self.inside.tables.rows c.self.inside.links Study c.args.person (rest c.pairs.result) c.self.invariant.indexed c.pairs.ensures))
+returns c = rw (← c.self.view_is) (study_walk c.self.inside.tables.rows c.self.inside.links c.self.invariant.indexed c.args.person (rest c.pairs.result) c.pairs.ensures)

@@ -1,5 +1,5 @@
 use Rattle.snb_links.proofs.LinkLemmas.{comment_likes_alone, frozen_at, friends_alone, gained_at, messages_alone, new_at, post_likes_alone, replies_alone, study_alone, work_alone, same_at}
-use Rattle.snb_parts.proofs.PairLemmas.{on_err, on_ok}
+use Rattle.snb_parts.proofs.Laws.{on_err, on_ok}
 use Rattle.snb_links.specs.declared.link.Walk.TheVariants.{Friends, Messages, Replies, PostLikes, CommentLikes, Work, Study}
 use Rattle.snb_links.proofs.indexes.Indexes.add.Goals as goal
 

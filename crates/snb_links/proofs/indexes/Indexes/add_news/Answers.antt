@@ -1,5 +1,6 @@
 use Rattle.std.proofs.Common.{inl}
-use Rattle.snb_links.proofs.LinkLemmas.{both_gained, first_undone, frozen_twice, lost_of_same, new_own, still_new, still_own}
+use Rattle.snb_links.proofs.Laws.{frozen_twice}
+use Rattle.snb_links.proofs.LinkLemmas.{both_gained, first_undone, lost_of_same, new_own, still_new, still_own}
 use Rattle.snb_tables.proofs.Laws.{err_of, ok_of}
 use Rattle.snb_links.proofs.indexes.Indexes.add_news.Goals as goal
 

@@ -1,5 +1,6 @@
 use Rattle.std.proofs.Common.{inl, inr}
-use Rattle.snb_links.proofs.LinkLemmas.{both_lost, frozen_twice, still_own}
+use Rattle.snb_links.proofs.Laws.{frozen_twice}
+use Rattle.snb_links.proofs.LinkLemmas.{both_lost, still_own}
 use Rattle.snb_links.proofs.indexes.Indexes.drop_news.Goals as goal
 
 pub drop_some-requires : goal.drop_some-requires

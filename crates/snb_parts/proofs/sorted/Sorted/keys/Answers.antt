@@ -1,4 +1,4 @@
-use Rattle.std.proofs.Common.{sym, ◌∙◌, refl}
+use Rattle.std.proofs.Common.{sym}
 use Rattle.std.proofs.lemmas.Map.Made.{keys_of-zip}
 use Rattle.snb_parts.proofs.sorted.Sorted.keys.Goals as goal
 

@@ -1,4 +1,4 @@
-use Rattle.std.proofs.Common.{sym, ◌∙◌, refl}
+use Rattle.std.proofs.Common.{sym}
 use Rattle.std.proofs.lemmas.Slice.Zip.{seconds-zip}
 use Rattle.snb_parts.proofs.sorted.Sorted.values.Goals as goal
 

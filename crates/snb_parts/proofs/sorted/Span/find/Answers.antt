@@ -1,7 +1,16 @@
-use Rattle.std.proofs.Common.{rules, sym}
+use Rattle.std.proofs.Common.{rules, sym, ◌∙◌, ap, length, arith}
+use Rattle.std.specs.Ordering.{is_lt}
 use Rattle.std.proofs.lemmas.Fn.{always_returns_same}
-use Rattle.snb_parts.proofs.ZipLemmas.{found_beside, keys_rise, keys_searchable, missed_beside}
+use Rattle.snb_parts.proofs.SearchLemmas.{less}
+use Rattle.snb_parts.proofs.ZipLemmas.{all_below, found_beside, keys_rise, keys_searchable, missed_beside}
 use Rattle.snb_parts.proofs.sorted.Span.find.Goals as goal
+
+-- the last key is below this one
+pub returns : goal.returns
+returns g c =
+    let rises = keys_rise g.K.Ord.cmp g.met.K.Ord.total g.met.K.Apart.same_key c.self.inside.keys.now c.self.inside.values.now c.self.invariant (rw (← c.self.view_is) at c.requires) in
+    let below = all_below g.K.Ord.cmp g.met.K.Ord.total g.met.K.Apart.same_key c.self.inside.keys.now c.in-Some.last.now c.args.key.now rises (sym c.in-Some.ensures.value) (less _ (ap is_lt (sym c.cmp.ensures) ∙ sym c.if-is_lt.ensures)) in
+    rw (← c.self.view_is) (sym (missed_beside g.K.Ord.cmp g.met.K.Ord.total g.met.K.Apart.same_key c.self.inside.keys.now c.self.inside.values.now c.args.key.now (length c.self.inside.keys.now) c.self.invariant (rw (← c.self.view_is) at c.requires) (omega arith) below (λ j d l h. absurd (omega arith))))
 
 -- the key is at its place
 pub returns-in-Ok : goal.returns-in-Ok

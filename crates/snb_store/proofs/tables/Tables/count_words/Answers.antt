@@ -8,7 +8,7 @@ use Rattle.snb_shelf.specs.Rows.{entry_row}
 use Rattle.snb_tables.specs.Graphs.{part_of}
 use Rattle.snb_store.specs.Parts.{parts}
 use Rattle.snb_store.proofs.TableLemmas.{whole_table}
-use Rattle.snb_store.proofs.PartLemmas.{rows_is}
+use Rattle.snb_store.proofs.Laws.{rows_is}
 use Rattle.snb_store.proofs.tables.Tables.count_words.Goals as goal
 
 pub returns : goal.returns

@@ -1,7 +1,7 @@
 use Rattle.std.proofs.Common.{◌∙◌}
 use Rattle.snb_store.specs.Parts.{parts}
 use Rattle.snb_store.proofs.TableLemmas.{rows_fit}
-use Rattle.snb_store.proofs.PartLemmas.{rows_is}
+use Rattle.snb_store.proofs.Laws.{rows_is}
 use Rattle.snb_store.proofs.tables.Tables.each_edge.Goals as goal
 
 pub over-requires : goal.over-requires

@@ -2,7 +2,7 @@ use Rattle.std.proofs.Common.{◌∙◌, refl, arith}
 use Rattle.snb_schema.specs.declared.table.Table.TheVariants as tables
 use Rattle.snb_store.specs.Parts.{parts}
 use Rattle.snb_store.proofs.TableLemmas.{node_range, rows_fit}
-use Rattle.snb_store.proofs.PartLemmas.{rows_is}
+use Rattle.snb_store.proofs.Laws.{rows_is}
 use Rattle.snb_store.proofs.tables.Tables.each_persons.Goals as goal
 
 pub over-requires : goal.over-requires

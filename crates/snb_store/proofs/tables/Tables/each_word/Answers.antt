@@ -2,7 +2,7 @@ use Rattle.std.proofs.Common.{◌∙◌, ap}
 use Rattle.snb_tables.specs.Graphs.{part_of}
 use Rattle.snb_store.specs.Parts.{parts}
 use Rattle.snb_store.proofs.TableLemmas.{rows_fit, whole_table}
-use Rattle.snb_store.proofs.PartLemmas.{rows_is}
+use Rattle.snb_store.proofs.Laws.{rows_is}
 use Rattle.snb_store.proofs.tables.Tables.each_word.Goals as goal
 
 pub over-requires : goal.over-requires

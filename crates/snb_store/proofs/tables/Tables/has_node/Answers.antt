@@ -3,7 +3,7 @@ use Rattle.snb_schema.specs.RowKeys.{node_key}
 use Rattle.snb_schema.specs.declared.table.Kind.TheVariants as kinds
 use Rattle.snb_store.specs.Parts.{parts}
 use Rattle.snb_store.proofs.SlotLemmas.{key_in_part}
-use Rattle.snb_store.proofs.PartLemmas.{rows_is}
+use Rattle.snb_store.proofs.Laws.{rows_is}
 use Rattle.snb_store.proofs.tables.Tables.has_node.Goals as goal
 
 pub returns-in-Place : goal.returns-in-Place

@@ -1,6 +1,6 @@
 use Rattle.snb_store.specs.Parts.{parts}
 use Rattle.snb_store.proofs.SlotLemmas.{key_in_part, word_slot, word_part}
-use Rattle.snb_store.proofs.PartLemmas.{rows_is}
+use Rattle.snb_store.proofs.Laws.{rows_is}
 use Rattle.snb_store.proofs.tables.Tables.has_word.Goals as goal
 
 pub returns : goal.returns

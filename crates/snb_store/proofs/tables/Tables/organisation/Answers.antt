@@ -5,7 +5,7 @@ use Rattle.snb_schema.specs.declared.table.Kind.TheVariants as kinds
 use Rattle.snb_schema.specs.RowKeys.{node_key}
 use Rattle.snb_store.specs.Parts.{parts}
 use Rattle.snb_store.proofs.SlotLemmas.{key_in_part, found_in_part}
-use Rattle.snb_store.proofs.PartLemmas.{rows_is}
+use Rattle.snb_store.proofs.Laws.{rows_is}
 use Rattle.snb_store.proofs.tables.Tables.organisation.Goals as goal
 
 pub returns-clause-held : goal.returns-clause-held

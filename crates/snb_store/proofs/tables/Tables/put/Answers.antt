@@ -1,10 +1,11 @@
 -- Each kind of row goes to the shelf of its part.
 use Rattle.std.proofs.Common.{◌∷◌, [], ap, refl, ◌∙◌, sym, arith}
 use Rattle.snb_shelf.specs.Rows.{Stock}
-use Rattle.snb_store.specs.Parts.{parts}
-use Rattle.snb_store.proofs.PartLemmas.{put_part, new_key, dated_row, yeared_row, shape_at}
-use Rattle.snb_store.proofs.PartLemmas.{rows_is, stock_of}
-use Rattle.snb_parts.proofs.PairLemmas.{on_err}
+use Rattle.snb_store.specs.Parts.{frozen_parts, parts}
+use Rattle.snb_store.proofs.PartLemmas.{joined_more, put_part, new_key, dated_row, yeared_row, shape_at}
+use Rattle.snb_store.proofs.Laws.{rows_is}
+use Rattle.snb_store.proofs.PartLemmas.{stock_of}
+use Rattle.snb_parts.proofs.Laws.{on_err}
 use Rattle.snb_store.proofs.tables.Tables.put.Goals as goal
 
 pub add-requires-clause-new : goal.add-requires-clause-new
@@ -107,37 +108,37 @@ pub returns-in-Yeared-clause-ok : goal.returns-in-Yeared-clause-ok
 returns-in-Yeared-clause-ok c = (put_part (parts c.self.inside) 8 c.add-in-Yeared.new.self.rows c.args.self.now.rows c.args.row _ c.add-in-Yeared.result (omega arith) (rows_is c.self.view_is) (c.in-Yeared.is ∙ sym (yeared_row c.in-Yeared.table c.in-Yeared.from c.in-Yeared.to c.in-Yeared.year (shape_at _ _ c.in-Yeared.is c.requires.shaped))) c.self.invariant c.add-in-Yeared.ensures.whole c.add-in-Yeared.ensures.ok (on_err c.add-in-Yeared.result rows_is c.add-in-Yeared.ensures.err) c.requires.free c.requires.shaped).1
 
 pub returns-in-Place-clause-frozen : goal.returns-in-Place-clause-frozen
-returns-in-Place-clause-frozen c = rw (c.add.ensures.frozen, ← c.self.view_is) refl
+returns-in-Place-clause-frozen c added = rw (c.add.ensures.frozen added, ← c.self.view_is) refl
 
 pub returns-in-TagClass-clause-frozen : goal.returns-in-TagClass-clause-frozen
-returns-in-TagClass-clause-frozen c = rw (c.add-in-TagClass.ensures.frozen, ← c.self.view_is) refl
+returns-in-TagClass-clause-frozen c added = rw (c.add-in-TagClass.ensures.frozen added, ← c.self.view_is) refl
 
 pub returns-in-Tag-clause-frozen : goal.returns-in-Tag-clause-frozen
-returns-in-Tag-clause-frozen c = rw (c.add-in-Tag.ensures.frozen, ← c.self.view_is) refl
+returns-in-Tag-clause-frozen c added = rw (c.add-in-Tag.ensures.frozen added, ← c.self.view_is) refl
 
 pub returns-in-Organisation-clause-frozen : goal.returns-in-Organisation-clause-frozen
-returns-in-Organisation-clause-frozen c = rw (c.add-in-Organisation.ensures.frozen, ← c.self.view_is) refl
+returns-in-Organisation-clause-frozen c added = rw (c.add-in-Organisation.ensures.frozen added, ← c.self.view_is) refl
 
 pub returns-in-Person-clause-frozen : goal.returns-in-Person-clause-frozen
-returns-in-Person-clause-frozen c = rw (c.add-in-Person.ensures.frozen, ← c.self.view_is) refl
+returns-in-Person-clause-frozen c added = rw (c.add-in-Person.ensures.frozen added, ← c.self.view_is) refl
 
 pub returns-in-Forum-clause-frozen : goal.returns-in-Forum-clause-frozen
-returns-in-Forum-clause-frozen c = rw (c.add-in-Forum.ensures.frozen, ← c.self.view_is) refl
+returns-in-Forum-clause-frozen c added = rw (c.add-in-Forum.ensures.frozen added, ← c.self.view_is) refl
 
 pub returns-in-Post-clause-frozen : goal.returns-in-Post-clause-frozen
-returns-in-Post-clause-frozen c = rw (c.add-in-Post.ensures.frozen, ← c.self.view_is) refl
+returns-in-Post-clause-frozen c added = rw (c.add-in-Post.ensures.frozen added, ← c.self.view_is) refl
 
 pub returns-in-Comment-clause-frozen : goal.returns-in-Comment-clause-frozen
-returns-in-Comment-clause-frozen c = rw (c.add-in-Comment.ensures.frozen, ← c.self.view_is) refl
+returns-in-Comment-clause-frozen c added = rw (c.add-in-Comment.ensures.frozen added, ← c.self.view_is) refl
 
 pub returns-in-Link-clause-frozen : goal.returns-in-Link-clause-frozen
-returns-in-Link-clause-frozen c = rw (c.add-in-Link.ensures.frozen, ← c.self.view_is) refl
+returns-in-Link-clause-frozen c added = rw (c.add-in-Link.ensures.frozen added, ← c.self.view_is) refl
 
 pub returns-in-Dated-clause-frozen : goal.returns-in-Dated-clause-frozen
-returns-in-Dated-clause-frozen c = rw (c.add-in-Dated.ensures.frozen, ← c.self.view_is) refl
+returns-in-Dated-clause-frozen c added = rw (c.add-in-Dated.ensures.frozen added, ← c.self.view_is) refl
 
 pub returns-in-Yeared-clause-frozen : goal.returns-in-Yeared-clause-frozen
-returns-in-Yeared-clause-frozen c = rw (c.add-in-Yeared.ensures.frozen, ← c.self.view_is) refl
+returns-in-Yeared-clause-frozen c added = rw (c.add-in-Yeared.ensures.frozen added, ← c.self.view_is) refl
 
 pub returns-in-Place-clause-err : goal.returns-in-Place-clause-err
 returns-in-Place-clause-err c = on_err c.add.result (λ e. ap (λ (x : Stock). stock_of (x.rows ∷ c.self.inside.tag_classes.rows ∷ c.self.inside.tags.rows ∷ c.self.inside.organisations.rows ∷ c.self.inside.persons.rows ∷ c.self.inside.forums.rows ∷ c.self.inside.posts.rows ∷ c.self.inside.comments.rows ∷ c.self.inside.edges.rows ∷ c.self.inside.words.rows ∷ []) (x.frozen ∷ c.self.inside.tag_classes.frozen ∷ c.self.inside.tags.frozen ∷ c.self.inside.organisations.frozen ∷ c.self.inside.persons.frozen ∷ c.self.inside.forums.frozen ∷ c.self.inside.posts.frozen ∷ c.self.inside.comments.frozen ∷ c.self.inside.edges.frozen ∷ c.self.inside.words.frozen ∷ [])) e ∙ c.self.view_is) c.add.ensures.err
@@ -171,3 +172,36 @@ returns-in-Dated-clause-err c = on_err c.add-in-Dated.result (λ e. ap (λ (x : 
 
 pub returns-in-Yeared-clause-err : goal.returns-in-Yeared-clause-err
 returns-in-Yeared-clause-err c = on_err c.add-in-Yeared.result (λ e. ap (λ (x : Stock). stock_of (c.self.inside.places.rows ∷ c.self.inside.tag_classes.rows ∷ c.self.inside.tags.rows ∷ c.self.inside.organisations.rows ∷ c.self.inside.persons.rows ∷ c.self.inside.forums.rows ∷ c.self.inside.posts.rows ∷ c.self.inside.comments.rows ∷ x.rows ∷ c.self.inside.words.rows ∷ []) (c.self.inside.places.frozen ∷ c.self.inside.tag_classes.frozen ∷ c.self.inside.tags.frozen ∷ c.self.inside.organisations.frozen ∷ c.self.inside.persons.frozen ∷ c.self.inside.forums.frozen ∷ c.self.inside.posts.frozen ∷ c.self.inside.comments.frozen ∷ x.frozen ∷ c.self.inside.words.frozen ∷ [])) e ∙ c.self.view_is) c.add-in-Yeared.ensures.err
+
+pub returns-in-Place-clause-more : goal.returns-in-Place-clause-more
+returns-in-Place-clause-more c = rw (← c.self.view_is) (joined_more (frozen_parts c.self.inside) 0 c.add.new.self.frozen c.add.ensures.more)
+
+pub returns-in-TagClass-clause-more : goal.returns-in-TagClass-clause-more
+returns-in-TagClass-clause-more c = rw (← c.self.view_is) (joined_more (frozen_parts c.self.inside) 1 c.add-in-TagClass.new.self.frozen c.add-in-TagClass.ensures.more)
+
+pub returns-in-Tag-clause-more : goal.returns-in-Tag-clause-more
+returns-in-Tag-clause-more c = rw (← c.self.view_is) (joined_more (frozen_parts c.self.inside) 2 c.add-in-Tag.new.self.frozen c.add-in-Tag.ensures.more)
+
+pub returns-in-Organisation-clause-more : goal.returns-in-Organisation-clause-more
+returns-in-Organisation-clause-more c = rw (← c.self.view_is) (joined_more (frozen_parts c.self.inside) 3 c.add-in-Organisation.new.self.frozen c.add-in-Organisation.ensures.more)
+
+pub returns-in-Person-clause-more : goal.returns-in-Person-clause-more
+returns-in-Person-clause-more c = rw (← c.self.view_is) (joined_more (frozen_parts c.self.inside) 4 c.add-in-Person.new.self.frozen c.add-in-Person.ensures.more)
+
+pub returns-in-Forum-clause-more : goal.returns-in-Forum-clause-more
+returns-in-Forum-clause-more c = rw (← c.self.view_is) (joined_more (frozen_parts c.self.inside) 5 c.add-in-Forum.new.self.frozen c.add-in-Forum.ensures.more)
+
+pub returns-in-Post-clause-more : goal.returns-in-Post-clause-more
+returns-in-Post-clause-more c = rw (← c.self.view_is) (joined_more (frozen_parts c.self.inside) 6 c.add-in-Post.new.self.frozen c.add-in-Post.ensures.more)
+
+pub returns-in-Comment-clause-more : goal.returns-in-Comment-clause-more
+returns-in-Comment-clause-more c = rw (← c.self.view_is) (joined_more (frozen_parts c.self.inside) 7 c.add-in-Comment.new.self.frozen c.add-in-Comment.ensures.more)
+
+pub returns-in-Link-clause-more : goal.returns-in-Link-clause-more
+returns-in-Link-clause-more c = rw (← c.self.view_is) (joined_more (frozen_parts c.self.inside) 8 c.add-in-Link.new.self.frozen c.add-in-Link.ensures.more)
+
+pub returns-in-Dated-clause-more : goal.returns-in-Dated-clause-more
+returns-in-Dated-clause-more c = rw (← c.self.view_is) (joined_more (frozen_parts c.self.inside) 8 c.add-in-Dated.new.self.frozen c.add-in-Dated.ensures.more)
+
+pub returns-in-Yeared-clause-more : goal.returns-in-Yeared-clause-more
+returns-in-Yeared-clause-more c = rw (← c.self.view_is) (joined_more (frozen_parts c.self.inside) 8 c.add-in-Yeared.new.self.frozen c.add-in-Yeared.ensures.more)

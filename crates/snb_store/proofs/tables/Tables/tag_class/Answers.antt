@@ -6,7 +6,7 @@ use Rattle.snb_schema.specs.RowKeys.{node_key}
 use Rattle.snb_tables.specs.Graphs.{HasKey}
 use Rattle.snb_store.specs.Parts.{parts}
 use Rattle.snb_store.proofs.SlotLemmas.{key_in_part, found_in_part}
-use Rattle.snb_store.proofs.PartLemmas.{rows_is}
+use Rattle.snb_store.proofs.Laws.{rows_is}
 use Rattle.snb_store.proofs.tables.Tables.tag_class.Goals as goal
 
 pub returns-in-Some-clause-held : goal.returns-in-Some-clause-held

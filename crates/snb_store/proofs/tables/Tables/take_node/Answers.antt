@@ -5,7 +5,7 @@ use Rattle.snb_schema.specs.declared.table.Kind.TheVariants as kinds
 use Rattle.snb_store.specs.Parts.{frozen_parts, parts}
 use Rattle.snb_store.proofs.PartLemmas.{not_in_part, part_lost}
 use Rattle.snb_tables.specs.Graphs.{HasKey}
-use Rattle.snb_store.proofs.PartLemmas.{rows_is}
+use Rattle.snb_store.proofs.Laws.{rows_is}
 use Rattle.snb_store.proofs.tables.Tables.take_node.Goals as goal
 
 pub invariant_of-self : goal.invariant_of-self

@@ -3,7 +3,7 @@ use Rattle.snb_shelf.specs.KeysApart.{word_name}
 use Rattle.snb_store.specs.Parts.{frozen_parts, parts}
 use Rattle.snb_store.proofs.PartLemmas.{not_in_part, part_lost}
 use Rattle.snb_tables.specs.Graphs.{part_of}
-use Rattle.snb_store.proofs.PartLemmas.{rows_is}
+use Rattle.snb_store.proofs.Laws.{rows_is}
 use Rattle.snb_store.proofs.tables.Tables.take_word.Goals as goal
 
 pub invariant_of-self : goal.invariant_of-self

@@ -3,7 +3,7 @@ use Rattle.snb_schema.specs.RowKeys.{row_key}
 use Rattle.snb_tables.specs.Graphs.{part_of}
 use Rattle.snb_store.specs.Parts.{parts}
 use Rattle.snb_store.proofs.TableLemmas.{one_person, word_texts}
-use Rattle.snb_store.proofs.PartLemmas.{rows_is}
+use Rattle.snb_store.proofs.Laws.{rows_is}
 use Rattle.snb_store.proofs.tables.Tables.words.Goals as goal
 
 pub returns : goal.returns

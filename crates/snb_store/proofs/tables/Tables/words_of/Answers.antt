@@ -3,7 +3,7 @@ use Rattle.snb_tables.specs.Graphs.{part_of}
 use Rattle.snb_store.specs.Parts.{parts}
 use Rattle.snb_store.specs.Words.{is_from}
 use Rattle.snb_store.proofs.TableLemmas.{word_rows}
-use Rattle.snb_store.proofs.PartLemmas.{rows_is}
+use Rattle.snb_store.proofs.Laws.{rows_is}
 use Rattle.snb_store.proofs.tables.Tables.words_of.Goals as goal
 
 pub returns-clause-rows : goal.returns-clause-rows

@@ -145,6 +145,10 @@ module _ (g : List Row) where
   abbrev pub replies : ℕ → List (ℕ × ℕ)
   replies m = filter_map (reply_of m) (rows g table.Comment)
 
+  -- who likes the message by a row of the table, with the dates
+  abbrev pub likes_in : Table → ℕ → List (ℕ × ℕ)
+  likes_in t m = filter_map (liker_in m) (rows g t)
+
   -- who likes the message, with the dates
   abbrev pub likes : ℕ → List (ℕ × ℕ)
   likes m = filter_map (liker_in m) (rows g table.PersonLikesPost ++ rows g table.PersonLikesComment)
