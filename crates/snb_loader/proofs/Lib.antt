@@ -12,3 +12,4 @@ mod PastFacts
 mod StreamFacts
 pub mod Laws
 pub mod TakerFacts
+mod WordFacts

@@ -7,12 +7,14 @@ ghost use Rattle.snb_input.specs.Loading.{OnReadFault};
 ghost use Rattle.snb_input.specs.Stages.{IsStage, IsWalkWithin, before};
 ghost use Rattle.snb_schema.specs.declared.limits.TheConstants.{MAX_BYTES, MAX_ROWS};
 ghost use Rattle.snb_schema.specs.Faults.{OnBad};
+ghost use Rattle.snb_schema.specs.declared.row.Row.TheVariants as row;
 ghost use Rattle.snb_schema.specs.TableRows.{IsTableRow};
 ghost use Rattle.snb_loader.specs.Tables.{HasTaken, IsHeard, IsSecond, IsTableTaker, table_format};
 
 use crate::lacking::{first_lacking, may_repeat};
 use crate::order::TABLES;
 use snb_base::shelf::Shelf;
+use snb_base::text::Text;
 use snb_csv::law::{one_column, one_row, rows_of_fields_fit};
 use snb_csv::rows::TableLines;
 use snb_graph::graph::Graph;
@@ -25,6 +27,7 @@ use snb_schema::file::FileId;
 use snb_schema::limits::MAX_ROWS;
 use snb_schema::refusal::Refusal;
 use snb_schema::row::{Placed, Row};
+use snb_schema::table::Table;
 use snb_store::insert::Insert;
 use std::alloc::{AllocError, Global};
 use std::marker::Model;
@@ -69,9 +72,28 @@ impl TableGraph {
         graph
     }
 
-    // Adds a row, unless it repeats an edge or a word. `Bad` says that a row has its slot, which it
+    // Adds a word, unless it is held.
+    fn put_word(&mut self, table: Table, person: u64, text: Text) -> Result<(), AllocError>
+        requires { IsTableRow (row.Word table person text) }
+        ensures ok { OnOk result (HasTaken self.old (row.Word table person text) self.new) }
+        ensures err { OnErr result (self.new ≡ self.old) }
+    {
+        self.graph.known();
+        let row = Row::Word {
+            table,
+            person,
+            text,
+        };
+        match self.graph.insert_row(row) {
+            Ok(()) => Ok(()),
+            Err(Insert::Duplicate) => Ok(()),
+            Err(Insert::Memory) => Err(AllocError),
+        }
+    }
+
+    // Adds a row that is no word, unless it repeats an edge. `Bad` says that a row has its slot, which it
     // doesn't repeat.
-    fn put_row(&mut self, file: FileId, line: u32, row: Row) -> Result<(), Fault>
+    fn put_other(&mut self, file: FileId, line: u32, row: Row) -> Result<(), Fault>
         requires { IsTableRow row }
         ensures ok { OnOk result (HasTaken self.old row self.new) }
         ensures bad { OnBad result (λ r. IsSecond self.old row × (r ≡ Refusal.Duplicate file line)) }
@@ -86,6 +108,27 @@ impl TableGraph {
                 refusal: Refusal::Duplicate { file, line },
             }),
             Err(Insert::Memory) => Err(Fault::Memory),
+        }
+    }
+
+    // Adds a row, unless it repeats an edge or a word. `Bad` says that a row has its slot, which it
+    // doesn't repeat.
+    fn put_row(&mut self, file: FileId, line: u32, row: Row) -> Result<(), Fault>
+        requires { IsTableRow row }
+        ensures ok { OnOk result (HasTaken self.old row self.new) }
+        ensures bad { OnBad result (λ r. IsSecond self.old row × (r ≡ Refusal.Duplicate file line)) }
+        ensures same { OnErr result (self.new ≡ self.old) }
+    {
+        match row {
+            Row::Word {
+                table,
+                person,
+                text,
+            } => match self.put_word(table, person, text) {
+                Ok(()) => Ok(()),
+                Err(_) => Err(Fault::Memory),
+            },
+            other => self.put_other(file, line, other),
         }
     }
 }
