@@ -1,6 +1,7 @@
 //! The calls of this crate by their words. To add one, write a function for it, and name it here.
 
 use crate::boards::{crew, fresh_word, two_seats};
+use crate::halts::halt_after;
 use snb_book_calls::state::State;
 use snb_script::flaw::Flaw;
 use std::alloc::Global;
@@ -19,6 +20,7 @@ fn answer_of<R: Threads + Wait + Sync>(
         "two_seats" => two_seats(rt, alloc, state, rest),
         "crew" => crew(rt, alloc, state, rest),
         "fresh_word" => fresh_word(rt, alloc, state, rest),
+        "halt_after" => halt_after(rt, alloc, state, rest),
         _ => Err(Flaw::NoWord),
     }
 }

@@ -1,6 +1,6 @@
 //! Calls of a board, each of which makes one and closes it.
 
-ghost use Rattle.std.specs.Prelude.{◌≡◌, ◌≤◌, ℕ, IfOk, IsTrue, List, false};
+ghost use Rattle.std.specs.Prelude.{◌≡◌, ◌≤◌, ℕ, [], IfOk, IsTrue, List, false};
 ghost use Rattle.snb_schema.specs.declared.event.Event.{Event};
 ghost use Rattle.snb_schema.specs.declared.limits.TheConstants.{MAX_WORKERS};
 ghost use Rattle.snb_schema.specs.History.{halted};
@@ -29,7 +29,7 @@ use std::thread;
 use std::thread::Threads;
 
 // Whether the operation is an insert, whose front is 0.
-fn is_insert(schedule: &Schedule, op: u32) -> bool
+pub(crate) fn is_insert(schedule: &Schedule, op: u32) -> bool
     ensures { IsTrue result → (h : List Event) → IsFront schedule.now h op 0 }
 {
     let steps = schedule.steps();
@@ -49,9 +49,10 @@ pub fn completeness(book: &Book) -> &'static str {
 }
 
 // A board of two workers with its seats.
-fn pair(alloc: Global, schedule: &Schedule) -> Result<(Board, Seat, Seat), AllocError>
+pub(crate) fn pair(alloc: Global, schedule: &Schedule) -> Result<(Board, Seat, Seat), AllocError>
     ensures board { IfOk result (λ r. (r.0.schedule ≡ schedule.now) × (r.1.site ≡ r.0) × (r.2.site ≡ r.0)) }
     ensures workers { IfOk result (λ r. (r.0.workers ≡ 2) × (r.1.worker ≡ 0) × (r.2.worker ≡ 1)) }
+    ensures fresh { IfOk result (λ r. r.2.seen ≡ []) }
 {
     let (board, mut seats) = Board::make(alloc, schedule, 2)?;
     let Some(one) = seats.pop() else {
@@ -64,9 +65,10 @@ fn pair(alloc: Global, schedule: &Schedule) -> Result<(Board, Seat, Seat), Alloc
 }
 
 // The book of a board of two workers.
-fn closed(alloc: Global, board: Board, zero: Seat, one: Seat) -> Result<Book, AllocError>
+pub(crate) fn closed(alloc: Global, board: Board, zero: Seat, one: Seat) -> Result<Book, AllocError>
     requires board { (zero.site ≡ board) × (one.site ≡ board) }
     requires workers { (board.workers ≡ 2) × (zero.worker ≡ 0) × (one.worker ≡ 1) }
+    ensures { IfOk result (λ book. book.workers ≡ 2) }
 {
     let mut seats = Vec::new(alloc);
     seats.push(zero)?;
@@ -75,7 +77,7 @@ fn closed(alloc: Global, board: Board, zero: Seat, one: Seat) -> Result<Book, Al
 }
 
 // Claims for a seat, and tells what the claim answers.
-fn tell_claim<R: Wait>(
+pub(crate) fn tell_claim<R: Wait>(
     rt: &R,
     alloc: Global,
     board: &Board,
@@ -95,7 +97,7 @@ fn tell_claim<R: Wait>(
 }
 
 // Finishes what the claim gave to the seat's worker, where that is an insert.
-fn finish_insert<R: Wait>(
+pub(crate) fn finish_insert<R: Wait>(
     rt: &R,
     board: &Board,
     schedule: &Schedule,
@@ -119,7 +121,7 @@ fn finish_insert<R: Wait>(
 }
 
 // Tells how many events have happened, and which.
-fn tell_history<R: Wait>(
+pub(crate) fn tell_history<R: Wait>(
     rt: &R,
     alloc: Global,
     board: &Board,
@@ -300,7 +302,7 @@ fn told_verdict(alloc: Global, verdict: Verdict) -> Result<String, AllocError> {
 }
 
 // How many events the book has, whether it is complete, and the verdict on its events.
-fn told_book(alloc: Global, book: &Book) -> Result<String, Flaw>
+pub(crate) fn told_book(alloc: Global, book: &Book) -> Result<String, Flaw>
     requires some { 1 ≤ book.now.workers }
     requires few { book.now.workers ≤ MAX_WORKERS }
 {
