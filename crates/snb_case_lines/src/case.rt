@@ -9,7 +9,7 @@ pub enum Case {
     /// The insert of this line, which is line 1 of its text.
     Insert { line: Line },
     /// The query, and the reply that is due to it.
-    Ask { query: Query, reply: Reply },
+    Ask { query: Query, reply: Reply<'static> },
 }
 
 impl Drop for Case {

@@ -12,9 +12,9 @@ ghost use Rattle.snb_case_lines.specs.Values.{IsArray};
 
 use crate::values::{items_in, number_in, text_in, texts_in};
 use serde_json::Value;
-use snb_base::text::Text;
 use snb_reads::cell::Cell;
 use snb_reads::stays::Stays;
+use snb_reads::wording::Wording;
 use snb_schema::limits::MAX_YEAR;
 use snb_schema::query::Query;
 use std::alloc::{AllocError, Global};
@@ -158,7 +158,7 @@ pub fn columns_of(query: &Query) -> &'static [CellColumn]
 }
 
 // The id that a value is.
-fn id_in(value: &Value) -> Option<Cell>
+fn id_in(value: &Value) -> Option<Cell<'static>>
     ensures { MatchOption result ((cell : AnyCell) → ¬ IsCellIn Id (view value.now) cell) (IsCellIn Id (view value.now)) }
 {
     match value.as_i64() {
@@ -168,7 +168,7 @@ fn id_in(value: &Value) -> Option<Cell>
 }
 
 // The cell of a number, where it isn't below zero.
-fn not_below_zero(value: i64) -> Option<Cell>
+fn not_below_zero(value: i64) -> Option<Cell<'static>>
     ensures { MatchOption result (¬ (pos 0 ≤ℤ value)) (λ cell. (cell ≡ NumberCell value) × (pos 0 ≤ℤ value)) }
 {
     if value >= 0 {
@@ -179,7 +179,7 @@ fn not_below_zero(value: i64) -> Option<Cell>
 }
 
 // The number that a value is.
-fn integer_in(value: &Value) -> Option<Cell>
+fn integer_in(value: &Value) -> Option<Cell<'static>>
     ensures { MatchOption result ((cell : AnyCell) → ¬ IsCellIn Number (view value.now) cell) (IsCellIn Number (view value.now)) }
 {
     match value.as_i64() {
@@ -189,7 +189,7 @@ fn integer_in(value: &Value) -> Option<Cell>
 }
 
 // The truth value that a value is.
-fn flag_in(value: &Value) -> Option<Cell>
+fn flag_in(value: &Value) -> Option<Cell<'static>>
     ensures { MatchOption result ((cell : AnyCell) → ¬ IsCellIn Flag (view value.now) cell) (IsCellIn Flag (view value.now)) }
 {
     match value.as_bool() {
@@ -199,19 +199,21 @@ fn flag_in(value: &Value) -> Option<Cell>
 }
 
 // The text that a value is.
-fn words_in(alloc: Global, value: &Value) -> Result<Option<Cell>, AllocError>
+fn words_in(alloc: Global, value: &Value) -> Result<Option<Cell<'static>>, AllocError>
     ensures { IfOk result (λ found. MatchOption found
         ((cell : AnyCell) → ¬ IsCellIn WordsColumn (view value.now) cell)
         (IsCellIn WordsColumn (view value.now))) }
 {
     match text_in(alloc, value)? {
-        Some(text) => Ok(Some(Cell::Words { text })),
+        Some(text) => Ok(Some(Cell::Words {
+            text: Wording::own(text),
+        })),
         None => Ok(None),
     }
 }
 
 // The texts that a value is.
-fn list_in(alloc: Global, value: &Value) -> Result<Option<Cell>, AllocError>
+fn list_in(alloc: Global, value: &Value) -> Result<Option<Cell<'static>>, AllocError>
     ensures { IfOk result (λ found. MatchOption found
         ((cell : AnyCell) → ¬ IsCellIn TextsColumn (view value.now) cell)
         (IsCellIn TextsColumn (view value.now))) }
@@ -228,7 +230,7 @@ fn stay_of(
     name: &Value,
     year: &Value,
     place: &Value,
-) -> Result<Option<(Text, u32, Text)>, AllocError>
+) -> Result<Option<(Wording<'static>, u32, Wording<'static>)>, AllocError>
     ensures { IfOk result (λ found. MatchOption found
         ((stay : List ℕ × ℕ × List ℕ) → ¬ IsStayOf (view name.now) (view year.now) (view place.now) stay)
         (IsStayOf (view name.now) (view year.now) (view place.now))) }
@@ -242,11 +244,14 @@ fn stay_of(
     let Some(place) = text_in(alloc, place)? else {
         return Ok(None);
     };
-    Ok(Some((name, year as u32, place)))
+    Ok(Some((Wording::own(name), year as u32, Wording::own(place))))
 }
 
 // The stay that these values are.
-fn stay_of_items(alloc: Global, items: &[Value]) -> Result<Option<(Text, u32, Text)>, AllocError>
+fn stay_of_items(
+    alloc: Global,
+    items: &[Value],
+) -> Result<Option<(Wording<'static>, u32, Wording<'static>)>, AllocError>
     ensures { IfOk result (λ found. MatchOption found
         ((stay : List ℕ × ℕ × List ℕ) → ¬ AreStay (map view items.now) stay)
         (AreStay (map view items.now))) }
@@ -258,7 +263,10 @@ fn stay_of_items(alloc: Global, items: &[Value]) -> Result<Option<(Text, u32, Te
 }
 
 // The stay that a value is.
-fn stay_in(alloc: Global, value: &Value) -> Result<Option<(Text, u32, Text)>, AllocError>
+fn stay_in(
+    alloc: Global,
+    value: &Value,
+) -> Result<Option<(Wording<'static>, u32, Wording<'static>)>, AllocError>
     ensures { IfOk result (λ found. MatchOption found
         ((stay : List ℕ × ℕ × List ℕ) → ¬ IsStay (view value.now) stay)
         (IsStay (view value.now))) }
@@ -270,7 +278,7 @@ fn stay_in(alloc: Global, value: &Value) -> Result<Option<(Text, u32, Text)>, Al
 }
 
 // The stays that these values are.
-fn stays_of(alloc: Global, items: &[Value]) -> Result<Option<Stays>, AllocError>
+fn stays_of(alloc: Global, items: &[Value]) -> Result<Option<Stays<'static>>, AllocError>
     ensures { IfOk result (λ found. MatchOption found
         ((stays : List (List ℕ × ℕ × List ℕ)) → ¬ AllZip IsStay (map view items.now) stays)
         (AllZip IsStay (map view items.now))) }
@@ -286,7 +294,7 @@ fn stays_of(alloc: Global, items: &[Value]) -> Result<Option<Stays>, AllocError>
 }
 
 // The array of stays that a value is.
-fn array_of_stays(alloc: Global, value: &Value) -> Result<Option<Stays>, AllocError>
+fn array_of_stays(alloc: Global, value: &Value) -> Result<Option<Stays<'static>>, AllocError>
     ensures { IfOk result (λ found. MatchOption found
         ((stays : List (List ℕ × ℕ × List ℕ)) → ¬ IsArray (AllZip IsStay) (view value.now) stays)
         (IsArray (AllZip IsStay) (view value.now))) }
@@ -298,7 +306,7 @@ fn array_of_stays(alloc: Global, value: &Value) -> Result<Option<Stays>, AllocEr
 }
 
 // The stays that a value is.
-fn stays_in(alloc: Global, value: &Value) -> Result<Option<Cell>, AllocError>
+fn stays_in(alloc: Global, value: &Value) -> Result<Option<Cell<'static>>, AllocError>
     ensures { IfOk result (λ found. MatchOption found
         ((cell : AnyCell) → ¬ IsCellIn StaysColumn (view value.now) cell)
         (IsCellIn StaysColumn (view value.now))) }
@@ -310,7 +318,11 @@ fn stays_in(alloc: Global, value: &Value) -> Result<Option<Cell>, AllocError>
 }
 
 /// The cell of a column that a value is.
-pub fn cell_in(alloc: Global, column: CellColumn, value: &Value) -> Result<Option<Cell>, AllocError>
+pub fn cell_in(
+    alloc: Global,
+    column: CellColumn,
+    value: &Value,
+) -> Result<Option<Cell<'static>>, AllocError>
     ensures { IfOk result (λ found. MatchOption found
         ((cell : AnyCell) → ¬ IsCellOf column (view value.now) cell)
         (IsCellOf column (view value.now))) }

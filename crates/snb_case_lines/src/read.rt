@@ -98,7 +98,7 @@ fn ask_of(
     params: &Value,
     word: &Value,
     held: &Value,
-) -> Result<Option<(Query, Reply)>, AllocError>
+) -> Result<Option<(Query, Reply<'static>)>, AllocError>
     ensures { IfOk result (λ found. MatchOption found
         ((query : AnyQuery) (reply : List (List (List AnyCell))) → ¬ IsAskOf (view params.now) (view word.now) (view held.now) query reply)
         (λ ask. IsAskOf (view params.now) (view word.now) (view held.now) ask.0 ask.1)) }
@@ -109,14 +109,14 @@ fn ask_of(
     let Some(query) = query_in(alloc, kind, params)? else {
         return Ok(None);
     };
-    match reply_in(alloc, &query, held)? {
-        Some(reply) => Ok(Some((query, reply))),
-        None => Ok(None),
-    }
+    let Some(reply) = reply_in(alloc, &query, held)? else {
+        return Ok(None);
+    };
+    Ok(Some((query, reply)))
 }
 
 // The query and the reply that a value is.
-fn ask_in(alloc: Global, value: &Value) -> Result<Option<(Query, Reply)>, AllocError>
+fn ask_in(alloc: Global, value: &Value) -> Result<Option<(Query, Reply<'static>)>, AllocError>
     ensures { IfOk result (λ found. MatchOption found
         ((query : AnyQuery) (reply : List (List (List AnyCell))) → ¬ IsAsk (view value.now) query reply)
         (λ ask. IsAsk (view value.now) ask.0 ask.1)) }

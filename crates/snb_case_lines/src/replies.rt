@@ -27,7 +27,7 @@ fn cells_of(
     alloc: Global,
     columns: &[CellColumn],
     items: &[Value],
-) -> Result<Option<AnswerRow>, AllocError>
+) -> Result<Option<AnswerRow<'static>>, AllocError>
     ensures { IfOk result (λ found. MatchOption found
         ((cells : List AnyCell) → ¬ AreAlong IsCellOf columns.now (map view items.now) cells)
         (AreAlong IsCellOf columns.now (map view items.now))) }
@@ -46,7 +46,11 @@ fn cells_of(
 }
 
 // The row of a read that values are.
-fn row_of(alloc: Global, query: &Query, items: &[Value]) -> Result<Option<AnswerRow>, AllocError>
+fn row_of(
+    alloc: Global,
+    query: &Query,
+    items: &[Value],
+) -> Result<Option<AnswerRow<'static>>, AllocError>
     ensures { IfOk result (λ found. MatchOption found
         ((row : List AnyCell) → ¬ AreAlong IsCellIn (read_columns query.now) (map view items.now) row)
         (AreAlong IsCellIn (read_columns query.now) (map view items.now))) }
@@ -55,7 +59,11 @@ fn row_of(alloc: Global, query: &Query, items: &[Value]) -> Result<Option<Answer
 }
 
 // The row of a read that a value is.
-fn row_in(alloc: Global, query: &Query, value: &Value) -> Result<Option<AnswerRow>, AllocError>
+fn row_in(
+    alloc: Global,
+    query: &Query,
+    value: &Value,
+) -> Result<Option<AnswerRow<'static>>, AllocError>
     ensures { IfOk result (λ found. MatchOption found
         ((row : List AnyCell) → ¬ IsRow query.now (view value.now) row)
         (IsRow query.now (view value.now))) }
@@ -67,7 +75,11 @@ fn row_in(alloc: Global, query: &Query, value: &Value) -> Result<Option<AnswerRo
 }
 
 // The rows of a read that values are.
-fn rows_of(alloc: Global, query: &Query, items: &[Value]) -> Result<Option<Answer>, AllocError>
+fn rows_of(
+    alloc: Global,
+    query: &Query,
+    items: &[Value],
+) -> Result<Option<Answer<'static>>, AllocError>
     ensures { IfOk result (λ found. MatchOption found
         ((rows : List (List AnyCell)) → ¬ AllZip (IsRow query.now) (map view items.now) rows)
         (AllZip (IsRow query.now) (map view items.now))) }
@@ -83,7 +95,11 @@ fn rows_of(alloc: Global, query: &Query, items: &[Value]) -> Result<Option<Answe
 }
 
 // The answer to a query that a value is.
-fn answer_in(alloc: Global, query: &Query, value: &Value) -> Result<Option<Answer>, AllocError>
+fn answer_in(
+    alloc: Global,
+    query: &Query,
+    value: &Value,
+) -> Result<Option<Answer<'static>>, AllocError>
     ensures columns { IfOk result (λ found. MatchOption found ⊤ (HaveColumns query.now)) }
     ensures found { IfOk result (λ found. MatchOption found
         ((answer : List (List AnyCell)) → ¬ IsAnswerTo query.now (view value.now) answer)
@@ -135,7 +151,7 @@ fn answers_of(
     alloc: Global,
     queries: &[Query],
     items: &[Value],
-) -> Result<Option<Vec<Answer>>, AllocError>
+) -> Result<Option<Vec<Answer<'static>>>, AllocError>
     ensures { IfOk result (λ found. MatchOption found
         ((answers : List (List (List AnyCell))) → ¬ AreAlong IsAnswerTo queries.now (map view items.now) answers)
         (λ answers. AreAlong IsAnswerTo queries.now (map view items.now) answers.items)) }
@@ -159,7 +175,7 @@ fn tail_in(
     query: &Query,
     own: &Answer,
     items: &[Value],
-) -> Result<Option<Vec<Answer>>, AllocError>
+) -> Result<Option<Vec<Answer<'static>>>, AllocError>
     requires { HaveColumns query.now own.now }
     ensures { IfOk result (λ found. MatchOption found
         ((answers : List (List (List AnyCell))) → ¬ AreAlong IsAnswerTo (tail_reads query.now own.now) (map view items.now) answers)
@@ -170,8 +186,12 @@ fn tail_in(
 }
 
 // The reply whose own answer is this, and whose tail is these.
-fn joined(alloc: Global, own: Answer, tail: Vec<Answer>) -> Result<Reply, AllocError>
-    ensures { IfOk result (λ reply. reply ≡ own ∷ tail.items) }
+fn joined(
+    alloc: Global,
+    own: Answer<'static>,
+    tail: Vec<Answer<'static>>,
+) -> Result<Reply<'static>, AllocError>
+    ensures { IfOk result (λ reply. reply ≡ own.entry ∷ tail.entry.items) }
 {
     let mut answers = tail;
     answers.insert(0, own)?;
@@ -179,7 +199,11 @@ fn joined(alloc: Global, own: Answer, tail: Vec<Answer>) -> Result<Reply, AllocE
 }
 
 // The reply to a query that values are.
-fn reply_of(alloc: Global, query: &Query, items: &[Value]) -> Result<Option<Reply>, AllocError>
+fn reply_of(
+    alloc: Global,
+    query: &Query,
+    items: &[Value],
+) -> Result<Option<Reply<'static>>, AllocError>
     ensures { IfOk result (λ found. MatchOption found
         ((reply : List (List (List AnyCell))) → ¬ AreReply query.now (map view items.now) reply)
         (AreReply query.now (map view items.now))) }
@@ -190,14 +214,18 @@ fn reply_of(alloc: Global, query: &Query, items: &[Value]) -> Result<Option<Repl
     let Some(own) = answer_in(alloc, query, first)? else {
         return Ok(None);
     };
-    match tail_in(alloc, query, &own, others)? {
-        Some(tail) => Ok(Some(joined(alloc, own, tail)?)),
-        None => Ok(None),
-    }
+    let Some(tail) = tail_in(alloc, query, &own, others)? else {
+        return Ok(None);
+    };
+    Ok(Some(joined(alloc, own, tail)?))
 }
 
 /// The reply to a query that a value is.
-pub fn reply_in(alloc: Global, query: &Query, value: &Value) -> Result<Option<Reply>, AllocError>
+pub fn reply_in(
+    alloc: Global,
+    query: &Query,
+    value: &Value,
+) -> Result<Option<Reply<'static>>, AllocError>
     ensures { IfOk result (λ found. MatchOption found
         ((reply : List (List (List AnyCell))) → ¬ IsReplyTo query.now (view value.now) reply)
         (IsReplyTo query.now (view value.now))) }

@@ -8,7 +8,8 @@ ghost use Rattle.snb_case_lines.specs.Values.{IsArray, IsNumberTo, IsText};
 
 use serde_json::Value;
 use snb_base::text::Text;
-use snb_base::texts::Texts;
+use snb_reads::wording::Wording;
+use snb_reads::wordings::Wordings;
 use std::alloc::{AllocError, Global};
 
 /// The number from 0 up to `most` that a value is.
@@ -49,7 +50,7 @@ pub fn items_in(value: &Value) -> Option<&[Value]>
 }
 
 // The texts that these values are.
-fn texts_of(alloc: Global, items: &[Value]) -> Result<Option<Texts>, AllocError>
+fn texts_of(alloc: Global, items: &[Value]) -> Result<Option<Wordings<'static>>, AllocError>
     ensures { IfOk result (λ found. MatchOption found
         ((texts : List (List ℕ)) → ¬ AllZip IsText (map view items.now) texts)
         (AllZip IsText (map view items.now))) }
@@ -59,13 +60,13 @@ fn texts_of(alloc: Global, items: &[Value]) -> Result<Option<Texts>, AllocError>
         let Some(text) = text_in(alloc, item)? else {
             return Ok(None);
         };
-        texts.push(text)?;
+        texts.push(Wording::own(text))?;
     }
-    Ok(Some(Texts::from_vec(alloc, texts)))
+    Ok(Some(Wordings::from_vec(alloc, texts)))
 }
 
 /// The array of texts that a value is.
-pub fn texts_in(alloc: Global, value: &Value) -> Result<Option<Texts>, AllocError>
+pub fn texts_in(alloc: Global, value: &Value) -> Result<Option<Wordings<'static>>, AllocError>
     ensures { IfOk result (λ found. MatchOption found
         ((texts : List (List ℕ)) → ¬ IsArray (AllZip IsText) (view value.now) texts)
         (IsArray (AllZip IsText) (view value.now))) }

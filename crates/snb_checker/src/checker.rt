@@ -70,7 +70,7 @@ fn compared(
     graph: &Graph,
     line: u32,
     query: &Query,
-    due: &Reply,
+    due: &Reply<'_>,
 ) -> Result<Option<Difference>, AllocError>
     requires sound { Sound graph.now }
     ensures { IfOk result (HasCompared graph.now line query.now due.now None) }
@@ -82,7 +82,7 @@ fn compared(
     Ok(Some(Difference {
         line,
         expected: due.try_copy()?,
-        given,
+        given: given.try_copy()?,
     }))
 }
 
@@ -109,7 +109,7 @@ impl Checker {
     }
 
     // Takes a read.
-    fn ask(&mut self, query: &Query, due: &Reply, number: u32) -> Result<(), AllocError>
+    fn ask(&mut self, query: &Query, due: &Reply<'_>, number: u32) -> Result<(), AllocError>
         ensures graph { self.new.graph ≡ self.old.graph }
         ensures ok { OnOk result (HasCompared self.old.graph number query.now due.now self.old.first self.new.first) }
         ensures err { OnErr result (self.new ≡ self.old) }

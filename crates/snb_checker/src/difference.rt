@@ -7,9 +7,9 @@ pub struct Difference {
     /// The line of the case in its file, counted from 1.
     pub line: u32,
     /// The reply that the case has.
-    pub expected: Reply,
+    pub expected: Reply<'static>,
     /// The reply that the graph gives.
-    pub given: Reply,
+    pub given: Reply<'static>,
 }
 
 impl Drop for Difference {

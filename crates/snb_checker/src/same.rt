@@ -2,34 +2,27 @@
 
 ghost use Rattle.std.specs.Prelude.{◌≡◌, ◌↔◌, ℕ, List, IsTrue};
 
-use snb_base::text::Text;
 use snb_reads::answer::Answer;
 use snb_reads::answer_row::AnswerRow;
 use snb_reads::cell::Cell;
 use snb_reads::reply::Reply;
-
-// Whether two texts are one.
-fn same_text(a: &Text, b: &Text) -> bool
-    ensures { IsTrue result ↔ (a.now ≡ b.now) }
-{
-    *a == *b
-}
+use snb_reads::wording::Wording;
 
 // Whether two stays have the same names and year.
-fn same_stay(a: &(Text, u32, Text), b: &(Text, u32, Text)) -> bool
+fn same_stay(a: &(Wording<'_>, u32, Wording<'_>), b: &(Wording<'_>, u32, Wording<'_>)) -> bool
     ensures { IsTrue result ↔ (a.now ≡ b.now) }
 {
     if a.1 != b.1 {
         return false;
     }
-    if !same_text(&a.0, &b.0) {
+    if !a.0.same(&b.0) {
         return false;
     }
-    same_text(&a.2, &b.2)
+    a.2.same(&b.2)
 }
 
 // Whether two lists of stays are one.
-fn same_stays(a: &[(Text, u32, Text)], b: &[(Text, u32, Text)]) -> bool
+fn same_stays(a: &[(Wording<'_>, u32, Wording<'_>)], b: &[(Wording<'_>, u32, Wording<'_>)]) -> bool
     ensures { IsTrue result ↔ (a.now ≡ b.now) }
 {
     if a.len() != b.len() {
@@ -44,14 +37,22 @@ fn same_stays(a: &[(Text, u32, Text)], b: &[(Text, u32, Text)]) -> bool
 }
 
 // Whether two lists of texts are one.
-fn same_texts(a: &[Text], b: &[Text]) -> bool
+fn same_texts(a: &[Wording<'_>], b: &[Wording<'_>]) -> bool
     ensures { IsTrue result ↔ (a.now ≡ b.now) }
 {
-    a == b
+    if a.len() != b.len() {
+        return false;
+    }
+    for at in 0..a.len() {
+        if !a[at].same(&b[at]) {
+            return false;
+        }
+    }
+    true
 }
 
 // Whether two cells are one.
-fn same_cell(a: &Cell, b: &Cell) -> bool
+fn same_cell(a: &Cell<'_>, b: &Cell<'_>) -> bool
     ensures { IsTrue result ↔ (a.now ≡ b.now) }
 {
     match a {
@@ -64,7 +65,7 @@ fn same_cell(a: &Cell, b: &Cell) -> bool
             _ => false,
         },
         Cell::Words { text } => match b {
-            Cell::Words { text: other } => same_text(text, other),
+            Cell::Words { text: other } => text.same(other),
             _ => false,
         },
         Cell::List { texts } => match b {
@@ -79,7 +80,7 @@ fn same_cell(a: &Cell, b: &Cell) -> bool
 }
 
 // Whether two rows are one.
-fn same_row(a: &[Cell], b: &[Cell]) -> bool
+fn same_row(a: &[Cell<'_>], b: &[Cell<'_>]) -> bool
     ensures { IsTrue result ↔ (a.now ≡ b.now) }
 {
     if a.len() != b.len() {
@@ -94,7 +95,7 @@ fn same_row(a: &[Cell], b: &[Cell]) -> bool
 }
 
 // Whether two answers are one.
-fn same_answer(a: &[AnswerRow], b: &[AnswerRow]) -> bool
+fn same_answer(a: &[AnswerRow<'_>], b: &[AnswerRow<'_>]) -> bool
     ensures { IsTrue result ↔ (a.now ≡ b.now) }
 {
     if a.len() != b.len() {
@@ -109,7 +110,7 @@ fn same_answer(a: &[AnswerRow], b: &[AnswerRow]) -> bool
 }
 
 // Whether two lists of answers are one.
-fn same_answers(a: &[Answer], b: &[Answer]) -> bool
+fn same_answers(a: &[Answer<'_>], b: &[Answer<'_>]) -> bool
     ensures { IsTrue result ↔ (a.now ≡ b.now) }
 {
     if a.len() != b.len() {
@@ -125,7 +126,7 @@ fn same_answers(a: &[Answer], b: &[Answer]) -> bool
 
 /// Whether two replies are one: the same answers in the same order, each with the same rows in the same
 /// order, each with the same cells. Takes no memory.
-pub(crate) fn same_reply(a: &Reply, b: &Reply) -> bool
+pub(crate) fn same_reply(a: &Reply<'_>, b: &Reply<'_>) -> bool
     ensures { IsTrue result ↔ (a.now ≡ b.now) }
 {
     same_answers(a.as_slice(), b.as_slice())

@@ -1,12 +1,15 @@
 -- Work rows, side by side with what they show.
-use Rattle.std.proofs.Common.{◌≡◌, ℕ, ◌+◌, ◌<◌, ◌≤◌, ◌&&◌, nat_lt, Bool, true, false, cond, List, [], ◌∷◌, ◌++◌, length, get_or, map, take, refl, sym, ap, ◌∙◌, subst, append_assoc}
+use Rattle.std.proofs.Common.{◌≡◌, ℕ, ◌+◌, ◌<◌, ◌≤◌, ◌&&◌, nat_eq, nat_lt, Bool, true, false, cond, Option, Some, None, List, [], ◌∷◌, ◌++◌, length, get_or, map, take, refl, sym, ap, ◌∙◌, subst, append_assoc}
+use Rattle.std.proofs.lemmas.Bool.{eqb-true}
 use Rattle.std.proofs.lemmas.Cmp.{back_total, nat_cmp_total, on_total, then_total}
 use Rattle.std.proofs.lemmas.List.{append-nil, map_push, take_all, take_more}
-use Rattle.std.proofs.lemmas.List.Elements.{All-nil, All-push, All-weaker}
+use Rattle.std.proofs.lemmas.List.Elements.{All-head, All-nil, All-push, All-tail, All-weaker}
 use Rattle.std.proofs.lemmas.List.Sorted.{IsPermutation-refl}
 use Rattle.std.specs.Cmp.{IsTotalOrder}
 use Rattle.std.specs.Cmp.Lexicographic.{nat_list_cmp_total, slice_cmp}
+use Rattle.std.specs.HashMap.{HashMap, get}
 use Rattle.std.specs.List.{All, AllZip, filter, flat_map, list_any}
+use Rattle.std.specs.Map.{lookup}
 use Rattle.std.specs.Ordering.{flip_args, is_lt, nat_cmp, on, ordering_then, then_cmp}
 use Rattle.std.specs.Str.{bytes_eq}
 use Rattle.std.specs.declared.cmp.Ordering.{Ordering}
@@ -27,7 +30,8 @@ use Rattle.snb_reads.specs.Order.{Answers, Falling, First, FirstOf, Rising, by}
 use Rattle.snb_short_reads.proofs.Laws.{found_person, person_at}
 use Rattle.snb_complex_reads.proofs.Columns.{any_one, number_cmp, one_only, then_end, words_cmp}
 use Rattle.snb_complex_reads.proofs.Moves.{joined_push}
-use Rattle.snb_complex_reads.specs.Jobs.{AreJobs, IsJobFound, Job, job_of, jobs_by}
+use Rattle.snb_complex_reads.specs.Found.{IsStayFound}
+use Rattle.snb_complex_reads.specs.Jobs.{AreJobs, AreSeen, IsJobFound, Job, job_of, jobs_by}
 
 -- years rising, persons rising, names falling
 abbrev pub jobs_first : Job → Job → Ordering
@@ -38,10 +42,35 @@ jobs_total = then_total (then_total (on_total (λ (j : Job). j.0.2) nat_cmp_tota
 
 -- ---- whether an organisation is in the country
 
-pub in_country : (g : List Row) (country : List ℕ) (id : ℕ) (o : Organisation) (p : Place) → IsAt g id o p → is_in g country id ≡ bytes_eq p.name country
-in_country g country id o p at =
-    any_one (λ place. list_any (λ p. bytes_eq p.name country) (places g place)) (ends g table.OrganisationIsLocatedInPlace id) at.place at.located
-    ∙ any_one (λ (p : Place). bytes_eq p.name country) (places g at.place) p at.held
+pub in_country : (g : List Row) (country name : List ℕ) (id : ℕ) (o : Organisation) (p : Place) (there : Bool) → IsAt g id o p → name ≡ p.name → there ≡ bytes_eq name country → there ≡ is_in g country id
+in_country g country name id o p there at named is =
+    is ∙ ap (λ n. bytes_eq n country) named
+    ∙ sym (any_one (λ place. list_any (λ p. bytes_eq p.name country) (places g place)) (ends g table.OrganisationIsLocatedInPlace id) at.place at.located
+    ∙ any_one (λ (p : Place). bytes_eq p.name country) (places g at.place) p at.held)
+
+-- a map without keys remembers nothing
+pub none_seen : {S : Type 0} (g : List Row) (country : List ℕ) (seen : HashMap ℕ Bool S) → seen.entries ≡ [] → AreSeen g country (get nat_eq seen)
+none_seen g country seen empty o b e =
+    let none : get nat_eq seen o ≡ None = ap (λ (es : List (ℕ × Bool)). lookup (nat_eq o) es) empty in
+    cc
+
+-- one organisation more is remembered
+pub more_seen : (g : List Row) (country : List ℕ) (id : ℕ) (there : Bool) (seen new : ℕ → Option Bool) → ((q : ℕ) → new q ≡ cond (nat_eq id q) (Some there) (seen q)) → there ≡ is_in g country id
+    → AreSeen g country seen → AreSeen g country new
+more_seen g country id there seen new puts is were o b e = by (nat_eq id o) refl (sym (puts o) ∙ e)
+  where
+    by : (c : Bool) → nat_eq id o ≡ c → cond c (Some there) (seen o) ≡ Some b → b ≡ is_in g country o
+    by true same e =
+        let this : id ≡ o = eqb-true id o same in
+        let told : there ≡ b = cc in
+        rw (← this, ← told) is
+    by false differ e = were o b e
+
+-- what the walk gives next is found, and so is what is left
+pub next_stay : (g : List Row) (left rest : List (ℕ × ℕ)) (w : ℕ × ℕ) → left ≡ w ∷ rest → All (IsStayFound g) left → IsStayFound g w × All (IsStayFound g) rest
+next_stay g left rest w is all =
+    let each = subst (All (IsStayFound g)) is all in
+    (All-head (IsStayFound g) w rest each, All-tail (IsStayFound g) w rest each)
 
 -- ---- the loop over a person's work rows
 

@@ -2,11 +2,11 @@ mod Columns
 mod FoundLemmas
 mod Heads
 mod JobLemmas
-mod LatestLemmas
 mod LikeLemmas
 mod Moves
 mod NamesakeLemmas
 mod NearFirst
 mod ReplyLemmas
+mod ScanLemmas
 mod SentLemmas
 mod StayLemmas

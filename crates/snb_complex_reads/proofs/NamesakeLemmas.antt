@@ -133,11 +133,14 @@ module _ (g : List Row) (graph : IsGraph g) (sound : Sound g) (required : Requir
       let (shown, first) = some stay_cmp Whole named stay_total in
       (shown, record { named = named; each = zip; first = first })
 
+  -- the edge that leads to a person's city
+  pub home : (p : ℕ) → IsPerson g p → (c : ℕ) × Contains g (row.Link table.PersonIsLocatedInPlace p c)
+  home p h =
+      link_at g graph table.PersonIsLocatedInPlace p refl refl
+      (edge_key_held g graph table.PersonIsLocatedInPlace p refl lookups.places (required g graph sound table.Person table.PersonIsLocatedInPlace (2, omega arith, refl) p h))
+
   lives : (p : ℕ) → IsPerson g p → (c : ℕ) × (ends g table.PersonIsLocatedInPlace p ≡ c ∷ [])
-  lives p h =
-      let key = edge_key_held g graph table.PersonIsLocatedInPlace p refl lookups.places (required g graph sound table.Person table.PersonIsLocatedInPlace (2, omega arith, refl) p h) in
-      let (c, link) = link_at g graph table.PersonIsLocatedInPlace p refl refl key in
-      (c, end_only g table.PersonIsLocatedInPlace p c graph refl link)
+  lives p h = let (c, link) = home p h in (c, end_only g table.PersonIsLocatedInPlace p c graph refl link)
 
   abbrev Shown : Namesake → List Cell → Type 0
   Shown k a = IsNamesake g (namesake_of k) a × IsNamesakeFound g k

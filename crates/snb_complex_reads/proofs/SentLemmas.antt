@@ -5,8 +5,7 @@ use Rattle.std.proofs.lemmas.List.Elements.{All-filter, All-map, All-weaker}
 use Rattle.std.proofs.lemmas.List.Sorted.{IsPermutation-refl}
 use Rattle.std.specs.Cmp.{IsTotalOrder}
 use Rattle.std.specs.List.{All, AllZip, filter}
-use Rattle.std.specs.Ordering.{flip_args, is_lt, nat_cmp, on, then_cmp}
-use Rattle.std.specs.declared.cmp.Ordering.{Ordering}
+use Rattle.std.specs.Ordering.{is_lt}
 use Rattle.snb_schema.specs.declared.row.Row.{Row}
 use Rattle.snb_soundness.specs.SoundLaws.{NumbersFit}
 use Rattle.snb_tables.specs.Graphs.{IsGraph}
@@ -20,11 +19,7 @@ use Rattle.snb_short_reads.proofs.Laws.{found_person, person_at, shows}
 use Rattle.snb_short_reads.specs.Found.{IsMessageFound}
 use Rattle.snb_complex_reads.proofs.FoundLemmas.{messages_found, person_fits}
 use Rattle.snb_complex_reads.proofs.Moves.{All-flat_map}
-use Rattle.snb_complex_reads.specs.Found.{IsSentFound, sent_by}
-
--- dates falling, message ids rising, of (person, message, date)
-abbrev pub sent_first : ℕ × ℕ × ℕ → ℕ × ℕ × ℕ → Ordering
-sent_first = then_cmp (flip_args (on (λ (p : ℕ × ℕ × ℕ). p.2) nat_cmp)) (on (λ (p : ℕ × ℕ × ℕ). p.1) nat_cmp)
+use Rattle.snb_complex_reads.specs.Found.{IsSentFound, sent_by, sent_first}
 
 pub sent_total : IsTotalOrder sent_first
 sent_total = then_total (back_total (on_total (λ (p : ℕ × ℕ × ℕ). p.2) nat_cmp_total)) (on_total (λ (p : ℕ × ℕ × ℕ). p.1) nat_cmp_total)

@@ -79,7 +79,7 @@ module _ (g : List Row) (graph : IsGraph g) where
   as_place (row.Place p) e = (p, refl)
   as_place r e = absurd cc
 
-  as_link : (r : Row) → row_shape r ≡ shapes.Link → (from : ℕ) × (to : ℕ) × (r ≡ row.Link (table_of r) from to)
+  pub as_link : (r : Row) → row_shape r ≡ shapes.Link → (from : ℕ) × (to : ℕ) × (r ≡ row.Link (table_of r) from to)
   as_link (row.Link t from to) e = (from, to, refl)
   as_link r e = absurd cc
 

@@ -1,5 +1,5 @@
 -- What walks have found. Cited by contracts of private functions alone.
-use Rattle.std.specs.Prelude.{◌≡◌, ◌⊎◌, ℕ, ◌<◌, ◌≤◌, ◌^◌, nat_le, Bool, List, ◌++◌, length, filter, map}
+use Rattle.std.specs.Prelude.{◌≡◌, ℕ, ◌<◌, ◌^◌, Bool, List, ◌++◌, filter, map}
 use Rattle.std.specs.List.Sorted.{IsPermutation}
 use Rattle.std.specs.Ordering.{flip_args, nat_cmp, on, then_cmp}
 use Rattle.std.specs.declared.cmp.Ordering.{Ordering}
@@ -10,6 +10,7 @@ use Rattle.snb_tables.specs.Graphs.{HasKey}
 use Rattle.snb_reads.specs.declared.like.Like.{Like}
 use Rattle.snb_tables.specs.Around.{messages}
 use Rattle.snb_reads.specs.Distance.{IsPerson}
+use Rattle.snb_order.specs.Top.{IsTop, Kept}
 use Rattle.snb_short_reads.specs.Found.{IsMessageFound}
 use Rattle.snb_short_reads.specs.Lookups.{IsCellNumber}
 
@@ -56,8 +57,15 @@ module _ (g : List Row) where
     pub held : HasKey g (node_key kinds.Organisation s.0)
     pub fits : s.1 < 2 ^ 32
 
--- of messages, as (person, message, date), those from a date on, where these are so many or the date is 0
-pub record AreLater (most : ℕ) (found kept : List (ℕ × ℕ × ℕ)) : Type 0 where
-  pub floor : ℕ
-  pub is : kept ≡ filter (λ s. nat_le floor s.2) found
-  pub enough : (most ≤ length kept) ⊎ (floor ≡ 0)
+-- dates falling, message ids rising, of (person, message, date)
+abbrev pub sent_first : ℕ × ℕ × ℕ → ℕ × ℕ × ℕ → Ordering
+sent_first = then_cmp (flip_args (on (λ (s : ℕ × ℕ × ℕ). s.2) nat_cmp)) (on (λ (s : ℕ × ℕ × ℕ). s.1) nat_cmp)
+
+-- of these messages the latest twenty are kept
+abbrev pub IsLatest : List (ℕ × ℕ × ℕ) → Kept (ℕ × ℕ × ℕ) → Type 0
+IsLatest found kept = IsTop sent_first found kept × (kept.most ≡ 20)
+
+-- whatever the messages were of which the latest were kept: those of them, and of these, are kept now
+abbrev pub HasOffered : List (ℕ × ℕ × ℕ) → Kept (ℕ × ℕ × ℕ) → Kept (ℕ × ℕ × ℕ) → Type 0
+HasOffered all old new =
+    (before : List (ℕ × ℕ × ℕ)) → IsLatest before old → (found : List (ℕ × ℕ × ℕ)) × IsLatest found new × HasAppended all before found

@@ -1,5 +1,5 @@
 -- Work rows that walks have found. Cited by contracts of private functions alone.
-use Rattle.std.specs.Prelude.{◌≡◌, ℕ, ◌&&◌, nat_lt, List, [], ◌∷◌, filter, map}
+use Rattle.std.specs.Prelude.{◌≡◌, ℕ, ◌&&◌, nat_lt, Bool, Option, Some, List, [], ◌∷◌, filter, map}
 use Rattle.std.specs.List.{All}
 use Rattle.snb_schema.specs.declared.nodes.Organisation.{Organisation}
 use Rattle.snb_schema.specs.declared.row.Row.{Row}
@@ -34,3 +34,7 @@ module _ (g : List Row) where
   pub record AreJobs (all : List (ℕ × ℕ × ℕ)) (found : List Job) : Type 0 where
     pub same : map job_of found ≡ all
     pub each : All IsJobFound found
+
+  -- what is remembered of an organisation is whether it stands in the country
+  abbrev pub AreSeen : List ℕ → (ℕ → Option Bool) → Type 0
+  AreSeen country seen = (o : ℕ) (b : Bool) → seen o ≡ Some b → b ≡ is_in g country o

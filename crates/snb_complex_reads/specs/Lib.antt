@@ -1,3 +1,4 @@
 pub mod Found
 pub mod Jobs
 pub mod Namesakes
+pub mod Scan

@@ -1,11 +1,8 @@
 -- Persons near another who are found. Cited by contracts of private functions alone.
-use Rattle.std.specs.Prelude.{◌≡◌, ℕ, List, [], ◌∷◌, map}
+use Rattle.std.specs.Prelude.{◌≡◌, ℕ, List, map}
 use Rattle.std.specs.List.{All, filter}
 use Rattle.snb_schema.specs.declared.person.Person.{Person}
 use Rattle.snb_schema.specs.declared.row.Row.{Row}
-use Rattle.snb_reads.specs.declared.cell.Cell.{Cell}
-use Rattle.snb_reads.specs.declared.cell.Cell.TheVariants as cell
-use Rattle.snb_reads.specs.Cells.{number}
 use Rattle.snb_reads.specs.ComplexReads.{is_named}
 use Rattle.snb_reads.specs.Distance.{IsPerson, IsWithin}
 use Rattle.snb_short_reads.specs.Lookups.{IsCellNumber, IsOnlyPerson}
@@ -17,12 +14,6 @@ Namesake = Bor Person × ℕ
 
 abbrev pub namesake_of : Namesake → ℕ × ℕ
 namesake_of k = (k.0.now.id, k.1)
-
--- the first eight columns of the row of a person at a distance
-abbrev pub profile_of : Person → ℕ → List Cell
-profile_of p distance =
-    number p.id ∷ cell.Words p.last_name ∷ number distance ∷ number p.birthday ∷ number p.creation_date
-    ∷ cell.Words p.gender ∷ cell.Words p.browser_used ∷ cell.Words p.location_ip ∷ []
 
 module _ (g : List Row) where
   -- a person who is held, and a distance

@@ -18,7 +18,7 @@ use snb_soundness::law::sound_graphs;
 use std::alloc::{AllocError, Global};
 
 // The row of a reply: (comment, date).
-fn reply_row(alloc: Global, graph: &Graph, reply: (u64, u64)) -> Result<AnswerRow, AllocError>
+fn reply_row(alloc: Global, graph: &Graph, reply: (u64, u64)) -> Result<AnswerRow<'_>, AllocError>
     requires sound { Sound graph.now }
     requires found { IsCommentFound graph.now reply }
     ensures { IfOk result (IsAnswered graph.now reply) }
@@ -28,18 +28,23 @@ fn reply_row(alloc: Global, graph: &Graph, reply: (u64, u64)) -> Result<AnswerRo
         unreachable!()
     };
     let author = known(graph, author_id(graph, reply.0));
-    let mut row = AnswerRow::new(alloc);
-    row.push(Cell::number(author.id))?;
-    row.push(words(&author.first_name)?)?;
-    row.push(words(&author.last_name)?)?;
-    row.push(Cell::number(reply.1))?;
-    row.push(Cell::number(reply.0))?;
-    row.push(words(&comment.content)?)?;
-    Ok(row)
+    let cells = vec![in alloc;
+        Cell::number(author.id),
+        words(&author.first_name),
+        words(&author.last_name),
+        Cell::number(reply.1),
+        Cell::number(reply.0),
+        words(&comment.content),
+    ]?;
+    Ok(AnswerRow::from_vec(alloc, cells))
 }
 
 // The rows of replies.
-fn reply_rows(alloc: Global, graph: &Graph, replies: &[(u64, u64)]) -> Result<Answer, AllocError>
+fn reply_rows<'a>(
+    alloc: Global,
+    graph: &'a Graph,
+    replies: &[(u64, u64)],
+) -> Result<Answer<'a>, AllocError>
     requires sound { Sound graph.now }
     requires found { All (IsCommentFound graph.now) replies.now }
     ensures { IfOk result (AllZip (IsAnswered graph.now) replies.now) }
@@ -56,7 +61,7 @@ fn latest_replies(
     alloc: Global,
     graph: &Graph,
     found: Vec<(u64, u64)>,
-) -> Result<Answer, AllocError>
+) -> Result<Answer<'_>, AllocError>
     requires sound { Sound graph.now }
     requires found { All (IsCommentFound graph.now) found.items }
     ensures { IfOk result (Answers found.items (IsAnswered graph.now) (Falling 4 ∷ Rising 5 ∷ []) (First 20)) }
@@ -80,7 +85,7 @@ fn add_replies(graph: &Graph, message: u64, found: &mut Vec<(u64, u64)>) -> Resu
 /// Complex read 8: the twenty latest direct replies to a person's messages, each with its author; of replies
 /// of one date the one of the lower id first. A person who isn't held gives no rows.
 /// The condition: the graph is sound.
-pub fn ic8(alloc: Global, graph: &Graph, person: u64) -> Result<Answer, AllocError>
+pub fn ic8(alloc: Global, graph: &Graph, person: u64) -> Result<Answer<'_>, AllocError>
     requires sound { Sound graph.now }
     ensures { IfOk result (Ic8 graph.now person) }
 {

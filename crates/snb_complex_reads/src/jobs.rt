@@ -1,11 +1,15 @@
 //! The complex read of the jobs of persons around one.
 
-ghost use Rattle.std.specs.Prelude.{◌≡◌, ◌&&◌, ◌∷◌, ◌++◌, ℕ, List, [], IfOk, OnOk, bytes_eq, map, nat_lt};
+ghost use Rattle.std.specs.Prelude.{◌≡◌, ◌∷◌, ◌++◌, ℕ, List, [], IfOk, OnOk, map, nat_eq};
+ghost use Rattle.std.specs.HashMap.{get};
 ghost use Rattle.std.specs.List.{All, AllZip};
-ghost use Rattle.snb_complex_reads.specs.Jobs.{AreJobs, IsJobFound, job_of, jobs_by};
-ghost use Rattle.snb_reads.specs.ComplexReads.{Ic11, IsJob};
+ghost use Rattle.snb_complex_reads.specs.Jobs.{AreJobs, AreSeen, IsJobFound, job_of, jobs_by};
+ghost use Rattle.snb_reads.specs.ComplexReads.{Ic11, IsJob, is_in};
 ghost use Rattle.snb_reads.specs.Distance.{IsPerson};
 ghost use Rattle.snb_reads.specs.Order.{Answers, Falling, First, Rising};
+ghost use Rattle.snb_schema.specs.RowKeys.{node_key};
+ghost use Rattle.snb_schema.specs.declared.table.Kind.TheVariants as kinds;
+ghost use Rattle.snb_tables.specs.Graphs.{HasKey};
 ghost use Rattle.snb_tables.specs.Soundness.{Sound};
 
 use crate::places::located;
@@ -16,36 +20,37 @@ use snb_reach::reach::within;
 use snb_reads::answer::Answer;
 use snb_reads::answer_row::AnswerRow;
 use snb_reads::cell::Cell;
-use snb_schema::nodes::Place;
 use snb_short_reads::lookups::{known, words};
 use snb_soundness::law::sound_graphs;
 use std::alloc::{AllocError, Global};
+use std::collections::HashMap;
 
 // The row of a work row: (person, organisation, year), with the organisation's name.
-fn job_row(
+fn job_row<'a>(
     alloc: Global,
-    graph: &Graph,
-    job: &((u64, u64, u64), &Text),
-) -> Result<AnswerRow, AllocError>
+    graph: &'a Graph,
+    job: &((u64, u64, u64), &'a Text),
+) -> Result<AnswerRow<'a>, AllocError>
     requires { IsJobFound graph.now job.now }
     ensures { IfOk result (IsJob graph.now (job_of job.now)) }
 {
     let person = known(graph, job.0.0);
-    let mut row = AnswerRow::new(alloc);
-    row.push(Cell::number(job.0.0))?;
-    row.push(words(&person.first_name)?)?;
-    row.push(words(&person.last_name)?)?;
-    row.push(words(job.1)?)?;
-    row.push(Cell::number(job.0.2))?;
-    Ok(row)
+    let cells = vec![in alloc;
+        Cell::number(job.0.0),
+        words(&person.first_name),
+        words(&person.last_name),
+        words(job.1),
+        Cell::number(job.0.2),
+    ]?;
+    Ok(AnswerRow::from_vec(alloc, cells))
 }
 
 // The rows of work rows.
-fn job_rows(
+fn job_rows<'a>(
     alloc: Global,
-    graph: &Graph,
-    jobs: &[((u64, u64, u64), &Text)],
-) -> Result<Answer, AllocError>
+    graph: &'a Graph,
+    jobs: &[((u64, u64, u64), &'a Text)],
+) -> Result<Answer<'a>, AllocError>
     requires { All (IsJobFound graph.now) jobs.now }
     ensures { IfOk result (AllZip (λ job row. IsJob graph.now (job_of job) row) jobs.now) }
 {
@@ -57,11 +62,11 @@ fn job_rows(
 }
 
 // The rows of the first ten of the work rows that were found.
-fn first_jobs(
+fn first_jobs<'a>(
     alloc: Global,
-    graph: &Graph,
-    found: Vec<((u64, u64, u64), &Text)>,
-) -> Result<Answer, AllocError>
+    graph: &'a Graph,
+    found: Vec<((u64, u64, u64), &'a Text)>,
+) -> Result<Answer<'a>, AllocError>
     requires { All (IsJobFound graph.now) found.items }
     ensures { IfOk result (Answers (map job_of found.entry.items) (IsJob graph.now) (Rising 5 ∷ Rising 1 ∷ Falling 4 ∷ []) (First 10)) }
 {
@@ -73,11 +78,26 @@ fn first_jobs(
     job_rows(alloc, graph, &first)
 }
 
-// Whether a year is before another, and a place has a name.
-fn is_passing(since: u64, year: u32, place: &Place, name: &str) -> bool
-    ensures { result ≡ (nat_lt since year && bytes_eq place.now.name name.now) }
+// Whether an organisation stands in a place of this name, which is looked up the first time alone.
+fn is_there(
+    graph: &Graph,
+    organisation: u64,
+    country: &str,
+    seen: &mut HashMap<u64, bool>,
+) -> Result<bool, AllocError>
+    requires sound { Sound graph.now }
+    requires held { HasKey graph.now (node_key kinds.Organisation organisation) }
+    requires seen { AreSeen graph.now country.now (get nat_eq seen.old) }
+    ensures there { IfOk result (λ there. there ≡ is_in graph.now country.now organisation) }
+    ensures seen { OnOk result (AreSeen graph.now country.now (get nat_eq seen.new)) }
 {
-    since < u64::from(year) && place.name.as_str() == name
+    if let Some(there) = seen.get(&organisation) {
+        return Ok(*there);
+    }
+    let (_, place) = located(graph, organisation);
+    let there = place.name.as_str() == country;
+    seen.insert(organisation, there)?;
+    Ok(there)
 }
 
 // Appends the work rows of a person before a year in a country, each with the organisation's name.
@@ -86,22 +106,25 @@ fn add_jobs<'a>(
     person: u64,
     country: &str,
     year: u32,
+    seen: &mut HashMap<u64, bool>,
     found: &mut Vec<((u64, u64, u64), &'a Text)>,
 ) -> Result<(), AllocError>
     requires sound { Sound graph.now }
     requires held { IsPerson graph.now person }
-    ensures { OnOk result ((all : List (ℕ × ℕ × ℕ)) → AreJobs graph.now all found.old.items
+    requires seen { AreSeen graph.now country.now (get nat_eq seen.old) }
+    ensures seen { OnOk result (AreSeen graph.now country.now (get nat_eq seen.new)) }
+    ensures found { OnOk result ((all : List (ℕ × ℕ × ℕ)) → AreJobs graph.now all found.old.items
         → AreJobs graph.now (all ++ jobs_by graph.now country.now year person) found.new.items) }
 {
     graph.known();
     sound_graphs();
     for (organisation, since) in graph.work(person) {
-        // The year is at hand, and the place takes three lookups.
+        // The year is at hand, and the place takes a lookup at least.
         if u64::from(year) <= since {
             continue;
         }
-        let (company, place) = located(graph, organisation);
-        if is_passing(since, year, place, country) {
+        if is_there(graph, organisation, country, seen)? {
+            let (company, _) = located(graph, organisation);
             found.push(((person, organisation, since), &company.name))?;
         }
     }
@@ -112,20 +135,21 @@ fn add_jobs<'a>(
 /// organisations that stand in a place of the name `country`; the first ten, by year, then by the person's
 /// id, then by the organisation's name from the last on. A person who isn't held gives no rows.
 /// The condition: the graph is sound.
-pub fn ic11(
+pub fn ic11<'a>(
     alloc: Global,
-    graph: &Graph,
+    graph: &'a Graph,
     person: u64,
     country: &str,
     year: u32,
-) -> Result<Answer, AllocError>
+) -> Result<Answer<'a>, AllocError>
     requires sound { Sound graph.now }
     ensures { IfOk result (Ic11 graph.now person country.now year) }
 {
     let near = within(alloc, graph, person, 2)?;
+    let mut seen = HashMap::new(alloc);
     let mut found = Vec::new(alloc);
     for one in near.as_slice() {
-        add_jobs(graph, one.0, country, year, &mut found)?;
+        add_jobs(graph, one.0, country, year, &mut seen, &mut found)?;
     }
     first_jobs(alloc, graph, found)
 }

@@ -6,4 +6,5 @@ pub mod jobs;
 pub mod liked;
 pub mod namesakes;
 mod places;
+mod scan;
 pub mod sent;

@@ -30,7 +30,12 @@ fn latency(liked: u64, sent: u64) -> i64
 }
 
 // The row of a like of a message of the start person.
-fn like_row(alloc: Global, graph: &Graph, start: u64, like: &Like) -> Result<AnswerRow, AllocError>
+fn like_row<'a>(
+    alloc: Global,
+    graph: &'a Graph,
+    start: u64,
+    like: &Like,
+) -> Result<AnswerRow<'a>, AllocError>
     requires { IsLikeFound graph.now like.now }
     ensures { IfOk result (IsLiked graph.now start like.now) }
 {
@@ -41,22 +46,28 @@ fn like_row(alloc: Global, graph: &Graph, start: u64, like: &Like) -> Result<Ans
     };
     let person = known(graph, like.person);
     let is_new = !are_friends(graph, start, like.person);
-    let mut row = AnswerRow::new(alloc);
-    row.push(Cell::number(like.person))?;
-    row.push(words(&person.first_name)?)?;
-    row.push(words(&person.last_name)?)?;
-    row.push(Cell::number(like.date))?;
-    row.push(Cell::number(like.message))?;
-    row.push(words(content)?)?;
-    row.push(Cell::Number {
-        value: latency(like.date, like.sent),
-    })?;
-    row.push(Cell::Flag { value: is_new })?;
-    Ok(row)
+    let cells = vec![in alloc;
+        Cell::number(like.person),
+        words(&person.first_name),
+        words(&person.last_name),
+        Cell::number(like.date),
+        Cell::number(like.message),
+        words(content),
+        Cell::Number {
+            value: latency(like.date, like.sent),
+        },
+        Cell::Flag { value: is_new },
+    ]?;
+    Ok(AnswerRow::from_vec(alloc, cells))
 }
 
 // The rows of likes of messages of the start person.
-fn like_rows(alloc: Global, graph: &Graph, start: u64, likes: &[Like]) -> Result<Answer, AllocError>
+fn like_rows<'a>(
+    alloc: Global,
+    graph: &'a Graph,
+    start: u64,
+    likes: &[Like],
+) -> Result<Answer<'a>, AllocError>
     requires { All (IsLikeFound graph.now) likes.now }
     ensures { IfOk result (AllZip (IsLiked graph.now start) likes.now) }
 {
@@ -73,7 +84,7 @@ fn latest_likes(
     graph: &Graph,
     start: u64,
     likes: Vec<Like>,
-) -> Result<Answer, AllocError>
+) -> Result<Answer<'_>, AllocError>
     requires { All (IsLikeFound graph.now) likes.items }
     ensures { IfOk result (Answers likes.items (IsLiked graph.now start) (Falling 4 ∷ Rising 1 ∷ []) (First 20)) }
 {
@@ -147,7 +158,7 @@ fn add_likes(graph: &Graph, message: (u64, u64), found: &mut Vec<Like>) -> Resul
 /// of one date that of the message of the lowest id; the twenty latest of them, of one date that of the
 /// person of the lower id first. A person who isn't held gives no rows.
 /// The condition: the graph is sound.
-pub fn ic7(alloc: Global, graph: &Graph, person: u64) -> Result<Answer, AllocError>
+pub fn ic7(alloc: Global, graph: &Graph, person: u64) -> Result<Answer<'_>, AllocError>
     requires sound { Sound graph.now }
     ensures { IfOk result (Ic7 graph.now person) }
 {

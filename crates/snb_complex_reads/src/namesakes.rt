@@ -1,100 +1,92 @@
 //! The complex read of the persons of a first name around one.
 
-ghost use Rattle.std.specs.Prelude.{◌≡◌, ◌≤◌, ◌∷◌, [], IfOk, filter, map};
+ghost use Rattle.std.specs.Prelude.{◌≡◌, ◌≤◌, ◌∷◌, [], IfOk, filter, map, nat_eq};
 ghost use Rattle.std.specs.Cmp.Lexicographic.{slice_cmp};
+ghost use Rattle.std.specs.HashMap.{get};
 ghost use Rattle.std.specs.List.{All, AllZip};
 ghost use Rattle.std.specs.Ordering.{nat_cmp};
 ghost use Rattle.snb_complex_reads.specs.Found.{IsStayFound};
-ghost use Rattle.snb_complex_reads.specs.Namesakes.{AreNamesakes, AreNamesakesWithin, IsNamesakeFound, IsNearFound, namesake_of, profile_of};
+ghost use Rattle.snb_complex_reads.specs.Namesakes.{AreNamesakes, AreNamesakesWithin, IsNamesakeFound, IsNearFound, namesake_of};
 ghost use Rattle.snb_parts.specs.Pairs.{rest};
+ghost use Rattle.snb_reach.specs.Distances.{AreDistances};
 ghost use Rattle.snb_reads.specs.ComplexReads.{AreStays, Ic1, IsNamesake, IsStay, is_named};
 ghost use Rattle.snb_reads.specs.Order.{Answers, First, FirstOf, Rising, Whole};
 ghost use Rattle.snb_tables.specs.Soundness.{Sound};
 
 use crate::places::{located, place};
+use crate::scan::scanned;
 use snb_base::text::Text;
-use snb_base::texts::Texts;
 use snb_graph::graph::Graph;
 use snb_graph::walk::Links;
 use snb_order::first::{first_of, in_order};
 use snb_order::law::first_is_some;
-use snb_reach::reach::within;
+use snb_reach::reach::{distances, listed, within};
 use snb_reads::answer::Answer;
 use snb_reads::answer_row::AnswerRow;
 use snb_reads::cell::Cell;
 use snb_reads::stays::Stays;
+use snb_reads::wording::Wording;
+use snb_reads::wordings::Wordings;
 use snb_schema::person::Person;
 use snb_schema::table::Table;
 use snb_short_reads::lookups::{city, known, words};
 use snb_soundness::law::sound_graphs;
 use snb_store::words::Words;
 use std::alloc::{AllocError, Global};
+use std::collections::HashMap;
 
 // The texts of a walk, in byte order.
-fn sorted(alloc: Global, texts: Words<'_>) -> Result<Texts, AllocError>
+fn sorted<'a>(alloc: Global, texts: Words<'a>) -> Result<Wordings<'a>, AllocError>
     ensures { IfOk result (FirstOf (slice_cmp nat_cmp) Whole texts.entry) }
 {
-    let mut copies = Vec::new(alloc);
+    let mut lent = Vec::new(alloc);
     for text in texts {
-        copies.push(text.try_copy()?)?;
+        lent.push(Wording::lent(text))?;
     }
-    let ordered = in_order(copies, |a: &Text, b: &Text| a.cmp(b));
-    Ok(Texts::from_vec(alloc, ordered))
+    let ordered = in_order(lent, |a: &Wording<'_>, b: &Wording<'_>| a.compare(b));
+    Ok(Wordings::from_vec(alloc, ordered))
 }
 
 // The names of a stay: (organisation, year).
-fn stay(graph: &Graph, stay: (u64, u64)) -> Result<(Text, u32, Text), AllocError>
+fn stay(graph: &Graph, stay: (u64, u64)) -> (Wording<'_>, u32, Wording<'_>)
     requires sound { Sound graph.now }
     requires found { IsStayFound graph.now stay }
-    ensures { IfOk result (IsStay graph.now stay) }
+    ensures { IsStay graph.now stay result }
 {
     let (organisation, place) = located(graph, stay.0);
-    Ok((
-        organisation.name.try_copy()?,
+    (
+        Wording::lent(&organisation.name),
         stay.1 as u32,
-        place.name.try_copy()?,
-    ))
+        Wording::lent(&place.name),
+    )
 }
 
 // The names of the stays of a walk, in order.
-fn stays(alloc: Global, graph: &Graph, found: Links<'_>) -> Result<Stays, AllocError>
+fn stays<'a>(alloc: Global, graph: &'a Graph, found: Links<'_>) -> Result<Stays<'a>, AllocError>
     requires sound { Sound graph.now }
     requires found { All (IsStayFound graph.now) (rest found) }
     ensures { IfOk result (AreStays graph.now (rest found.entry)) }
 {
     let mut named = Vec::new(alloc);
     for one in found {
-        named.push(stay(graph, one)?)?;
+        named.push(stay(graph, one))?;
     }
-    let ordered = in_order(named, |a: &(Text, u32, Text), b: &(Text, u32, Text)| {
-        a.0.cmp(&b.0).then(a.1.cmp(&b.1).then(a.2.cmp(&b.2)))
-    });
+    let ordered = in_order(
+        named,
+        |a: &(Wording<'_>, u32, Wording<'_>), b: &(Wording<'_>, u32, Wording<'_>)| {
+            a.0.compare(&b.0)
+                .then(a.1.cmp(&b.1).then(a.2.compare(&b.2)))
+        },
+    );
     Ok(Stays::from_vec(alloc, ordered))
 }
 
-// The first eight columns of the row of a person at a distance.
-fn profile(alloc: Global, graph: &Graph, one: &(&Person, u64)) -> Result<AnswerRow, AllocError>
-    requires sound { Sound graph.now }
-    requires found { IsNamesakeFound graph.now one.now }
-    ensures { IfOk result (λ row. row ≡ profile_of one.now.0.now one.now.1) }
-{
-    graph.known();
-    sound_graphs();
-    let person = one.0;
-    let mut row = AnswerRow::new(alloc);
-    row.push(Cell::number(person.id))?;
-    row.push(words(&person.last_name)?)?;
-    row.push(Cell::number(one.1))?;
-    row.push(Cell::number(person.birthday))?;
-    row.push(Cell::number(person.creation_date))?;
-    row.push(words(&person.gender)?)?;
-    row.push(words(&person.browser_used)?)?;
-    row.push(words(&person.location_ip)?)?;
-    Ok(row)
-}
-
 // The row of a person at a distance.
-fn namesake_row(alloc: Global, graph: &Graph, one: &(&Person, u64)) -> Result<AnswerRow, AllocError>
+fn namesake_row<'a>(
+    alloc: Global,
+    graph: &'a Graph,
+    one: &(&'a Person, u64),
+) -> Result<AnswerRow<'a>, AllocError>
     requires sound { Sound graph.now }
     requires found { IsNamesakeFound graph.now one.now }
     ensures { IfOk result (IsNamesake graph.now (namesake_of one.now)) }
@@ -103,30 +95,39 @@ fn namesake_row(alloc: Global, graph: &Graph, one: &(&Person, u64)) -> Result<An
     sound_graphs();
     let person = one.0;
     let home = place(graph, city(graph, person.id));
-    let mut row = profile(alloc, graph, one)?;
     let emails = sorted(
         alloc,
         graph.words(Table::PersonEmailEmailAddress, person.id),
     )?;
-    row.push(Cell::List { texts: emails })?;
     let languages = sorted(alloc, graph.words(Table::PersonSpeaksLanguage, person.id))?;
-    row.push(Cell::List { texts: languages })?;
-    row.push(words(&home.name)?)?;
     let universities = stays(alloc, graph, graph.study(person.id))?;
-    row.push(Cell::Stays {
-        stays: universities,
-    })?;
     let companies = stays(alloc, graph, graph.work(person.id))?;
-    row.push(Cell::Stays { stays: companies })?;
-    Ok(row)
+    let cells = vec![in alloc;
+        Cell::number(person.id),
+        words(&person.last_name),
+        Cell::number(one.1),
+        Cell::number(person.birthday),
+        Cell::number(person.creation_date),
+        words(&person.gender),
+        words(&person.browser_used),
+        words(&person.location_ip),
+        Cell::List { texts: emails },
+        Cell::List { texts: languages },
+        words(&home.name),
+        Cell::Stays {
+            stays: universities,
+        },
+        Cell::Stays { stays: companies },
+    ]?;
+    Ok(AnswerRow::from_vec(alloc, cells))
 }
 
 // The rows of persons at distances.
-fn namesake_rows(
+fn namesake_rows<'a>(
     alloc: Global,
-    graph: &Graph,
-    found: &[(&Person, u64)],
-) -> Result<Answer, AllocError>
+    graph: &'a Graph,
+    found: &[(&'a Person, u64)],
+) -> Result<Answer<'a>, AllocError>
     requires sound { Sound graph.now }
     requires found { All (IsNamesakeFound graph.now) found.now }
     ensures { IfOk result (AllZip (λ one row. IsNamesake graph.now (namesake_of one) row) found.now) }
@@ -139,11 +140,11 @@ fn namesake_rows(
 }
 
 // The rows of the first twenty of the persons that were found.
-fn first_namesakes(
+fn first_namesakes<'a>(
     alloc: Global,
-    graph: &Graph,
-    found: Vec<(&Person, u64)>,
-) -> Result<Answer, AllocError>
+    graph: &'a Graph,
+    found: Vec<(&'a Person, u64)>,
+) -> Result<Answer<'a>, AllocError>
     requires sound { Sound graph.now }
     requires found { All (IsNamesakeFound graph.now) found.items }
     ensures { IfOk result (Answers (map namesake_of found.entry.items) (IsNamesake graph.now) (Rising 3 ∷ Rising 2 ∷ Rising 1 ∷ []) (First 20)) }
@@ -196,16 +197,36 @@ fn namesakes<'a>(
     named(alloc, graph, first_name, near.as_slice())
 }
 
+// Those of a first name at distance 1 to 3 from a person, around whom these are met within two steps. Where
+// persons are few in comparison, a look at each of their names takes less time than to meet everybody within
+// three steps.
+fn third<'a>(
+    alloc: Global,
+    graph: &'a Graph,
+    person: u64,
+    met: &HashMap<u64, u64>,
+    first_name: &str,
+) -> Result<Vec<(&'a Person, u64)>, AllocError>
+    requires sound { Sound graph.now }
+    requires distances { AreDistances graph.now person 2 (get nat_eq met.now) }
+    ensures { IfOk result (λ found. AreNamesakesWithin graph.now person 3 first_name.now found.items) }
+{
+    if graph.count(Table::Person) / 16 <= met.len() as u64 {
+        return scanned(alloc, graph, met, first_name);
+    }
+    namesakes(alloc, graph, person, first_name, 3)
+}
+
 /// Complex read 1: the persons of a first name at distance 1 to 3 from a person, each with the distance, the
 /// profile, emails, languages, city, studies and work; the first twenty, by distance, then by last name, then
 /// by id. A person who isn't held gives no rows.
 /// The condition: the graph is sound.
-pub fn ic1(
+pub fn ic1<'a>(
     alloc: Global,
-    graph: &Graph,
+    graph: &'a Graph,
     person: u64,
     first_name: &str,
-) -> Result<Answer, AllocError>
+) -> Result<Answer<'a>, AllocError>
     requires sound { Sound graph.now }
     ensures { IfOk result (Ic1 graph.now person first_name.now) }
 {
@@ -215,11 +236,13 @@ pub fn ic1(
     first_is_some::<(Text, u32, Text)>();
     first_is_some::<AnswerRow>();
     // Nearer persons come first: where those within two steps are enough, nobody further is looked at.
-    let found = namesakes(alloc, graph, person, first_name, 2)?;
+    let met = distances(alloc, graph, person, 2)?;
+    let near = listed(alloc, &met)?;
+    let found = named(alloc, graph, first_name, near.as_slice())?;
     let enough = 20;
     if enough <= found.len() {
         return first_namesakes(alloc, graph, found);
     }
-    let found = namesakes(alloc, graph, person, first_name, 3)?;
+    let found = third(alloc, graph, person, &met, first_name)?;
     first_namesakes(alloc, graph, found)
 }

@@ -51,7 +51,7 @@ fn insert_value(alloc: Global, line: &str) -> Result<Value, AllocError>
 }
 
 // The value of a read and its reply.
-fn ask_value(alloc: Global, query: &Query, reply: &Reply) -> Result<Value, AllocError>
+fn ask_value(alloc: Global, query: &Query, reply: &Reply<'_>) -> Result<Value, AllocError>
     ensures value { IfOk result (λ v. view v ≡ case_data (Ask query.now reply.now)) }
     ensures types { OnOk result (AreOfTypes reply.now) }
 {
@@ -89,7 +89,7 @@ pub fn put_insert(alloc: Global, line: &Line, to: &mut Vec<u8>) -> Result<(), Al
 pub fn put_ask(
     alloc: Global,
     query: &Query,
-    reply: &Reply,
+    reply: &Reply<'_>,
     to: &mut Vec<u8>,
 ) -> Result<(), AllocError>
     ensures ok { OnOk result (to.new.items ≡ to.old.items ++ case_line (Ask query.now reply.now)) }

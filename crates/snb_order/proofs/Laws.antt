@@ -1,10 +1,10 @@
--- What other crates may cite of this one: how keys and the cells that show them compare, lists side by side, and an answer made from the
--- things that were chosen.
-use Rattle.std.proofs.Common.{◌≡◌, ℕ, zero, suc, ◌+◌, ◌<◌, ◌≤◌, pos, List, [], ◌∷◌, ◌++◌, length, get_or, set, take, map, refl, ap, ◌∙◌, arith}
+-- What other crates may cite of this one: how keys and the cells that show them compare, lists side by side, an answer made from the
+-- things that were chosen, and what is kept of rows that come one after another.
+use Rattle.std.proofs.Common.{◌≡◌, ℕ, zero, suc, ◌+◌, ◌<◌, ◌≤◌, pos, false, List, [], ◌∷◌, ◌++◌, length, get_or, set, take, map, refl, ap, ◌∙◌, subst, arith}
 use Rattle.std.proofs.lemmas.Bool.Decides.{nat_tests}
 use Rattle.std.proofs.lemmas.Fn.{always_returns_same}
-use Rattle.std.proofs.lemmas.List.{map_push, take_all, take_more}
-use Rattle.std.proofs.lemmas.List.Elements.{All-head, All-same, All-tail, All-take}
+use Rattle.std.proofs.lemmas.List.{get_or_append_left, length-append, map_push, take_all, take_more}
+use Rattle.std.proofs.lemmas.List.Elements.{All-head, All-nil, All-same, All-tail, All-take}
 use Rattle.std.proofs.lemmas.List.Sorted.{All-permutation, IsPermutation-keeps, IsPermutation-refl, IsPermutation-swap, IsPermutation-sym, IsPermutation-trans}
 use Rattle.std.specs.Fn.{Called, ComparesAs, Mut}
 use Rattle.std.specs.List.{All, AllZip, swap}
@@ -15,6 +15,7 @@ use Rattle.std.specs.declared.cmp.Ordering.TheVariants.{Less, Equal, Greater}
 use denote.Ref.{Bor}
 use Rattle.snb_reads.specs.declared.cell.Cell.{Cell}
 use Rattle.snb_reads.specs.Cells.{cell_cmp, number}
+use Rattle.snb_order.specs.Top.{IsTop, Kept, not_after}
 use Rattle.snb_reads.specs.Order.{Answers, Cut, Whole, First, FirstOf, Way, by, cut_at}
 
 -- ---- keys and cells
@@ -226,3 +227,25 @@ module _ {X : Type 0} (counted : List X) (Shows : X → List Cell → Type 0) (o
     shown = rw is tt;
     first = record { sorted = []; same = IsPermutation-refl []; ordered = λ k d low high. absurd (omega arith); kept = refl };
   }
+
+-- ---- the first of rows that come one after another
+
+module _ {X : Type 0} (order : X → X → Ordering) where
+  -- nothing is kept of no rows
+  pub top_begins : (most : ℕ) → IsTop order [] (record { rows = []; most = most; cut = false })
+  top_begins most = record { rest = []; same = IsPermutation-refl []; later = All-nil (λ y. most ≤ not_after order y []); ordered = λ is. absurd cc }
+
+  -- what is kept of rows is kept of them in any order
+  pub top_moved : (all other : List X) (kept : Kept X) → IsPermutation all other → IsTop order all kept → IsTop order other kept
+  top_moved all other kept moves top = record {
+    rest = top.rest;
+    same = IsPermutation-trans other all (kept.rows ++ top.rest) (IsPermutation-sym all other moves) top.same;
+    later = top.later;
+    ordered = top.ordered;
+  }
+
+  -- each row that is kept is one of all
+  pub top_some : (P : X → Type 0) (all : List X) (kept : Kept X) → All P all → IsTop order all kept → All P kept.rows
+  top_some P all kept each top =
+      let both = All-permutation P all (kept.rows ++ top.rest) top.same each in
+      λ k d small. subst P (get_or_append_left kept.rows top.rest d k small) (both k d (omega (arith, length-append kept.rows top.rest)))

@@ -47,7 +47,7 @@ found R x (y ∷ ys) h = by_test (is_eq (R x y)) refl (found R x ys)
         let (k, small, is) = rest more in
         (suc k, omega arith, is)
 
-sorted_tail : {X : Type 0} (R : X → X → Ordering) (x : X) (xs : List X) → IsSorted R (x ∷ xs) → IsSorted R xs
+pub sorted_tail : {X : Type 0} (R : X → X → Ordering) (x : X) (xs : List X) → IsSorted R (x ∷ xs) → IsSorted R xs
 sorted_tail R x xs up k d low high = rw add-one (rw add-one at (up (suc k) d (omega arith) (omega arith)))
 
 get_or_here : {X : Type 0} (xs : List X) (k : ℕ) (d : X) → k < length xs → get_or xs k (get_or xs k d) ≡ get_or xs k d

@@ -3,3 +3,4 @@
 
 pub mod first;
 pub mod law;
+pub mod top;

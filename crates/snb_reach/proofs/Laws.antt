@@ -1,13 +1,14 @@
--- What other crates may cite of this one: there is one list of the persons within a distance.
+-- What other crates may cite of this one: lists by rising id, of which there is one of the persons within a distance, and walks.
 use Rattle.std.proofs.Common.{◌≡◌, ◌∙◌, ◌↔◌, ℕ, suc, ◌<◌, List, [], ◌∷◌, ap, arith, inl, inr, refl, subst, sym}
 use Rattle.std.specs.List.{AllPairs, Contains}
 use Rattle.snb_schema.specs.declared.row.Row.{Row}
 use Rattle.snb_shelf.proofs.Laws.{contains_cases, contains_here, contains_there}
 use Rattle.snb_tables.proofs.Laws.{contains_none}
 use Rattle.snb_reads.specs.Distance.{IsWithin}
+pub use Rattle.snb_reach.proofs.WalkLemmas.{friend_turned, last_step, one_distance}
 
 -- pairs by rising id
-abbrev Rises : List (ℕ × ℕ) → Type 0
+abbrev pub Rises : List (ℕ × ℕ) → Type 0
 Rises = AllPairs (λ (x : ℕ × ℕ) (y : ℕ × ℕ). x.0 < y.0)
 
 above : (x : ℕ × ℕ) (xs : List (ℕ × ℕ)) (z : ℕ × ℕ) → Rises (x ∷ xs) → Contains xs z → x.0 < z.0
@@ -25,7 +26,8 @@ after x xs y ys z rises same c d = elim (contains_cases y ys z d) [
   | inr f ↦ f
 ]
 
-same_rising : (xs ys : List (ℕ × ℕ)) → Rises xs → Rises ys → ((z : ℕ × ℕ) → Contains xs z ↔ Contains ys z) → xs ≡ ys
+-- two lists by rising id with the same pairs are one
+pub same_rising : (xs ys : List (ℕ × ℕ)) → Rises xs → Rises ys → ((z : ℕ × ℕ) → Contains xs z ↔ Contains ys z) → xs ≡ ys
 same_rising [] [] r s same = refl
 same_rising [] (y ∷ ys) r s same = absurd (contains_none y ((same y).1 (contains_here y ys)))
 same_rising (x ∷ xs) [] r s same = absurd (contains_none x ((same x).0 (contains_here x xs)))

@@ -1,5 +1,5 @@
 -- A search by levels.
-use Rattle.std.proofs.Common.{◌≡◌, ◌≢◌, ℕ, zero, suc, ◌<◌, ◌≤◌, ◌==◌, nat_eq, nat_lt, Bool, true, false, cond, List, [], ◌∷◌, ◌++◌, get_or, Option, Some, None, IsSome, refl, sym, ap, ◌∙◌, inl, inr, arith}
+use Rattle.std.proofs.Common.{◌≡◌, ◌≢◌, ◌↔◌, ℕ, zero, suc, ◌<◌, ◌≤◌, ◌==◌, nat_eq, nat_lt, Bool, true, false, cond, List, [], ◌∷◌, ◌++◌, get_or, Option, Some, None, IsSome, refl, sym, ap, ◌∙◌, inl, inr, arith}
 use Rattle.std.proofs.lemmas.Bool.{cases_lt, eqb-false, eqb-true, lt-ltb, ltb-true, ne_eqb}
 use Rattle.std.proofs.lemmas.List.{get_or-map, length-map}
 use Rattle.std.proofs.lemmas.List.Elements.{All-cons, All-contains, All-contains_itself, All-filter, All-nil, All-push, filter_passes, Contains-append_left, Contains-push}
@@ -16,7 +16,7 @@ use Rattle.snb_schema.specs.declared.row.Row.{Row}
 use Rattle.snb_tables.specs.Around.{is_friend}
 use Rattle.snb_reads.specs.Distance.{IsDistance, IsPerson, IsWithin, Walk}
 use Rattle.snb_reach.proofs.WalkLemmas.{last_step, no_step, one_distance, walk_end, walk_start}
-use Rattle.snb_reach.specs.Around.{IsAround}
+use Rattle.snb_reach.specs.Distances.{AreDistances}
 use Rattle.snb_reach.specs.Levels.{HasMet, IsGrowing, IsGrown, StaysMet}
 
 none_some : {X : Type 0} (o : Option X) → o ≡ None → IsSome o → ⊥
@@ -188,9 +188,14 @@ contains_filter p (y ∷ ys) x (suc k, small, is) passes = more (p y) (contains_
     more true (i, low, at) = (suc i, omega arith, at)
     more false c = c
 
-module _ {S : Type 0} (g : List Row) (start steps : ℕ) (met : HashMap ℕ ℕ S) (last : List ℕ) (near : List (ℕ × ℕ)) where
+-- the persons at distance 1 to `steps`, each once, with their distances
+record IsAround (g : List Row) (start steps : ℕ) (near : List (ℕ × ℕ)) : Type 0 where
+  pub apart : AllPairs (λ x y. x.0 ≢ y.0) near
+  pub exact : (p n : ℕ) → Contains near (p, n) ↔ (IsDistance g start p n × (1 ≤ n) × (n ≤ steps))
+
+module _ {S : Type 0} (g : List Row) (start steps : ℕ) (met : HashMap ℕ ℕ S) (near : List (ℕ × ℕ)) where
   -- those met, without the start, are those near
-  pub around_from : IsGrown g start steps (get nat_eq met) last → IsUnique nat_eq met → near ≡ filter (λ e. nat_lt 0 e.1) met.entries → IsAround g start steps near
+  around_from : AreDistances g start steps (get nat_eq met) → IsUnique nat_eq met → near ≡ filter (λ e. nat_lt 0 e.1) met.entries → IsAround g start steps near
   around_from grown unique is = record {
     apart = rw is (AllPairs-filter (λ x y. x.0 ≢ y.0) (λ e. nat_lt 0 e.1) met.entries (entries_apart met.entries unique));
     exact = λ p n. (there p n, back p n);
@@ -215,15 +220,19 @@ module _ {S : Type 0} (g : List Row) (start steps : ℕ) (met : HashMap ℕ ℕ 
       back : (p n : ℕ) → IsDistance g start p n × (1 ≤ n) × (n ≤ steps) → Contains near (p, n)
       back p n (at, above, low) = by_met p n at above (get nat_eq met p) refl (grown.near p n at.walk low)
 
--- nobody is around a person that isn't held
-pub none_around : (g : List Row) (start steps : ℕ) → ¬ IsPerson g start → IsAround g start steps []
-none_around g start steps none = record {
-  apart = λ i j d less small. absurd (omega arith);
-  exact = λ p n. (λ (k, small, is). absurd (omega arith), λ (at, above, low). absurd (no_walk g start none p n at.walk));
+-- nobody is met from a person that isn't held
+pub none_met : {S : Type 0} (g : List Row) (start steps : ℕ) (met : HashMap ℕ ℕ S) → met.entries ≡ [] → ¬ IsPerson g start → AreDistances g start steps (get nat_eq met)
+none_met g start steps met empty none = record {
+  told = λ q n e. (let found : lookup (nat_eq q) [] ≡ Some n = sym (ap (λ (es : List (ℕ × ℕ)). lookup (nat_eq q) es) empty) ∙ e in cc);
+  near = λ q n w low. absurd (no_walk g start none q n w);
 }
 
+-- those met up to the last level are those that can be reached
+pub grown_distances : (g : List Row) (start steps : ℕ) (met : ℕ → Option ℕ) (last : List ℕ) → IsGrown g start steps met last → AreDistances g start steps met
+grown_distances g start steps met last grown = record { told = grown.told; near = grown.near }
+
 -- those around, in order, are those within
-pub within_from : (g : List Row) (start steps : ℕ) (near sorted : List (ℕ × ℕ)) → IsAround g start steps near → IsPermutation near sorted → IsNonDecreasingBy (λ (x : ℕ × ℕ). x.0) sorted → IsWithin g start steps sorted
+within_from : (g : List Row) (start steps : ℕ) (near sorted : List (ℕ × ℕ)) → IsAround g start steps near → IsPermutation near sorted → IsNonDecreasingBy (λ (x : ℕ × ℕ). x.0) sorted → IsWithin g start steps sorted
 within_from g start steps near sorted around same up = record {
   rises = λ i j d less small.
       let low = up i j d (omega arith) small in
@@ -237,3 +246,8 @@ within_from g start steps near sorted around same up = record {
     λ far. Contains-permutation near sorted (p, n) same ((around.exact p n).1 far),
   );
 }
+
+-- those met, without the start, in order, are those within
+pub listed_from : {S : Type 0} (met : HashMap ℕ ℕ S) (near sorted : List (ℕ × ℕ)) → IsUnique nat_eq met → near ≡ filter (λ e. nat_lt 0 e.1) met.entries → IsPermutation near sorted
+    → IsNonDecreasingBy (λ (x : ℕ × ℕ). x.0) sorted → (g : List Row) (start steps : ℕ) → AreDistances g start steps (get nat_eq met) → IsWithin g start steps sorted
+listed_from met near sorted unique is same up g start steps are = within_from g start steps near sorted (around_from g start steps met near are unique is) same up

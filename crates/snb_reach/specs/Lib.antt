@@ -1,3 +1,3 @@
-pub mod Around
+pub mod Distances
 pub mod Levels
 pub mod Sides

@@ -1,9 +1,11 @@
 //! Distances between persons over friendships.
 
-ghost use Rattle.std.specs.Prelude.{IfOk};
+ghost use Rattle.std.specs.Prelude.{ℕ, List, IfOk, nat_eq};
+ghost use Rattle.std.specs.HashMap.{get};
+ghost use Rattle.snb_schema.specs.declared.row.Row.{Row};
 ghost use Rattle.snb_reads.specs.ComplexReads.{Ic13};
 ghost use Rattle.snb_reads.specs.Distance.{IsLength, IsWithin};
-ghost use Rattle.snb_reach.specs.Around.{IsAround};
+ghost use Rattle.snb_reach.specs.Distances.{AreDistances};
 ghost use Rattle.snb_tables.specs.Soundness.{Held};
 
 use crate::levels::{grow, others};
@@ -16,23 +18,38 @@ use snb_reads::cell::Cell;
 use std::alloc::{AllocError, Global};
 use std::collections::HashMap;
 
-// The persons at distance 1 to `steps` from a person, with their distances, in any order. Nobody is near a
-// person that isn't held.
-fn around(alloc: Global, graph: &Graph, start: u64, steps: u32) -> Result<Near, AllocError>
+/// The persons who can be reached in at most `steps` steps, each with the distance: the start itself at 0.
+/// Nobody is near a person that isn't held.
+/// The condition: each node that a row of the graph refers to is held.
+pub fn distances(
+    alloc: Global,
+    graph: &Graph,
+    start: u64,
+    steps: u32,
+) -> Result<HashMap<u64, u64>, AllocError>
     requires held { Held graph.now }
-    ensures { IfOk result (IsAround graph.now start steps) }
+    ensures { IfOk result (λ met. AreDistances graph.now start steps (get nat_eq met)) }
 {
-    let Some(_) = graph.person(start) else {
-        return Ok(Near::new(alloc));
-    };
     let mut met = HashMap::new(alloc);
+    let Some(_) = graph.person(start) else {
+        return Ok(met);
+    };
     met.insert(start, 0)?;
     let mut last = Vec::new(alloc);
     last.push(start)?;
     for done in 0..steps {
         last = grow(alloc, graph, start, u64::from(done) + 1, &last, &mut met)?;
     }
-    others(alloc, &met)
+    Ok(met)
+}
+
+/// Those met within a number of steps, without the start, by rising id.
+pub fn listed(alloc: Global, met: &HashMap<u64, u64>) -> Result<Near, AllocError>
+    ensures { IfOk result (λ near. (g : List Row) (start steps : ℕ) → AreDistances g start steps (get nat_eq met.now) → IsWithin g start steps near) }
+{
+    let mut near = others(alloc, met)?;
+    near.sort();
+    Ok(near)
 }
 
 /// The persons at distance 1 to `steps` from a person, with their distances, by rising id. Nobody is
@@ -42,9 +59,8 @@ pub fn within(alloc: Global, graph: &Graph, start: u64, steps: u32) -> Result<Ne
     requires held { Held graph.now }
     ensures { IfOk result (IsWithin graph.now start steps) }
 {
-    let mut near = around(alloc, graph, start, steps)?;
-    near.sort();
-    Ok(near)
+    let met = distances(alloc, graph, start, steps)?;
+    listed(alloc, &met)
 }
 
 /// The length in steps of a shortest walk from one person to another, or -1 where there is none, as
@@ -69,14 +85,13 @@ pub fn shortest(alloc: Global, graph: &Graph, from: u64, to: u64) -> Result<i64,
 /// Complex read 13 of LDBC's Social Network Benchmark, Interactive workload v1: one row, with the
 /// length of a shortest walk from one person to another, or -1 where there is none.
 /// The condition: each node that a row of the graph refers to is held.
-pub fn ic13(alloc: Global, graph: &Graph, from: u64, to: u64) -> Result<Answer, AllocError>
+pub fn ic13(alloc: Global, graph: &Graph, from: u64, to: u64) -> Result<Answer<'_>, AllocError>
     requires held { Held graph.now }
     ensures { IfOk result (Ic13 graph.now from to) }
 {
     let value = shortest(alloc, graph, from, to)?;
-    let mut row = AnswerRow::new(alloc);
-    row.push(Cell::Number { value })?;
+    let cells = vec![in alloc; Cell::Number { value }]?;
     let mut answer = Answer::new(alloc);
-    answer.push(row)?;
+    answer.push(AnswerRow::from_vec(alloc, cells))?;
     Ok(answer)
 }

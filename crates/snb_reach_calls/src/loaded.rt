@@ -11,7 +11,7 @@ use std::alloc::{AllocError, Global};
 use std::marker::Model;
 
 // Adds a cell that is a number.
-fn add_cell(alloc: Global, list: &mut List, cell: &Cell) -> Result<(), AllocError> {
+fn add_cell(alloc: Global, list: &mut List, cell: &Cell<'_>) -> Result<(), AllocError> {
     match cell {
         Cell::Number { value } => {
             let item = format!(in alloc; "{value}")?;

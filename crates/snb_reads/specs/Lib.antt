@@ -4,4 +4,5 @@ pub mod Distance
 pub mod Order
 pub mod Replies
 pub mod ShortReads
+pub mod Wordings
 pub mod Worked

@@ -7,19 +7,19 @@ use std::alloc::{AllocError, Global};
 use std::marker::Model;
 
 /// A row of an answer. A contract sees its cells in the order of the columns.
-pub struct AnswerRow {
+pub struct AnswerRow<'a> {
     alloc: Global,
-    items: Vec<Cell>,
+    items: Vec<Cell<'a>>,
 }
 
 // Written out, so that letting one go is one call wherever it happens.
-impl Drop for AnswerRow {
+impl<'a> Drop for AnswerRow<'a> {
     fn drop(self) {
         let AnswerRow { alloc: _, items: _ } = self;
     }
 }
 
-impl Model for AnswerRow {
+impl<'a> Model for AnswerRow<'a> {
     ghost use Rattle.std.specs.Prelude.{List};
     ghost use Rattle.snb_reads.specs.declared.cell.Cell.{Cell};
 
@@ -28,9 +28,9 @@ impl Model for AnswerRow {
     ghost view = { λ v. v.items.items };
 }
 
-impl AnswerRow {
+impl<'a> AnswerRow<'a> {
     /// The empty list. Takes no memory.
-    pub fn new(alloc: Global) -> AnswerRow
+    pub fn new(alloc: Global) -> AnswerRow<'a>
         ensures { result ≡ [] }
     {
         AnswerRow {
@@ -40,30 +40,30 @@ impl AnswerRow {
     }
 
     /// The list that the vector has. Takes no memory.
-    pub fn from_vec(alloc: Global, items: Vec<Cell>) -> AnswerRow
-        ensures { result ≡ items.items }
+    pub fn from_vec(alloc: Global, items: Vec<Cell<'a>>) -> AnswerRow<'a>
+        ensures { result ≡ items.entry.items }
     {
         AnswerRow { alloc, items }
     }
 
     /// The cells in order.
-    pub fn as_slice(&self) -> &[Cell]
+    pub fn as_slice(&self) -> &[Cell<'a>]
         ensures { result.now ≡ self.now }
     {
         self.items.as_slice()
     }
 
     /// Appends a cell. Want of memory leaves the list as it was.
-    pub fn push(&mut self, one: Cell) -> Result<(), AllocError>
-        ensures ok { OnOk result (self.new ≡ self.old ++ one ∷ []) }
+    pub fn push(&mut self, one: Cell<'a>) -> Result<(), AllocError>
+        ensures ok { OnOk result (self.new ≡ self.old ++ one.entry ∷ []) }
         ensures err { OnErr result (self.new ≡ self.old) }
     {
         self.items.push(one)?;
         Ok(())
     }
 
-    /// An equal list.
-    pub fn try_copy(&self) -> Result<AnswerRow, AllocError>
+    /// An equal list, with texts of its own.
+    pub fn try_copy(&self) -> Result<AnswerRow<'static>, AllocError>
         ensures { IfOk result (λ copy. copy ≡ self.now) }
     {
         let mut items = Vec::new(self.alloc);

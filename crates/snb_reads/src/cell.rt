@@ -4,25 +4,25 @@ ghost use Rattle.std.specs.Prelude.{◌≡◌, ◌<◌, ◌^◌, pos, IfOk};
 ghost use Rattle.snb_reads.specs.declared.cell.Cell.TheVariants.{Number};
 
 use crate::stays::Stays;
-use snb_base::text::Text;
-use snb_base::texts::Texts;
+use crate::wording::Wording;
+use crate::wordings::Wordings;
 use std::alloc::AllocError;
 
 /// One value of an answer's row.
-pub enum Cell {
+pub enum Cell<'a> {
     /// A number, or a moment in milliseconds since 1970-01-01 UTC.
     Number { value: i64 },
     /// Yes or no.
     Flag { value: bool },
     /// A text.
-    Words { text: Text },
+    Words { text: Wording<'a> },
     /// Texts, in byte order.
-    List { texts: Texts },
+    List { texts: Wordings<'a> },
     /// Where a person studied or worked, in order.
-    Stays { stays: Stays },
+    Stays { stays: Stays<'a> },
 }
 
-impl Drop for Cell {
+impl<'a> Drop for Cell<'a> {
     fn drop(self) {
         match self {
             Cell::Number { value: _ } => {}
@@ -34,10 +34,10 @@ impl Drop for Cell {
     }
 }
 
-impl Cell {
+impl<'a> Cell<'a> {
     /// The cell of a number that isn't below zero. Takes no memory.
     /// The condition: the number is below 2^63.
-    pub fn number(value: u64) -> Cell
+    pub fn number(value: u64) -> Cell<'a>
         requires { value < 2 ^ 63 }
         ensures { result ≡ Number (pos value) }
     {
@@ -46,8 +46,8 @@ impl Cell {
         }
     }
 
-    /// An equal cell.
-    pub fn try_copy(&self) -> Result<Cell, AllocError>
+    /// An equal cell, with texts of its own.
+    pub fn try_copy(&self) -> Result<Cell<'static>, AllocError>
         ensures { IfOk result (λ c. c ≡ self.now) }
     {
         match self {

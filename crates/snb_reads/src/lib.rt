@@ -8,4 +8,6 @@ pub mod cell;
 pub mod like;
 pub mod reply;
 pub mod stays;
+pub mod wording;
+pub mod wordings;
 pub mod worked;

@@ -2,24 +2,24 @@
 
 ghost use Rattle.std.specs.Prelude.{◌≡◌, ◌∷◌, ◌++◌, [], IfOk, OnOk, OnErr};
 
-use snb_base::text::Text;
+use crate::wording::Wording;
 use std::alloc::{AllocError, Global};
 use std::marker::Model;
 
 /// An owned list of stays, each the name of an organisation, a year, and the name of the place where
 /// the organisation is. A contract sees the list.
-pub struct Stays {
+pub struct Stays<'a> {
     alloc: Global,
-    items: Vec<(Text, u32, Text)>,
+    items: Vec<(Wording<'a>, u32, Wording<'a>)>,
 }
 
-impl Drop for Stays {
+impl<'a> Drop for Stays<'a> {
     fn drop(self) {
         let Stays { alloc: _, items: _ } = self;
     }
 }
 
-impl Model for Stays {
+impl<'a> Model for Stays<'a> {
     ghost use Rattle.std.specs.Prelude.{ℕ, List};
 
     ghost Value = { List (List ℕ × ℕ × List ℕ) };
@@ -27,9 +27,9 @@ impl Model for Stays {
     ghost view = { λ s. s.items.items };
 }
 
-impl Stays {
+impl<'a> Stays<'a> {
     /// The empty list. Takes no memory.
-    pub fn new(alloc: Global) -> Stays
+    pub fn new(alloc: Global) -> Stays<'a>
         ensures { result ≡ [] }
     {
         Stays {
@@ -39,30 +39,30 @@ impl Stays {
     }
 
     /// The list that the vector has. Takes no memory.
-    pub fn from_vec(alloc: Global, items: Vec<(Text, u32, Text)>) -> Stays
-        ensures { result ≡ items.items }
+    pub fn from_vec(alloc: Global, items: Vec<(Wording<'a>, u32, Wording<'a>)>) -> Stays<'a>
+        ensures { result ≡ items.entry.items }
     {
         Stays { alloc, items }
     }
 
     /// The stays in order.
-    pub fn as_slice(&self) -> &[(Text, u32, Text)]
+    pub fn as_slice(&self) -> &[(Wording<'a>, u32, Wording<'a>)]
         ensures { result.now ≡ self.now }
     {
         self.items.as_slice()
     }
 
     /// Appends a stay. Want of memory leaves the list as it was.
-    pub fn push(&mut self, stay: (Text, u32, Text)) -> Result<(), AllocError>
-        ensures ok { OnOk result (self.new ≡ self.old ++ stay ∷ []) }
+    pub fn push(&mut self, stay: (Wording<'a>, u32, Wording<'a>)) -> Result<(), AllocError>
+        ensures ok { OnOk result (self.new ≡ self.old ++ stay.entry ∷ []) }
         ensures err { OnErr result (self.new ≡ self.old) }
     {
         self.items.push(stay)?;
         Ok(())
     }
 
-    /// An equal list.
-    pub fn try_copy(&self) -> Result<Stays, AllocError>
+    /// An equal list, with texts of its own.
+    pub fn try_copy(&self) -> Result<Stays<'static>, AllocError>
         ensures { IfOk result (λ s. s ≡ self.now) }
     {
         let mut items = Vec::new(self.alloc);

@@ -21,7 +21,7 @@ use snb_short_reads::persons::{is1, is2, is3};
 use std::alloc::{AllocError, Global};
 
 // The query's own answer.
-fn own_answer(alloc: Global, graph: &Graph, query: &Query) -> Result<Answer, AllocError>
+fn own_answer<'a>(alloc: Global, graph: &'a Graph, query: &Query) -> Result<Answer<'a>, AllocError>
     requires sound { Sound graph.now }
     ensures { IfOk result (IsAnswer graph.now query.now) }
 {
@@ -48,11 +48,11 @@ fn own_answer(alloc: Global, graph: &Graph, query: &Query) -> Result<Answer, All
 }
 
 // Adds the answers of the short reads of a person.
-fn push_person(
+fn push_person<'a>(
     alloc: Global,
-    graph: &Graph,
+    graph: &'a Graph,
     person: u64,
-    reply: &mut Reply,
+    reply: &mut Reply<'a>,
 ) -> Result<(), AllocError>
     requires sound { Sound graph.now }
     ensures { OnOk result (HasAnswered graph.now (person_reads person) reply.old reply.new) }
@@ -64,11 +64,11 @@ fn push_person(
 }
 
 // Adds the answers of the short reads of a message.
-fn push_message(
+fn push_message<'a>(
     alloc: Global,
-    graph: &Graph,
+    graph: &'a Graph,
     message: u64,
-    reply: &mut Reply,
+    reply: &mut Reply<'a>,
 ) -> Result<(), AllocError>
     requires sound { Sound graph.now }
     ensures { OnOk result (HasAnswered graph.now (message_reads message) reply.old reply.new) }
@@ -82,7 +82,7 @@ fn push_message(
 
 /// The reply to a query: its own answer, and then the answers of the short reads that follow it.
 /// The condition: the graph is sound.
-pub fn answer(alloc: Global, graph: &Graph, query: &Query) -> Result<Reply, AllocError>
+pub fn answer<'a>(alloc: Global, graph: &'a Graph, query: &Query) -> Result<Reply<'a>, AllocError>
     requires sound { Sound graph.now }
     ensures { IfOk result (IsReply graph.now query.now) }
 {

@@ -21,7 +21,7 @@ pub struct Tail {
 }
 
 // The id in a column of a row, counted from 1.
-fn id_at(row: &AnswerRow, at: usize) -> u64
+fn id_at(row: &AnswerRow<'_>, at: usize) -> u64
     requires first { 1 ≤ at }
     requires last { at ≤ length row.now }
     requires id { IsOfColumn Id (column at row.now) }
@@ -39,7 +39,7 @@ fn id_at(row: &AnswerRow, at: usize) -> u64
 /// reads. Takes no memory.
 ///
 /// The condition: each row has the columns of the read, and no id in it is below zero.
-pub fn tail_of(query: &Query, answer: &Answer) -> Tail
+pub fn tail_of(query: &Query, answer: &Answer<'_>) -> Tail
     requires columns { HaveColumns query.now answer.now }
     ensures { tail_reads query.now answer.now ≡ queries_of result }
 {

@@ -16,6 +16,7 @@ use snb_base::text::Text;
 use snb_graph::graph::Graph;
 use snb_graph::walk::Links;
 use snb_reads::cell::Cell;
+use snb_reads::wording::Wording;
 use snb_schema::key::{Held, Key};
 use snb_schema::nodes::{Forum, Post};
 use snb_schema::person::Person;
@@ -23,13 +24,13 @@ use snb_schema::table::Table;
 use snb_soundness::law::sound_graphs;
 use std::alloc::{AllocError, Global};
 
-/// The cell of a text.
-pub fn words(text: &Text) -> Result<Cell, AllocError>
-    ensures { IfOk result (λ cell. cell ≡ Words text.now) }
+/// The cell of a text, which lends it. Takes no memory.
+pub fn words(text: &Text) -> Cell<'_>
+    ensures { result ≡ Words text.now }
 {
-    Ok(Cell::Words {
-        text: text.try_copy()?,
-    })
+    Cell::Words {
+        text: Wording::lent(text),
+    }
 }
 
 /// The pairs of a walk, in its order.

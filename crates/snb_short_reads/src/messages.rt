@@ -20,19 +20,19 @@ use std::alloc::{AllocError, Global};
 
 /// Short read 4: the message. One that isn't held gives no rows.
 /// The condition: the graph is sound.
-pub fn is4(alloc: Global, graph: &Graph, message: u64) -> Result<Answer, AllocError>
+pub fn is4(alloc: Global, graph: &Graph, message: u64) -> Result<Answer<'_>, AllocError>
     requires sound { Sound graph.now }
     ensures { IfOk result (Is4 graph.now message) }
 {
     let Some((date, content)) = shown(graph, message) else {
         return Ok(Answer::new(alloc));
     };
-    let cells = vec![in alloc; Cell::number(date), words(content)?]?;
+    let cells = vec![in alloc; Cell::number(date), words(content)]?;
     only(alloc, AnswerRow::from_vec(alloc, cells))
 }
 
 // The row of a message's creator.
-fn creator(alloc: Global, graph: &Graph, message: u64) -> Result<AnswerRow, AllocError>
+fn creator(alloc: Global, graph: &Graph, message: u64) -> Result<AnswerRow<'_>, AllocError>
     requires sound { Sound graph.now }
     requires held { HasMessage graph.now message }
     ensures { IfOk result (IsCreator graph.now message) }
@@ -40,15 +40,15 @@ fn creator(alloc: Global, graph: &Graph, message: u64) -> Result<AnswerRow, Allo
     let author = known(graph, author_id(graph, message));
     let cells = vec![in alloc;
         Cell::number(author.id),
-        words(&author.first_name)?,
-        words(&author.last_name)?,
+        words(&author.first_name),
+        words(&author.last_name),
     ]?;
     Ok(AnswerRow::from_vec(alloc, cells))
 }
 
 /// Short read 5: the creator of a message. A message that isn't held gives no rows.
 /// The condition: the graph is sound.
-pub fn is5(alloc: Global, graph: &Graph, message: u64) -> Result<Answer, AllocError>
+pub fn is5(alloc: Global, graph: &Graph, message: u64) -> Result<Answer<'_>, AllocError>
     requires sound { Sound graph.now }
     ensures { IfOk result (Is5 graph.now message) }
 {
@@ -59,26 +59,27 @@ pub fn is5(alloc: Global, graph: &Graph, message: u64) -> Result<Answer, AllocEr
 }
 
 // The row of the forum of a message's root.
-fn forum_row(alloc: Global, graph: &Graph, message: u64) -> Result<AnswerRow, AllocError>
+fn forum_row(alloc: Global, graph: &Graph, message: u64) -> Result<AnswerRow<'_>, AllocError>
     requires sound { Sound graph.now }
     requires held { HasMessage graph.now message }
     ensures { IfOk result (IsForum graph.now message) }
 {
     let forum = forum(graph, root(graph, message));
     let person = known(graph, moderator(graph, forum.id));
-    let mut row = AnswerRow::new(alloc);
-    row.push(Cell::number(forum.id))?;
-    row.push(words(&forum.title)?)?;
-    row.push(Cell::number(person.id))?;
-    row.push(words(&person.first_name)?)?;
-    row.push(words(&person.last_name)?)?;
-    Ok(row)
+    let cells = vec![in alloc;
+        Cell::number(forum.id),
+        words(&forum.title),
+        Cell::number(person.id),
+        words(&person.first_name),
+        words(&person.last_name),
+    ]?;
+    Ok(AnswerRow::from_vec(alloc, cells))
 }
 
 /// Short read 6: the forum of the post at a message's root, with its moderator. A message that isn't
 /// held gives no rows.
 /// The condition: the graph is sound.
-pub fn is6(alloc: Global, graph: &Graph, message: u64) -> Result<Answer, AllocError>
+pub fn is6(alloc: Global, graph: &Graph, message: u64) -> Result<Answer<'_>, AllocError>
     requires sound { Sound graph.now }
     ensures { IfOk result (Is6 graph.now message) }
 {
@@ -108,7 +109,7 @@ fn reply_row(
     graph: &Graph,
     message: u64,
     reply: (u64, u64, u64),
-) -> Result<AnswerRow, AllocError>
+) -> Result<AnswerRow<'_>, AllocError>
     requires sound { Sound graph.now }
     requires found { IsReplyFound graph.now message reply }
     ensures { IfOk result (IsReplyTo graph.now message (without_author reply)) }
@@ -119,24 +120,25 @@ fn reply_row(
     };
     let author = known(graph, author_id(graph, reply.0));
     let value = are_friends(graph, author_id(graph, message), author.id);
-    let mut row = AnswerRow::new(alloc);
-    row.push(Cell::number(reply.0))?;
-    row.push(words(&comment.content)?)?;
-    row.push(Cell::number(reply.1))?;
-    row.push(Cell::number(author.id))?;
-    row.push(words(&author.first_name)?)?;
-    row.push(words(&author.last_name)?)?;
-    row.push(Cell::Flag { value })?;
-    Ok(row)
+    let cells = vec![in alloc;
+        Cell::number(reply.0),
+        words(&comment.content),
+        Cell::number(reply.1),
+        Cell::number(author.id),
+        words(&author.first_name),
+        words(&author.last_name),
+        Cell::Flag { value },
+    ]?;
+    Ok(AnswerRow::from_vec(alloc, cells))
 }
 
 // The rows of replies to a message.
-fn reply_rows(
+fn reply_rows<'a>(
     alloc: Global,
-    graph: &Graph,
+    graph: &'a Graph,
     message: u64,
     found: &[(u64, u64, u64)],
-) -> Result<Answer, AllocError>
+) -> Result<Answer<'a>, AllocError>
     requires sound { Sound graph.now }
     requires found { All (IsReplyFound graph.now message) found.now }
     ensures { IfOk result (AllZip (λ z row. IsReplyTo graph.now message (without_author z) row) found.now) }
@@ -152,7 +154,7 @@ fn reply_rows(
 /// that author is a friend of the message's; of replies of one date those of the author of the lower id
 /// first, and of these the one of the lower id. A message that isn't held gives no rows.
 /// The condition: the graph is sound.
-pub fn is7(alloc: Global, graph: &Graph, message: u64) -> Result<Answer, AllocError>
+pub fn is7(alloc: Global, graph: &Graph, message: u64) -> Result<Answer<'_>, AllocError>
     requires sound { Sound graph.now }
     ensures { IfOk result (Is7 graph.now message) }
 {

@@ -19,8 +19,8 @@ use snb_soundness::law::sound_graphs;
 use std::alloc::{AllocError, Global};
 
 // The answer of one row.
-pub(crate) fn only(alloc: Global, row: AnswerRow) -> Result<Answer, AllocError>
-    ensures { IfOk result (λ answer. answer ≡ row ∷ []) }
+pub(crate) fn only<'a>(alloc: Global, row: AnswerRow<'a>) -> Result<Answer<'a>, AllocError>
+    ensures { IfOk result (λ answer. answer ≡ row.entry ∷ []) }
 {
     let mut answer = Answer::new(alloc);
     answer.push(row)?;
@@ -28,28 +28,33 @@ pub(crate) fn only(alloc: Global, row: AnswerRow) -> Result<Answer, AllocError>
 }
 
 // The row of a person.
-fn profile(alloc: Global, graph: &Graph, person: &Person) -> Result<AnswerRow, AllocError>
+fn profile<'a>(
+    alloc: Global,
+    graph: &Graph,
+    person: &'a Person,
+) -> Result<AnswerRow<'a>, AllocError>
     requires sound { Sound graph.now }
     requires held { Contains graph.now (row.Person person.now) }
     ensures { IfOk result (IsProfile graph.now person.now) }
 {
     graph.known();
     sound_graphs();
-    let mut row = AnswerRow::new(alloc);
-    row.push(words(&person.first_name)?)?;
-    row.push(words(&person.last_name)?)?;
-    row.push(Cell::number(person.birthday))?;
-    row.push(words(&person.location_ip)?)?;
-    row.push(words(&person.browser_used)?)?;
-    row.push(Cell::number(city(graph, person.id)))?;
-    row.push(words(&person.gender)?)?;
-    row.push(Cell::number(person.creation_date))?;
-    Ok(row)
+    let cells = vec![in alloc;
+        words(&person.first_name),
+        words(&person.last_name),
+        Cell::number(person.birthday),
+        words(&person.location_ip),
+        words(&person.browser_used),
+        Cell::number(city(graph, person.id)),
+        words(&person.gender),
+        Cell::number(person.creation_date),
+    ]?;
+    Ok(AnswerRow::from_vec(alloc, cells))
 }
 
 /// Short read 1: the person. One who isn't held gives no rows.
 /// The condition: the graph is sound.
-pub fn is1(alloc: Global, graph: &Graph, person: u64) -> Result<Answer, AllocError>
+pub fn is1(alloc: Global, graph: &Graph, person: u64) -> Result<Answer<'_>, AllocError>
     requires sound { Sound graph.now }
     ensures { IfOk result (Is1 graph.now person) }
 {
@@ -61,7 +66,7 @@ pub fn is1(alloc: Global, graph: &Graph, person: u64) -> Result<Answer, AllocErr
 }
 
 // The row of a message.
-fn recent(alloc: Global, graph: &Graph, message: (u64, u64)) -> Result<AnswerRow, AllocError>
+fn recent(alloc: Global, graph: &Graph, message: (u64, u64)) -> Result<AnswerRow<'_>, AllocError>
     requires sound { Sound graph.now }
     requires found { IsMessageFound graph.now message }
     ensures { IfOk result (IsRecent graph.now message) }
@@ -73,19 +78,24 @@ fn recent(alloc: Global, graph: &Graph, message: (u64, u64)) -> Result<AnswerRow
     };
     let post = root(graph, message.0);
     let author = known(graph, author_id(graph, post));
-    let mut row = AnswerRow::new(alloc);
-    row.push(Cell::number(message.0))?;
-    row.push(words(content)?)?;
-    row.push(Cell::number(message.1))?;
-    row.push(Cell::number(post))?;
-    row.push(Cell::number(author.id))?;
-    row.push(words(&author.first_name)?)?;
-    row.push(words(&author.last_name)?)?;
-    Ok(row)
+    let cells = vec![in alloc;
+        Cell::number(message.0),
+        words(content),
+        Cell::number(message.1),
+        Cell::number(post),
+        Cell::number(author.id),
+        words(&author.first_name),
+        words(&author.last_name),
+    ]?;
+    Ok(AnswerRow::from_vec(alloc, cells))
 }
 
 // The rows of messages.
-fn recents(alloc: Global, graph: &Graph, messages: &[(u64, u64)]) -> Result<Answer, AllocError>
+fn recents<'a>(
+    alloc: Global,
+    graph: &'a Graph,
+    messages: &[(u64, u64)],
+) -> Result<Answer<'a>, AllocError>
     requires sound { Sound graph.now }
     requires found { All (IsMessageFound graph.now) messages.now }
     ensures { IfOk result (AllZip (IsRecent graph.now) messages.now) }
@@ -101,7 +111,7 @@ fn recents(alloc: Global, graph: &Graph, messages: &[(u64, u64)]) -> Result<Answ
 /// author; of messages of one date the one of the greater id first. A person who isn't held gives no
 /// rows.
 /// The condition: the graph is sound.
-pub fn is2(alloc: Global, graph: &Graph, person: u64) -> Result<Answer, AllocError>
+pub fn is2(alloc: Global, graph: &Graph, person: u64) -> Result<Answer<'_>, AllocError>
     requires sound { Sound graph.now }
     ensures { IfOk result (Is2 graph.now person) }
 {
@@ -113,21 +123,26 @@ pub fn is2(alloc: Global, graph: &Graph, person: u64) -> Result<Answer, AllocErr
 }
 
 // The row of a friend.
-fn friend_row(alloc: Global, graph: &Graph, friend: (u64, u64)) -> Result<AnswerRow, AllocError>
+fn friend_row(alloc: Global, graph: &Graph, friend: (u64, u64)) -> Result<AnswerRow<'_>, AllocError>
     requires { IsFriendFound graph.now friend }
     ensures { IfOk result (IsFriend graph.now friend) }
 {
     let person = known(graph, friend.0);
-    let mut row = AnswerRow::new(alloc);
-    row.push(Cell::number(friend.0))?;
-    row.push(words(&person.first_name)?)?;
-    row.push(words(&person.last_name)?)?;
-    row.push(Cell::number(friend.1))?;
-    Ok(row)
+    let cells = vec![in alloc;
+        Cell::number(friend.0),
+        words(&person.first_name),
+        words(&person.last_name),
+        Cell::number(friend.1),
+    ]?;
+    Ok(AnswerRow::from_vec(alloc, cells))
 }
 
 // The rows of friends.
-fn friend_rows(alloc: Global, graph: &Graph, friends: &[(u64, u64)]) -> Result<Answer, AllocError>
+fn friend_rows<'a>(
+    alloc: Global,
+    graph: &'a Graph,
+    friends: &[(u64, u64)],
+) -> Result<Answer<'a>, AllocError>
     requires { All (IsFriendFound graph.now) friends.now }
     ensures { IfOk result (AllZip (IsFriend graph.now) friends.now) }
 {
@@ -141,7 +156,7 @@ fn friend_rows(alloc: Global, graph: &Graph, friends: &[(u64, u64)]) -> Result<A
 /// Short read 3: the friends of a person, from the latest friendship on; of friendships of one date the
 /// friend of the lower id first. A person who isn't held gives no rows.
 /// The condition: the graph is sound.
-pub fn is3(alloc: Global, graph: &Graph, person: u64) -> Result<Answer, AllocError>
+pub fn is3(alloc: Global, graph: &Graph, person: u64) -> Result<Answer<'_>, AllocError>
     requires sound { Sound graph.now }
     ensures { IfOk result (Is3 graph.now person) }
 {

@@ -1,13 +1,11 @@
 -- The answers of a run.
 use Rattle.std.specs.Prelude.{ℕ, List, ◌++◌, codes, flat_map}
 use Rattle.std.specs.Fmt.{decimal}
-use Rattle.serde_json.specs.Written.{compact_text}
-use Rattle.snb_validation.specs.ReplyData.{reply_data}
 use Rattle.snb_workers.specs.declared.done.Answered.{Answered}
 
 -- the line of a reply: the number of the operation, its front, and the JSON text of the reply
 abbrev pub answer_line : Answered → List ℕ
-answer_line a = decimal a.op ++ codes "|" ++ decimal a.front ++ codes "|" ++ compact_text (reply_data a.reply) ++ codes "\n"
+answer_line a = decimal a.op ++ codes "|" ++ decimal a.front ++ codes "|" ++ a.text.items ++ codes "\n"
 
 -- the answers: a first line with their version, and a line for each reply
 abbrev pub answers_text : List Answered → List ℕ

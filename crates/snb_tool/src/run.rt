@@ -33,7 +33,7 @@ use std::alloc::{AllocError, Global};
 use std::sync::Wait;
 use std::thread::Threads;
 
-// The texts of a run by so many workers.
+// The texts of a run by so many workers. Each reply is let go once its line is written.
 fn texts_of(
     alloc: Global,
     workers: u32,
@@ -45,14 +45,16 @@ fn texts_of(
     requires timed { AreTimed outcome.events.items }
     ensures { IfOk result (λ output. AreTexts workers plan.now outcome (bytes_of output)) }
 {
+    let (events, replies, graph) = outcome.into_parts();
     let mut log = Vec::new(alloc);
-    write_log(workers, &outcome.events, &mut log)?;
-    let answers = answer_lines(alloc, &outcome.replies)?;
-    let finals = final_lines(alloc, &outcome.graph)?;
+    write_log(workers, &events, &mut log)?;
+    // The answers last, which take the most memory: the texts of the replies are let go meanwhile.
+    let finals = final_lines(alloc, &graph)?;
+    let answers = answer_lines(alloc, replies)?;
     let updates = plan.updates();
     let reads = plan.reads();
     let operations = plan.schedule().steps().len() as u64;
-    let screen = summary_lines(alloc, operations, updates, reads, outcome.graph.rows())?;
+    let screen = summary_lines(alloc, operations, updates, reads, graph.rows())?;
     Ok(Output {
         log,
         answers,

@@ -1,3 +1,4 @@
 mod ReplyFacts
 mod TextFacts
+mod WrittenFacts
 pub mod Laws

@@ -1,2 +1,3 @@
 pub mod ReplyData
 pub mod Laws
+pub mod Written

@@ -1,4 +1,4 @@
-//! Replies as JSON, by `serde_json`.
+//! The text of a reply as JSON, and its value in `serde_json`.
 
 ghost use Rattle.std.specs.Prelude.{◌≡◌, ◌<◌, ◌^◌, ◌++◌, Some, OnOk, OnErr, IfOk, map};
 ghost use Rattle.std.specs.List.{AllByRecursion};
@@ -9,32 +9,42 @@ ghost use Rattle.serde_json.specs.Written.{compact_text};
 ghost use Rattle.snb_validation.specs.Laws.{AreOfTypes, IsOfType};
 ghost use Rattle.snb_validation.specs.ReplyData.{array_of, cell_data, reply_data, stay_data};
 
+use crate::written::write_reply;
+use json::Writer;
 use serde_json::Value;
-use snb_base::text::Text;
 use snb_reads::answer::Answer;
 use snb_reads::answer_row::AnswerRow;
 use snb_reads::cell::Cell;
 use snb_reads::reply::Reply;
+use snb_reads::wording::Wording;
 use std::alloc::{AllocError, Global};
+use std::mem;
 
 /// Appends the compact JSON text of a reply: an array of answers, each an array of rows, each an array
 /// of cells. A number, a flag or a text is a number, a truth value or a string; a list of texts is an
 /// array of strings, and a stay an array of the name, the year and the name of the place. `serde_json`
 /// reads from that text the array that was written. Want of memory leaves the bytes as they were.
-pub fn reply_text(reply: &Reply, to: &mut Vec<u8>) -> Result<(), AllocError>
+pub fn reply_text(reply: &Reply<'_>, to: &mut Vec<u8>) -> Result<(), AllocError>
     ensures ok { OnOk result (to.new.items ≡ to.old.items ++ compact_text (reply_data reply.now)) }
     ensures back { OnOk result
         (read (compact_text (reply_data reply.now)) ≡ Some (reply_data reply.now)) }
     ensures err { OnErr result (to.new.items ≡ to.old.items) }
 {
+    // The writer has the bytes themselves meanwhile, so that no text is copied on its way to them.
     let alloc = *to.allocator();
-    let text = reply_value(alloc, reply)?.to_vec(alloc)?;
-    to.extend_from_slice(text.as_slice())?;
-    Ok(())
+    let bytes = mem::replace(to, Vec::new(alloc));
+    let length = bytes.len();
+    let mut writer = Writer::new(bytes);
+    let written = write_reply(&mut writer, reply);
+    *to = writer.into_inner();
+    if written.is_err() {
+        to.truncate(length);
+    }
+    written
 }
 
 /// The value of a reply, whose numbers are of 64 bits with a sign, and the years of its stays of 32.
-pub fn reply_value(alloc: Global, reply: &Reply) -> Result<Value, AllocError>
+pub fn reply_value(alloc: Global, reply: &Reply<'_>) -> Result<Value, AllocError>
     ensures value { IfOk result (λ v. view v ≡ reply_data reply.now) }
     ensures types { OnOk result (AreOfTypes reply.now) }
 {
@@ -45,7 +55,7 @@ pub fn reply_value(alloc: Global, reply: &Reply) -> Result<Value, AllocError>
     Ok(Value::Array(values))
 }
 
-fn answer_value(alloc: Global, answer: &Answer) -> Result<Value, AllocError>
+fn answer_value(alloc: Global, answer: &Answer<'_>) -> Result<Value, AllocError>
     ensures value { IfOk result (λ v. view v ≡ array_of (array_of cell_data) answer.now) }
     ensures types { OnOk result (AllByRecursion (AllByRecursion IsOfType) answer.now) }
 {
@@ -56,7 +66,7 @@ fn answer_value(alloc: Global, answer: &Answer) -> Result<Value, AllocError>
     Ok(Value::Array(values))
 }
 
-fn row_value(alloc: Global, row: &AnswerRow) -> Result<Value, AllocError>
+fn row_value(alloc: Global, row: &AnswerRow<'_>) -> Result<Value, AllocError>
     ensures value { IfOk result (λ v. view v ≡ array_of cell_data row.now) }
     ensures types { OnOk result (AllByRecursion IsOfType row.now) }
 {
@@ -67,7 +77,7 @@ fn row_value(alloc: Global, row: &AnswerRow) -> Result<Value, AllocError>
     Ok(Value::Array(values))
 }
 
-fn cell_value(alloc: Global, cell: &Cell) -> Result<Value, AllocError>
+fn cell_value(alloc: Global, cell: &Cell<'_>) -> Result<Value, AllocError>
     ensures value { IfOk result (λ v. view v ≡ cell_data cell.now) }
     ensures types { OnOk result (IsOfType cell.now) }
 {
@@ -80,7 +90,7 @@ fn cell_value(alloc: Global, cell: &Cell) -> Result<Value, AllocError>
     }
 }
 
-fn texts_value(alloc: Global, texts: &[Text]) -> Result<Vec<Value>, AllocError>
+fn texts_value(alloc: Global, texts: &[Wording<'_>]) -> Result<Vec<Value>, AllocError>
     ensures { IfOk result (λ v. map view v.items ≡ map string texts.now) }
 {
     let mut values = Vec::new(alloc);
@@ -90,7 +100,10 @@ fn texts_value(alloc: Global, texts: &[Text]) -> Result<Vec<Value>, AllocError>
     Ok(values)
 }
 
-fn stays_value(alloc: Global, stays: &[(Text, u32, Text)]) -> Result<Vec<Value>, AllocError>
+fn stays_value(
+    alloc: Global,
+    stays: &[(Wording<'_>, u32, Wording<'_>)],
+) -> Result<Vec<Value>, AllocError>
     ensures values { IfOk result (λ v. map view v.items ≡ map stay_data stays.now) }
     ensures types { OnOk result (AllByRecursion (λ s. s.1 < 2 ^ 32) stays.now) }
 {
@@ -101,7 +114,7 @@ fn stays_value(alloc: Global, stays: &[(Text, u32, Text)]) -> Result<Vec<Value>,
     Ok(values)
 }
 
-fn stay_value(alloc: Global, stay: &(Text, u32, Text)) -> Result<Value, AllocError>
+fn stay_value(alloc: Global, stay: &(Wording<'_>, u32, Wording<'_>)) -> Result<Value, AllocError>
     ensures value { IfOk result (λ v. view v ≡ stay_data stay.now) }
     ensures types { OnOk result (stay.now.1 < 2 ^ 32) }
 {

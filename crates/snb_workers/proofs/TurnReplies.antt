@@ -14,12 +14,11 @@ use Rattle.snb_schema.specs.declared.row.Row.{Row}
 use Rattle.snb_schema.specs.History.{started, starts}
 use Rattle.snb_schema.specs.Rules.{IsFront, IsLegal}
 use Rattle.snb_plan.specs.Plans.{Ask, Insert, IsOfStreams, Operation, Plan, Work, schedule_of}
-use Rattle.snb_reads.specs.Replies.{IsReply}
 use Rattle.snb_replay.specs.Replay.{IsAfter}
 use Rattle.snb_workers.specs.declared.done.Answered.{Answered}
 use Rattle.snb_workers.specs.Replies.{HasAdded}
 use Rattle.snb_workers.specs.Replicas.{StandsFor, Taken}
-use Rattle.snb_workers.specs.Runs.{AreReplies, Asks, IsAnswered}
+use Rattle.snb_workers.specs.Runs.{AreReplies, Asks, IsAnswered, IsReplied}
 use Rattle.snb_workers.specs.Turns.{IsDone, IsServed}
 use Rattle.snb_workers.proofs.PlanSteps.{ask_is_query, insert_is_no_query}
 use Rattle.snb_workers.proofs.TurnEvents.{front_within, was_started}
@@ -119,7 +118,7 @@ module _ (base : List Row) (plan : Plan) (finishes h more : List Event) (op work
   works query asks = ap (λ (x : Operation). x.work) (same_Some o asks.0 (sym here ∙ asks.1)) ∙ asks.2
 
   -- the reply to the read
-  one_answered : (query : Query) (a : Answered) → o.work ≡ Ask query → front ≡ r.front → a.op ≡ op → a.front ≡ front → IsReply r.graph query a.reply → IsAnswered base plan longer (h ++ more) a
+  one_answered : (query : Query) (a : Answered) → o.work ≡ Ask query → front ≡ r.front → a.op ≡ op → a.front ≡ front → IsReplied r.graph query a.text.items → IsAnswered base plan longer (h ++ more) a
   one_answered query a asked seen number told reply =
       let holds : StandsFor base plan h r = stands query (o, here, asked) in
       let size : a.front ≡ length h = told ∙ (seen ∙ holds.front) in

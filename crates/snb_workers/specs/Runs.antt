@@ -1,6 +1,7 @@
 -- What a run of a plan leaves: its history, the replies to its reads, and the graph.
 use Rattle.std.specs.Prelude.{◌≡◌, ℕ, min, List, take, All, AllPairs, Contains, ◌<◌, Option, Some, slice_get}
 use Rattle.std.specs.Option.{IfSome}
+use Rattle.serde_json.specs.Written.{compact_text}
 use Rattle.snb_schema.specs.declared.event.Event.{Event}
 use Rattle.snb_schema.specs.declared.event.Event.TheVariants.{Start, Finish, Halt}
 use Rattle.snb_schema.specs.declared.limits.TheConstants.{MAX_AT}
@@ -9,9 +10,11 @@ use Rattle.snb_schema.specs.declared.row.Row.{Row}
 use Rattle.snb_schema.specs.Rules.{IsComplete, IsLegal}
 use Rattle.snb_tables.specs.Soundness.{Sound}
 use Rattle.snb_plan.specs.Plans.{Ask, Operation, Plan, schedule_of}
+use Rattle.snb_reads.specs.declared.cell.Cell.{Cell}
 use Rattle.snb_reads.specs.Replies.{IsReply}
 use Rattle.snb_replay.specs.Replay.{IsAfter, IsFinal}
 use Rattle.snb_replay.specs.Waiting.{StaysBelow, WaitsForAll}
+use Rattle.snb_validation.specs.ReplyData.{reply_data}
 use Rattle.snb_workers.specs.declared.done.Answered.{Answered}
 
 -- an event's moment, if it has one, is this
@@ -28,6 +31,10 @@ AreAt fixed h = IfSome fixed (λ moment. All (IsAt (min moment MAX_AT)) h)
 abbrev pub Asks : Plan → ℕ → Query → Type 0
 Asks plan op query = (o : Operation) × (slice_get plan.operations op ≡ Some o) × (o.work ≡ Ask query)
 
+-- the bytes are the JSON text of a reply to the query on the graph
+abbrev pub IsReplied : List Row → Query → List ℕ → Type 0
+IsReplied graph query text = (reply : List (List (List Cell))) × IsReply graph query reply × (text ≡ compact_text (reply_data reply))
+
 -- one of these events finishes a read with this front, and the reply is that to its query on the graph of the base and of what had
 -- finished in that front of the history
 pub record IsAnswered (base : List Row) (plan : Plan) (finishes h : List Event) (a : Answered) : Type 0 where
@@ -38,7 +45,7 @@ pub record IsAnswered (base : List Row) (plan : Plan) (finishes h : List Event) 
   pub asks : Asks plan a.op query
   pub graph : List Row
   pub after : IsAfter base plan (take a.front h) graph
-  pub replies : IsReply graph query a.reply
+  pub replies : IsReplied graph query a.text.items
 
 -- these are the replies to the reads that these events finish, one for each, by rising operation, answered on fronts of the history; the
 -- events are those of the history, or those of one worker's part of it

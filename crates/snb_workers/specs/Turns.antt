@@ -10,13 +10,12 @@ use Rattle.snb_book.specs.declared.claim.Ticket.{Ticket}
 use Rattle.snb_book.specs.Kept.{Kept}
 use Rattle.snb_plan.specs.Closed.{IsClosed}
 use Rattle.snb_plan.specs.Plans.{Ask, Insert, IsOfStreams, Operation, Plan, Work, schedule_of, updates_in}
-use Rattle.snb_reads.specs.Replies.{IsReply}
 use Rattle.snb_workers.specs.declared.done.Answered.{Answered}
 use Rattle.snb_workers.specs.declared.run.Turn.{Turn}
 use Rattle.snb_workers.specs.declared.run.Turn.TheVariants.{More, Over}
 use Rattle.snb_workers.specs.Replies.{HasAdded}
 use Rattle.snb_workers.specs.Replicas.{MayTake, StandsFor, Taken}
-use Rattle.snb_workers.specs.Runs.{AreAt, AreReplies}
+use Rattle.snb_workers.specs.Runs.{AreAt, AreReplies, IsReplied}
 
 -- the one worker has nothing in hand, the replica stands for the history, and the reads in it are answered
 pub record IsOnWay (plan : Plan) (fixed : Option ℕ) (base : List Row) (h : List Event) (r : Taken) (replies : List Answered) : Type 0 where
@@ -62,7 +61,7 @@ IsBehind plan h r base = (g : List Event) × (rest : List Event) × (g ++ rest �
 -- which adds none
 abbrev pub IsDone : ℕ → Taken → List Answered → List Answered → ℕ → Work → Type 0
 IsDone op r old new front (Insert line) = (front ≡ 0) × (new ≡ old)
-IsDone op r old new front (Ask query) = (front ≡ r.front) × ((a : Answered) × (a.op ≡ op) × (a.front ≡ front) × IsReply r.graph query a.reply × HasAdded a old new)
+IsDone op r old new front (Ask query) = (front ≡ r.front) × ((a : Answered) × (a.op ≡ op) × (a.front ≡ front) × IsReplied r.graph query a.text.items × HasAdded a old new)
 
 abbrev pub IsServed : Plan → ℕ → Taken → List Answered → List Answered → ℕ → Type 0
 IsServed plan op r old new front = (o : Operation) × (slice_get plan.operations op ≡ Some o) × IsDone op r old new front o.work

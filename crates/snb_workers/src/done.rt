@@ -4,16 +4,15 @@ ghost use Rattle.std.specs.Prelude.{◌≡◌, ◌≢◌, ℕ, ◌<◌, ◌≤�
 ghost use Rattle.snb_workers.specs.declared.done.Answered.{Answered as AnyAnswered};
 ghost use Rattle.snb_workers.specs.Replies.{HasAdded, HasOne};
 
-use snb_reads::reply::Reply;
 use std::alloc::{AllocError, Global};
 use std::marker::Model;
 
 /// What a read was replied: the number of its operation, how many events of the history the replica had
-/// taken that it was answered from, and the reply.
+/// taken that it was answered from, and the compact JSON text of the reply.
 pub struct Answered {
     pub op: u32,
     pub front: u32,
-    pub reply: Reply,
+    pub text: Vec<u8>,
 }
 
 // Written out, so that letting one go is one call wherever it happens.
@@ -22,7 +21,7 @@ impl Drop for Answered {
         let Answered {
             op: _,
             front: _,
-            reply: _,
+            text: _,
         } = self;
     }
 }

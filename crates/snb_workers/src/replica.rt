@@ -6,20 +6,20 @@ ghost use Rattle.snb_schema.specs.declared.row.Row.{Row};
 ghost use Rattle.snb_tables.specs.Soundness.{Sound};
 ghost use Rattle.snb_inserts.specs.Applying.{HasLine};
 ghost use Rattle.snb_plan.specs.Plans.{IsOfStreams};
-ghost use Rattle.snb_reads.specs.Replies.{IsReply};
 ghost use Rattle.snb_replay.specs.Replay.{finished_insert};
 ghost use Rattle.snb_workers.specs.Replicas.{HasTaken, HasTakenSome, IfFinish, MayTake};
+ghost use Rattle.snb_workers.specs.Runs.{IsReplied};
 
 use snb_graph::graph::Graph;
 use snb_inserts::apply::apply_welcome;
 use snb_plan::plan::{Plan, Task};
-use snb_reads::reply::Reply;
 use snb_replay::law::replay_is_welcome;
 use snb_replies::reply::answer;
 use snb_schema::event::Event;
 use snb_schema::law::{legal_is_short, prefix_is_legal};
 use snb_schema::op::Line;
 use snb_schema::query::Query;
+use snb_validation::reply::reply_text;
 use std::alloc::{AllocError, Global};
 use std::marker::Model;
 
@@ -139,10 +139,15 @@ impl Replica {
         Ok(())
     }
 
-    /// The reply to a query on its graph.
-    pub fn answer(&self, alloc: Global, query: &Query) -> Result<Reply, AllocError>
-        ensures { IfOk result (IsReply self.now.graph query.now) }
+    /// The compact JSON text of the reply to a query on its graph, in no more memory than its length.
+    pub fn answer(&self, alloc: Global, query: &Query) -> Result<Vec<u8>, AllocError>
+        ensures { IfOk result (λ text. IsReplied self.now.graph query.now text.items) }
     {
-        answer(alloc, &self.graph, query)
+        let reply = answer(alloc, &self.graph, query)?;
+        // Most replies are of some thousand bytes.
+        let mut text = Vec::with_capacity(alloc, 4096)?;
+        reply_text(&reply, &mut text)?;
+        text.shrink_to_fit();
+        Ok(text)
     }
 }

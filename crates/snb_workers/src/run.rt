@@ -1,6 +1,6 @@
 //! The run of a plan by one worker.
 
-ghost use Rattle.std.specs.Prelude.{◌≢◌, ℕ, ◌<◌, ◌≤◌, All, AllPairs, List, IfOk, OnOk};
+ghost use Rattle.std.specs.Prelude.{◌≡◌, ◌≢◌, ℕ, ◌<◌, ◌≤◌, All, AllPairs, List, IfOk, OnOk};
 ghost use Rattle.snb_schema.specs.declared.row.Row.{Row};
 ghost use Rattle.snb_schema.specs.Rules.{MayAct};
 ghost use Rattle.snb_schema.specs.Schedule.{IsOperation};
@@ -43,6 +43,22 @@ impl Drop for Outcome {
     }
 }
 
+impl Outcome {
+    /// Its events, the replies to its reads, and its final graph, each for itself. Takes no memory.
+    pub fn into_parts(self) -> (Vec<Event>, Done, Graph)
+        ensures events { result.0 ≡ self.events }
+        ensures replies { result.1 ≡ self.replies }
+        ensures graph { result.2 ≡ self.graph }
+    {
+        let Outcome {
+            events,
+            replies,
+            graph,
+        } = self;
+        (events, replies, graph)
+    }
+}
+
 // Whether there may be more to do.
 #[derive(Clone, Copy)]
 pub(crate) enum Turn {
@@ -64,8 +80,8 @@ pub(crate) fn catch_up(
     replica.advance(alloc, plan, &book.events()[front..])
 }
 
-// Answers the operation from the replica, if it is a read, and keeps its reply. Gives the front of its
-// Finish.
+// Answers the operation from the replica, if it is a read, and keeps the text of its reply. Gives the front
+// of its Finish.
 pub(crate) fn serve(
     alloc: Global,
     plan: &Plan,
@@ -82,8 +98,8 @@ pub(crate) fn serve(
         Task::Insert { .. } => 0,
         Task::Ask { query } => {
             let front = replica.front();
-            let reply = replica.answer(alloc, query)?;
-            replies.add(Answered { op, front, reply })?;
+            let text = replica.answer(alloc, query)?;
+            replies.add(Answered { op, front, text })?;
             front
         }
     };

@@ -1,23 +1,32 @@
-use Rattle.std.proofs.Common.{◌≡◌, ◌≤◌, ◌∷◌, [], length, vec_len, arith, rules, subst}
+use Rattle.std.proofs.Common.{◌≡◌, ◌≤◌, ◌∷◌, [], ap, length, vec_len, arith, rules, subst}
 use Rattle.std.proofs.lemmas.List.{length-map}
+use Rattle.std.proofs.lemmas.List.Elements.{All-same}
 use Rattle.std.proofs.lemmas.Result.{IfOk-weaker}
-use Rattle.snb_reads.specs.ComplexReads.{IsNamesake}
+use Rattle.std.specs.List.{filter}
+use Rattle.snb_reads.specs.ComplexReads.{IsNamesake, is_named}
 use Rattle.snb_reads.specs.Order.{Answers, First, Rising}
+use Rattle.snb_complex_reads.proofs.NamesakeLemmas.{near_is}
 use Rattle.snb_complex_reads.proofs.NearFirst.{near_first}
-use Rattle.snb_complex_reads.specs.Namesakes.{namesake_of}
+use Rattle.snb_complex_reads.specs.Namesakes.{AreNamesakes, IsNearFound, namesake_of}
 use Rattle.snb_complex_reads.proofs.namesakes.ic1.Goals as goal
+
+pub named-requires : goal.named-requires
+named-requires c =
+    let g = c.args.graph.now in
+    All-same (IsNearFound g) _ c.in_ok-near.near c.as_slice.ensures (near_is g c.args.person 2 (omega arith) c.in_ok-near.near (c.in_ok-near.ensures g c.args.person 2 c.in_ok-met.ensures))
 
 pub returns-then-enough-len : goal.returns-then-enough-len
 returns-then-enough-len c =
     let g = c.args.graph.now in
     let found = c.in_ok-found.found in
-    let are = c.in_ok-found.ensures in
+    let near = c.in_ok-near.near in
+    let are = subst (λ l. AreNamesakes g l found.items) (ap (filter (is_named g c.args.first_name.now)) c.as_slice.ensures) c.in_ok-found.ensures in
     let same : vec_len found ≡ length found.items = search rules in
     let long = length-map found.items namesake_of in
     IfOk-weaker c.first_namesakes.result _ _ (λ a is.
-    near_first g c.known.ensures c.requires.sound c.sound_graphs.ensures.required c.first_is_some.ensures c.first_is_some-2.ensures c.first_is_some-3.ensures c.args.person c.args.first_name.now are.near a are.within
-    (subst (λ l. 20 ≤ length l) are.are.same (omega (arith, c.if-enough-len.true, c.len.ensures, same, long)))
-    (subst (λ l. Answers l (IsNamesake g) (Rising 3 ∷ Rising 2 ∷ Rising 1 ∷ []) (First 20) a) are.are.same is)) c.first_namesakes.ensures
+    near_first g c.known.ensures c.requires.sound c.sound_graphs.ensures.required c.first_is_some.ensures c.first_is_some-2.ensures c.first_is_some-3.ensures c.args.person c.args.first_name.now near a (c.in_ok-near.ensures g c.args.person 2 c.in_ok-met.ensures)
+    (subst (λ l. 20 ≤ length l) are.same (omega (arith, c.if-enough-len.true, c.len.ensures, same, long)))
+    (subst (λ l. Answers l (IsNamesake g) (Rising 3 ∷ Rising 2 ∷ Rising 1 ∷ []) (First 20) a) are.same is)) c.first_namesakes.ensures
 
 pub returns : goal.returns
 returns c =

@@ -8,6 +8,6 @@ use Rattle.snb_complex_reads.proofs.namesakes.sorted.Goals as goal
 
 pub returns : goal.returns
 returns c =
-    let all : c.loop-text.copies.items ≡ c.args.texts = sym (append-nil c.loop-text.copies.items) ∙ ap (λ l. c.loop-text.copies.items ++ l) (sym c.in-None.ensures.steps.0) ∙ c.loop-text.invariant in
+    let all : c.loop-text.lent.items ≡ c.args.texts = sym (append-nil c.loop-text.lent.items) ∙ ap (λ l. c.loop-text.lent.items ++ l) (sym c.in-None.ensures.steps.0) ∙ c.loop-text.invariant in
     subst (FirstOf (slice_cmp nat_cmp) Whole c.args.texts) (sym c.from_vec.ensures)
     (subst (λ l. FirstOf (slice_cmp nat_cmp) Whole l c.in_order-ordered.result.items) all (c.in_order-ordered.ensures (slice_cmp nat_cmp) nat_list_cmp_total (compares _ _ (slice_cmp nat_cmp) (λ a r q k. search rules))))

@@ -12,7 +12,7 @@ pub stay-requires-clause-found : goal.stay-requires-clause-found
 stay-requires-clause-found c = naming_head c.args.graph.now _ _ (rest c.next.new.self) _ c.in-Some.one c.in-Some.ensures.steps c.loop-one.invariant
 
 pub loop-one-preserved : goal.loop-one-preserved
-loop-one-preserved c = naming_next c.args.graph.now _ _ (rest c.next.new.self) _ _ c.in-Some.one _ c.in-Some.ensures.steps c.in_ok-stay.ensures c.in_ok-push.ensures.items c.loop-one.invariant
+loop-one-preserved c = naming_next c.args.graph.now _ _ (rest c.next.new.self) _ _ c.in-Some.one _ c.in-Some.ensures.steps c.stay.ensures c.in_ok-push.ensures.items c.loop-one.invariant
 
 pub returns : goal.returns
 returns c =

@@ -1,5 +1,5 @@
-use Rattle.snb_reach.proofs.LevelLemmas.{within_from}
+use Rattle.std.proofs.lemmas.Result.{IfOk-weaker}
 use Rattle.snb_reach.proofs.reach.within.Goals as goal
 
 pub returns : goal.returns
-returns c = within_from c.args.graph.now c.args.start c.args.steps c.in_ok-near.near _ c.in_ok-near.ensures c.sort.ensures.permutation c.sort.ensures.rises
+returns c = IfOk-weaker c.listed.result _ _ (λ near is. is c.args.graph.now c.args.start c.args.steps c.in_ok-met.ensures) c.listed.ensures

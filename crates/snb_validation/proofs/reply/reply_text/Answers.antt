@@ -1,22 +1,20 @@
-use Rattle.std.proofs.Common.{◌≡◌, ◌≤◌, ◌∙◌, ◌++◌, ap, arith, List, ℕ, false}
-use Rattle.serde_json.specs.Data.{depth}
-use Rattle.serde_json.specs.Read.{max_depth}
-use Rattle.serde_json.specs.View.{view}
-use Rattle.serde_json.specs.Written.{compact_text, has_float}
-use Rattle.snb_validation.proofs.ReplyFacts.{reply_low, reply_plain}
+use Rattle.std.proofs.Common.{◌≡◌, ◌∙◌, ◌++◌, ap, ap₂, List, ℕ}
+use Rattle.std.proofs.lemmas.Result.{on_ok_weaker}
+use Rattle.json.specs.Print.{print}
+use Rattle.serde_json.proofs.Texts.{print-outline}
+use Rattle.snb_validation.proofs.TextFacts.{text_read}
+use Rattle.snb_validation.specs.ReplyData.{reply_data}
+use Rattle.snb_validation.specs.Written.{data_tokens}
 use Rattle.snb_validation.proofs.reply.reply_text.Goals as goal
 
-pub returns-clause-ok : goal.returns-clause-ok
-returns-clause-ok c =
-    let same = c.in_ok-reply_value.ensures.value in
-    let plain : has_float (view c.in_ok-reply_value.field-0) ≡ false = rw same (reply_plain c.args.reply.now) in
-    let text = c.in_ok-text.ensures.text plain ∙ ap compact_text same in
-    c.in_ok-extend_from_slice.ensures.items ∙ ap (λ (t : List ℕ). c.args.to.now.items ++ t) (c.as_slice.ensures.value ∙ text)
+pub returns-else-is_err-clause-ok : goal.returns-else-is_err-clause-ok
+returns-else-is_err-clause-ok c =
+    let reply = reply_data c.args.reply.now in
+    let wrote = c.write_reply-written in
+    let before : wrote.new.to.before ≡ c.args.to.now.items = wrote.ensures.written.before ∙ c.new-writer.ensures.before ∙ ap (λ v. v.items) c.replace-bytes.ensures.value in
+    on_ok_weaker wrote.result (λ same.
+    let tokens = same ∙ ap (λ ts. ts ++ data_tokens reply) c.new-writer.ensures.tokens in
+    c.into_inner.ensures.items ∙ ap₂ (λ (s : List ℕ) ts. s ++ print ts) before tokens ∙ ap (λ s. c.args.to.now.items ++ s) (print-outline reply)) wrote.ensures.written.ok
 
-pub returns-clause-back : goal.returns-clause-back
-returns-clause-back c =
-    let same = c.in_ok-reply_value.ensures.value in
-    let plain : has_float (view c.in_ok-reply_value.field-0) ≡ false = rw same (reply_plain c.args.reply.now) in
-    let text = c.in_ok-text.ensures.text plain in
-    let low : depth (view c.in_ok-reply_value.field-0) ≤ max_depth = rw same (omega (arith, reply_low c.args.reply.now)) in
-    rw (text, same) at (c.in_ok-text.ensures.reads_back low)
+pub returns-else-is_err-clause-back : goal.returns-else-is_err-clause-back
+returns-else-is_err-clause-back c = on_ok_weaker c.write_reply-written.result (text_read c.args.reply.now) c.write_reply-written.ensures.types

@@ -1,0 +1,7 @@
+use Rattle.std.proofs.Common.{nat_eq}
+use Rattle.std.specs.HashMap.{get}
+use Rattle.snb_complex_reads.proofs.ScanLemmas.{IsScanning}
+use Rattle.snb_complex_reads.proofs.scan.scanned.Given as goal
+
+abbrev pub invariant-loop-row : goal.invariant-loop-row
+invariant-loop-row l = IsScanning l.graph (get nat_eq l.met) l.first_name l.found.items l.row-iterator
