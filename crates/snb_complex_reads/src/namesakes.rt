@@ -211,7 +211,7 @@ fn third<'a>(
     requires distances { AreDistances graph.now person 2 (get nat_eq met.now) }
     ensures { IfOk result (λ found. AreNamesakesWithin graph.now person 3 first_name.now found.items) }
 {
-    if graph.count(Table::Person) / 4 <= met.len() as u64 {
+    if graph.count(Table::Person) / 16 <= met.len() as u64 {
         return scanned(alloc, graph, met, first_name);
     }
     namesakes(alloc, graph, person, first_name, 3)
