@@ -2,7 +2,7 @@
 
 ghost use Rattle.std.specs.Prelude.{◌≡◌, ◌≤◌, IfOk};
 ghost use Rattle.snb_base.specs.Shelf.{Rose};
-ghost use Rattle.snb_input.specs.Loading.{OnReadFault};
+ghost use Rattle.snb_input.specs.Loading.{OnReadFault, UnlessReadFault};
 ghost use Rattle.snb_audit.specs.LogFiles.{IsAuditable, IsLogAnswer};
 
 use crate::taker::{LogTaker, log_is_lawful};
@@ -47,6 +47,7 @@ pub fn load_log<S: Shelf>(alloc: Global, shelf: &mut S, path: &str) -> Result<Lo
     ensures auditable { IfOk result IsAuditable }
     ensures fault { OnReadFault result (Rose (S.faults shelf.old) (S.faults shelf.new)) }
     ensures later { S.faults shelf.old ≤ S.faults shelf.new }
+    ensures calm { UnlessReadFault result (S.faults shelf.new ≡ S.faults shelf.old) }
     ensures same { S.contents shelf.new ≡ S.contents shelf.old }
 {
     log_is_lawful();

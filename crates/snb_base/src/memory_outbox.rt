@@ -1,6 +1,6 @@
 //! An outbox in memory.
 
-ghost use Rattle.std.specs.Prelude.{◌≡◌, ℕ, ◌-◌, ◌^◌, ◌<◌, ◌≤◌, ◌↔◌, ◌⊎◌, ◌∷◌, ◌++◌, [], length, take, min, Some, IsTrue, IfOk, OnOk, OnErr};
+ghost use Rattle.std.specs.Prelude.{◌≡◌, ◌≢◌, ℕ, ◌-◌, ◌^◌, ◌<◌, ◌≤◌, ◌↔◌, ◌⊎◌, ◌∷◌, ◌++◌, [], length, take, min, Some, IsTrue, IfOk, OnOk, OnErr};
 ghost use Rattle.snb_base.specs.MemoryShelf.{is_listed};
 ghost use Rattle.snb_base.specs.MemoryOutbox.{IsReady, equal_rooms, room_left, answer_of, after_write};
 ghost use Rattle.snb_base.specs.Outbox.{IsSure, IsWriting, Rooms, nothing, appended, bytes_on, room_of, with_room};
@@ -223,6 +223,7 @@ impl Outbox for MemoryOutbox {
         ensures took { IsWriting channel piece.now (Some self.old.written) (Some self.new.written) result }
         ensures failed { result ≡ Put.Failed → Rose self.old.faults self.new.faults }
         ensures later { self.old.faults ≤ self.new.faults }
+        ensures calm { result ≢ Put.Failed → self.new.faults ≡ self.old.faults }
 
         // It fails at the listed calls and at a full channel alone, and else writes all that it can.
         ensures listed { self.old.calls < 2 ^ 64 - 1 →

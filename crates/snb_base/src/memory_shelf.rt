@@ -122,6 +122,7 @@ impl Shelf for MemoryShelf {
         ensures told { IsReading (file_of self.old.files) name.now at into.new result }
         ensures failed { result ≡ Got.Failed → Rose self.old.faults self.new.faults }
         ensures later { self.old.faults ≤ self.new.faults }
+        ensures calm { result ≢ Got.Failed → self.new.faults ≡ self.old.faults }
         ensures same { Some (file_of self.new.files) ≡ Some (file_of self.old.files) }
 
         // It fails at the listed calls alone, and else reads all that it can.

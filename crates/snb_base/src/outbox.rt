@@ -1,6 +1,6 @@
 //! Where bytes are written.
 
-ghost use Rattle.std.specs.Prelude.{◌≡◌, ℕ, ◌<◌, ◌≤◌, length, Option};
+ghost use Rattle.std.specs.Prelude.{◌≡◌, ◌≢◌, ℕ, ◌<◌, ◌≤◌, length, Option};
 ghost use Rattle.snb_base.specs.Outbox.{IsSure, IsWriting, Rooms, Written, room_of};
 ghost use Rattle.snb_base.specs.Shelf.{Rose};
 
@@ -47,11 +47,12 @@ pub trait Outbox {
     ghost ready: { Self → Rooms → Type 0 };
 
     /// Appends a prefix of the piece to the channel, and nothing to another. The piece has one byte at
-    /// least.
+    /// least. The count of faults stays as it is where the answer isn't `Failed`.
     fn write(&mut self, channel: Channel, piece: &[u8]) -> Put
         requires { 0 < length piece.now }
         ensures took { IsWriting channel piece.now (written self.old) (written self.new) result }
         ensures failed { result ≡ Put.Failed → Rose (faults self.old) (faults self.new) }
         ensures later { faults self.old ≤ faults self.new }
+        ensures calm { result ≢ Put.Failed → faults self.new ≡ faults self.old }
         ensures sure { (rooms : Rooms) → ready self.old rooms → length piece.now ≤ room_of rooms channel → IsSure result channel rooms (ready self.new) };
 }

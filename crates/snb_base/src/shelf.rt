@@ -1,6 +1,6 @@
 //! Where the bytes of files come from.
 
-ghost use Rattle.std.specs.Prelude.{◌≡◌, ℕ, ◌<◌, ◌≤◌, length, IfSome, Option};
+ghost use Rattle.std.specs.Prelude.{◌≡◌, ◌≢◌, ℕ, ◌<◌, ◌≤◌, length, IfSome, Option};
 ghost use Rattle.snb_base.specs.Shelf.{Files, FitsBuffer, IsReading, Rose};
 
 /// What a call of [`Shelf::read`] answers.
@@ -29,12 +29,14 @@ pub trait Shelf {
     ghost faults: { Self → ℕ };
 
     /// Reads bytes of the file `name` from the byte `at` on into the front of `into`, as many as the
-    /// shelf likes. The buffer has room for one byte at least. The contents stay as they are.
+    /// shelf likes. The buffer has room for one byte at least. The contents stay as they are, and the count
+    /// of faults too where the answer isn't `Failed`.
     fn read(&mut self, name: &str, at: u64, into: &mut [u8]) -> Got
         requires { 0 < length into.old }
         ensures room { FitsBuffer (length into.old) result }
         ensures told { IfSome (contents self.old) (λ files. IsReading files name.now at into.new result) }
         ensures failed { result ≡ Got.Failed → Rose (faults self.old) (faults self.new) }
         ensures later { faults self.old ≤ faults self.new }
+        ensures calm { result ≢ Got.Failed → faults self.new ≡ faults self.old }
         ensures same { contents self.new ≡ contents self.old };
 }

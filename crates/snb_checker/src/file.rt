@@ -2,7 +2,7 @@
 
 ghost use Rattle.std.specs.Prelude.{◌≡◌, ◌≤◌, [], ◌∷◌, None};
 ghost use Rattle.snb_base.specs.Shelf.{Rose};
-ghost use Rattle.snb_input.specs.Loading.{OnReadFault};
+ghost use Rattle.snb_input.specs.Loading.{OnReadFault, UnlessReadFault};
 ghost use Rattle.snb_tables.specs.Soundness.{Sound};
 ghost use Rattle.snb_checker.specs.CaseTakers.{AreCaseTakers, CasesAreLawful};
 ghost use Rattle.snb_checker.specs.CasesFile.{IsCasesAnswer};
@@ -200,6 +200,7 @@ pub fn check_cases<S: Shelf>(
     ensures answer { IsCasesAnswer (S.contents shelf.old) path.now graph result }
     ensures fault { OnReadFault result (Rose (S.faults shelf.old) (S.faults shelf.new)) }
     ensures later { S.faults shelf.old ≤ S.faults shelf.new }
+    ensures calm { UnlessReadFault result (S.faults shelf.new ≡ S.faults shelf.old) }
     ensures same { S.contents shelf.new ≡ S.contents shelf.old }
 {
     cases_are_lawful();

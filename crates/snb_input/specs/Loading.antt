@@ -24,6 +24,13 @@ OnReadFault (Err (Refused r)) F = Unit {0}
 OnReadFault (Err ReadFault) F = F
 OnReadFault (Err Memory) F = Unit {0}
 
+-- a fact where the shelf didn't fail
+abbrev pub UnlessReadFault : {A : Type 0} → Result A Load → Type 0 → Type 0
+UnlessReadFault (Ok a) F = F
+UnlessReadFault (Err (Refused r)) F = F
+UnlessReadFault (Err ReadFault) F = Unit {0}
+UnlessReadFault (Err Memory) F = F
+
 -- how a stop at a line stops the loading
 abbrev pub load_for : Fault → Load
 load_for (fault.Bad r) = Refused r

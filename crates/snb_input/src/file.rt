@@ -7,7 +7,7 @@ ghost use Rattle.snb_lines.specs.Counts.{IsUnder};
 ghost use Rattle.snb_lines.specs.declared.counted.RowCount.{RowCount as Row};
 ghost use Rattle.snb_lines.specs.Feeding.{at_begin};
 ghost use Rattle.snb_input.specs.Format.{AreTakers, format_of};
-ghost use Rattle.snb_input.specs.Loading.{IsAnswer, IsKnownAnswer, IsWithin, OnReadFault};
+ghost use Rattle.snb_input.specs.Loading.{IsAnswer, IsKnownAnswer, IsWithin, OnReadFault, UnlessReadFault};
 ghost use Rattle.snb_input.specs.Pieces.{IsEnd, IsFed, Opened};
 ghost use Rattle.snb_input.specs.Places.{FilesSay, Source};
 
@@ -120,6 +120,7 @@ pub fn load_file<S: Shelf, G: Grammar + Drop, P: Taker<G> + Drop>(
     ensures within { IfOk result (IsWithin P.limit) }
     ensures fault { OnReadFault result (Rose (S.faults shelf.old) (S.faults shelf.new)) }
     ensures later { S.faults shelf.old ≤ S.faults shelf.new }
+    ensures calm { UnlessReadFault result (S.faults shelf.new ≡ S.faults shelf.old) }
     ensures same { S.contents shelf.new ≡ S.contents shelf.old }
 {
     let mut reader = Lines::of_file(alloc, file, taker.grammar(file));
@@ -147,6 +148,7 @@ pub fn load_known<S: Shelf, G: Grammar + Drop, P: Taker<G> + Drop>(
     ensures within { IfOk result (IsWithin P.limit) }
     ensures fault { OnReadFault result (Rose (S.faults shelf.old) (S.faults shelf.new)) }
     ensures later { S.faults shelf.old ≤ S.faults shelf.new }
+    ensures calm { UnlessReadFault result (S.faults shelf.new ≡ S.faults shelf.old) }
     ensures same { S.contents shelf.new ≡ S.contents shelf.old }
 {
     let most = MAX_BYTES - used.bytes;

@@ -4,7 +4,7 @@ ghost use Rattle.std.specs.Prelude.{◌≡◌, ◌+◌, ◌<◌, ◌≤◌, IfOk
 ghost use Rattle.snb_base.specs.Shelf.{Rose};
 ghost use Rattle.snb_schema.specs.declared.limits.TheConstants.{MAX_BYTES};
 ghost use Rattle.snb_input.specs.Format.{AreTakers, format_of};
-ghost use Rattle.snb_input.specs.Loading.{OnReadFault};
+ghost use Rattle.snb_input.specs.Loading.{OnReadFault, UnlessReadFault};
 ghost use Rattle.snb_input.specs.Pieces.{IsBadPiece, IsFedMore, IsStep, OnRefused};
 
 use crate::load::{Load, load_of};
@@ -104,6 +104,7 @@ pub fn read_piece<S: Shelf, G: Grammar + Drop, P: Taker<G> + Drop>(
     ensures by_grammar { reader.new.grammar ≡ P.grammar_of file }
     ensures fault { OnReadFault result (Rose (S.faults shelf.old) (S.faults shelf.new)) }
     ensures later { S.faults shelf.old ≤ S.faults shelf.new }
+    ensures calm { UnlessReadFault result (S.faults shelf.new ≡ S.faults shelf.old) }
     ensures same { S.contents shelf.new ≡ S.contents shelf.old }
 {
     match shelf.read(name, reader.fed(), buffer) {

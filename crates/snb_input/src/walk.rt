@@ -6,7 +6,7 @@ ghost use Rattle.snb_schema.specs.declared.limits.TheConstants.{MAX_BYTES};
 ghost use Rattle.snb_lines.specs.Counts.{IsUnder};
 ghost use Rattle.snb_schema.specs.FileNames.{name_of};
 ghost use Rattle.snb_input.specs.Format.{AreTakers, format_of};
-ghost use Rattle.snb_input.specs.Loading.{OnReadFault};
+ghost use Rattle.snb_input.specs.Loading.{OnReadFault, UnlessReadFault};
 ghost use Rattle.snb_input.specs.Looking.{IsLook, IsLookedWithin, IsNotRefused, IsPeek, IsSeries};
 ghost use Rattle.snb_input.specs.Stages.{AreRising, IsStage, IsWalkWithin, Walked, before};
 ghost use Rattle.snb_input.specs.Walk.{Before, Look};
@@ -59,6 +59,7 @@ fn is_held<S: Shelf>(alloc: Global, shelf: &mut S, folder: &str, file: FileId) -
     ensures refused { IsNotRefused result }
     ensures fault { OnReadFault result (Rose (S.faults shelf.old) (S.faults shelf.new)) }
     ensures later { S.faults shelf.old ≤ S.faults shelf.new }
+    ensures calm { UnlessReadFault result (S.faults shelf.new ≡ S.faults shelf.old) }
     ensures same { S.contents shelf.new ≡ S.contents shelf.old }
 {
     let path = path_of(alloc, folder, file)?;
@@ -88,6 +89,7 @@ fn look<S: Shelf, G: Grammar + Drop, P: Taker<G> + Drop>(
     ensures within { IfOk result (IsLookedWithin P.limit) }
     ensures fault { OnReadFault result (Rose (S.faults shelf.old) (S.faults shelf.new)) }
     ensures later { S.faults shelf.old ≤ S.faults shelf.new }
+    ensures calm { UnlessReadFault result (S.faults shelf.new ≡ S.faults shelf.old) }
     ensures same { S.contents shelf.new ≡ S.contents shelf.old }
 {
     let path = path_of(alloc, folder, file)?;
@@ -131,6 +133,7 @@ fn walk_series<S: Shelf, G: Grammar + Drop, P: Taker<G> + Drop>(
     ensures within { IfOk result (IsWalkWithin P.limit) }
     ensures fault { OnReadFault result (Rose (S.faults shelf.old) (S.faults shelf.new)) }
     ensures later { S.faults shelf.old ≤ S.faults shelf.new }
+    ensures calm { UnlessReadFault result (S.faults shelf.new ≡ S.faults shelf.old) }
     ensures same { S.contents shelf.new ≡ S.contents shelf.old }
 {
     let mut so_far = walk;
@@ -194,6 +197,7 @@ pub fn walk_stage<S: Shelf, G: Grammar + Drop, P: Taker<G> + Drop>(
     ensures within { IfOk result (IsWalkWithin P.limit) }
     ensures fault { OnReadFault result (Rose (S.faults shelf.old) (S.faults shelf.new)) }
     ensures later { S.faults shelf.old ≤ S.faults shelf.new }
+    ensures calm { UnlessReadFault result (S.faults shelf.new ≡ S.faults shelf.old) }
     ensures same { S.contents shelf.new ≡ S.contents shelf.old }
 {
     let mut so_far = Walk { used, taker };

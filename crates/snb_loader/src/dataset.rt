@@ -2,7 +2,7 @@
 
 ghost use Rattle.std.specs.Prelude.{◌≡◌, ◌≤◌, ℕ, IfOk, OnOk, OnErr};
 ghost use Rattle.snb_base.specs.Shelf.{Rose};
-ghost use Rattle.snb_input.specs.Loading.{OnReadFault};
+ghost use Rattle.snb_input.specs.Loading.{OnReadFault, UnlessReadFault};
 ghost use Rattle.snb_schema.specs.declared.limits.TheConstants.{MAX_BYTES, MAX_ROWS};
 ghost use Rattle.snb_loader.specs.Dataset.{IsDatasetAnswer, refusal_for};
 ghost use Rattle.snb_tables.specs.Soundness.{Sound};
@@ -54,6 +54,7 @@ pub fn load_dataset<S: Shelf>(
     ensures err { OnErr result (used.new ≡ used.old) }
     ensures fault { OnReadFault result (Rose (S.faults shelf.old) (S.faults shelf.new)) }
     ensures later { S.faults shelf.old ≤ S.faults shelf.new }
+    ensures calm { UnlessReadFault result (S.faults shelf.new ≡ S.faults shelf.old) }
     ensures same { S.contents shelf.new ≡ S.contents shelf.old }
 {
     tables_are_lawful();

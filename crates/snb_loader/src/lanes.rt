@@ -5,7 +5,7 @@ ghost use Rattle.snb_base.specs.Shelf.{Rose};
 ghost use Rattle.snb_schema.specs.declared.limits.TheConstants.{MAX_BYTES, MAX_LANES, MAX_ROWS};
 ghost use Rattle.snb_schema.specs.LineLanes.{update_count};
 ghost use Rattle.snb_schema.specs.StreamLines.{AreOfStreams};
-ghost use Rattle.snb_input.specs.Loading.{OnReadFault};
+ghost use Rattle.snb_input.specs.Loading.{OnReadFault, UnlessReadFault};
 ghost use Rattle.snb_loader.specs.Lanes.{AreTaken, IsLanesAnswer};
 
 use crate::order::{FORUM_STREAMS, PERSON_STREAMS};
@@ -65,6 +65,7 @@ pub fn load_lanes<S: Shelf>(
     ensures err { OnErr result (used.new ≡ used.old) }
     ensures fault { OnReadFault result (Rose (S.faults shelf.old) (S.faults shelf.new)) }
     ensures later { S.faults shelf.old ≤ S.faults shelf.new }
+    ensures calm { UnlessReadFault result (S.faults shelf.new ≡ S.faults shelf.old) }
     ensures same { S.contents shelf.new ≡ S.contents shelf.old }
 {
     stages_join();

@@ -7,7 +7,7 @@ ghost use Rattle.snb_schema.specs.Frequencies.{frequency_at};
 ghost use Rattle.snb_schema.specs.Queries.{IsComplex};
 ghost use Rattle.snb_schema.specs.QueryLists.{AreOf, HaveParameters, list_of};
 ghost use Rattle.snb_input.specs.Format.{Lawful};
-ghost use Rattle.snb_input.specs.Loading.{OnReadFault};
+ghost use Rattle.snb_input.specs.Loading.{OnReadFault, UnlessReadFault};
 ghost use Rattle.snb_input.specs.Stages.{AreRising, IsStage, IsWalkWithin, before};
 ghost use Rattle.snb_loader.specs.Params.{AreOfEach, HasHeard, IsParamTaker, IsParamsAnswer, asked, params_format, params_stage, query_in as query_within};
 
@@ -230,6 +230,7 @@ pub fn load_params<S: Shelf>(
     ensures err { OnErr result (used.new ≡ used.old) }
     ensures fault { OnReadFault result (Rose (S.faults shelf.old) (S.faults shelf.new)) }
     ensures later { S.faults shelf.old ≤ S.faults shelf.new }
+    ensures calm { UnlessReadFault result (S.faults shelf.new ≡ S.faults shelf.old) }
     ensures same { S.contents shelf.new ≡ S.contents shelf.old }
 {
     params_are_lawful();

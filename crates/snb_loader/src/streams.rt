@@ -4,7 +4,7 @@ ghost use Rattle.std.specs.Prelude.{◌≡◌, ◌≤◌, [], All, IfOk, Some, m
 ghost use Rattle.snb_base.specs.Shelf.{Rose};
 ghost use Rattle.snb_schema.specs.declared.limits.TheConstants.{MAX_BYTES, MAX_ROWS};
 ghost use Rattle.snb_input.specs.Format.{Lawful};
-ghost use Rattle.snb_input.specs.Loading.{OnReadFault};
+ghost use Rattle.snb_input.specs.Loading.{OnReadFault, UnlessReadFault};
 ghost use Rattle.snb_input.specs.Stages.{AreRising, IsStage, IsWalkWithin, before};
 ghost use Rattle.snb_loader.specs.Lanes.{AreTaken, InsertsOfFieldsFit, IsHeard, IsStreamTaker, stream_format};
 
@@ -190,6 +190,7 @@ pub(crate) fn load_stage<S: Shelf>(
     ensures within { IfOk result (IsWalkWithin (Some MAX_ROWS)) }
     ensures fault { OnReadFault result (Rose (S.faults shelf.old) (S.faults shelf.new)) }
     ensures later { S.faults shelf.old ≤ S.faults shelf.new }
+    ensures calm { UnlessReadFault result (S.faults shelf.new ≡ S.faults shelf.old) }
     ensures same { S.contents shelf.new ≡ S.contents shelf.old }
 {
     streams_are_lawful();

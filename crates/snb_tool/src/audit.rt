@@ -1,8 +1,8 @@
 //! The command `audit`.
 
-ghost use Rattle.std.specs.Prelude.{◌≡◌, ℕ, ◌≤◌, Option};
+ghost use Rattle.std.specs.Prelude.{◌≡◌, ℕ, ◌≤◌, Option, ◌≢◌};
 ghost use Rattle.snb_base.specs.Shelf.{Rose};
-ghost use Rattle.snb_input.specs.Loading.{OnReadFault};
+ghost use Rattle.snb_input.specs.Loading.{OnReadFault, UnlessReadFault};
 ghost use Rattle.snb_words.specs.declared.command.Command.TheVariants.{Audit};
 ghost use Rattle.snb_tool.specs.Endings.{IsJudgedAnswer};
 ghost use Rattle.snb_tool.specs.Outcome.{IsCommandAnswer};
@@ -33,6 +33,7 @@ fn verdict_of<S: Shelf>(
     ensures answer { IsJudgedAnswer (S.contents shelf.old) folder.now log.now ratio frequencies result }
     ensures fault { OnReadFault result (Rose (S.faults shelf.old) (S.faults shelf.new)) }
     ensures later { S.faults shelf.old ≤ S.faults shelf.new }
+    ensures calm { UnlessReadFault result (S.faults shelf.new ≡ S.faults shelf.old) }
     ensures same { S.contents shelf.new ≡ S.contents shelf.old }
 {
     let input = match load_input(alloc, shelf, folder, ratio, frequencies) {
@@ -57,7 +58,9 @@ pub fn audit<S: Shelf, O: Outbox>(
         (seen (S.contents shelf.old) fixed (S.faults shelf.old) (O.faults out.old) (O.written out.old) (O.ready out.old))
         (seen (S.contents shelf.new) fixed (S.faults shelf.new) (O.faults out.new) (O.written out.new) (O.ready out.new)) result }
     ensures read_only { IsReadOnly (S.contents shelf.old) (S.faults shelf.old) (S.contents shelf.new) (S.faults shelf.new) }
+    ensures reads_calm { result ≢ 4 → S.faults shelf.new ≡ S.faults shelf.old }
     ensures writes_later { O.faults out.old ≤ O.faults out.new }
+    ensures writes_calm { result ≢ 5 → O.faults out.new ≡ O.faults out.old }
 {
     match verdict_of(alloc, shelf, folder, log, ratio, frequencies) {
         Ok(verdict) => match verdict_line(alloc, verdict) {

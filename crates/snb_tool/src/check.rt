@@ -1,6 +1,6 @@
 //! The command `check`.
 
-ghost use Rattle.std.specs.Prelude.{◌≡◌, ℕ, ◌≤◌, IfOk, Option};
+ghost use Rattle.std.specs.Prelude.{◌≡◌, ℕ, ◌≤◌, IfOk, Option, ◌≢◌};
 ghost use Rattle.snb_words.specs.declared.command.Command.TheVariants.{Check};
 ghost use Rattle.snb_tool.specs.Outcome.{IsCommandAnswer, check_of};
 ghost use Rattle.snb_tool.specs.Outside.{Ends, IsReadOnly, seen};
@@ -40,7 +40,9 @@ pub fn check<S: Shelf, O: Outbox>(
         (seen (S.contents shelf.old) fixed (S.faults shelf.old) (O.faults out.old) (O.written out.old) (O.ready out.old))
         (seen (S.contents shelf.new) fixed (S.faults shelf.new) (O.faults out.new) (O.written out.new) (O.ready out.new)) result }
     ensures read_only { IsReadOnly (S.contents shelf.old) (S.faults shelf.old) (S.contents shelf.new) (S.faults shelf.new) }
+    ensures reads_calm { result ≢ 4 → S.faults shelf.new ≡ S.faults shelf.old }
     ensures writes_later { O.faults out.old ≤ O.faults out.new }
+    ensures writes_calm { result ≢ 5 → O.faults out.new ≡ O.faults out.old }
 {
     match load_input(alloc, shelf, folder, Ratio::one(), frequencies) {
         Ok(input) => match counts_of(alloc, input) {

@@ -1,6 +1,6 @@
 //! The command `run`.
 
-ghost use Rattle.std.specs.Prelude.{◌≡◌, ◌≤◌, IfOk};
+ghost use Rattle.std.specs.Prelude.{◌≡◌, ◌≤◌, IfOk, ◌≢◌};
 ghost use Rattle.snb_plan.specs.Closed.{IsClosed};
 ghost use Rattle.snb_plan.specs.Plans.{updates_in};
 ghost use Rattle.snb_runlog.specs.Writing.{AreTimed};
@@ -24,7 +24,7 @@ use snb_plan::plan::Plan;
 use snb_ratio::ratio::Ratio;
 use snb_runlog::write::write_log;
 use snb_schema::frequencies::Frequencies;
-use snb_texts::answers::answer_lines;
+use snb_texts::answers::answer_pieces;
 use snb_texts::counts::summary_lines;
 use snb_texts::final_lines::final_lines;
 use snb_workers::crew::run_workers;
@@ -33,7 +33,7 @@ use std::alloc::{AllocError, Global};
 use std::sync::Wait;
 use std::thread::Threads;
 
-// The texts of a run by so many workers. Each reply is let go once its line is written.
+// The texts of a run by so many workers. Each reply is let go once its line is made.
 fn texts_of(
     alloc: Global,
     workers: u32,
@@ -48,9 +48,9 @@ fn texts_of(
     let (events, replies, graph) = outcome.into_parts();
     let mut log = Vec::new(alloc);
     write_log(workers, &events, &mut log)?;
-    // The answers last, which take the most memory: the texts of the replies are let go meanwhile.
+    // The answers last: the short texts of the replies are let go meanwhile, and the long ones are handed on.
     let finals = final_lines(alloc, &graph)?;
-    let answers = answer_lines(alloc, replies)?;
+    let answers = answer_pieces(alloc, replies)?;
     let updates = plan.updates();
     let reads = plan.reads();
     let operations = plan.schedule().steps().len() as u64;
@@ -110,7 +110,9 @@ pub fn run<
         (seen (S.contents shelf.old) (C.fixed clock.now) (S.faults shelf.old) (O.faults out.old) (O.written out.old) (O.ready out.old))
         (seen (S.contents shelf.new) (C.fixed clock.now) (S.faults shelf.new) (O.faults out.new) (O.written out.new) (O.ready out.new)) result }
     ensures read_only { IsReadOnly (S.contents shelf.old) (S.faults shelf.old) (S.contents shelf.new) (S.faults shelf.new) }
+    ensures reads_calm { result ≢ 4 → S.faults shelf.new ≡ S.faults shelf.old }
     ensures writes_later { O.faults out.old ≤ O.faults out.new }
+    ensures writes_calm { result ≢ 5 → O.faults out.new ≡ O.faults out.old }
 {
     let input = match load_input(rt.alloc(), shelf, folder, ratio, frequencies) {
         Ok(input) => input,

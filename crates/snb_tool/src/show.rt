@@ -1,6 +1,6 @@
 //! What is shown, and the status that goes with it.
 
-ghost use Rattle.std.specs.Prelude.{◌≡◌, ◌≤◌, ◌⊎◌};
+ghost use Rattle.std.specs.Prelude.{◌≡◌, ◌≤◌, ◌⊎◌, ◌≢◌};
 ghost use Rattle.snb_base.specs.Shelf.{Rose};
 ghost use Rattle.snb_schema.specs.ScreenTexts.{refusal_text};
 ghost use Rattle.snb_tool.specs.Endings.{Shows};
@@ -15,6 +15,7 @@ use std::alloc::Global;
 pub fn show_as<O: Outbox>(out: &mut O, text: &[u8], status: u8) -> u8
     ensures shown { Shows status text.now (Rose (O.faults out.old) (O.faults out.new)) (O.ready out.old) (O.written out.old) (O.written out.new) result }
     ensures later { O.faults out.old ≤ O.faults out.new }
+    ensures calm { result ≢ 5 → O.faults out.new ≡ O.faults out.old }
 {
     match show(out, text) {
         Ok(()) => status,
@@ -28,6 +29,7 @@ pub fn refuse<O: Outbox>(alloc: Global, refusal: Refusal, out: &mut O) -> u8
     ensures shown { Shows 3 (refusal_text refusal) (Rose (O.faults out.old) (O.faults out.new)) (O.ready out.old) (O.written out.old) (O.written out.new) result
         ⊎ ((result ≡ 6) × (O.written out.new ≡ O.written out.old)) }
     ensures later { O.faults out.old ≤ O.faults out.new }
+    ensures calm { result ≢ 5 → O.faults out.new ≡ O.faults out.old }
 {
     match refusal_line(alloc, refusal) {
         Ok(line) => show_as(out, &line, 3),

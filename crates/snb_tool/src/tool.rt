@@ -1,6 +1,6 @@
 //! The one call that does all that the program does.
 
-ghost use Rattle.std.specs.Prelude.{◌≡◌, ℕ, ◌≤◌, ◌⊎◌, None};
+ghost use Rattle.std.specs.Prelude.{◌≡◌, ℕ, ◌≤◌, ◌⊎◌, None, ◌≢◌};
 ghost use Rattle.snb_base.specs.Shelf.{Rose};
 ghost use Rattle.snb_schema.specs.declared.refusal.Refusal.{Refusal as Refused};
 ghost use Rattle.snb_words.specs.declared.command.Command.{Command as AnyCommand};
@@ -47,7 +47,9 @@ fn obey<
         (seen (S.contents shelf.new) (C.fixed clock.now) (S.faults shelf.new) (O.faults out.new) (O.written out.new) (O.ready out.new)) result }
     ensures unread { folder_of command.now ≡ None → shelf.new ≡ shelf.old }
     ensures read_only { IsReadOnly (S.contents shelf.old) (S.faults shelf.old) (S.contents shelf.new) (S.faults shelf.new) }
+    ensures reads_calm { result ≢ 4 → S.faults shelf.new ≡ S.faults shelf.old }
     ensures writes_later { O.faults out.old ≤ O.faults out.new }
+    ensures writes_calm { result ≢ 5 → O.faults out.new ≡ O.faults out.old }
 {
     match command {
         Command::Check {
@@ -110,7 +112,9 @@ fn answer<
     ensures other_line { IsOtherLine (texts_of words.now) → ((result ≡ 2) ⊎ (result ≡ 5)) × (shelf.new ≡ shelf.old) }
     ensures unread { (command : AnyCommand) → IsLineOf (texts_of words.now) command → folder_of command ≡ None → shelf.new ≡ shelf.old }
     ensures read_only { IsReadOnly (S.contents shelf.old) (S.faults shelf.old) (S.contents shelf.new) (S.faults shelf.new) }
+    ensures reads_calm { result ≢ 4 → S.faults shelf.new ≡ S.faults shelf.old }
     ensures writes_later { O.faults out.old ≤ O.faults out.new }
+    ensures writes_calm { result ≢ 5 → O.faults out.new ≡ O.faults out.old }
 {
     one_command();
     match command_of(rt.alloc(), words) {
@@ -169,9 +173,10 @@ fn answer<
 ///   screen.
 /// - 2: the words are no line of the program's; nothing was read, and the usage is on the screen.
 /// - 3: the first thing that is wrong with the files is on the screen, and nothing was run.
-/// - 4: the shelf failed; nothing was written.
+/// - 4: the shelf failed; nothing was written. With any other status its count of faults is as it was.
 /// - 5: the outbox failed. Each channel has a prefix of its text, and in the order log, answers,
-///   final text, cases, screen nothing follows a text that isn't whole.
+///   final text, cases, screen nothing follows a text that isn't whole. With any other status its count of
+///   faults is as it was.
 /// - 6: memory didn't suffice; nothing was written.
 ///
 /// The formats and the order of the operations are those of the Social Network Benchmark's
@@ -199,7 +204,9 @@ pub fn snb<
         (seen (S.contents shelf.old) (C.fixed clock.now) (S.faults shelf.old) (O.faults out.old) (O.written out.old) (O.ready out.old))
         (seen (S.contents shelf.new) (C.fixed clock.now) (S.faults shelf.new) (O.faults out.new) (O.written out.new) (O.ready out.new)) result }
     ensures read_only { IsReadOnly (S.contents shelf.old) (S.faults shelf.old) (S.contents shelf.new) (S.faults shelf.new) }
+    ensures reads_calm { result ≢ 4 → S.faults shelf.new ≡ S.faults shelf.old }
     ensures writes_later { O.faults out.old ≤ O.faults out.new }
+    ensures writes_calm { result ≢ 5 → O.faults out.new ≡ O.faults out.old }
 {
     one_command();
     refusal_is_one();

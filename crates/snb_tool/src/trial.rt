@@ -1,6 +1,6 @@
 //! The command `trial`.
 
-ghost use Rattle.std.specs.Prelude.{◌≡◌, ℕ, ◌≤◌, IfOk, Option};
+ghost use Rattle.std.specs.Prelude.{◌≡◌, ℕ, ◌≤◌, IfOk, Option, ◌≢◌};
 ghost use Rattle.snb_base.specs.Shelf.{Files};
 ghost use Rattle.snb_schema.specs.declared.limits.TheConstants.{MAX_WORKERS};
 ghost use Rattle.snb_words.specs.declared.command.Command.TheVariants.{Trial};
@@ -60,6 +60,7 @@ pub fn trial<R: AllocGlobal + Threads + Wait + Sync, O: Outbox, C: Clock + Sync,
         (seen contents (C.fixed clock.now) faults (O.faults out.old) (O.written out.old) (O.ready out.old))
         (seen contents (C.fixed clock.now) faults (O.faults out.new) (O.written out.new) (O.ready out.new)) result }
     ensures writes_later { O.faults out.old ≤ O.faults out.new }
+    ensures writes_calm { result ≢ 5 → O.faults out.new ≡ O.faults out.old }
 {
     let input = match input_of_size(rt.alloc(), size) {
         Ok(input) => input,

@@ -21,7 +21,7 @@ pieces-init g c = record {
   good = ap (λ (z : Reader g.row.G.Denot g.row.G-Known.Denot). z.fault) c.requires.begins;
   room = search rules;
   same = search rules;
-  later = search rules;
+  calm = search rules;
 }
 
 pub returns-in-Err-clause-answer : goal.returns-in-Err-clause-answer
@@ -66,5 +66,5 @@ pieces-preserved g c = record {
   good = search rules;
   room = grind (arith, common_steps);
   same = search rules;
-  later = search rules;
+  calm = search rules;
 }

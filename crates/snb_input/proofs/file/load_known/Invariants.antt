@@ -3,7 +3,7 @@ use Rattle.snb_input.specs.Format.{format_of}
 use Rattle.snb_input.proofs.Going.{Going, first}
 use Rattle.snb_input.proofs.file.load_known.Given as goal
 
--- the reader was fed the first bytes of the file, and the shelf has changed nothing but its count
+-- the reader was fed the first bytes of the file, and the shelf has changed nothing
 abbrev pub invariant-pieces : goal.invariant-pieces
 invariant-pieces g l = record {
   going :
@@ -16,7 +16,7 @@ invariant-pieces g l = record {
   good : l.reader.fault ≡ None;
   room : 0 < length l.buffer.items;
   same : g.S.Shelf.contents l.shelf ≡ g.S.Shelf.contents l.fn.shelf;
-  later : g.S.Shelf.faults l.fn.shelf ≤ g.S.Shelf.faults l.shelf;
+  calm : g.S.Shelf.faults l.shelf ≡ g.S.Shelf.faults l.fn.shelf;
 }
 
 abbrev pub decreases-pieces : goal.decreases-pieces

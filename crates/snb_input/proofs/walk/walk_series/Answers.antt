@@ -13,7 +13,7 @@ loop-part-init g c = record {
   bytes = search rules;
   rows = search rules;
   same = search rules;
-  later = search rules;
+  calm = search rules;
 }
 
 pub returns-in-Err-clause-answer : goal.returns-in-Err-clause-answer
@@ -42,7 +42,7 @@ loop-part-preserved g c = record {
   bytes = (subst (λ (z : Looked g.row.P.Denot). IsLookedWithin g.P.Taker.limit z) c.in-Ok-Whole.field-0-is c.in-Ok-Whole.ensures.within).0;
   rows = (subst (λ (z : Looked g.row.P.Denot). IsLookedWithin g.P.Taker.limit z) c.in-Ok-Whole.field-0-is c.in-Ok-Whole.ensures.within).1;
   same = search rules;
-  later = search rules;
+  calm = search rules;
 }
 
 pub returns-in-Ok-true-clause-answer : goal.returns-in-Ok-true-clause-answer

@@ -7,7 +7,7 @@ use Rattle.snb_input.specs.Walk.{Before, Look, first_role}
 use Rattle.snb_input.proofs.SeriesFacts.{Along}
 use Rattle.snb_input.proofs.walk.walk_series.Given as goal
 
--- the files before this one were looked for, and the shelf has changed nothing but its count
+-- the files before this one were looked for, and the shelf has changed nothing
 abbrev pub invariant-loop-part : goal.invariant-loop-part
 invariant-loop-part g l = record {
   along :
@@ -17,5 +17,5 @@ invariant-loop-part g l = record {
   bytes : l.so_far.used.bytes ≤ MAX_BYTES;
   rows : IsUnder g.P.Taker.limit l.so_far.used.rows;
   same : g.S.Shelf.contents l.shelf ≡ g.S.Shelf.contents l.fn.shelf;
-  later : g.S.Shelf.faults l.fn.shelf ≤ g.S.Shelf.faults l.shelf;
+  calm : g.S.Shelf.faults l.shelf ≡ g.S.Shelf.faults l.fn.shelf;
 }

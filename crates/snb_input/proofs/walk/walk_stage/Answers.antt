@@ -17,7 +17,7 @@ loop-series-init g c = record {
   bytes = search rules;
   rows = search rules;
   same = search rules;
-  later = search rules;
+  calm = search rules;
 }
 
 pub walk_series-requires-clause-few : goal.walk_series-requires-clause-few
@@ -44,7 +44,7 @@ loop-series-preserved g c = record {
   bytes = search rules;
   rows = search rules;
   same = search rules;
-  later = search rules;
+  calm = search rules;
 }
 
 pub returns-clause-answer : goal.returns-clause-answer

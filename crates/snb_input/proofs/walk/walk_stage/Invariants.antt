@@ -6,7 +6,7 @@ use Rattle.snb_input.specs.Stages.{before}
 use Rattle.snb_input.proofs.StageFacts.{Staged}
 use Rattle.snb_input.proofs.walk.walk_stage.Given as goal
 
--- the series before this one were walked, and the shelf has changed nothing but its count
+-- the series before this one were walked, and the shelf has changed nothing
 abbrev pub invariant-loop-series : goal.invariant-loop-series
 invariant-loop-series g l = record {
   staged :
@@ -15,5 +15,5 @@ invariant-loop-series g l = record {
   bytes : l.so_far.used.bytes ≤ MAX_BYTES;
   rows : IsUnder g.P.Taker.limit l.so_far.used.rows;
   same : g.S.Shelf.contents l.shelf ≡ g.S.Shelf.contents l.fn.shelf;
-  later : g.S.Shelf.faults l.fn.shelf ≤ g.S.Shelf.faults l.shelf;
+  calm : g.S.Shelf.faults l.shelf ≡ g.S.Shelf.faults l.fn.shelf;
 }
