@@ -9,31 +9,27 @@ use Rattle.std.specs.List.{All, Contains}
 use Rattle.std.specs.List.Sorted.{IsStrictlySortedBy}
 use Rattle.std.specs.Ordering.{nat_cmp, ordering_then}
 use Rattle.std.specs.declared.cmp.Ordering.TheVariants.{Equal, Less}
+use Rattle.snb_schema.specs.declared.person.Person.{Person}
 use Rattle.snb_schema.specs.declared.row.Row.{Row}
 use Rattle.snb_schema.specs.declared.row.Row.TheVariants as row
 use Rattle.snb_schema.specs.declared.table.Table.TheVariants as table
-use Rattle.snb_schema.specs.Layouts.{shape}
 use Rattle.snb_schema.specs.RowLines.{table_of}
 use Rattle.snb_schema.specs.TableOrder.{same_table}
-use Rattle.snb_schema.specs.TableRows.{IsTableRow}
-use Rattle.snb_soundness.specs.SoundLaws.{RequiredEdgesAreThere}
 use Rattle.snb_tables.specs.Around.{friends, is_friend}
 use Rattle.snb_tables.specs.Graphs.{IsGraph, row_order, rows}
-use Rattle.snb_tables.specs.Soundness.{Sound}
 use Rattle.snb_tables.proofs.Laws.{any_from, friend_here, friend_tells, friend_there, friend_told, from_any, in_filter, in_rows, of_each}
 use Rattle.snb_shelf.proofs.Laws.{contains_map, map_contains}
 use Rattle.snb_reads.specs.ComplexReads.{is_named}
 use Rattle.snb_reads.specs.Distance.{IsDistance, IsPerson, IsWithin, Walk}
 use Rattle.snb_reply_laws.proofs.Laws.{some_within}
-use Rattle.snb_short_reads.proofs.Laws.{any}
+use Rattle.snb_short_reads.proofs.Laws.{person_at}
 use Rattle.snb_short_reads.specs.Lookups.{IsOnlyPerson}
 use Rattle.snb_reach.specs.Distances.{AreDistances}
 use Rattle.snb_reach.proofs.Laws.{Rises, friend_turned, last_step, one_distance, same_rising}
 use Rattle.snb_complex_reads.proofs.FoundLemmas.{walk_held}
-use Rattle.snb_complex_reads.proofs.NamesakeLemmas.{home, near_is}
-use Rattle.snb_complex_reads.proofs.StayLemmas.{as_link}
+use Rattle.snb_complex_reads.proofs.NamesakeLemmas.{near_is}
 use Rattle.snb_complex_reads.specs.Namesakes.{AreNamesakesWithin, IsNamesakeFound, IsNearFound, Namesake, namesake_of}
-use Rattle.snb_complex_reads.specs.Scan.{IsScanned, distance_by, has_second, is_two, is_wanted, or_three, placed, start_of}
+use Rattle.snb_complex_reads.specs.Scan.{IsScanned, distance_by, has_second, id_of, is_two, is_wanted, or_three, placed}
 
 none_some : (o : Option ℕ) → o ≡ None → IsSome o → ⊥
 none_some None e h = cc
@@ -104,134 +100,131 @@ module _ (g : List Row) (start : ℕ) (met : ℕ → Option ℕ) (are : AreDista
   pub told_most : distance_by g met p ≤ 3
   told_most = by_most (met p) refl (has_second g met p)
 
--- ---- the edges to the persons' cities
+-- ---- the persons, as a walk gives them
 
-module _ (g : List Row) (graph : IsGraph g) where
-  abbrev homes : List Row
-  homes = rows g table.PersonIsLocatedInPlace
+abbrev pub Entry : Type 0
+Entry = ℕ × Person
 
-  home_edge : (r : Row) → Contains homes r → (c : ℕ) × (r ≡ row.Link table.PersonIsLocatedInPlace (start_of r) c)
-  home_edge r c =
-      let (held, of) = (in_rows g table.PersonIsLocatedInPlace r).0 c in
-      let (from, to, is) = as_link g graph r ((All-contains IsTableRow g r graph.of_tables held).shaped ∙ ap shape of) in
-      let first : from ≡ start_of r = sym (ap start_of is) in
-      (to, is ∙ ap (λ t. row.Link t from to) of ∙ ap (λ n. row.Link table.PersonIsLocatedInPlace n to) first)
+abbrev pub as_row : Entry → Row
+as_row e = row.Person e.1
 
-  -- each is a person's
-  pub home_held : Sound g → (r : Row) → Contains homes r → IsPerson g (start_of r)
-  home_held sound r c =
-      let (to, is) = home_edge r c in
-      let held = ((in_rows g table.PersonIsLocatedInPlace r).0 c).0 in
-      sound.held (row.Link table.PersonIsLocatedInPlace (start_of r) to) (subst (Contains g) is held) 0 any (omega arith)
+less_first : (m n : ℕ) → ordering_then (nat_cmp m n) Equal ≡ Less → m < n
+less_first m n e = grind (arith, nat_tests, e)
 
-  less_first : (m n : ℕ) → ordering_then (nat_cmp m n) Equal ≡ Less → m < n
-  less_first m n e = grind (arith, nat_tests, e)
+module _ (met : ℕ → Option ℕ) (g : List Row) where
+  abbrev place : Entry → ℕ × ℕ
+  place e = placed g met e.1.id
 
-  home_less : (r s : Row) → Contains homes r → Contains homes s → row_order r s ≡ Less → start_of r < start_of s
-  home_less r s c d e =
-      let (a, is) = home_edge r c in
-      let (b, also) = home_edge s d in
-      less_first (start_of r) (start_of s) (ap (λ (x : Row). row_order x (row.Link table.PersonIsLocatedInPlace (start_of s) b)) (sym is) ∙ ap (row_order r) (sym also) ∙ e)
+  rising : (xs : List Entry) → IsStrictlySortedBy row_order (map as_row xs) → Rises (map place xs)
+  unfolding IsStrictlySortedBy
+  rising [] up = λ i j d low small. absurd (omega arith)
+  rising (x ∷ xs) up =
+      AllPairs-cons (λ (u : ℕ × ℕ) (v : ℕ × ℕ). u.0 < v.0) (place x) (map place xs)
+      (All-map (λ (v : ℕ × ℕ). x.1.id < v.0) place xs (All-weaker (Contains xs) (λ e. x.1.id < e.1.id) (λ e c.
+      less_first x.1.id e.1.id (of_each (λ y. row_order (as_row x) y ≡ Less) (map as_row xs) up.0 (as_row e) (contains_map as_row xs e c))) xs (All-contains_itself xs)))
+      (rising xs up.1)
 
-  module _ (met : ℕ → Option ℕ) where
-    abbrev place : Row → ℕ × ℕ
-    place r = placed g met (start_of r)
+module _ (g : List Row) (people : List Entry) (are : map as_row people ≡ rows g table.Person) where
+  entry_held : (e : Entry) → Contains people e → Contains g (as_row e)
+  entry_held e c = ((in_rows g table.Person (as_row e)).0 (subst (λ l. Contains l (as_row e)) are (contains_map as_row people e c))).0
 
-    rising : (xs : List Row) → IsStrictlySortedBy row_order xs → All (Contains homes) xs → Rises (map place xs)
-    unfolding IsStrictlySortedBy
-    rising [] up all = λ i j d low small. absurd (omega arith)
-    rising (x ∷ xs) up all =
-        AllPairs-cons (λ (u : ℕ × ℕ) (v : ℕ × ℕ). u.0 < v.0) (place x) (map place xs)
-        (All-map (λ (v : ℕ × ℕ). start_of x < v.0) place xs (All-weaker (Contains xs) (λ r. start_of x < start_of r) (λ r c.
-        home_less x r (All-head (Contains homes) x xs all) (All-contains (Contains homes) xs r (All-tail (Contains homes) x xs all) c) (of_each (λ y. row_order x y ≡ Less) xs up.0 r c)) xs (All-contains_itself xs)))
-        (rising xs up.1 (All-tail (Contains homes) x xs all))
+  entry_here : (p : Person) → Contains g (row.Person p) → (e : Entry) × Contains people e × (e.1.id ≡ p.id)
+  entry_here p held =
+      let (e, c, is) = map_contains as_row people (row.Person p) (subst (λ l. Contains l (row.Person p)) (sym are) ((in_rows g table.Person (row.Person p)).1 (held, refl))) in
+      (e, c, ap id_of is)
 
-    pub homes_rise : Rises (map place homes)
-    homes_rise = rising homes (IsStrictlySortedBy-filter row_order (λ r. same_table (table_of r) table.PersonIsLocatedInPlace) g graph.rises) (All-contains_itself homes)
+  people_rise : IsGraph g → (met : ℕ → Option ℕ) → Rises (map (place met g) people)
+  people_rise graph met = rising met g people (subst (IsStrictlySortedBy row_order) (sym are) (IsStrictlySortedBy-filter row_order (λ r. same_table (table_of r) table.Person) g graph.rises))
 
 -- ---- the loop over them
 
--- those found, and those who are wanted of the edges that are left, are those wanted of all
-pub record IsScanning (g : List Row) (met : ℕ → Option ℕ) (name : List ℕ) (found : List Namesake) (left : List Row) : Type 0 where
-  pub same : map namesake_of found ++ filter (is_wanted g name) (map (λ r. placed g met (start_of r)) left) ≡ filter (is_wanted g name) (map (λ r. placed g met (start_of r)) (rows g table.PersonIsLocatedInPlace))
+-- those found, and those who are wanted of the persons that are left, are those wanted of all
+pub record IsScanning (g : List Row) (met : ℕ → Option ℕ) (name : List ℕ) (found : List Namesake) (left : List Entry) : Type 0 where
+  pub people : List Entry
+  pub are : map as_row people ≡ rows g table.Person
+  pub same : map namesake_of found ++ filter (is_wanted g name) (map (place met g) left) ≡ filter (is_wanted g name) (map (place met g) people)
   pub each : All (λ k. IsOnlyPerson g k.0.now.id k.0.now) found
-  pub edges : All (Contains (rows g table.PersonIsLocatedInPlace)) left
+  pub among : All (Contains people) left
 
 module _ (g : List Row) (met : ℕ → Option ℕ) (name : List ℕ) where
-  abbrev wanted : List Row → List (ℕ × ℕ)
-  wanted left = filter (is_wanted g name) (map (λ r. placed g met (start_of r)) left)
+  abbrev wanted : List Entry → List (ℕ × ℕ)
+  wanted left = filter (is_wanted g name) (map (place met g) left)
 
-  pub scanning_begun : (found : List Namesake) (left : List Row) → found ≡ [] → left ≡ rows g table.PersonIsLocatedInPlace → IsScanning g met name found left
-  scanning_begun found left none all = record {
+  pub scanning_begun : (found : List Namesake) (people left : List Entry) → found ≡ [] → left ≡ people → map as_row people ≡ rows g table.Person → IsScanning g met name found left
+  scanning_begun found people left none all are = record {
+    people = people;
+    are = are;
     same = ap (λ l. map namesake_of l ++ wanted left) none ∙ ap wanted all;
     each = subst (All (λ k. IsOnlyPerson g k.0.now.id k.0.now)) (sym none) (All-nil (λ k. IsOnlyPerson g k.0.now.id k.0.now));
-    edges = subst (All (Contains (rows g table.PersonIsLocatedInPlace))) (sym all) (All-contains_itself (rows g table.PersonIsLocatedInPlace));
+    among = subst (All (Contains people)) (sym all) (All-contains_itself people);
   }
 
-  module _ (found : List Namesake) (left rest : List Row) (r : Row) (is : left ≡ r ∷ rest) (scanning : IsScanning g met name found left) where
-    -- the next edge is one of them
-    pub scanning_head : Contains (rows g table.PersonIsLocatedInPlace) r
-    scanning_head = All-head (Contains (rows g table.PersonIsLocatedInPlace)) r rest (subst (All (Contains (rows g table.PersonIsLocatedInPlace))) is scanning.edges)
+  module _ (found : List Namesake) (left rest : List Entry) (e : Entry) (is : left ≡ e ∷ rest) (scanning : IsScanning g met name found left) where
+    -- the next is a person of the graph
+    pub scanning_head : Contains g (row.Person e.1)
+    scanning_head = entry_held g scanning.people scanning.are e (All-head (Contains scanning.people) e rest (subst (All (Contains scanning.people)) is scanning.among))
 
-    after : All (Contains (rows g table.PersonIsLocatedInPlace)) rest
-    after = All-tail (Contains (rows g table.PersonIsLocatedInPlace)) r rest (subst (All (Contains (rows g table.PersonIsLocatedInPlace))) is scanning.edges)
+    after : All (Contains scanning.people) rest
+    after = All-tail (Contains scanning.people) e rest (subst (All (Contains scanning.people)) is scanning.among)
 
-    parted : (b : Bool) → is_wanted g name (placed g met (start_of r)) ≡ b → wanted left ≡ cond b (placed g met (start_of r) ∷ wanted rest) (wanted rest)
-    parted b e = ap wanted is ∙ ap (λ b. cond b (placed g met (start_of r) ∷ wanted rest) (wanted rest)) e
+    parted : (b : Bool) → is_wanted g name (placed g met e.1.id) ≡ b → wanted left ≡ cond b (placed g met e.1.id ∷ wanted rest) (wanted rest)
+    parted b z = ap wanted is ∙ ap (λ b. cond b (placed g met e.1.id ∷ wanted rest) (wanted rest)) z
 
-    pub scanning_over : (id : ℕ) → id ≡ start_of r → is_wanted g name (placed g met id) ≡ false → IsScanning g met name found rest
-    scanning_over id of denied =
-        let none : is_wanted g name (placed g met (start_of r)) ≡ false = subst (λ n. is_wanted g name (placed g met n) ≡ false) of denied in
-        record { same = ap (λ l. map namesake_of found ++ l) (sym (parted false none)) ∙ scanning.same; each = scanning.each; edges = after }
+    pub scanning_over : is_wanted g name (placed g met e.1.id) ≡ false → IsScanning g met name found rest
+    scanning_over denied = record { people = scanning.people; are = scanning.are; same = ap (λ l. map namesake_of found ++ l) (sym (parted false denied)) ∙ scanning.same; each = scanning.each; among = after }
 
-    pub scanning_next : (id : ℕ) → id ≡ start_of r → (new : List Namesake) (k : Namesake) → new ≡ found ++ k ∷ [] → IsScanned g met name id k → IsScanning g met name new rest
-    scanning_next id of new k push at = let one = subst (λ n. IsScanned g met name n k) of at in record {
+    pub scanning_next : (new : List Namesake) (k : Namesake) → new ≡ found ++ k ∷ [] → IsScanned g met name e.1.id k → IsScanning g met name new rest
+    scanning_next new k push one = record {
+      people = scanning.people;
+      are = scanning.are;
       same = ap (λ l. map namesake_of l ++ wanted rest) push ∙ ap (λ l. l ++ wanted rest) (map_push namesake_of found k) ∙ append_assoc (map namesake_of found) (namesake_of k ∷ []) (wanted rest)
           ∙ ap (λ z. map namesake_of found ++ z ∷ wanted rest) one.named ∙ ap (λ l. map namesake_of found ++ l) (sym (parted true one.wanted)) ∙ scanning.same;
       each = subst (All (λ k. IsOnlyPerson g k.0.now.id k.0.now)) (sym push) (All-push (λ k. IsOnlyPerson g k.0.now.id k.0.now) found k scanning.each one.only);
-      edges = after;
+      among = after;
     }
 
 -- ---- all of them
 
-module _ (g : List Row) (graph : IsGraph g) (sound : Sound g) (required : RequiredEdgesAreThere) (met : ℕ → Option ℕ) (name : List ℕ) where
+module _ (g : List Row) (graph : IsGraph g) (met : ℕ → Option ℕ) (name : List ℕ) where
   -- those wanted are those of the first name at distance 1 to 3
-  wanted_near : (start : ℕ) → AreDistances g start 2 met → (near : List (ℕ × ℕ)) → IsWithin g start 3 near → wanted g met name (rows g table.PersonIsLocatedInPlace) ≡ filter (is_named g name) near
-  wanted_near start are near within =
-      same_rising _ _ (AllPairs-filter (λ (x : ℕ × ℕ) (y : ℕ × ℕ). x.0 < y.0) (is_wanted g name) (map (place g graph met) (homes g graph)) (homes_rise g graph met))
+  wanted_near : (people : List Entry) → map as_row people ≡ rows g table.Person → (start : ℕ) → AreDistances g start 2 met → (near : List (ℕ × ℕ)) → IsWithin g start 3 near
+      → wanted g met name people ≡ filter (is_named g name) near
+  wanted_near people persons start are near within =
+      same_rising _ _ (AllPairs-filter (λ (x : ℕ × ℕ) (y : ℕ × ℕ). x.0 < y.0) (is_wanted g name) (map (place met g) people) (people_rise g people persons graph met))
       (AllPairs-filter (λ (x : ℕ × ℕ) (y : ℕ × ℕ). x.0 < y.0) (is_named g name) near within.rises) (λ z. (there z, back z))
     where
-      there : (z : ℕ × ℕ) → Contains (wanted g met name (rows g table.PersonIsLocatedInPlace)) z → Contains (filter (is_named g name) near) z
+      there : (z : ℕ × ℕ) → Contains (wanted g met name people) z → Contains (filter (is_named g name) near) z
       there z c =
-          let (held, passes) = (in_filter (is_wanted g name) (map (place g graph met) (homes g graph)) z).0 c in
-          let (r, edge, is) = map_contains (place g graph met) (homes g graph) z held in
+          let (held, passes) = (in_filter (is_wanted g name) (map (place met g) people) z).0 c in
+          let (e, here, is) = map_contains (place met g) people z held in
           let (named, above) = and_parts (is_named g name z) _ passes in
           let at : placed g met z.0 ≡ z = ap (placed g met) (sym (ap (λ (w : ℕ × ℕ). w.0) is)) ∙ is in
           let told : distance_by g met z.0 ≡ z.1 = ap (λ (w : ℕ × ℕ). w.1) at in
-          let person : IsPerson g z.0 = subst (IsPerson g) (ap (λ (w : ℕ × ℕ). w.0) is) (home_held g graph sound r edge) in
+          let person : IsPerson g z.0 = subst (IsPerson g) (ap (λ (w : ℕ × ℕ). w.0) is) (record { it = as_row e; held = entry_held g people persons e here; keyed = refl }) in
           let low : 1 ≤ z.1 = omega (arith, ltb-true 0 z.1 above) in
           let high : z.1 ≤ 3 = subst (λ n. n ≤ 3) told (told_most g start met are z.0) in
           (in_filter (is_named g name) near z).1 ((within.exact z.0 z.1).1 ((told_distance g start met are z.0 person z.1 low high).1 told, low, high), named)
 
-      back : (z : ℕ × ℕ) → Contains (filter (is_named g name) near) z → Contains (wanted g met name (rows g table.PersonIsLocatedInPlace)) z
+      back : (z : ℕ × ℕ) → Contains (filter (is_named g name) near) z → Contains (wanted g met name people) z
       back z c =
           let (held, named) = (in_filter (is_named g name) near z).0 c in
           let (at, low, high) = (within.exact z.0 z.1).0 held in
           let person = walk_held g start z.0 z.1 at.walk in
           let told : distance_by g met z.0 ≡ z.1 = (told_distance g start met are z.0 person z.1 low high).0 at in
-          let is : placed g met z.0 ≡ z = λ i. (z.0, told i) in
-          let (city, link) = home g graph sound required z.0 person in
-          let edge = (in_rows g table.PersonIsLocatedInPlace (row.Link table.PersonIsLocatedInPlace z.0 city)).1 (link, refl) in
-          (in_filter (is_wanted g name) (map (place g graph met) (homes g graph)) z).1 (
-            subst (Contains (map (place g graph met) (homes g graph))) is (contains_map (place g graph met) (homes g graph) (row.Link table.PersonIsLocatedInPlace z.0 city) edge),
+          let (p, row, is) = person_at g graph z.0 person in
+          let (e, here, same) = entry_here g people persons p row in
+          let id : e.1.id ≡ z.0 = same ∙ is in
+          let shown : place met g e ≡ z = ap (placed g met) id ∙ (λ i. (z.0, told i)) in
+          (in_filter (is_wanted g name) (map (place met g) people) z).1 (
+            subst (Contains (map (place met g) people)) shown (contains_map (place met g) people e here),
             and_from (is_named g name z) _ named (lt-ltb 0 z.1 (omega (arith, low))),
           )
 
-  pub scanning_done : (found : List Namesake) (left : List Row) → left ≡ [] → IsScanning g met name found left → (start : ℕ) → AreDistances g start 2 met → AreNamesakesWithin g start 3 name found
+  pub scanning_done : (found : List Namesake) (left : List Entry) → left ≡ [] → IsScanning g met name found left → (start : ℕ) → AreDistances g start 2 met → AreNamesakesWithin g start 3 name found
   scanning_done found left none scanning start are =
       let (near, within) = some_within g start 3 in
       let same : map namesake_of found ≡ filter (is_named g name) near =
-      sym (append-nil (map namesake_of found)) ∙ ap (λ l. map namesake_of found ++ wanted g met name l) (sym none) ∙ scanning.same ∙ wanted_near start are near within in
+      sym (append-nil (map namesake_of found)) ∙ ap (λ l. map namesake_of found ++ wanted g met name l) (sym none) ∙ scanning.same ∙ wanted_near scanning.people scanning.are start are near within in
       record {
         near = near;
         within = within;

@@ -8,10 +8,10 @@ use Rattle.snb_reads.specs.ComplexReads.{is_named}
 use Rattle.snb_short_reads.specs.Lookups.{IsOnlyPerson}
 use Rattle.snb_complex_reads.specs.Namesakes.{Namesake, namesake_of}
 
--- from where an edge leads
-abbrev pub start_of : Row → ℕ
-start_of (row.Link t from to) = from
-start_of other = 0
+-- the id in a person's row
+abbrev pub id_of : Row → ℕ
+id_of (row.Person p) = p.id
+id_of other = 0
 
 -- whether there is a distance, and it is 2
 abbrev pub is_two : Option ℕ → Bool

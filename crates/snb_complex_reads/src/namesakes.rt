@@ -197,26 +197,6 @@ fn namesakes<'a>(
     named(alloc, graph, first_name, near.as_slice())
 }
 
-// Those of a first name at distance 1 to 3 from a person, around whom these are met within two steps. Where
-// persons are few in comparison, a look at each of their names takes less time than to meet everybody within
-// three steps.
-fn third<'a>(
-    alloc: Global,
-    graph: &'a Graph,
-    person: u64,
-    met: &HashMap<u64, u64>,
-    first_name: &str,
-) -> Result<Vec<(&'a Person, u64)>, AllocError>
-    requires sound { Sound graph.now }
-    requires distances { AreDistances graph.now person 2 (get nat_eq met.now) }
-    ensures { IfOk result (λ found. AreNamesakesWithin graph.now person 3 first_name.now found.items) }
-{
-    if graph.count(Table::Person) / 16 <= met.len() as u64 {
-        return scanned(alloc, graph, met, first_name);
-    }
-    namesakes(alloc, graph, person, first_name, 3)
-}
-
 /// Complex read 1: the persons of a first name at distance 1 to 3 from a person, each with the distance, the
 /// profile, emails, languages, city, studies and work; the first twenty, by distance, then by last name, then
 /// by id. A person who isn't held gives no rows.
@@ -235,14 +215,20 @@ pub fn ic1<'a>(
     first_is_some::<Text>();
     first_is_some::<(Text, u32, Text)>();
     first_is_some::<AnswerRow>();
-    // Nearer persons come first: where those within two steps are enough, nobody further is looked at.
     let met = distances(alloc, graph, person, 2)?;
+    // Where persons are few in comparison, a look at each of their names takes less time than to look up
+    // those who are met.
+    if graph.count(Table::Person) / 16 <= met.len() as u64 {
+        let all = scanned(alloc, graph, &met, first_name)?;
+        return first_namesakes(alloc, graph, all);
+    }
+    // Nearer persons come first: where those within two steps are enough, nobody further is looked at.
     let near = listed(alloc, &met)?;
     let found = named(alloc, graph, first_name, near.as_slice())?;
     let enough = 20;
     if enough <= found.len() {
         return first_namesakes(alloc, graph, found);
     }
-    let found = third(alloc, graph, person, &met, first_name)?;
+    let found = namesakes(alloc, graph, person, first_name, 3)?;
     first_namesakes(alloc, graph, found)
 }

@@ -1,31 +1,18 @@
 //! The persons of a first name around one, found by going over all persons.
 
-ghost use Rattle.std.specs.Prelude.{◌≡◌, ℕ, IfOk, MatchOption, false, nat_eq};
+ghost use Rattle.std.specs.Prelude.{◌≡◌, ℕ, Contains, IfOk, MatchOption, false, nat_eq};
 ghost use Rattle.std.specs.HashMap.{get};
+ghost use Rattle.snb_schema.specs.declared.row.Row.TheVariants as row;
 ghost use Rattle.snb_complex_reads.specs.Namesakes.{AreNamesakesWithin};
-ghost use Rattle.snb_complex_reads.specs.Scan.{IsScanned, distance_by, has_second, is_wanted, placed, start_of};
+ghost use Rattle.snb_complex_reads.specs.Scan.{IsScanned, distance_by, has_second, is_wanted, placed};
 ghost use Rattle.snb_reach.specs.Distances.{AreDistances};
-ghost use Rattle.snb_reads.specs.Distance.{IsPerson};
-ghost use Rattle.snb_tables.specs.Soundness.{Sound};
+ghost use Rattle.snb_short_reads.specs.Lookups.{IsOnlyPerson};
 
 use snb_graph::graph::Graph;
 use snb_schema::person::Person;
-use snb_schema::row::Row;
-use snb_schema::table::Table;
-use snb_short_reads::lookups::known;
 use snb_soundness::law::sound_graphs;
 use std::alloc::{AllocError, Global};
 use std::collections::HashMap;
-
-// From where an edge leads.
-fn start(row: Row) -> u64
-    ensures { result ≡ start_of row }
-{
-    match row {
-        Row::Link { from, .. } => from,
-        _ => 0,
-    }
-}
 
 // Whether a friend of a person was met at distance 2.
 fn is_third(graph: &Graph, met: &HashMap<u64, u64>, person: u64) -> bool
@@ -51,23 +38,33 @@ fn distance_of(graph: &Graph, met: &HashMap<u64, u64>, person: u64) -> u64
     if is_third(graph, met, person) { 3 } else { 0 }
 }
 
+// A law: a person who is held is the only one of that id.
+fn stands_alone(graph: &Graph, person: &Person)
+    requires { Contains graph.now (row.Person person.now) }
+    ensures { IsOnlyPerson graph.now person.now.id person.now }
+{
+    graph.known();
+    sound_graphs();
+    let _ = person;
+}
+
 // A person with the distance, where the first name is theirs and the distance is above 0. Names are compared
 // first, since few persons have the name.
 fn namesake<'a>(
-    graph: &'a Graph,
+    graph: &Graph,
     met: &HashMap<u64, u64>,
     first_name: &str,
-    id: u64,
+    person: &'a Person,
 ) -> Option<(&'a Person, u64)>
-    requires held { IsPerson graph.now id }
-    ensures { MatchOption result (is_wanted graph.now first_name.now (placed graph.now (get nat_eq met.now) id) ≡ false)
-        (IsScanned graph.now (get nat_eq met.now) first_name.now id) }
+    requires held { Contains graph.now (row.Person person.now) }
+    ensures { MatchOption result (is_wanted graph.now first_name.now (placed graph.now (get nat_eq met.now) person.now.id) ≡ false)
+        (IsScanned graph.now (get nat_eq met.now) first_name.now person.now.id) }
 {
-    let person = known(graph, id);
+    stands_alone(graph, person);
     if person.first_name.as_str() != first_name {
         return None;
     }
-    let distance = distance_of(graph, met, id);
+    let distance = distance_of(graph, met, person.id);
     if 0 < distance {
         Some((person, distance))
     } else {
@@ -75,24 +72,19 @@ fn namesake<'a>(
     }
 }
 
-/// Those of a first name at distance 1 to 3 from a person, by those met within two steps of the person. Each
-/// person has one city, and so one edge that leads there.
-/// The condition: the graph is sound.
+/// Those of a first name at distance 1 to 3 from a person, by those met within two steps of the person.
 pub(crate) fn scanned<'a>(
     alloc: Global,
     graph: &'a Graph,
     met: &HashMap<u64, u64>,
     first_name: &str,
 ) -> Result<Vec<(&'a Person, u64)>, AllocError>
-    requires sound { Sound graph.now }
     ensures { IfOk result (λ found. (start : ℕ) → AreDistances graph.now start 2 (get nat_eq met.now) → AreNamesakesWithin graph.now start 3 first_name.now found.items) }
 {
     graph.known();
-    sound_graphs();
     let mut found = Vec::new(alloc);
-    for row in graph.each(Table::PersonIsLocatedInPlace) {
-        let id = start(row?);
-        if let Some(one) = namesake(graph, met, first_name, id) {
+    for (_, person) in graph.persons() {
+        if let Some(one) = namesake(graph, met, first_name, person) {
             found.push(one)?;
         }
     }

@@ -1,6 +1,6 @@
 //! The graph, with what is walked along.
 
-ghost use Rattle.std.specs.Prelude.{◌≢◌, length, All, ◌≡◌, ◌∷◌, [], ◌↔◌, Contains, IsTrue, IsSome, IfSome, IfOk, IfErr, OnOk, OnErr, Err};
+ghost use Rattle.std.specs.Prelude.{◌≢◌, length, map, All, ◌≡◌, ◌∷◌, [], ◌↔◌, Contains, IsTrue, IsSome, IfSome, IfOk, IfErr, OnOk, OnErr, Err};
 ghost use Rattle.std.specs.Option.{option_copied};
 ghost use Rattle.snb_schema.specs.declared.layout.KeyColumns.TheVariants as columns;
 ghost use Rattle.snb_schema.specs.declared.layout.Shape.TheVariants as shapes;
@@ -26,6 +26,7 @@ use snb_links::indexes::Indexes;
 use snb_links::link::Walk;
 use snb_parts::half::Half;
 use snb_parts::links::Links;
+use snb_parts::walk::Walk as Entries;
 use snb_schema::key::{Held, Key};
 use snb_schema::nodes::{Comment, Forum, Named, Organisation, Place, Post};
 use snb_schema::person::Person;
@@ -177,6 +178,13 @@ impl Graph {
         ensures { result ≡ rows self.now table }
     {
         self.tables.each(table)
+    }
+
+    /// The persons, each with their id, by rising id. Takes no memory.
+    pub fn persons(&self) -> Entries<'_, u64, Person>
+        ensures { map (λ e. row.Person e.1) result ≡ rows self.now table.Person }
+    {
+        self.tables.persons()
     }
 
     /// How many rows there are.

@@ -19,7 +19,7 @@ use std::alloc::{AllocError, Global};
 use std::collections::HashMap;
 
 /// The persons who can be reached in at most `steps` steps, each with the distance: the start itself at 0.
-/// Nobody is near a person that isn't held.
+/// From a person that isn't held nobody can be reached.
 /// The condition: each node that a row of the graph refers to is held.
 pub fn distances(
     alloc: Global,
@@ -43,7 +43,7 @@ pub fn distances(
     Ok(met)
 }
 
-/// Those met within a number of steps, without the start, by rising id.
+/// Those met within a number of steps, as `distances` has them, without the start, by rising id.
 pub fn listed(alloc: Global, met: &HashMap<u64, u64>) -> Result<Near, AllocError>
     ensures { IfOk result (λ near. (g : List Row) (start steps : ℕ) → AreDistances g start steps (get nat_eq met.now) → IsWithin g start steps near) }
 {

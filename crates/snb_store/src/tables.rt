@@ -1,6 +1,6 @@
 //! The rows of a graph in ten maps.
 
-ghost use Rattle.std.specs.Prelude.{◌≢◌, filter, nat_eq, ◌+◌, ◌⊎◌, ◌≤◌, length, ◌<◌, ◌^◌, ◌≡◌, ◌∷◌, [], ◌↔◌, IsTrue, IsSome, IfSome, IfOk, Contains, OnOk, OnErr, Err};
+ghost use Rattle.std.specs.Prelude.{◌≢◌, filter, nat_eq, ◌+◌, ◌⊎◌, ◌≤◌, length, ◌<◌, ◌^◌, ◌≡◌, ◌∷◌, [], ◌↔◌, map, IsTrue, IsSome, IfSome, IfOk, Contains, OnOk, OnErr, Err};
 ghost use Rattle.std.specs.Option.{option_copied};
 ghost use Rattle.snb_parts.specs.declared.half.Half.TheVariants as Half;
 ghost use Rattle.snb_schema.specs.declared.table.Kind.TheVariants as kinds;
@@ -428,6 +428,14 @@ impl Tables {
     {
         let _ = &self.organisations;
         ShelfRows::over(self.organisations.through(0, u64::MAX))
+    }
+
+    /// The persons, each with their id, by rising id. Takes no memory.
+    pub fn persons(&self) -> Walk<'_, u64, Person>
+        ensures { map (λ e. row.Person e.1) result ≡ rows self.now.rows tables.Person }
+    {
+        let _ = &self.persons;
+        self.persons.through(0, u64::MAX)
     }
 
     // The rows of the table.
