@@ -1,10 +1,14 @@
 -- Facts on what is written on channels.
-use Rattle.std.proofs.Common.{◌≡◌, ℕ, ◌+◌, ◌-◌, Option, Some, None, List, [], ◌++◌, take, drop, refl, sym, ap, ◌∙◌, inl, inr, arith}
+use Rattle.std.proofs.Common.{◌≡◌, ℕ, ◌+◌, ◌-◌, ◌<◌, ◌≤◌, Option, Some, None, List, [], ◌∷◌, ◌++◌, Vec, length, get_or, take, drop, refl, sym, ap, ◌∙◌, inl, inr, arith, length-append}
+use lib.Seq.{take-append-add}
+use Rattle.std.specs.declared.alloc.Global.{Global}
 use Rattle.std.specs.Option.{option_map}
-use Rattle.std.proofs.lemmas.List.{append_assoc, append-nil, take-append-drop, take-take, drop-take}
+use Rattle.std.proofs.lemmas.List.{append_assoc, append-nil, take-append-drop, take-append-le, take_more, take-take, drop-take}
+use Rattle.std.proofs.lemmas.List.Concat.{flat_map-append}
 use Rattle.snb_base.specs.declared.outbox.Channel.{Channel}
 use Rattle.snb_base.specs.declared.outbox.Channel.TheVariants.{Screen, Log, Answers, Final, Cases}
 use Rattle.snb_base.specs.Outbox.{Rooms, Written, nothing, appended, joined, room_of, with_room}
+use Rattle.snb_texts.specs.Answers.{bytes_in}
 use Rattle.snb_tool.specs.Output.{IsPrefix, IsWrittenSoFar, on_screen}
 
 -- another number for one channel is that of the channel
@@ -47,18 +51,77 @@ take-then-take n m bytes =
     ∙ ap (λ (x : List ℕ). take n (take (n + m) bytes) ++ x) (sym (drop-take n m bytes))
     ∙ take-append-drop n (take (n + m) bytes)
 
+-- bytes after others are written together
+pub written_both : (channel : Channel) (a b both : List ℕ) (old now new : Option Written)
+    → a ++ b ≡ both
+    → now ≡ option_map (λ w. appended w channel a) old
+    → new ≡ option_map (λ w. appended w channel b) now
+    → new ≡ option_map (λ w. appended w channel both) old
+written_both channel a b both None now new p e f = f ∙ ap (option_map (λ w. appended w channel b)) e
+written_both channel a b both (Some w) now new p e f =
+    f ∙ ap (option_map (λ w. appended w channel b)) e ∙ ap Some (appended-appended w channel a b ∙ ap (appended w channel) p)
+
 -- one more piece of what is left is written
 pub written-more : (channel : Channel) (bytes piece : List ℕ) (n m : ℕ) (old now new : Option Written)
     → piece ≡ drop n bytes
     → now ≡ option_map (λ w. appended w channel (take n bytes)) old
     → new ≡ option_map (λ w. appended w channel (take m piece)) now
     → new ≡ option_map (λ w. appended w channel (take (n + m) bytes)) old
-written-more channel bytes piece n m None now new p e f = f ∙ ap (option_map (λ w. appended w channel (take m piece))) e
-written-more channel bytes piece n m (Some w) now new p e f =
-    f ∙ ap (option_map (λ w. appended w channel (take m piece))) e
-    ∙ ap Some
-    (appended-appended w channel _ _
-    ∙ ap (appended w channel) (ap (λ (x : List ℕ). take n bytes ++ take m x) p ∙ take-then-take n m bytes))
+written-more channel bytes piece n m old now new p =
+    written_both channel (take n bytes) (take m piece) _ old now new (ap (λ (x : List ℕ). take n bytes ++ take m x) p ∙ take-then-take n m bytes)
+
+-- the bytes of the pieces up to the next
+pub next_piece : (pieces : List (Vec ℕ Global)) (i : ℕ) (piece : Vec ℕ Global) (bytes : List ℕ) → i < length pieces → piece ≡ get_or pieces i piece → bytes ≡ piece.items
+    → bytes_in (take i pieces) ++ bytes ≡ bytes_in (take (i + 1) pieces)
+next_piece pieces i piece bytes l p b =
+    sym
+    (ap bytes_in (take_more pieces i piece l)
+    ∙ flat_map-append (λ (q : Vec ℕ Global). q.items) (take i pieces) (get_or pieces i piece ∷ [])
+    ∙ ap (λ (x : List ℕ). bytes_in (take i pieces) ++ x) (append-nil _ ∙ ap (λ (q : Vec ℕ Global). q.items) (sym p) ∙ sym b))
+
+-- they begin those of all
+pub first_pieces : (pieces : List (Vec ℕ Global)) (i : ℕ) → IsPrefix (bytes_in (take i pieces)) (bytes_in pieces)
+first_pieces pieces i = (
+  bytes_in (drop i pieces),
+  sym (flat_map-append (λ (q : Vec ℕ Global). q.items) (take i pieces) (drop i pieces)) ∙ ap bytes_in (take-append-drop i pieces),
+)
+
+-- bytes of a whole, of which a front is written already
+module _ (channel : Channel) (front bytes both whole : List ℕ) (same : front ++ bytes ≡ both) (p : IsPrefix both whole) where
+  together : (front ++ bytes) ++ p.0 ≡ whole
+  together = ap (λ (x : List ℕ). x ++ p.0) same ∙ p.1
+
+  lengths : length front + length bytes + length p.0 ≡ length whole
+  lengths = omega (arith, length-append front bytes, length-append (front ++ bytes) p.0, ap length together)
+
+  -- they fit after it
+  pub fit_after : (rooms : Rooms) → length whole ≤ room_of rooms channel → length bytes ≤ room_of (with_room rooms channel (room_of rooms channel - length front)) channel
+  fit_after rooms l = omega (arith, l, lengths, room_left rooms channel (room_of rooms channel - length front))
+
+  -- what is left after both
+  pub left_after : (rooms : Rooms)
+      → with_room (with_room rooms channel (room_of rooms channel - length front)) channel
+      (room_of (with_room rooms channel (room_of rooms channel - length front)) channel - length bytes)
+      ≡ with_room rooms channel (room_of rooms channel - length both)
+  left_after rooms =
+      less_left rooms channel (length front) (length bytes)
+      ∙ ap (λ (n : ℕ). with_room rooms channel (room_of rooms channel - n)) (sym (length-append front bytes) ∙ ap length same)
+
+  -- a front of them follows
+  pub cut_after : (n : ℕ) (old now new : Option Written) → n < length bytes
+      → now ≡ option_map (λ w. appended w channel front) old
+      → new ≡ option_map (λ w. appended w channel (take n bytes)) now
+      → (m : ℕ) × (m < length whole) × (new ≡ option_map (λ w. appended w channel (take m whole)) old)
+  cut_after n old now new l e f = (
+    length front + n,
+    omega (arith, l, lengths),
+    written_both channel front (take n bytes) (take (length front + n) whole) old now new
+        (sym
+        (ap (take (length front + n)) (sym together)
+        ∙ take-append-le (length front + n) (front ++ bytes) p.0 (omega (arith, l, length-append front bytes))
+        ∙ take-append-add front bytes n))
+        e f,
+  )
 
 -- bytes at the end of one channel of the second part are at the end of the whole's
 pub appended-joined : (w v : Written) (channel : Channel) (bytes : List ℕ) → appended (joined w v) channel bytes ≡ joined w (appended v channel bytes)

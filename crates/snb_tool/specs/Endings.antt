@@ -26,7 +26,7 @@ use Rattle.snb_schema.specs.RunTexts.{log_text}
 use Rattle.snb_schema.specs.ScreenTexts.{summary_text}
 use Rattle.snb_tables.specs.FinalText.{final_text}
 use Rattle.snb_tables.specs.Graphs.{HoldsKey}
-use Rattle.snb_texts.specs.Answers.{answers_text}
+use Rattle.snb_texts.specs.Answers.{answers_text, bytes_in}
 use Rattle.snb_plan.specs.declared.plan.PlanFault.{PlanFault}
 use Rattle.snb_plan.specs.declared.plan.PlanFault.TheVariants as plan_faults
 use Rattle.snb_plan.specs.Closed.{IsClosed, IsFirstWrong}
@@ -109,7 +109,7 @@ AreTexts workers plan o texts = texts ≡ record {
 
 -- the bytes of each channel
 abbrev pub bytes_of : Output → Written
-bytes_of o = record { screen = o.screen.items; log = o.log.items; answers = o.answers.items; finals = o.finals.items; cases = o.cases.items }
+bytes_of o = record { screen = o.screen.items; log = o.log.items; answers = bytes_in o.answers.items; finals = o.finals.items; cases = o.cases.items }
 
 -- the texts are those of the cases of the input's plan over its dataset; where words spell the parameters of the plan's queries, each case is
 -- read from its line

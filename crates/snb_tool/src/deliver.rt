@@ -4,6 +4,7 @@ ghost use Rattle.std.specs.Prelude.{◌≡◌, ℕ, ◌-◌, ◌<◌, ◌≤◌,
 ghost use Rattle.std.specs.Option.{option_map};
 ghost use Rattle.snb_base.specs.Outbox.{Rooms, Written as Bytes, appended, joined, room_of, with_room};
 ghost use Rattle.snb_base.specs.Shelf.{Rose};
+ghost use Rattle.snb_texts.specs.Answers.{bytes_in};
 ghost use Rattle.snb_tool.specs.Output.{Fit, IsWrittenSoFar, on_screen};
 ghost use Rattle.snb_tool.specs.Endings.{bytes_of};
 
@@ -12,7 +13,7 @@ use snb_base::outbox::{Channel, Outbox, Put};
 /// The texts that a call writes.
 pub struct Output {
     pub log: Vec<u8>,
-    pub answers: Vec<u8>,
+    pub answers: Vec<Vec<u8>>,
     pub finals: Vec<u8>,
     pub cases: Vec<u8>,
     pub screen: Vec<u8>,
@@ -40,6 +41,7 @@ fn write_all<O: Outbox>(out: &mut O, channel: Channel, bytes: &[u8]) -> Result<(
     ensures err { OnErr result ((n : ℕ) × (n < length bytes.now) × (O.written out.new ≡ option_map (λ w. appended w channel (take n bytes.now)) (O.written out.old))) }
     ensures failed { OnErr result (Rose (O.faults out.old) (O.faults out.new)) }
     ensures later { O.faults out.old ≤ O.faults out.new }
+    ensures calm { OnOk result (O.faults out.new ≡ O.faults out.old) }
     ensures sure { (rooms : Rooms) → O.ready out.old rooms → length bytes.now ≤ room_of rooms channel → OnErr result ⊥ }
     ensures left { OnOk result ((rooms : Rooms) → O.ready out.old rooms → length bytes.now ≤ room_of rooms channel
         → O.ready out.new (with_room rooms channel (room_of rooms channel - length bytes.now))) }
@@ -54,6 +56,29 @@ fn write_all<O: Outbox>(out: &mut O, channel: Channel, bytes: &[u8]) -> Result<(
     Ok(())
 }
 
+// Writes all of the pieces on the channel, one after another, or a prefix of them where the outbox fails.
+fn write_each<O: Outbox>(
+    out: &mut O,
+    channel: Channel,
+    pieces: &[Vec<u8>],
+) -> Result<(), WriteFault>
+    ensures ok { OnOk result (O.written out.new ≡ option_map (λ w. appended w channel (bytes_in pieces.now)) (O.written out.old)) }
+    ensures err { OnErr result ((n : ℕ) × (n < length (bytes_in pieces.now)) × (O.written out.new ≡ option_map (λ w. appended w channel (take n (bytes_in pieces.now))) (O.written out.old))) }
+    ensures failed { OnErr result (Rose (O.faults out.old) (O.faults out.new)) }
+    ensures later { O.faults out.old ≤ O.faults out.new }
+    ensures calm { OnOk result (O.faults out.new ≡ O.faults out.old) }
+    ensures sure { (rooms : Rooms) → O.ready out.old rooms → length (bytes_in pieces.now) ≤ room_of rooms channel → OnErr result ⊥ }
+    ensures left { OnOk result ((rooms : Rooms) → O.ready out.old rooms → length (bytes_in pieces.now) ≤ room_of rooms channel
+        → O.ready out.new (with_room rooms channel (room_of rooms channel - length (bytes_in pieces.now)))) }
+{
+    for piece in pieces {
+        if let Err(fault) = write_all(out, channel, piece) {
+            return Err(fault);
+        }
+    }
+    Ok(())
+}
+
 /// Writes the log, the answers, the final text, the cases and the screen's text, in this order, until the
 /// outbox fails.
 pub fn deliver<O: Outbox>(out: &mut O, output: &Output) -> Result<(), WriteFault>
@@ -61,12 +86,13 @@ pub fn deliver<O: Outbox>(out: &mut O, output: &Output) -> Result<(), WriteFault
     ensures err { OnErr result ((part : Bytes) × IsWrittenSoFar part (bytes_of output.now) × (O.written out.new ≡ option_map (λ w. joined w part) (O.written out.old))) }
     ensures failed { OnErr result (Rose (O.faults out.old) (O.faults out.new)) }
     ensures later { O.faults out.old ≤ O.faults out.new }
+    ensures calm { OnOk result (O.faults out.new ≡ O.faults out.old) }
     ensures sure { (rooms : Rooms) → O.ready out.old rooms → Fit (bytes_of output.now) rooms → OnErr result ⊥ }
 {
     if let Err(fault) = write_all(out, Channel::Log, &output.log) {
         return Err(fault);
     }
-    if let Err(fault) = write_all(out, Channel::Answers, &output.answers) {
+    if let Err(fault) = write_each(out, Channel::Answers, &output.answers) {
         return Err(fault);
     }
     if let Err(fault) = write_all(out, Channel::Final, &output.finals) {
@@ -84,6 +110,7 @@ pub fn show<O: Outbox>(out: &mut O, text: &[u8]) -> Result<(), WriteFault>
     ensures err { OnErr result ((part : Bytes) × IsWrittenSoFar part (on_screen text.now) × (O.written out.new ≡ option_map (λ w. joined w part) (O.written out.old))) }
     ensures failed { OnErr result (Rose (O.faults out.old) (O.faults out.new)) }
     ensures later { O.faults out.old ≤ O.faults out.new }
+    ensures calm { OnOk result (O.faults out.new ≡ O.faults out.old) }
     ensures sure { (rooms : Rooms) → O.ready out.old rooms → Fit (on_screen text.now) rooms → OnErr result ⊥ }
 {
     write_all(out, Channel::Screen, text)
