@@ -67,10 +67,15 @@ impl<'a> Given<'a> {
         moment
     }
 
+    /// What was noted, each line with its end.
+    pub fn notes(self) -> String {
+        let Given { moments: _, notes } = self;
+        notes.into_inner().into_text()
+    }
+
     /// What was noted, and how often the shelf was read, as its last line.
     pub fn story(self, reads: u64) -> Result<String, AllocError> {
-        let Given { moments: _, notes } = self;
-        let mut story = notes.into_inner().into_text();
+        let mut story = self.notes();
         writeln!(story, "reads {reads}")?;
         Ok(story)
     }

@@ -1,6 +1,6 @@
 //! The calls of this crate by their words. To add one, write a function for it, and name it here.
 
-use crate::folder::{lanes, parameters};
+use crate::folder::{dataset, lanes, parameters};
 use crate::inserts::{insert, insert_of};
 use crate::logs::{log, log_again};
 use crate::params::params;
@@ -32,6 +32,7 @@ fn answer_of_files(alloc: Global, files: &Files, call: &str, rest: &str) -> Resu
         "log_again" => log_again(alloc, files, rest),
         "shares" => read_shares(alloc, files, rest),
         "notes" => read_notes(alloc, files, rest),
+        "dataset" => dataset(alloc, files, rest),
         "lanes" => lanes(alloc, files, rest),
         "parameters" => parameters(alloc, files, rest),
         _ => answer_of_line(alloc, call, rest),

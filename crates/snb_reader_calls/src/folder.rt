@@ -1,8 +1,13 @@
-//! Calls that read the streams and the parameter files of a folder.
+//! Calls that read the dataset, the streams and the parameter files of a folder.
+
+ghost use Rattle.std.specs.Prelude.{◌≤◌, IfOk};
+ghost use Rattle.snb_schema.specs.declared.limits.TheConstants.{MAX_BYTES, MAX_ROWS};
 
 use crate::params::told_query;
 use crate::told::told_refusal;
+use snb_graph::graph::Graph;
 use snb_input::load::{Load, Used};
+use snb_loader::dataset::load_dataset;
 use snb_loader::lanes::load_lanes;
 use snb_loader::params::{COMPLEX_QUERIES, load_params};
 use snb_schema::lanes::Lanes;
@@ -19,6 +24,18 @@ use std::alloc::{AllocError, Global};
 
 // The folder in which the files stand.
 const FOLDER: &str = "d";
+
+// How much was read before, as the text says.
+fn used_of(text: &str) -> Result<Used, Flaw>
+    ensures bytes { IfOk result (λ used. used.bytes ≤ MAX_BYTES) }
+    ensures rows { IfOk result (λ used. used.rows ≤ MAX_ROWS) }
+{
+    let (bytes, rows) = two_numbers(text)?;
+    if bytes > MAX_BYTES || rows > MAX_ROWS {
+        return Err(Flaw::OtherValue);
+    }
+    Ok(Used { bytes, rows })
+}
 
 // Tells how much was read.
 fn tell_used(alloc: Global, used: Used, answer: &mut Lines) -> Result<(), AllocError> {
@@ -39,6 +56,26 @@ fn tell_load(alloc: Global, load: Load, answer: &mut Lines) -> Result<(), Flaw> 
         Load::ReadFault => Err(Flaw::ReadFault),
         Load::Memory => Err(Flaw::Memory),
     }
+}
+
+// Tells how many rows the graph has.
+fn tell_rows(alloc: Global, graph: &Graph, answer: &mut Lines) -> Result<(), AllocError> {
+    let rows = graph.rows();
+    let line = format!(in alloc; "rows {rows}")?;
+    answer.add(line.as_str())
+}
+
+/// `dataset BYTES ROWS`
+pub fn dataset(alloc: Global, files: &Files, rest: &str) -> Result<String, Flaw> {
+    let mut used = used_of(rest)?;
+    let mut shelf = files.on_shelf(alloc, FOLDER)?;
+    let mut answer = Lines::new(alloc);
+    match load_dataset(alloc, &mut shelf, FOLDER, &mut used) {
+        Ok(graph) => tell_rows(alloc, &graph, &mut answer)?,
+        Err(load) => tell_load(alloc, load, &mut answer)?,
+    }
+    tell_used(alloc, used, &mut answer)?;
+    Ok(answer.told())
 }
 
 // Tells the t of each line of a lane, and the number of the line.
@@ -70,11 +107,7 @@ fn tell_lanes(alloc: Global, lanes: Lanes, answer: &mut Lines) -> Result<(), All
 
 /// `lanes BYTES ROWS`
 pub fn lanes(alloc: Global, files: &Files, rest: &str) -> Result<String, Flaw> {
-    let (bytes, rows) = two_numbers(rest)?;
-    if bytes > MAX_BYTES || rows > MAX_ROWS {
-        return Err(Flaw::OtherValue);
-    }
-    let mut used = Used { bytes, rows };
+    let mut used = used_of(rest)?;
     let mut shelf = files.on_shelf(alloc, FOLDER)?;
     let mut answer = Lines::new(alloc);
     match load_lanes(alloc, &mut shelf, FOLDER, &mut used) {
@@ -102,11 +135,7 @@ fn tell_lists(alloc: Global, lists: Lists, answer: &mut Lines) -> Result<(), All
 pub fn parameters(alloc: Global, files: &Files, rest: &str) -> Result<String, Flaw> {
     let (text, rest) = first_word(rest);
     let frequencies = known_frequencies(alloc, text)?;
-    let (bytes, rows) = two_numbers(rest)?;
-    if bytes > MAX_BYTES || rows > MAX_ROWS {
-        return Err(Flaw::OtherValue);
-    }
-    let mut used = Used { bytes, rows };
+    let mut used = used_of(rest)?;
     let mut shelf = files.on_shelf(alloc, FOLDER)?;
     let mut answer = Lines::new(alloc);
     match load_params(alloc, &mut shelf, FOLDER, &frequencies, &mut used) {

@@ -1,7 +1,7 @@
 //! Refusals as texts.
 
 use snb_schema::file::{FileId, name_text};
-use snb_schema::refusal::Refusal;
+use snb_schema::refusal::{Counted, Refusal};
 use std::alloc::{AllocError, Global};
 
 // What is wrong with a file.
@@ -32,6 +32,9 @@ pub fn told_refusal(alloc: Global, refusal: Refusal) -> Result<String, AllocErro
             let where_it_is = where_it_is.as_str();
             Ok(format!(in alloc; "{where_it_is} {column}")?)
         }
+        Refusal::TooMany {
+            what: Counted::Rows,
+        } => String::from_str(alloc, "too many rows"),
         _ => String::from_str(alloc, "refused for another reason"),
     }
 }

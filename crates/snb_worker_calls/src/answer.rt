@@ -1,5 +1,7 @@
 //! The calls of this crate by their words. To add one, write a function for it, and name it here.
 
+use crate::alone::{alone, by_itself};
+use crate::behind::alone_behind;
 use crate::meet::meet;
 use crate::pair::pair;
 use crate::steps::steps;
@@ -18,6 +20,9 @@ fn answer_of<R: Threads + Wait + Sync>(
     rest: &str,
 ) -> Result<String, Flaw> {
     match call {
+        "alone" => alone(rt, alloc, files, rest),
+        "by_itself" => by_itself(rt, alloc, files, rest),
+        "alone_behind" => alone_behind(rt, alloc, files, rest),
         "meet" => meet(rt, alloc, files, rest),
         "pair" => pair(rt, alloc, files, rest),
         "steps" => steps(rt, alloc, rest),

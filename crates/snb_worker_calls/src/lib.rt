@@ -1,10 +1,13 @@
-//! The calls of a script that run a plan by two workers, each in a thread of its own, and one of a clock that
-//! they may share, with what each answers. `answer` makes a call.
+//! The calls of a script that run a plan by two workers, each in a thread of its own or one of them alone, and
+//! one of a clock that they may share, with what each answers. `answer` makes a call.
 #![tactic(auto)]
 
+mod alone;
 pub mod answer;
+mod behind;
 mod closed;
 mod meet;
 mod meeting;
 mod pair;
+mod seats;
 mod steps;

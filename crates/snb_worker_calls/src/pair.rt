@@ -7,8 +7,8 @@ ghost use Rattle.snb_plan.specs.Plans.{schedule_of};
 ghost use Rattle.snb_worker_calls.specs.Wholes.{IsWhole};
 
 use crate::closed::load_closed;
-use snb_base::clock::FarClock;
-use snb_base::gate::OpenGate;
+use snb_base::clock::{Clock, FarClock};
+use snb_base::gate::{Gate, OpenGate};
 use snb_board::board::Board;
 use snb_board::seat::Seat;
 use snb_board_calls::boards::{closed_by_all, completeness};
@@ -75,14 +75,15 @@ impl Tally {
     }
 }
 
-// Lets the seat's worker work with a new replica, and tells how many replies it has.
-fn work_seat<R: Wait>(
+/// Lets the seat's worker work with a new replica, and tells how many replies it has.
+pub(crate) fn work_seat<R: Wait, C: Clock, G: Gate>(
     rt: &R,
     alloc: Global,
     board: &Board,
     seat: &mut Seat,
     whole: &Planned,
-    clock: &FarClock,
+    clock: &C,
+    gate: &G,
 ) -> Result<u64, AllocError>
     requires board { (seat.old.site ≡ board.now) × (board.now.schedule ≡ schedule_of whole.now.plan) }
     requires fresh { seat.old.seen ≡ [] }
@@ -99,7 +100,7 @@ fn work_seat<R: Wait>(
         &whole.plan,
         &mut replica,
         clock,
-        &OpenGate,
+        gate,
     )?;
     Ok(done.as_slice().len() as u64)
 }
@@ -119,7 +120,7 @@ fn worked<R: Wait>(
     requires whole { IsWhole whole.now.graph whole.now.plan }
     ensures { IsSameSeat seat result }
 {
-    tally.take(work_seat(rt, alloc, board, &mut seat, whole, clock));
+    tally.take(work_seat(rt, alloc, board, &mut seat, whole, clock, &OpenGate));
     seat
 }
 
