@@ -4,5 +4,6 @@
 pub mod folder_outbox;
 pub mod folder_shelf;
 pub mod host_clock;
+pub mod standard_streams;
 #[cfg(test)]
 mod tests;

@@ -8,6 +8,7 @@ use snb_ending::fault::Fault;
 use snb_host::folder_outbox::FolderOutbox;
 use snb_host::folder_shelf::FolderShelf;
 use snb_host::host_clock::HostClock;
+use snb_host::standard_streams::StandardStreams;
 use snb_tool::tool::snb;
 use std::alloc::AllocError;
 use std::env;
@@ -46,6 +47,10 @@ fn run<R: AllocGlobal + Clock + Env + Files + Print + Sync + Threads + Wait>(
 }
 
 fn main(rt: HostRuntime) -> ExitCode {
+    // Where standard output may be closed, no file that is opened takes its place.
+    let Ok(_held) = StandardStreams::hold(&rt) else {
+        return ending(&rt, Fault::Write.status());
+    };
     match run(&rt) {
         Ok(status) => ending(&rt, status),
         Err(AllocError) => ending(&rt, Fault::Memory.status()),
