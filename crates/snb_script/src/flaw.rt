@@ -35,8 +35,12 @@ pub enum Flaw {
     NoCase,
     /// The script has no case.
     NoCases,
-    /// No file of this name stands above.
+    /// No file and no case of this name stands above.
     NoFile,
+    /// A file has no such line, or not so many bytes.
+    TooShort,
+    /// Something came that the case doesn't ask for.
+    Untold,
     /// A line is added where no file is begun.
     NoPlace,
     /// A line of many has no place for its number.
@@ -85,7 +89,9 @@ impl Flaw {
             Flaw::NoCall => "no call stands above that could answer this",
             Flaw::NoCase => "no case is begun",
             Flaw::NoCases => "the script has no case",
-            Flaw::NoFile => "no file of this name stands above",
+            Flaw::NoFile => "nothing of this name stands above",
+            Flaw::TooShort => "the file isn't so long",
+            Flaw::Untold => "something came that the case doesn't ask for",
             Flaw::NoPlace => "no file is begun to which this line could belong",
             Flaw::NoStar => "there is no place for the number",
             Flaw::FileTwice => "a file is there twice",
