@@ -56,9 +56,6 @@ pub(crate) fn add_many(text: &str, to: &mut Vec<u8>) -> Result<(), Flaw> {
     let (last, line) = first_word(rest);
     let first = number_of(first)?;
     let last = number_of(last)?;
-    if !line.contains('*') {
-        return Err(Flaw::NoStar);
-    }
     for number in first..=last {
         add_numbered(number, line, to)?;
     }

@@ -43,8 +43,6 @@ pub enum Flaw {
     Untold,
     /// A line is added where no file is begun.
     NoPlace,
-    /// A line of many has no place for its number.
-    NoStar,
     /// Two files have one name.
     FileTwice,
     /// A backslash is followed by what no escape has.
@@ -93,7 +91,6 @@ impl Flaw {
             Flaw::TooShort => "the file isn't so long",
             Flaw::Untold => "something came that the case doesn't ask for",
             Flaw::NoPlace => "no file is begun to which this line could belong",
-            Flaw::NoStar => "there is no place for the number",
             Flaw::FileTwice => "a file is there twice",
             Flaw::BadEscape => "no escape is spelled like this",
             Flaw::NotUtf8 => "this isn't UTF-8",

@@ -168,7 +168,8 @@ impl State {
         Ok(out)
     }
 
-    /// Keeps what came. Tells the status and which channels have bytes.
+    /// Keeps what came. Tells the status and which channels have bytes, or the status and the line that came,
+    /// where that is all and on the screen.
     pub(crate) fn keep(&mut self, status: u8, out: MemoryOutbox) -> Result<String, Flaw> {
         let mut text = format!(in self.alloc; "{status}")?;
         for (channel, name) in channels() {
@@ -176,6 +177,13 @@ impl State {
                 write!(&mut text, " {name}")?;
                 self.untold.push(channel)?;
             }
+        }
+        let screen = shown_lines(self.alloc, out.bytes(Channel::Screen))?;
+        let is_screen = self.untold.len() == 1 && self.untold[0] == Channel::Screen;
+        if is_screen && !screen.contains('\n') {
+            self.untold.clear();
+            let line = screen.as_str();
+            text = format!(in self.alloc; "{status}: {line}")?;
         }
         self.came = Some(out);
         Ok(text)
