@@ -1,11 +1,21 @@
 //! The words of a call of the program.
 
-use snb_script::escape::plain_text;
+use snb_script::escape::put_plain;
 use snb_script::flaw::Flaw;
 use std::alloc::{AllocError, Global};
 
 /// The path of the log that a call left, for the audit of it.
 pub(crate) const LOG_PATH: &str = "log-that-came";
+
+// The word that is spelled like this.
+fn plain_word(alloc: Global, spelled: &str) -> Result<String, Flaw> {
+    let mut bytes = Vec::new(alloc);
+    let _ = put_plain(spelled, &mut bytes)?;
+    match String::from_utf8(bytes) {
+        Ok(word) => Ok(word),
+        Err(_) => Err(Flaw::BadEscape),
+    }
+}
 
 /// The words that the text has, with one space between two.
 pub(crate) fn words_of(alloc: Global, text: &str) -> Result<Vec<String>, Flaw> {
@@ -13,8 +23,8 @@ pub(crate) fn words_of(alloc: Global, text: &str) -> Result<Vec<String>, Flaw> {
     if text.is_empty() {
         return Ok(words);
     }
-    for word in text.split(' ') {
-        words.push(plain_text(alloc, word)?)?;
+    for spelled in text.split(' ') {
+        words.push(plain_word(alloc, spelled)?)?;
     }
     Ok(words)
 }
