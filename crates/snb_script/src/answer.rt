@@ -12,6 +12,8 @@ pub enum Form<'a> {
     Below { call: &'a str },
     /// This must come.
     Line { call: &'a str, wanted: &'a str },
+    /// What the file of this name has must come.
+    Same { call: &'a str, file: &'a str },
 }
 
 /// How the line is to be read.
@@ -19,8 +21,11 @@ pub fn form_of(text: &str) -> Form<'_> {
     if let Some((call, wanted)) = text.split_once(" => ") {
         return Form::Line { call, wanted };
     }
-    match text.strip_suffix(" =>") {
-        Some(call) => Form::Below { call },
+    if let Some(call) = text.strip_suffix(" =>") {
+        return Form::Below { call };
+    }
+    match text.split_once(" = ") {
+        Some((call, file)) => Form::Same { call, file },
         None => Form::Bare { call: text },
     }
 }

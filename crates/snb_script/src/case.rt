@@ -75,9 +75,8 @@ impl Cases {
         }
     }
 
-    /// Begins a case of this name.
+    /// Begins a case of this name, where none is being played.
     pub fn begin(&mut self, name: &str) -> Result<(), AllocError> {
-        self.end()?;
         self.name = Some(String::from_str(self.alloc, name)?);
         Ok(())
     }

@@ -122,3 +122,23 @@ pub fn shown(alloc: Global, bytes: &[u8]) -> Result<String, AllocError> {
     }
     Ok(text)
 }
+
+/// How the bytes are told as an answer: their lines, each as a line of a file is written, so that a backslash
+/// at the end says that no line end follows.
+pub fn shown_lines(alloc: Global, bytes: &[u8]) -> Result<String, AllocError> {
+    let mut text = String::new(alloc);
+    let mut ended = false;
+    for byte in bytes {
+        if ended {
+            text.push('\n')?;
+        }
+        ended = *byte == b'\n';
+        if !ended {
+            show_byte(*byte, &mut text)?;
+        }
+    }
+    if !ended {
+        text.push('\\')?;
+    }
+    Ok(text)
+}

@@ -2,15 +2,15 @@
 
 ghost use Rattle.std.specs.Prelude.{◌<◌, length, IfSome};
 
-use crate::escape::{LineEnd, put_plain};
+use crate::change::{add_line, add_many, cut_at, leave_line, put_line};
 use crate::flaw::Flaw;
-use crate::words::{first_word, number_of};
 use snb_base::memory_shelf::MemoryShelf;
-use snb_base::number::put_number;
 use snb_base::shelf::{Got, Shelf};
 use std::alloc::{AllocError, Global};
+use std::mem;
 
 // A file and its name.
+#[derive(Clone)]
 struct Named {
     name: String,
     bytes: Vec<u8>,
@@ -22,10 +22,29 @@ impl Drop for Named {
     }
 }
 
-/// The files, no two of one name, and which of them is begun.
+// The files of a case, and its name.
+struct Folder {
+    case: String,
+    files: Vec<Named>,
+}
+
+impl Drop for Folder {
+    fn drop(self) {
+        let Folder { case: _, files: _ } = self;
+    }
+}
+
+/// The files of the case that is played, no two of one name, and those that it can begin with.
 pub struct Files {
     alloc: Global,
+    /// Those that were made before the first case.
+    shared: Vec<Named>,
+    /// What the cases before it left.
+    left: Vec<Folder>,
+    /// The name of the case, once there is one.
+    case: Option<String>,
     all: Vec<Named>,
+    /// The file that lines are added to.
     begun: Option<usize>,
 }
 
@@ -33,6 +52,9 @@ impl Drop for Files {
     fn drop(self) {
         let Files {
             alloc: _,
+            shared: _,
+            left: _,
+            case: _,
             all: _,
             begun: _,
         } = self;
@@ -46,76 +68,89 @@ fn place_of(all: &[Named], name: &str) -> Option<usize>
     all.iter().position(|file| file.name.as_str() == name)
 }
 
-// Appends the end of a line, where it has one.
-fn put_end(end: LineEnd, to: &mut Vec<u8>) -> Result<(), AllocError> {
-    match end {
-        LineEnd::There => Ok(to.push(b'\n')?),
-        LineEnd::LeftOut => Ok(()),
-    }
-}
-
-// Appends the bytes of a line, and its end where it has one.
-fn put_line(text: &str, to: &mut Vec<u8>) -> Result<(), Flaw> {
-    let end = put_plain(text, to)?;
-    Ok(put_end(end, to)?)
-}
-
-// Appends a line with the number in the place of each `*`.
-fn put_numbered(number: u64, line: &str, to: &mut Vec<u8>) -> Result<(), Flaw> {
-    let mut first = true;
-    let mut end = LineEnd::There;
-    for piece in line.split('*') {
-        if !first {
-            put_number(number, to)?;
-        }
-        first = false;
-        end = put_plain(piece, to)?;
-    }
-    Ok(put_end(end, to)?)
-}
-
 impl Files {
     /// No files.
     pub fn new(alloc: Global) -> Files {
         Files {
             alloc,
+            shared: Vec::new(alloc),
+            left: Vec::new(alloc),
+            case: None,
             all: Vec::new(alloc),
             begun: None,
         }
     }
 
-    /// The bytes of the file of this name.
-    pub fn bytes(&self, name: &str) -> Result<&[u8], Flaw> {
-        match place_of(&self.all, name) {
-            Some(at) => Ok(self.all[at].bytes.as_slice()),
+    /// Begins a case, which has no files yet.
+    pub fn begin_case(&mut self, name: &str) -> Result<(), AllocError> {
+        let name = String::from_str(self.alloc, name)?;
+        let files = mem::replace(&mut self.all, Vec::new(self.alloc));
+        self.begun = None;
+        match mem::replace(&mut self.case, Some(name)) {
+            Some(case) => Ok(self.left.push(Folder { case, files })?),
+            None => {
+                self.shared = files;
+                Ok(())
+            }
+        }
+    }
+
+    // Gives the case the files that an earlier one left, and no others.
+    fn begin_like(&mut self, case: &str) -> Result<(), Flaw> {
+        match self.left.iter().position(|left| left.case.as_str() == case) {
+            Some(at) => {
+                self.all = self.left[at].files.clone()?;
+                self.begun = None;
+                Ok(())
+            }
             None => Err(Flaw::NoFile),
         }
     }
 
-    // Adds a file without lines, and tells where it stands.
-    fn push(&mut self, name: &str) -> Result<usize, AllocError> {
-        let at = self.all.len();
-        let name = String::from_str(self.alloc, name)?;
-        let bytes = Vec::new(self.alloc);
-        self.all.push(Named { name, bytes })?;
-        Ok(at)
+    /// The bytes of the file of this name.
+    pub fn bytes(&self, name: &str) -> Result<&[u8], Flaw> {
+        if let Some(at) = place_of(&self.all, name) {
+            return Ok(self.all[at].bytes.as_slice());
+        }
+        match place_of(&self.shared, name) {
+            Some(at) => Ok(self.shared[at].bytes.as_slice()),
+            None => Err(Flaw::NoFile),
+        }
     }
 
-    // Begins a file anew: it has no lines then.
-    fn begin(&mut self, name: &str) -> Result<(), Flaw> {
+    // Begins a file anew, with these bytes.
+    fn begin(&mut self, name: &str, bytes: Vec<u8>) -> Result<(), Flaw> {
         if name.is_empty() {
             return Err(Flaw::NoName);
         }
         match place_of(&self.all, name) {
             Some(at) => {
-                self.all[at].bytes.clear();
+                self.all[at].bytes = bytes;
                 self.begun = Some(at);
             }
             None => {
-                let at = self.push(name)?;
-                self.begun = Some(at);
+                let name = String::from_str(self.alloc, name)?;
+                self.begun = Some(self.all.len());
+                self.all.push(Named { name, bytes })?;
             }
         }
+        Ok(())
+    }
+
+    // `NAME`: begins a file without lines. `NAME = OTHER`: begins it as a copy of another.
+    fn begin_file(&mut self, text: &str) -> Result<(), Flaw> {
+        match text.split_once(" = ") {
+            Some((name, other)) => {
+                let bytes = Vec::from_slice(self.alloc, self.bytes(other)?)?;
+                self.begin(name, bytes)
+            }
+            None => self.begin(text, Vec::new(self.alloc)),
+        }
+    }
+
+    // Lets the lines that follow change this file of the case.
+    fn change(&mut self, name: &str) -> Result<(), Flaw> {
+        self.begun = Some(place_of(&self.all, name).ok_or(Flaw::NoFile)?);
         Ok(())
     }
 
@@ -126,27 +161,6 @@ impl Files {
             Some(file) => Ok(&mut file.bytes),
             None => Err(Flaw::NoPlace),
         }
-    }
-
-    // Adds a line to the file that is begun.
-    fn add_line(&mut self, line: &str) -> Result<(), Flaw> {
-        put_line(line, self.begun_bytes()?)
-    }
-
-    // Adds a line for each number from the first to the last.
-    fn add_many(&mut self, text: &str) -> Result<(), Flaw> {
-        let (first, rest) = first_word(text);
-        let (last, line) = first_word(rest);
-        let first = number_of(first)?;
-        let last = number_of(last)?;
-        if !line.contains('*') {
-            return Err(Flaw::NoStar);
-        }
-        let bytes = self.begun_bytes()?;
-        for number in first..=last {
-            put_numbered(number, line, bytes)?;
-        }
-        Ok(())
     }
 
     // Takes a file away. No file is begun then.
@@ -161,30 +175,55 @@ impl Files {
         }
     }
 
+    // Changes the file that is begun.
+    fn change_begun(&mut self, word: &str, rest: &str) -> Result<(), Flaw> {
+        let bytes = self.begun_bytes()?;
+        match word {
+            ":" => add_line(rest, bytes),
+            "many" => add_many(rest, bytes),
+            "put" => put_line(rest, bytes),
+            "leave" => leave_line(rest, bytes),
+            "cut" => cut_at(rest, bytes),
+            _ => Err(Flaw::NoWord),
+        }
+    }
+
     /// Takes a line of the script that begins with this word; None where it says nothing of a file.
     pub fn take_line(&mut self, word: &str, rest: &str) -> Option<Result<(), Flaw>> {
         match word {
-            "file" => Some(self.begin(rest)),
-            ":" => Some(self.add_line(rest)),
-            "many" => Some(self.add_many(rest)),
+            "like" => Some(self.begin_like(rest)),
+            "file" => Some(self.begin_file(rest)),
+            "change" => Some(self.change(rest)),
             "gone" => Some(self.remove(rest)),
+            ":" | "many" | "put" | "leave" | "cut" => Some(self.change_begun(word, rest)),
             _ => None,
         }
     }
 
-    /// A shelf in memory that has the files in this folder.
+    /// A shelf in memory that has the files of the case in this folder, or under their own names where the
+    /// folder has none. Each of them is read once, when it is put there.
     pub fn on_shelf(&self, alloc: Global, folder: &str) -> Result<MemoryShelf, Flaw> {
         let mut shelf = MemoryShelf::new(alloc);
         for file in &self.all {
             let name = file.name.as_str();
-            let path = format!(in alloc; "{folder}/{name}")?;
-            add_file(&mut shelf, path.as_str(), file.bytes.as_slice())?;
+            let bytes = file.bytes.as_slice();
+            if folder.is_empty() {
+                add_file(&mut shelf, name, bytes)?;
+            } else {
+                let path = format!(in alloc; "{folder}/{name}")?;
+                add_file(&mut shelf, path.as_str(), bytes)?;
+            }
         }
         Ok(shelf)
     }
+
+    /// How many files the case has.
+    pub fn count(&self) -> usize {
+        self.all.len()
+    }
 }
 
-/// Puts a file onto the shelf, where none has its name.
+/// Puts a file onto the shelf, where none has its name. It is read once.
 pub fn add_file(shelf: &mut MemoryShelf, path: &str, bytes: &[u8]) -> Result<(), Flaw> {
     let mut buffer = [0u8; 1];
     match shelf.read(path, 0, &mut buffer) {

@@ -35,12 +35,14 @@ pub enum Flaw {
     NoCase,
     /// The script has no case.
     NoCases,
-    /// No file of this name stands above.
+    /// No file and no case of this name stands above.
     NoFile,
+    /// A file has no such line, or not so many bytes.
+    TooShort,
+    /// Something came that the case doesn't ask for.
+    Untold,
     /// A line is added where no file is begun.
     NoPlace,
-    /// A line of many has no place for its number.
-    NoStar,
     /// Two files have one name.
     FileTwice,
     /// A backslash is followed by what no escape has.
@@ -85,9 +87,10 @@ impl Flaw {
             Flaw::NoCall => "no call stands above that could answer this",
             Flaw::NoCase => "no case is begun",
             Flaw::NoCases => "the script has no case",
-            Flaw::NoFile => "no file of this name stands above",
+            Flaw::NoFile => "nothing of this name stands above",
+            Flaw::TooShort => "the file isn't so long",
+            Flaw::Untold => "something came that the case doesn't ask for",
             Flaw::NoPlace => "no file is begun to which this line could belong",
-            Flaw::NoStar => "there is no place for the number",
             Flaw::FileTwice => "a file is there twice",
             Flaw::BadEscape => "no escape is spelled like this",
             Flaw::NotUtf8 => "this isn't UTF-8",

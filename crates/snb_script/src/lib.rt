@@ -1,12 +1,14 @@
 //! The script of a program of cases: how it is read, the files that it makes in memory, what can be
-//! wrong with it, and how answers are told. The calls themselves stand in crates above this one.
+//! wrong with it, how answers are told, and a clock and a gate for calls. The calls themselves stand in crates above this one.
 #![tactic(auto)]
 
 mod answer;
 mod case;
+mod change;
 pub mod escape;
 pub mod files;
 pub mod flaw;
+pub mod given;
 pub mod play;
 pub mod told;
 pub mod words;

@@ -4,6 +4,7 @@ ghost use denote.Param.Send.{IsSync};
 
 use crate::answer::{Answered, Form, form_of, wanted_line};
 use crate::case::Cases;
+use crate::escape::shown_lines;
 use crate::files::Files;
 use crate::flaw::{Flaw, Stop};
 use crate::words::first_word;
@@ -16,11 +17,15 @@ pub trait Calls {
     /// Begins a case: what earlier ones left is forgotten.
     fn begin(&mut self, alloc: Global);
 
+    /// Ends a case of which each answer was the wanted one. Refuses it where something came that it doesn't
+    /// ask for.
+    fn end(&self) -> Result<(), Flaw>;
+
     /// Makes the call that begins with this word, over the files as they are, and tells what it answers;
     /// None where there is no such call. A call may start threads and wait for them.
     ///
     /// The condition says what the bound `Sync` does, which isn't at hand in a method of a trait.
-    fn answer<R: Threads + Wait + Sync>(
+    fn answer<R: AllocGlobal + Threads + Wait + Sync>(
         &mut self,
         rt: &R,
         alloc: Global,
@@ -107,7 +112,7 @@ impl Player {
     }
 
     // The answer of a call.
-    fn answer<R: Threads + Wait + Sync, C: Calls>(
+    fn answer<R: AllocGlobal + Threads + Wait + Sync, C: Calls>(
         &self,
         rt: &R,
         calls: &mut C,
@@ -121,7 +126,7 @@ impl Player {
     }
 
     // Makes a call that must answer nothing.
-    fn call_bare<R: Threads + Wait + Sync, C: Calls>(
+    fn call_bare<R: AllocGlobal + Threads + Wait + Sync, C: Calls>(
         &self,
         rt: &R,
         calls: &mut C,
@@ -135,7 +140,7 @@ impl Player {
     }
 
     // Makes a call whose answer is compared.
-    fn call_answered<R: Threads + Wait + Sync, C: Calls>(
+    fn call_answered<R: AllocGlobal + Threads + Wait + Sync, C: Calls>(
         &mut self,
         rt: &R,
         calls: &mut C,
@@ -153,7 +158,7 @@ impl Player {
     }
 
     // Makes the call of a line, unless the case differs already.
-    fn call<R: Threads + Wait + Sync, C: Calls>(
+    fn call<R: AllocGlobal + Threads + Wait + Sync, C: Calls>(
         &mut self,
         rt: &R,
         calls: &mut C,
@@ -170,7 +175,19 @@ impl Player {
             Form::Bare { call } => self.call_bare(rt, calls, call),
             Form::Below { call } => self.call_answered(rt, calls, line, call, None),
             Form::Line { call, wanted } => self.call_answered(rt, calls, line, call, Some(wanted)),
+            Form::Same { call, file } => {
+                let wanted = shown_lines(self.alloc, self.files.bytes(file)?)?;
+                self.call_answered(rt, calls, line, call, Some(wanted.as_str()))
+            }
         }
+    }
+
+    // Ends the case that is being played, if there is one.
+    fn end_case<C: Calls>(&mut self, calls: &C) -> Result<(), Flaw> {
+        if self.cases.is_begun() && !self.cases.differs() {
+            calls.end()?;
+        }
+        Ok(self.cases.end()?)
     }
 
     // Begins a case.
@@ -178,13 +195,15 @@ impl Player {
         if name.is_empty() {
             return Err(Flaw::NoName);
         }
+        self.end_case(calls)?;
         self.cases.begin(name)?;
+        self.files.begin_case(name)?;
         calls.begin(self.alloc);
         Ok(())
     }
 
     // Carries out a line.
-    fn take_line<R: Threads + Wait + Sync, C: Calls>(
+    fn take_line<R: AllocGlobal + Threads + Wait + Sync, C: Calls>(
         &mut self,
         rt: &R,
         calls: &mut C,
@@ -209,9 +228,9 @@ impl Player {
     }
 
     // Ends the last case.
-    fn end(&mut self) -> Result<(), Flaw> {
+    fn end<C: Calls>(&mut self, calls: &C) -> Result<(), Flaw> {
         self.settle()?;
-        self.cases.end()?;
+        self.end_case(calls)?;
         if self.cases.count() == 0 {
             return Err(Flaw::NoCases);
         }
@@ -219,7 +238,7 @@ impl Player {
     }
 
     // Carries out the lines of a script.
-    fn take_lines<R: Threads + Wait + Sync, C: Calls>(
+    fn take_lines<R: AllocGlobal + Threads + Wait + Sync, C: Calls>(
         &mut self,
         rt: &R,
         calls: &mut C,
@@ -233,7 +252,7 @@ impl Player {
                 Err(flaw) => return Err(Stop { line, flaw }),
             }
         }
-        match self.end() {
+        match self.end(calls) {
             Ok(()) => Ok(()),
             Err(flaw) => Err(Stop { line, flaw }),
         }
@@ -254,7 +273,7 @@ impl Player {
 /// Plays a script with these calls, and tells what is to be printed of it. A case is played up to the
 /// first answer that isn't the wanted one; its lines about files are carried out all the same. A line
 /// that can't be carried out ends the script.
-pub fn play<R: Threads + Wait + Sync, C: Calls>(
+pub fn play<R: AllocGlobal + Threads + Wait + Sync, C: Calls>(
     rt: &R,
     alloc: Global,
     calls: &mut C,

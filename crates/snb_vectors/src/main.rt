@@ -1,69 +1,133 @@
-//! Reads a table of cases from standard input, runs `snb` over memory for each, and prints for each
-//! whether what came is what the table wants. The form of the table stands at its head, in the file
-//! `stdin` of this crate.
+//! Reads a script of calls from standard input, makes them, and prints for each case whether each call
+//! answered what the script wants. The form of the script stands at its head, in the file `stdin` of this
+//! crate.
 #![tactic(auto)]
 
-mod play;
-
-use play::try_case;
-use snb_cases::case::Case;
-use snb_cases::reader::read_cases;
-use snb_judge::judge::Verdict;
+use snb_script::files::Files;
+use snb_script::flaw::Flaw;
+use snb_script::play::{Calls, play};
+use std::alloc::Global;
 use std::io;
 use std::process::ExitCode;
 use std::sync::Wait;
 use std::thread::Threads;
 
-// What came of the table: each case had its verdict, or the table or a case couldn't be used.
-#[derive(Clone, Copy)]
-enum Ending {
-    Told,
-    Unusable,
+// What the calls of a case are made on, for each crate of calls that keeps something.
+struct Every {
+    whole: snb_whole_calls::state::State,
+    graph: snb_graph_calls::state::State,
+    reach: snb_reach_calls::state::State,
+    book: snb_book_calls::state::State,
 }
 
-// Tries each case and prints its line, and at the end how many there were and how many were as wanted.
-fn tell_cases<R: AllocGlobal + Print + Threads + Wait + Sync>(
-    rt: &R,
-    cases: &[Case],
-) -> io::Result<Ending> {
-    let mut right: usize = 0;
-    for case in cases {
-        let name = case.name.as_str();
-        match &try_case(rt, case) {
-            Ok(Verdict::AsWanted) => {
-                println!(rt; "{name} ok")?;
-                right = right.saturating_add(1);
-            }
-            Ok(Verdict::Differs { how }) => println!(rt; "{name} differs: {how}")?,
-            Err(flaw) => {
-                println!(rt; "{name} can't be tried: {flaw}")?;
-                return Ok(Ending::Unusable);
-            }
-        }
+impl Drop for Every {
+    fn drop(self) {
+        let Every {
+            whole: _,
+            graph: _,
+            reach: _,
+            book: _,
+        } = self;
     }
-    let count = cases.len();
-    println!(rt; "{count} cases, {right} ok")?;
-    Ok(Ending::Told)
 }
 
-// Reads the table, and tries its cases if all of its lines are fine.
-fn tell_table<R: AllocGlobal + Input + Print + Threads + Wait + Sync>(
-    rt: &R,
-) -> io::Result<Ending> {
-    let text = io::read_to_string(rt.alloc(), rt.reader())?;
-    match read_cases(rt.alloc(), text.as_str()) {
-        Ok(cases) => tell_cases(rt, &cases),
-        Err(complaint) => {
-            println!(rt; "line {} of the table: {}", complaint.line, complaint.flaw)?;
-            Ok(Ending::Unusable)
+impl Every {
+    // As a case begins.
+    fn new(alloc: Global) -> Every {
+        Every {
+            whole: snb_whole_calls::state::State::new(alloc),
+            graph: snb_graph_calls::state::State::new(alloc),
+            reach: snb_reach_calls::state::State::new(alloc),
+            book: snb_book_calls::state::State::new(alloc),
         }
     }
+}
+
+// A further crate of calls is asked here, after the others.
+impl Calls for Every {
+    fn begin(&mut self, alloc: Global) {
+        *self = Every::new(alloc);
+    }
+
+    fn end(&self) -> Result<(), Flaw> {
+        self.whole.end()
+    }
+
+    fn answer<R: AllocGlobal + Threads + Wait + Sync>(
+        &mut self,
+        rt: &R,
+        alloc: Global,
+        files: &Files,
+        word: &str,
+        rest: &str,
+    ) -> Result<Option<String>, Flaw> {
+        if let Some(answer) = snb_whole_calls::answer::answer(
+            rt,
+            alloc,
+            &mut self.whole,
+            files,
+            word,
+            rest,
+        )? {
+            return Ok(Some(answer));
+        }
+        if let Some(answer) = snb_graph_calls::calls::answer(
+            alloc,
+            &mut self.graph,
+            files,
+            word,
+            rest,
+        )? {
+            return Ok(Some(answer));
+        }
+        if let Some(answer) = snb_reach_calls::calls::answer(
+            alloc,
+            &mut self.reach,
+            files,
+            word,
+            rest,
+        )? {
+            return Ok(Some(answer));
+        }
+        if let Some(answer) = snb_book_calls::answer::answer(
+            alloc,
+            &mut self.book,
+            files,
+            word,
+            rest,
+        )? {
+            return Ok(Some(answer));
+        }
+        if let Some(answer) = snb_board_calls::answer::answer(rt, alloc, &self.book, word, rest)? {
+            return Ok(Some(answer));
+        }
+        if let Some(answer) = snb_worker_calls::answer::answer(rt, alloc, files, word, rest)? {
+            return Ok(Some(answer));
+        }
+        if let Some(answer) = snb_word_calls::answer::answer(alloc, word, rest)? {
+            return Ok(Some(answer));
+        }
+        if let Some(answer) = snb_reader_calls::answer::answer(alloc, files, word, rest)? {
+            return Ok(Some(answer));
+        }
+        snb_plan_calls::calls::answer(alloc, files, word, rest)
+    }
+}
+
+// Plays the script, and prints what came of it. Tells whether each line was carried out.
+fn play_input<R: AllocGlobal + Input + Print + Threads + Wait + Sync>(rt: &R) -> io::Result<bool> {
+    let script = io::read_to_string(rt.alloc(), rt.reader())?;
+    let mut every = Every::new(rt.alloc());
+    let report = play(rt, rt.alloc(), &mut every, script.as_str())?;
+    let text = report.text.as_str();
+    print!(rt; "{text}")?;
+    Ok(report.is_whole)
 }
 
 fn main(rt: HostRuntime) -> ExitCode {
-    match tell_table(&rt) {
-        Ok(Ending::Told) => ExitCode::from(0),
-        Ok(Ending::Unusable) => ExitCode::from(1),
+    match play_input(&rt) {
+        Ok(true) => ExitCode::from(0),
+        Ok(false) => ExitCode::from(1),
         Err(_) => ExitCode::from(1),
     }
 }

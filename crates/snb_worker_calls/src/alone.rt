@@ -6,7 +6,7 @@ use crate::closed::load_closed;
 use crate::pair::work_seat;
 use crate::seats::board_of_two;
 use snb_book_calls::books::told_events;
-use snb_judge::given::Given;
+use snb_script::given::Given;
 use snb_plan_calls::planned::Planned;
 use snb_schema::event::Event;
 use snb_script::files::Files;

@@ -13,7 +13,7 @@ use snb_base::clock::Clock;
 use snb_board::board::Board;
 use snb_board::seat::Seat;
 use snb_book::claim::{Claim, Ticket};
-use snb_judge::given::Given;
+use snb_script::given::Given;
 use snb_plan_calls::planned::Planned;
 use snb_schema::schedule::Schedule;
 use snb_script::files::Files;

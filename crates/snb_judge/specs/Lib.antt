@@ -1,3 +1,0 @@
-pub mod Judgement
-pub mod Kept
-pub mod Outside
