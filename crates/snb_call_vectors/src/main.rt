@@ -14,18 +14,13 @@ use std::thread::Threads;
 
 // What the calls of a case are made on, for each crate of calls that keeps something.
 struct Every {
-    graph: snb_graph_calls::state::State,
-    reach: snb_reach_calls::state::State,
+    data: snb_data_calls::state::State,
     book: snb_book_calls::state::State,
 }
 
 impl Drop for Every {
     fn drop(self) {
-        let Every {
-            graph: _,
-            reach: _,
-            book: _,
-        } = self;
+        let Every { data: _, book: _ } = self;
     }
 }
 
@@ -33,9 +28,8 @@ impl Every {
     // As a case begins.
     fn new(alloc: Global) -> Every {
         Every {
-            graph: snb_graph_calls::state::State::new(alloc),
-            reach: snb_reach_calls::state::State::new(alloc),
-            book: snb_book_calls::state::State::new(alloc),
+            data: snb_data_calls::state::State::new(alloc),
+            book: snb_book_calls::state::State::new(),
         }
     }
 }
@@ -54,18 +48,9 @@ impl Calls for Every {
         word: &str,
         rest: &str,
     ) -> Result<Option<String>, Flaw> {
-        if let Some(answer) = snb_graph_calls::calls::answer(
+        if let Some(answer) = snb_data_calls::answer::answer(
             alloc,
-            &mut self.graph,
-            files,
-            word,
-            rest,
-        )? {
-            return Ok(Some(answer));
-        }
-        if let Some(answer) = snb_reach_calls::calls::answer(
-            alloc,
-            &mut self.reach,
+            &mut self.data,
             files,
             word,
             rest,
@@ -84,16 +69,7 @@ impl Calls for Every {
         if let Some(answer) = snb_board_calls::answer::answer(rt, alloc, &self.book, word, rest)? {
             return Ok(Some(answer));
         }
-        if let Some(answer) = snb_worker_calls::answer::answer(rt, alloc, files, word, rest)? {
-            return Ok(Some(answer));
-        }
-        if let Some(answer) = snb_word_calls::answer::answer(alloc, word, rest)? {
-            return Ok(Some(answer));
-        }
-        if let Some(answer) = snb_reader_calls::answer::answer(alloc, files, word, rest)? {
-            return Ok(Some(answer));
-        }
-        snb_plan_calls::calls::answer(alloc, files, word, rest)
+        snb_worker_calls::answer::answer(rt, alloc, files, word, rest)
     }
 }
 
