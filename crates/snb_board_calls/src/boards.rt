@@ -28,8 +28,8 @@ use std::sync::Wait;
 use std::thread;
 use std::thread::Threads;
 
-// Whether the operation is an insert, whose front is 0.
-pub(crate) fn is_insert(schedule: &Schedule, op: u32) -> bool
+/// Whether the operation is an insert, whose front is 0.
+pub fn is_insert(schedule: &Schedule, op: u32) -> bool
     ensures { IsTrue result → (h : List Event) → IsFront schedule.now h op 0 }
 {
     let steps = schedule.steps();
@@ -48,11 +48,11 @@ pub fn completeness(book: &Book) -> &'static str {
     }
 }
 
-// A board of two workers with its seats.
-pub(crate) fn pair(alloc: Global, schedule: &Schedule) -> Result<(Board, Seat, Seat), AllocError>
+/// A board of two workers with its seats.
+pub fn board_of_two(alloc: Global, schedule: &Schedule) -> Result<(Board, Seat, Seat), AllocError>
     ensures board { IfOk result (λ r. (r.0.schedule ≡ schedule.now) × (r.1.site ≡ r.0) × (r.2.site ≡ r.0)) }
     ensures workers { IfOk result (λ r. (r.0.workers ≡ 2) × (r.1.worker ≡ 0) × (r.2.worker ≡ 1)) }
-    ensures fresh { IfOk result (λ r. r.2.seen ≡ []) }
+    ensures fresh { IfOk result (λ r. (r.1.seen ≡ []) × (r.2.seen ≡ [])) }
 {
     let (board, mut seats) = Board::make(alloc, schedule, 2)?;
     let Some(one) = seats.pop() else {
@@ -164,7 +164,7 @@ fn tell_two<R: Wait>(
 
 // Tells what two seats are answered, and whether all is finished then.
 fn told_two<R: Wait>(rt: &R, alloc: Global, schedule: &Schedule) -> Result<String, Flaw> {
-    let (board, mut zero, mut one) = pair(alloc, schedule)?;
+    let (board, mut zero, mut one) = board_of_two(alloc, schedule)?;
     let mut answer = Lines::new(alloc);
     tell_two(
         rt,
@@ -197,7 +197,7 @@ pub fn two_seats<R: Wait>(
 // What the seat of worker 1, which sees nothing, is told of the completion time before worker 0 has claimed and
 // finished an insert, and after that.
 fn told_word<R: Wait>(rt: &R, alloc: Global, schedule: &Schedule) -> Result<String, Flaw> {
-    let (board, mut zero, mut one) = pair(alloc, schedule)?;
+    let (board, mut zero, mut one) = board_of_two(alloc, schedule)?;
     let before = board.completion(&mut one);
     let claim = board.claim(rt, &mut zero, 0);
     finish_insert(rt, &board, schedule, &mut zero, claim, 1000)?;

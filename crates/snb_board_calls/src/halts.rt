@@ -7,7 +7,9 @@ ghost use Rattle.snb_book.specs.Kept.{IsInHand};
 ghost use Rattle.snb_board.specs.Boards.{mine};
 ghost use Rattle.snb_board_calls.specs.Crews.{IsSameSeat};
 
-use crate::boards::{closed, finish_insert, is_insert, pair, tell_claim, tell_history, told_book};
+use crate::boards::{
+    board_of_two, closed, finish_insert, is_insert, tell_claim, tell_history, told_book,
+};
 use snb_board::board::Board;
 use snb_board::seat::Seat;
 use snb_book::claim::Claim;
@@ -120,7 +122,7 @@ fn told_halt<R: Wait>(
     who: u32,
     now: u64,
 ) -> Result<String, Flaw> {
-    let (board, mut zero, mut one) = pair(alloc, schedule)?;
+    let (board, mut zero, mut one) = board_of_two(alloc, schedule)?;
     let mut answer = Lines::new(alloc);
     tell_halt(
         rt,

@@ -1,9 +1,8 @@
 //! The calls of this crate by their words. To add one, write a function for it, and name it here.
 
 use crate::books::{claim, complete, completion, events, finish, halt, make_book};
-use crate::plans::{long_plan, plan};
+use crate::plans::plan;
 use crate::state::State;
-use crate::tags::{add_tag, tags, take_tag};
 use crate::times::{end, flags_of, global, initiated, local, make_times, start};
 use snb_script::files::Files;
 use snb_script::flaw::Flaw;
@@ -43,21 +42,6 @@ fn answer_of_times(
         "local_completion" => local(alloc, state, rest),
         "local_initiated" => initiated(alloc, state, rest),
         "started" | "finished" => flags_of(alloc, state, call, rest),
-        _ => answer_of_tags(alloc, state, call, rest),
-    }
-}
-
-// The answer of a call of tags.
-fn answer_of_tags(
-    alloc: Global,
-    state: &mut State,
-    call: &str,
-    rest: &str,
-) -> Result<String, Flaw> {
-    match call {
-        "add_tag" => add_tag(alloc, state, rest),
-        "take_tag" => take_tag(alloc, state, rest),
-        "tags" => tags(alloc, state, rest),
         _ => Err(Flaw::NoWord),
     }
 }
@@ -73,7 +57,6 @@ pub fn answer(
 ) -> Result<Option<String>, Flaw> {
     let answered = match call {
         "schedule" => plan(alloc, state, files, rest),
-        "long_schedule" => long_plan(alloc, state, files, rest),
         _ => answer_of_book(alloc, state, call, rest),
     };
     match answered {

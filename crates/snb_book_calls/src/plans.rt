@@ -1,6 +1,6 @@
 //! The call that plans what the streams and the parameter files say.
 
-ghost use Rattle.std.specs.Prelude.{◌<◌, ◌≤◌, length};
+ghost use Rattle.std.specs.Prelude.{◌≤◌};
 ghost use Rattle.snb_schema.specs.declared.limits.TheConstants.{MAX_BYTES, MAX_ROWS};
 ghost use Rattle.snb_schema.specs.LineLanes.{update_count};
 ghost use Rattle.snb_schema.specs.QueryLists.{HaveParameters};
@@ -17,25 +17,23 @@ use snb_schema::frequencies::Frequencies;
 use snb_schema::lanes::Lanes;
 use snb_schema::lists::Lists;
 use snb_schema::schedule::Schedule;
-use snb_schema::step::{LaneKind, Step};
 use snb_script::files::Files;
 use snb_script::flaw::Flaw;
-use snb_script::told::Lines;
 use snb_script::words::first_word;
-use std::alloc::{AllocError, Global};
+use std::alloc::Global;
 
-// The folder in which the files stand.
-const FOLDER: &str = "d";
+/// The folder in which the files stand.
+pub const FOLDER: &str = "d";
 
-// By what a folder is planned.
+/// By what a folder is planned.
 #[derive(Clone, Copy)]
-struct Terms {
+pub struct Terms {
     ratio: Ratio,
     frequencies: Frequencies,
 }
 
-// The ratio and the frequencies that the text spells; no query has a frequency where it spells none.
-fn terms_of(text: &str) -> Result<Terms, Flaw> {
+/// The ratio and the frequencies that the text spells; no query has a frequency where it spells none.
+pub fn terms_of(text: &str) -> Result<Terms, Flaw> {
     let (ratio, frequencies) = first_word(text);
     let ratio = Ratio::read(ratio.as_bytes()).ok_or(Flaw::NoRatio)?;
     let frequencies = if frequencies.is_empty() {
@@ -46,8 +44,8 @@ fn terms_of(text: &str) -> Result<Terms, Flaw> {
     Ok(Terms { ratio, frequencies })
 }
 
-// Why there is no plan.
-fn flaw_of(load: Load) -> Flaw {
+/// Why there is no plan.
+pub fn flaw_of(load: Load) -> Flaw {
     match load {
         Load::Refused { .. } => Flaw::OtherValue,
         Load::ReadFault => Flaw::ReadFault,
@@ -87,78 +85,13 @@ fn plan_of(
     }
 }
 
-// The plan of the streams and the parameter files.
-fn load_plan(alloc: Global, shelf: &mut MemoryShelf, terms: Terms) -> Result<Plan, Flaw> {
+/// The plan of the streams and the parameter files on a shelf, in the folder.
+pub fn load_plan(alloc: Global, shelf: &mut MemoryShelf, terms: Terms) -> Result<Plan, Flaw> {
     let mut used = Used { bytes: 0, rows: 0 };
     match load_lanes(alloc, shelf, FOLDER, &mut used) {
         Ok(lanes) => plan_of(alloc, shelf, lanes, &mut used, terms),
         Err(load) => Err(flaw_of(load)),
     }
-}
-
-// The name of a lane's kind.
-fn kind_name(kind: LaneKind) -> &'static str {
-    match kind {
-        LaneKind::Person => "Person",
-        LaneKind::Forum => "Forum",
-        LaneKind::Query => "Query",
-    }
-}
-
-// The part of a step in the waiting of some for others.
-fn part_name(step: &Step) -> &'static str {
-    match (step.dependency, step.dependent) {
-        (false, false) => "",
-        (true, false) => " dependency",
-        (false, true) => " dependent",
-        (true, true) => " dependency and dependent",
-    }
-}
-
-// Tells each step.
-fn tell_steps(alloc: Global, steps: &[Step], answer: &mut Lines) -> Result<(), AllocError> {
-    for step in steps {
-        let Step {
-            lane,
-            place,
-            t,
-            t_d,
-            due,
-            dependency: _,
-            dependent: _,
-            query,
-        } = *step;
-        let part = part_name(step);
-        let read = if query { " read" } else { "" };
-        let line = format!(in alloc; "{lane} {place} {t} {t_d} {due}{part}{read}")?;
-        answer.add(line.as_str())?;
-    }
-    Ok(())
-}
-
-// Tells the kind of a lane, and the numbers of its steps.
-fn tell_lane(
-    alloc: Global,
-    kind: LaneKind,
-    numbers: &[u32],
-    answer: &mut Lines,
-) -> Result<(), AllocError> {
-    let mut line = String::from_str(alloc, kind_name(kind))?;
-    for number in numbers {
-        write!(&mut line, " {number}")?;
-    }
-    answer.add(line.as_str())
-}
-
-// Tells each lane, and then each step.
-fn told_schedule(alloc: Global, schedule: &Schedule) -> Result<String, Flaw> {
-    let mut answer = Lines::new(alloc);
-    let kinds = schedule.kinds();
-    for lane in 0..kinds.len() {
-        tell_lane(alloc, kinds[lane], schedule.lane(lane as u32), &mut answer)?;
-    }
-    tell_steps(alloc, schedule.steps(), &mut answer)?;
-    Ok(answer.told())
 }
 
 // The schedule of what the files say, under the terms that the text spells.
@@ -171,19 +104,6 @@ fn schedule_of(alloc: Global, files: &Files, rest: &str) -> Result<Schedule, Fla
 
 /// `schedule RATIO` or `schedule RATIO FREQUENCIES`
 pub fn plan(alloc: Global, state: &mut State, files: &Files, rest: &str) -> Result<String, Flaw> {
-    let schedule = schedule_of(alloc, files, rest)?;
-    let told = told_schedule(alloc, &schedule)?;
-    state.schedule = Some(schedule);
-    Ok(told)
-}
-
-/// `long_schedule RATIO` or `long_schedule RATIO FREQUENCIES`
-pub fn long_plan(
-    alloc: Global,
-    state: &mut State,
-    files: &Files,
-    rest: &str,
-) -> Result<String, Flaw> {
     let schedule = schedule_of(alloc, files, rest)?;
     let count = schedule.steps().len();
     state.schedule = Some(schedule);

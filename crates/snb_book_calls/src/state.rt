@@ -1,18 +1,14 @@
 //! What the calls of a case have made so far.
 
-use crate::tags::TagShelf;
 use snb_book::book::Book;
 use snb_completion::times::Times;
 use snb_schema::schedule::Schedule;
-use std::alloc::Global;
 
-/// The schedule of the last plan, the book and the times over it, once they are made, and a shelf of
-/// tags.
+/// The schedule of the last plan, and the book and the times over it, once they are made.
 pub struct State {
     pub schedule: Option<Schedule>,
     pub book: Option<Book>,
     pub times: Option<Times>,
-    pub tags: TagShelf,
 }
 
 impl Drop for State {
@@ -21,19 +17,17 @@ impl Drop for State {
             schedule: _,
             book: _,
             times: _,
-            tags: _,
         } = self;
     }
 }
 
 impl State {
-    /// Before the first call of a case. Takes no memory.
-    pub fn new(alloc: Global) -> State {
+    /// Before the first call of a case.
+    pub fn new() -> State {
         State {
             schedule: None,
             book: None,
             times: None,
-            tags: TagShelf::none(alloc),
         }
     }
 }

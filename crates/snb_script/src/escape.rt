@@ -85,24 +85,6 @@ pub fn put_plain(text: &str, to: &mut Vec<u8>) -> Result<LineEnd, Flaw> {
     }
 }
 
-/// The bytes that the text stands for.
-pub fn plain(alloc: Global, text: &str) -> Result<Vec<u8>, Flaw> {
-    let mut bytes = Vec::new(alloc);
-    match put_plain(text, &mut bytes) {
-        Ok(LineEnd::There) => Ok(bytes),
-        Ok(LineEnd::LeftOut) => Err(Flaw::BadEscape),
-        Err(flaw) => Err(flaw),
-    }
-}
-
-/// The text that the text stands for, where it is UTF-8.
-pub fn plain_text(alloc: Global, text: &str) -> Result<String, Flaw> {
-    match String::from_utf8(plain(alloc, text)?) {
-        Ok(text) => Ok(text),
-        Err(_) => Err(Flaw::NotUtf8),
-    }
-}
-
 // Appends how the byte is shown.
 fn show_byte(byte: u8, to: &mut String) -> Result<(), AllocError> {
     match byte {

@@ -11,18 +11,10 @@ pub enum Flaw {
     NoNumber,
     /// A name is wanted.
     NoName,
-    /// No table has this name.
-    NoTable,
-    /// The line spells no row of the table, or too long a one.
-    NoRow,
-    /// The line is no insert of an update stream.
-    NoInsert,
     /// The text spells no ratio.
     NoRatio,
     /// The text spells no frequencies.
     NoFrequencies,
-    /// The call is none for this table.
-    OtherTable,
     /// The call is none for these values.
     OtherValue,
     /// Something follows what should stand alone, or stand last.
@@ -47,10 +39,6 @@ pub enum Flaw {
     FileTwice,
     /// A backslash is followed by what no escape has.
     BadEscape,
-    /// The bytes are no UTF-8.
-    NotUtf8,
-    /// A row that is added is held already.
-    Held,
     /// The graph isn't sound.
     Unsound,
     /// A file couldn't be read.
@@ -75,12 +63,8 @@ impl Flaw {
             Flaw::NoWord => "no word of a script begins this line",
             Flaw::NoNumber => "a number is wanted",
             Flaw::NoName => "a name is wanted",
-            Flaw::NoTable => "no table has this name",
-            Flaw::NoRow => "this is no row of the table",
-            Flaw::NoInsert => "this is no insert of an update stream",
             Flaw::NoRatio => "this is no ratio",
             Flaw::NoFrequencies => "these are no frequencies",
-            Flaw::OtherTable => "this is no call for this table",
             Flaw::OtherValue => "this is no call for these values",
             Flaw::Surplus => "something follows that doesn't belong here",
             Flaw::NothingWanted => "it isn't said what must come",
@@ -93,8 +77,6 @@ impl Flaw {
             Flaw::NoPlace => "no file is begun to which this line could belong",
             Flaw::FileTwice => "a file is there twice",
             Flaw::BadEscape => "no escape is spelled like this",
-            Flaw::NotUtf8 => "this isn't UTF-8",
-            Flaw::Held => "a row that is to be added is held already",
             Flaw::Unsound => "the graph isn't sound",
             Flaw::ReadFault => "a file couldn't be read",
             Flaw::Memory => "out of memory",

@@ -21,14 +21,6 @@ pub fn told_number(alloc: Global, number: u64) -> Result<String, Flaw> {
     Ok(format!(in alloc; "{number}")?)
 }
 
-/// A number, or that there is none.
-pub fn told_option(alloc: Global, number: Option<u64>) -> Result<String, Flaw> {
-    match number {
-        Some(number) => told_number(alloc, number),
-        None => told(alloc, NONE),
-    }
-}
-
 /// A list that is told item by item.
 pub struct List {
     text: String,

@@ -15,8 +15,7 @@ use std::thread::Threads;
 // What the calls of a case are made on, for each crate of calls that keeps something.
 struct Every {
     whole: snb_whole_calls::state::State,
-    graph: snb_graph_calls::state::State,
-    reach: snb_reach_calls::state::State,
+    data: snb_data_calls::state::State,
     book: snb_book_calls::state::State,
 }
 
@@ -24,8 +23,7 @@ impl Drop for Every {
     fn drop(self) {
         let Every {
             whole: _,
-            graph: _,
-            reach: _,
+            data: _,
             book: _,
         } = self;
     }
@@ -36,9 +34,8 @@ impl Every {
     fn new(alloc: Global) -> Every {
         Every {
             whole: snb_whole_calls::state::State::new(alloc),
-            graph: snb_graph_calls::state::State::new(alloc),
-            reach: snb_reach_calls::state::State::new(alloc),
-            book: snb_book_calls::state::State::new(alloc),
+            data: snb_data_calls::state::State::new(alloc),
+            book: snb_book_calls::state::State::new(),
         }
     }
 }
@@ -71,18 +68,9 @@ impl Calls for Every {
         )? {
             return Ok(Some(answer));
         }
-        if let Some(answer) = snb_graph_calls::calls::answer(
+        if let Some(answer) = snb_data_calls::answer::answer(
             alloc,
-            &mut self.graph,
-            files,
-            word,
-            rest,
-        )? {
-            return Ok(Some(answer));
-        }
-        if let Some(answer) = snb_reach_calls::calls::answer(
-            alloc,
-            &mut self.reach,
+            &mut self.data,
             files,
             word,
             rest,
@@ -101,16 +89,7 @@ impl Calls for Every {
         if let Some(answer) = snb_board_calls::answer::answer(rt, alloc, &self.book, word, rest)? {
             return Ok(Some(answer));
         }
-        if let Some(answer) = snb_worker_calls::answer::answer(rt, alloc, files, word, rest)? {
-            return Ok(Some(answer));
-        }
-        if let Some(answer) = snb_word_calls::answer::answer(alloc, word, rest)? {
-            return Ok(Some(answer));
-        }
-        if let Some(answer) = snb_reader_calls::answer::answer(alloc, files, word, rest)? {
-            return Ok(Some(answer));
-        }
-        snb_plan_calls::calls::answer(alloc, files, word, rest)
+        snb_worker_calls::answer::answer(rt, alloc, files, word, rest)
     }
 }
 

@@ -2,12 +2,11 @@
 
 ghost use Rattle.snb_worker_calls.specs.Wholes.{IsWhole};
 
-use crate::closed::load_closed;
+use crate::closed::{Planned, load_closed};
 use crate::pair::work_seat;
-use crate::seats::board_of_two;
+use snb_board_calls::boards::board_of_two;
 use snb_book_calls::books::told_events;
 use snb_script::given::Given;
-use snb_plan_calls::planned::Planned;
 use snb_schema::event::Event;
 use snb_script::files::Files;
 use snb_script::flaw::Flaw;
@@ -53,7 +52,7 @@ fn told_alone<R: Wait>(
 ) -> Result<String, Flaw>
     requires { IsWhole whole.now.graph whole.now.plan }
 {
-    let (board, mut zero, _one) = board_of_two(alloc, &whole.plan)?;
+    let (board, mut zero, _one) = board_of_two(alloc, whole.plan.schedule())?;
     let given = Given::new(alloc, moments);
     let replies = work_seat(rt, alloc, &board, &mut zero, whole, &given, &given)?;
     let mut events = Vec::new(alloc);

@@ -1,20 +1,17 @@
 //! The call in which one of two workers works, while the other one has an operation in hand.
 
-ghost use Rattle.std.specs.Prelude.{◌≡◌, IsTrue, List};
-ghost use Rattle.snb_schema.specs.declared.event.Event.{Event};
-ghost use Rattle.snb_schema.specs.Rules.{IsFront};
+ghost use Rattle.std.specs.Prelude.{◌≡◌};
 ghost use Rattle.snb_worker_calls.specs.Wholes.{IsWhole};
 
 use crate::alone::{moments_of, told_work};
-use crate::closed::load_closed;
+use crate::closed::{Planned, load_closed};
 use crate::pair::work_seat;
-use crate::seats::board_of_two;
 use snb_base::clock::Clock;
 use snb_board::board::Board;
 use snb_board::seat::Seat;
+use snb_board_calls::boards::{board_of_two, is_insert};
 use snb_book::claim::{Claim, Ticket};
 use snb_script::given::Given;
-use snb_plan_calls::planned::Planned;
 use snb_schema::schedule::Schedule;
 use snb_script::files::Files;
 use snb_script::flaw::Flaw;
@@ -40,17 +37,6 @@ fn end_of(word: &str) -> Result<End, Flaw> {
         "halts" => Ok(End::Halt),
         _ => Err(Flaw::NoName),
     }
-}
-
-// Whether the operation is an insert, whose front is 0.
-fn is_insert(schedule: &Schedule, op: u32) -> bool
-    ensures { IsTrue result → (h : List Event) → IsFront schedule.now h op 0 }
-{
-    let steps = schedule.steps();
-    if op as usize >= steps.len() {
-        return false;
-    }
-    !steps[op as usize].query
 }
 
 // A worker at the board that has an insert in hand.
@@ -183,7 +169,7 @@ fn told_behind<R: Wait>(
 ) -> Result<String, Flaw>
     requires { IsWhole whole.now.graph whole.now.plan }
 {
-    let (board, zero, mut one) = board_of_two(alloc, &whole.plan)?;
+    let (board, zero, mut one) = board_of_two(alloc, whole.plan.schedule())?;
     let holder = Holder::new(rt, &board, whole.plan.schedule(), zero);
     if holder.is_none() {
         return Err(Flaw::OtherValue);

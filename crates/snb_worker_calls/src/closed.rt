@@ -4,30 +4,50 @@ ghost use Rattle.std.specs.Prelude.{IfOk};
 ghost use Rattle.snb_tables.specs.Soundness.{Sound};
 ghost use Rattle.snb_worker_calls.specs.Wholes.{IsWhole};
 
-use snb_input::load::Load;
-use snb_plan_calls::calls::terms_of;
-use snb_plan_calls::planned::{Planned, load_of, load_planned};
+use snb_base::memory_shelf::MemoryShelf;
+use snb_book_calls::plans::{FOLDER, flaw_of, load_plan, terms_of};
+use snb_graph::graph::Graph;
+use snb_input::load::Used;
+use snb_loader::dataset::load_dataset;
+use snb_plan::plan::{Plan, PlanFault};
 use snb_script::files::Files;
 use snb_script::flaw::Flaw;
 use std::alloc::Global;
 
-// Why there is nothing to run.
-fn flaw_of(load: Load) -> Flaw {
-    match load {
-        Load::Refused { .. } => Flaw::OtherValue,
-        Load::ReadFault => Flaw::ReadFault,
-        Load::Memory => Flaw::Memory,
+/// The dataset of a folder, and the plan of its streams and parameters.
+pub struct Planned {
+    /// The dataset.
+    pub graph: Graph,
+    /// The plan.
+    pub plan: Plan,
+}
+
+impl Drop for Planned {
+    fn drop(self) {
+        let Planned { graph: _, plan: _ } = self;
+    }
+}
+
+// The dataset on a shelf, in the folder.
+fn load_graph(alloc: Global, shelf: &mut MemoryShelf) -> Result<Graph, Flaw>
+    ensures { IfOk result Sound }
+{
+    let mut used = Used { bytes: 0, rows: 0 };
+    match load_dataset(alloc, shelf, FOLDER, &mut used) {
+        Ok(graph) => Ok(graph),
+        Err(load) => Err(flaw_of(load)),
     }
 }
 
 // The dataset and the plan, where it is closed.
-fn if_closed(alloc: Global, planned: Planned) -> Result<Planned, Flaw>
-    requires { Sound planned.graph }
+fn if_closed(alloc: Global, graph: Graph, plan: Plan) -> Result<Planned, Flaw>
+    requires { Sound graph }
     ensures { IfOk result (λ whole. IsWhole whole.graph whole.plan) }
 {
-    match planned.plan.closed(alloc, &planned.graph) {
-        Ok(()) => Ok(planned),
-        Err(fault) => Err(flaw_of(load_of(fault))),
+    match plan.closed(alloc, &graph) {
+        Ok(()) => Ok(Planned { graph, plan }),
+        Err(PlanFault::Refused { .. }) => Err(Flaw::OtherValue),
+        Err(PlanFault::Memory) => Err(Flaw::Memory),
     }
 }
 
@@ -36,8 +56,9 @@ fn if_closed(alloc: Global, planned: Planned) -> Result<Planned, Flaw>
 pub fn load_closed(alloc: Global, files: &Files, terms: &str) -> Result<Planned, Flaw>
     ensures { IfOk result (λ whole. IsWhole whole.graph whole.plan) }
 {
-    match load_planned(alloc, files, terms_of(terms)?)? {
-        Ok(planned) => if_closed(alloc, planned),
-        Err(load) => Err(flaw_of(load)),
-    }
+    let terms = terms_of(terms)?;
+    let mut shelf = files.on_shelf(alloc, FOLDER)?;
+    let graph = load_graph(alloc, &mut shelf)?;
+    let plan = load_plan(alloc, &mut shelf, terms)?;
+    if_closed(alloc, graph, plan)
 }

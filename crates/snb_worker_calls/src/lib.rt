@@ -9,5 +9,4 @@ mod closed;
 mod meet;
 mod meeting;
 mod pair;
-mod seats;
 mod steps;

@@ -2,11 +2,10 @@
 
 ghost use Rattle.snb_worker_calls.specs.Wholes.{IsWhole};
 
-use crate::closed::load_closed;
+use crate::closed::{Planned, load_closed};
 use crate::meeting::Meeting;
 use snb_base::clock::FarClock;
 use snb_plan::plan::Plan;
-use snb_plan_calls::planned::Planned;
 use snb_schema::event::Event;
 use snb_script::files::Files;
 use snb_script::flaw::Flaw;

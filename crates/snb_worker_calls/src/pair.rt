@@ -6,14 +6,13 @@ ghost use Rattle.snb_board_calls.specs.Crews.{AreInOrder, IsSameSeat};
 ghost use Rattle.snb_plan.specs.Plans.{schedule_of};
 ghost use Rattle.snb_worker_calls.specs.Wholes.{IsWhole};
 
-use crate::closed::load_closed;
+use crate::closed::{Planned, load_closed};
 use snb_base::clock::{Clock, FarClock};
 use snb_base::gate::{Gate, OpenGate};
 use snb_board::board::Board;
 use snb_board::seat::Seat;
 use snb_board_calls::boards::{closed_by_all, completeness};
 use snb_book::book::Book;
-use snb_plan_calls::planned::Planned;
 use snb_script::files::Files;
 use snb_script::flaw::Flaw;
 use snb_script::words::{first_word, number_of};

@@ -4,7 +4,6 @@ use crate::dataset::Dataset;
 use crate::loaded::Loaded;
 use crate::state::State;
 use snb_reach::near::Near;
-use snb_script::files::Files;
 use snb_script::flaw::Flaw;
 use snb_script::told::{List, told_number};
 use snb_script::words::{first_word, number_of, small_number_of, two_numbers};
@@ -101,11 +100,10 @@ fn added(dataset: &mut Dataset, word: &str, rest: &str) -> Option<Result<(), Fla
 }
 
 /// Makes the call that begins with this word, and tells what it answers; None where there is no such
-/// call of a dataset of persons or of distances in it. It looks at no file.
-pub fn answer(
+/// call of a dataset of persons or of distances in it.
+pub(crate) fn distance(
     alloc: Global,
     state: &mut State,
-    _files: &Files,
     word: &str,
     rest: &str,
 ) -> Result<Option<String>, Flaw> {

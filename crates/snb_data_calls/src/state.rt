@@ -1,12 +1,14 @@
 //! What the calls of a case are made on.
 
 use crate::dataset::Dataset;
+use crate::graphs::Graphs;
 use crate::loaded::Loaded;
 use snb_script::flaw::Flaw;
 use std::alloc::Global;
 
-/// The dataset of a case, and its graph.
+/// Two graphs of friendships, and the dataset of persons with its graph.
 pub struct State {
+    pub(crate) graphs: Graphs,
     pub(crate) dataset: Dataset,
     // The graph of the dataset, once it is asked for.
     loaded: Option<Loaded>,
@@ -15,6 +17,7 @@ pub struct State {
 impl Drop for State {
     fn drop(self) {
         let State {
+            graphs: _,
             dataset: _,
             loaded: _,
         } = self;
@@ -22,9 +25,10 @@ impl Drop for State {
 }
 
 impl State {
-    /// As a case begins: no person.
+    /// As a case begins: no friendship and no person.
     pub fn new(alloc: Global) -> State {
         State {
+            graphs: Graphs::new(alloc),
             dataset: Dataset::new(alloc),
             loaded: None,
         }
