@@ -25,7 +25,7 @@ fn call<R: AllocGlobal + Threads + Wait + Sync>(
     mut out: MemoryOutbox,
 ) -> Result<String, Flaw> {
     let words: Vec<&str> = words.iter().map(|word| word.as_str()).collect(alloc)?;
-    let mut shelf = CaseShelf::new(shelf, state.fading);
+    let mut shelf = CaseShelf::new(shelf, state.steady, state.fading);
     let given = Given::new(alloc, &state.moments);
     let status = snb(rt, &words, &mut shelf, &mut out, &given, &given);
     state.story = given.story(shelf.reads())?;

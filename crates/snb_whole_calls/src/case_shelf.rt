@@ -2,14 +2,33 @@
 
 ghost use Rattle.std.specs.Prelude.{◌≡◌, ◌<◌, ◌≤◌, length, None};
 ghost use Rattle.snb_base.specs.Shelf.{FitsBuffer, Rose};
+ghost use Rattle.snb_whole_calls.specs.Kept.{faults_of};
 
 use snb_base::memory_shelf::MemoryShelf;
 use snb_base::shelf::{Got, Shelf};
+use snb_base::steady_shelf::SteadyShelf;
 
-/// A shelf in memory that counts how often it is read, and tells no contents. One that is fading has each
-/// file at its first read alone.
-pub(crate) struct CaseShelf {
-    shelf: MemoryShelf,
+/// Which shelf holds the files.
+pub enum Kept {
+    /// One that fails at the listed calls.
+    Memory { shelf: MemoryShelf },
+    /// One that never fails.
+    Steady { shelf: SteadyShelf },
+}
+
+impl Drop for Kept {
+    fn drop(self) {
+        match self {
+            Kept::Memory { shelf: _ } => {}
+            Kept::Steady { shelf: _ } => {}
+        }
+    }
+}
+
+/// A shelf that counts how often it is read, and tells no contents. One that is fading has each file at its
+/// first read alone.
+pub struct CaseShelf {
+    kept: Kept,
     fading: bool,
     reads: u64,
 }
@@ -17,7 +36,7 @@ pub(crate) struct CaseShelf {
 impl Drop for CaseShelf {
     fn drop(self) {
         let CaseShelf {
-            shelf: _,
+            kept: _,
             fading: _,
             reads: _,
         } = self;
@@ -26,9 +45,16 @@ impl Drop for CaseShelf {
 
 impl CaseShelf {
     /// A shelf with the files of this one, which wasn't read yet.
-    pub(crate) fn new(shelf: MemoryShelf, fading: bool) -> CaseShelf {
+    pub(crate) fn new(shelf: MemoryShelf, steady: bool, fading: bool) -> CaseShelf {
+        let kept = if steady {
+            Kept::Steady {
+                shelf: SteadyShelf::new(shelf),
+            }
+        } else {
+            Kept::Memory { shelf }
+        };
         CaseShelf {
-            shelf,
+            kept,
             fading,
             reads: 0,
         }
@@ -43,13 +69,16 @@ impl CaseShelf {
 impl Shelf for CaseShelf {
     ghost contents = { λ _. None };
 
-    ghost faults = { λ s. s.shelf.faults };
+    ghost faults = { λ s. faults_of s.kept };
 
     fn read(&mut self, name: &str, at: u64, into: &mut [u8]) -> Got {
         self.reads = self.reads.saturating_add(1);
         if self.fading && at > 0 {
             return Got::Absent;
         }
-        self.shelf.read(name, at, into)
+        match &mut self.kept {
+            Kept::Memory { shelf } => shelf.read(name, at, into),
+            Kept::Steady { shelf } => shelf.read(name, at, into),
+        }
     }
 }

@@ -39,8 +39,8 @@ pub(crate) fn channel_of(name: &str) -> Option<Channel> {
 /// What a case says of its calls, and what came of the last one.
 pub struct State {
     alloc: Global,
-    /// No read fails.
-    steady: bool,
+    /// The shelf is one that never fails.
+    pub(crate) steady: bool,
     /// The shelf has each file at its first read alone.
     pub(crate) fading: bool,
     /// The moments that the clock shows.
@@ -133,10 +133,8 @@ impl State {
     pub(crate) fn shelf(&self, files: &Files) -> Result<MemoryShelf, Flaw> {
         let mut shelf = files.on_shelf(self.alloc, "")?;
         let made = files.count() as u64;
-        if !self.steady {
-            for call in &self.failing_reads {
-                shelf.fail_at(call.saturating_add(made))?;
-            }
+        for call in &self.failing_reads {
+            shelf.fail_at(call.saturating_add(made))?;
         }
         Ok(shelf)
     }
