@@ -10,7 +10,7 @@ use Rattle.snb_schema.specs.declared.table.Table.TheVariants as table
 use Rattle.snb_schema.specs.Columns.{SpellsAll}
 use Rattle.snb_schema.specs.Layouts.{columns, has_no_direction}
 use Rattle.snb_schema.specs.RowLines.{Differ, IsLoop, IsWide, SpellsRow, in_order, is_turned, row_shape, table_of, values}
-use Rattle.snb_fields.specs.Laws.{OneList}
+use Rattle.snb_columns.specs.Laws.{OneList}
 use Rattle.snb_fields.proofs.Laws.{no_stop, one_stop, spelled_long}
 use Rattle.snb_csv.specs.Laws.{OneColumn, OneRow, RowsAreRight}
 use Rattle.snb_csv.specs.Make.{row_by}

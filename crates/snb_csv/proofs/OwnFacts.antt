@@ -17,8 +17,8 @@ use Rattle.snb_schema.specs.Columns.{SpellsAll, canonical_field}
 use Rattle.snb_schema.specs.Layouts.{columns, has_no_direction, shape, shape_columns}
 use Rattle.snb_schema.specs.Lines.{HasNoBar, HasNoEnd, fields}
 use Rattle.snb_schema.specs.RowLines.{Differ, IsRow, SpellsRow, canonical, in_order, is_turned, values}
-use Rattle.snb_fields.specs.Laws.{HasPlainFields, OneList}
-use Rattle.snb_fields.specs.Laws as lines
+use Rattle.snb_columns.specs.Laws.{HasPlainFields, OneList}
+use Rattle.snb_columns.specs.Laws as lines
 use Rattle.snb_csv.specs.Laws.{OwnRowLine}
 use Rattle.snb_csv.proofs.OneFacts.{one_row, only_friends}
 use Rattle.snb_csv.proofs.RowFacts.{pair_of}

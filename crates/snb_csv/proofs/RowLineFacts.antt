@@ -26,7 +26,7 @@ use Rattle.snb_schema.specs.Lines.{HasNoBar, HasNoEnd, fields}
 use Rattle.snb_schema.specs.RowLines.{Differ, IsRow, canonical, in_order, is_turned, table_of, values}
 use Rattle.snb_csv.specs.Laws.{RowsOfFieldsFit}
 use Rattle.snb_schema.specs.TableRows.{AreWithin, HasLine, HasLowerFirst, IsFieldText, IsTableRow, IsWithin, TableRowsAreOfLines}
-use Rattle.snb_fields.specs.Laws.{HasPlainFields, OwnLineOfValues}
+use Rattle.snb_columns.specs.Laws.{HasPlainFields, OwnLineOfValues}
 
 -- digits spell their number, where 19 suffice
 abbrev pub OwnNumbers : Type 0

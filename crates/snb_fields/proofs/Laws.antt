@@ -1,22 +1,17 @@
--- What another crate may cite of this one: values that are taken, fields read by columns, and items of lists.
-use Rattle.std.proofs.Common.{◌≡◌, ◌≢◌, ◌++◌, ◌∷◌, ◌∙◌, ◌+◌, ◌⊎◌, [], ℕ, zero, suc, List, Bool, Option, Some, None, false, length, take, refl, ap, subst, inl, inr, arith}
+-- What another crate may cite of this one: values that are taken, and fields read by columns.
+use Rattle.std.proofs.Common.{◌≡◌, ◌∷◌, ◌∙◌, ◌+◌, ◌⊎◌, [], ℕ, zero, suc, List, Option, Some, None, false, length, take, refl, ap, inl, inr}
 use Rattle.std.proofs.lemmas.Bool.{cases_eq}
-use Rattle.std.specs.List.{All, AllByRecursion}
-use Rattle.snb_base.specs.Calendar.{IsDigit}
-use Rattle.snb_base.specs.Spellings.{Listed, Num}
+use Rattle.snb_base.specs.Spellings.{Num}
 use Rattle.snb_schema.specs.declared.column.Column.{Column}
 use Rattle.snb_schema.specs.declared.column.Column.TheVariants.{Number, Small, OptionalId, Date, Day, Words, Word, TextList, IdList, PairList}
 use Rattle.snb_schema.specs.declared.column.Value.{Value}
 use Rattle.snb_schema.specs.declared.column.Value.TheVariants.{Digits, SmallDigits, NoId, Letters, Texts, Ids, Pairs}
-use Rattle.snb_schema.specs.Columns.{Spells, SpellsAll, StopsAfter, no_id}
+use Rattle.snb_schema.specs.Columns.{Spells, SpellsAll, StopsAfter}
 use Rattle.snb_schema.specs.RowLines.{IsWide}
-use Rattle.snb_schema.specs.TableRows.{IsFieldText}
 use Rattle.snb_lines.specs.Records.{field_at}
 use Rattle.snb_fields.specs.Laws.{TakenAgain}
 use Rattle.snb_fields.specs.Values.{starts_twice, taken}
-use Rattle.snb_fields.proofs.CutFacts.{around_all, around_ascii}
 use Rattle.snb_fields.proofs.DecidedFacts.{number_found}
-use Rattle.snb_fields.proofs.ListFacts.{items_all}
 use Rattle.snb_fields.proofs.WideFacts.{wide_none, wide_some}
 
 -- what is taken first of a value that is spelled is this value
@@ -44,10 +39,6 @@ taken_again columns xs vs s = absurd s
 pub starts_alone : (v : Value) → starts_twice (v ∷ []) ≡ false
 starts_alone (Digits n) = refl
 starts_alone v = refl
-
--- a number isn't `-1`, which stands for no id
-pub number_some : (x : List ℕ) (n most : ℕ) → Num x n most → x ≢ no_id
-number_some x n most s e = (let digits : AllByRecursion IsDigit no_id = subst (AllByRecursion IsDigit) e s.digits in let low = digits.0 in absurd (omega arith))
 
 -- fields that spell values are as many as their columns
 pub spelled_long : (cs : List Column) (fs : List (List ℕ)) (vs : List Value) → SpellsAll cs fs vs → length fs ≡ length cs
@@ -87,15 +78,3 @@ wide_or_not count fs = go (field_at fs count) refl
 -- a text is a number of at most so much, or it isn't
 pub number_or_not : (x : List ℕ) (most : ℕ) → ((n : ℕ) × Num x n most) ⊎ ((n : ℕ) → ¬ Num x n most)
 number_or_not = number_found
-
--- where a field can hold a text, it can hold what stands before and behind a semicolon
-around_plain : (a b : List ℕ) → IsFieldText (a ++ 59 ∷ b) → IsFieldText a × IsFieldText b
-around_plain a b f =
-    let texts = around_ascii 59 (omega arith) a b f.utf8 in
-    let bars = around_all (λ c. c ≢ 124) 59 a b f.no_bar in
-    let ends = around_all (λ c. c ≢ 10) 59 a b f.one_line in
-    (record { utf8 = texts.0; no_bar = bars.0; one_line = ends.0 }, record { utf8 = texts.1; no_bar = bars.1; one_line = ends.1 })
-
--- what each item has that a text of a field spells, the items of a list have that such a text spells
-pub listed_all : {A : Type 0} (S : List ℕ → A → Type 0) (eq : A → A → Bool) (Q : A → Type 0) → ((x : List ℕ) (a : A) → IsFieldText x → S x a → Q a) → (x : List ℕ) (items : List A) → IsFieldText x → Listed S eq x items → All Q items
-listed_all S eq Q each x items f listed = items_all S eq IsFieldText Q around_plain each x items listed f

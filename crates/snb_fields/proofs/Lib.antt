@@ -1,10 +1,5 @@
-pub mod CutFacts
 pub mod DecidedFacts
 pub mod JoinFacts
 pub mod Laws
-pub mod LineFacts
-pub mod ListFacts
-pub mod PairFacts
 pub mod ReadingFacts
-pub mod SpellingFacts
 pub mod WideFacts

@@ -1,29 +1,15 @@
 //! Laws of columns and lines, over every line.
 
-ghost use Rattle.std.specs.Prelude.{ℕ, List};
-ghost use Rattle.snb_fields.specs.Laws.{EachIsSpelled, EachLineIsRead, HasPlainFields, OneList, OneValue, OwnLineOfValues, TakenAgain};
+ghost use Rattle.snb_columns.specs.Laws.{OneList, OneValue};
+ghost use Rattle.snb_fields.specs.Laws.{EachIsSpelled, EachLineIsRead, TakenAgain};
 
 use snb_base::number::one_spelling;
 use snb_clock::law::one_moment;
-
-/// The fields of a line have no bar, and are texts without line ends where the line is one.
-pub fn plain_fields()
-    ensures { (line : List ℕ) → HasPlainFields line }
-{}
 
 /// A text spells one value of a column at most.
 pub fn one_value()
     ensures value { OneValue }
     ensures list { OneList }
-{
-    one_spelling();
-    one_moment();
-}
-
-/// What is read can be written: values that fields spell have a line of their own, which spells
-/// them.
-pub fn own_line()
-    ensures { OwnLineOfValues }
 {
     one_spelling();
     one_moment();

@@ -16,8 +16,8 @@ use Rattle.snb_schema.specs.Columns.{Spells, SpellsAll}
 use Rattle.snb_schema.specs.Lines.{fields}
 use Rattle.snb_schema.specs.TableRows.{IsFieldText, IsWithin}
 use Rattle.snb_schema.specs.UpdateLines.{insert_columns, kind_of, line_columns, line_values, op_values}
-use Rattle.snb_fields.proofs.Laws.{listed_all}
-use Rattle.snb_fields.specs.Laws.{HasPlainFields}
+use Rattle.snb_columns.proofs.Laws.{listed_all}
+use Rattle.snb_columns.specs.Laws.{HasPlainFields}
 use Rattle.snb_inserts.specs.Applying.{HasLine}
 use Rattle.snb_inserts.proofs.Apart.{AreApart, ids_apart, once_apart}
 

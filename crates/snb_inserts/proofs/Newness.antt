@@ -11,7 +11,7 @@ use Rattle.snb_schema.specs.declared.table.Table.{Table}
 use Rattle.snb_schema.specs.declared.table.Table.TheVariants as table
 use Rattle.snb_inserts.proofs.Keys.{key_of}
 use Rattle.snb_schema.specs.UpdateLines.{insert_columns, kind_of, op_values}
-use Rattle.snb_fields.specs.Laws.{HasPlainFields}
+use Rattle.snb_columns.specs.Laws.{HasPlainFields}
 use Rattle.snb_tables.specs.Graphs.{IsGraph}
 use Rattle.snb_schema.specs.Inserts.{parent_row, rows_of}
 use Rattle.snb_tables.specs.Soundness.{Held}

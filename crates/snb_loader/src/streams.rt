@@ -9,7 +9,7 @@ ghost use Rattle.snb_input.specs.Stages.{AreRising, IsStage, IsWalkWithin, befor
 ghost use Rattle.snb_loader.specs.Lanes.{AreTaken, InsertsOfFieldsFit, IsHeard, IsStreamTaker, stream_format};
 
 use snb_base::shelf::Shelf;
-use snb_fields::law::own_line;
+use snb_columns::law::own_line;
 use snb_input::load::{Load, Used};
 use snb_input::series::Series;
 use snb_input::taker::Taker;

@@ -10,7 +10,7 @@ ghost use Rattle.std.specs.BTreeMap.{insert_entry};
 ghost use Rattle.snb_parts.specs.Merged.{HasAppended, Rises, first_key, value_at};
 
 use crate::kept::Apart;
-use std::alloc::AllocError;
+use std::alloc::{AllocError, Global};
 use std::marker::Model;
 
 /// Entries that are lent, the keys and the values in a slice each.
@@ -155,6 +155,15 @@ impl<K: Apart, V: Drop> Sorted<K, V> {
         Sorted { keys, values }
     }
 
+    // No entries, and memory for some.
+    pub(crate) fn with_room(alloc: Global, room: usize) -> Result<Self, AllocError>
+        ensures { IfOk result (λ none. none ≡ []) }
+    {
+        let keys = Vec::with_capacity(alloc, room)?;
+        let values = Vec::with_capacity(alloc, room)?;
+        Ok(Sorted { keys, values })
+    }
+
     // The keys.
     pub(crate) fn keys(&self) -> &[K]
         ensures { result.now ≡ keys_of self.now }
@@ -184,7 +193,7 @@ impl<K: Apart, V: Drop> Sorted<K, V> {
     }
 
     // Adds an entry after all others. Want of memory leaves them as they were.
-    fn push(&mut self, key: K, value: V) -> Result<(), AllocError>
+    pub(crate) fn push(&mut self, key: K, value: V) -> Result<(), AllocError>
         ensures ok { OnOk result (self.new ≡ self.old ++ (key, value) ∷ []) }
         ensures err { OnErr result (self.new ≡ self.old) }
     {

@@ -1,6 +1,6 @@
 //! An ordered map in two parts.
 
-ghost use Rattle.std.specs.Prelude.{◌<◌, ◌^◌, ◌≡◌, ◌≤◌, ◌∷◌, [], None, length, IfOk, OnOk, OnErr, false};
+ghost use Rattle.std.specs.Prelude.{◌<◌, ◌^◌, ◌≡◌, ◌≤◌, ◌++◌, ◌∷◌, [], None, length, IfOk, OnOk, OnErr, false};
 ghost use Rattle.std.specs.Option.{option_copied, is_some};
 ghost use Rattle.std.specs.BTreeMap.{insert_entry, is_at};
 ghost use Rattle.std.specs.Map.{remove_entry};
@@ -50,6 +50,21 @@ impl<K: Apart, V: Clone + Drop> Model for Store<K, V> {
     ghost invariant = { λ s. AreStored K.cmp (entries_of s.frozen) s.added.entries };
 }
 
+// Adds clones of a key and a value after all entries.
+fn push_clones<K: Apart, V: Clone + Drop>(
+    all: &mut Sorted<K, V>,
+    key: &K,
+    value: &V,
+) -> Result<(), AllocError>
+    requires { (v w : V) → V.is_clone v w → w ≡ v }
+    ensures { OnOk result (all.new ≡ all.old ++ (key.now, value.now) ∷ []) }
+{
+    let key = key.clone()?;
+    let value = value.clone()?;
+    all.push(key, value)?;
+    Ok(())
+}
+
 // Clones of the entries of a walk.
 fn cloned<K: Apart, V: Clone + Drop>(
     alloc: Global,
@@ -59,15 +74,11 @@ fn cloned<K: Apart, V: Clone + Drop>(
     requires { (v w : V) → V.is_clone v w → w ≡ v }
     ensures { IfOk result (λ all. all ≡ walk.entry) }
 {
-    let mut keys = Vec::with_capacity(alloc, room)?;
-    let mut values = Vec::with_capacity(alloc, room)?;
+    let mut all = Sorted::with_room(alloc, room)?;
     for (key, value) in walk {
-        let key = key.clone()?;
-        keys.push(key)?;
-        let value = value.clone()?;
-        values.push(value)?;
+        push_clones(&mut all, key, value)?;
     }
-    Ok(Sorted::of(keys, values))
+    Ok(all)
 }
 
 // Adds an entry after the frozen ones, where nobody shares them and its key is above theirs, and else gives it

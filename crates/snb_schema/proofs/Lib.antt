@@ -17,3 +17,4 @@ pub mod InTurn
 pub mod Tied
 pub mod FrequencyFacts
 pub mod Walks
+mod Appended

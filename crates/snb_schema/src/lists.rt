@@ -12,6 +12,27 @@ use std::marker::Model;
 ///
 /// A contract sees the seven lists. Each has queries of its kind alone.
 pub struct Lists {
+    parts: Parts,
+}
+
+impl Drop for Lists {
+    fn drop(self) {
+        let Lists { parts: _ } = self;
+    }
+}
+
+impl Model for Lists {
+    ghost use Rattle.snb_schema.specs.QueryLists.{QueryLists, AreSorted};
+
+    ghost Value = { QueryLists };
+
+    ghost view = { λ l. l.parts };
+
+    ghost invariant = { λ l. AreSorted l.parts };
+}
+
+// Seven lists, of any queries.
+struct Parts {
     one: Vec<Query>,
     two: Vec<Query>,
     seven: Vec<Query>,
@@ -21,9 +42,9 @@ pub struct Lists {
     thirteen: Vec<Query>,
 }
 
-impl Drop for Lists {
+impl Drop for Parts {
     fn drop(self) {
-        let Lists {
+        let Parts {
             one: _,
             two: _,
             seven: _,
@@ -35,14 +56,12 @@ impl Drop for Lists {
     }
 }
 
-impl Model for Lists {
-    ghost use Rattle.snb_schema.specs.QueryLists.{QueryLists, AreSorted};
+impl Model for Parts {
+    ghost use Rattle.snb_schema.specs.QueryLists.{QueryLists};
 
     ghost Value = { QueryLists };
 
     ghost view = { λ l. record { one = l.one.items; two = l.two.items; seven = l.seven.items; eight = l.eight.items; nine = l.nine.items; eleven = l.eleven.items; thirteen = l.thirteen.items } };
-
-    ghost invariant = { λ l. AreSorted (record { one = l.one.items; two = l.two.items; seven = l.seven.items; eight = l.eight.items; nine = l.nine.items; eleven = l.eleven.items; thirteen = l.thirteen.items }) };
 }
 
 // Appends a query to a list. Want of memory leaves the list as it was.
@@ -54,27 +73,10 @@ fn append(list: &mut Vec<Query>, one: Query) -> Result<(), AllocError>
     Ok(())
 }
 
-impl Lists {
-    /// Seven empty lists. Takes no memory.
-    pub fn new(alloc: Global) -> Lists
-        ensures { (query : ℕ) → list_of result query ≡ [] }
-    {
-        Lists {
-            one: Vec::new(alloc),
-            two: Vec::new(alloc),
-            seven: Vec::new(alloc),
-            eight: Vec::new(alloc),
-            nine: Vec::new(alloc),
-            eleven: Vec::new(alloc),
-            thirteen: Vec::new(alloc),
-        }
-    }
-
-    /// Appends to the list of the query of this number, which is one of the seven and the number of
-    /// `one`. Want of memory leaves all lists as they were, and drops `one`.
-    pub fn push(&mut self, query: u32, one: Query) -> Result<(), AllocError>
-        requires complex { IsComplex query }
-        requires kind { number_of_query one ≡ query }
+impl Parts {
+    // Appends to the list of the query of this number. Want of memory leaves all lists as they were.
+    fn push(&mut self, query: u32, one: Query) -> Result<(), AllocError>
+        requires { IsComplex query }
         ensures appended { OnOk result (list_of self.new query ≡ list_of self.old query ++ one ∷ []) }
         ensures others { OnOk result ((other : ℕ) → other ≢ query → list_of self.new other ≡ list_of self.old other) }
         ensures err { OnErr result (self.new ≡ self.old) }
@@ -90,12 +92,10 @@ impl Lists {
         }
     }
 
-    /// The list of the query of this number, in the order in which its items were appended. The number
-    /// is one of the seven.
-    pub fn of(&self, query: u32) -> &[Query]
+    // The list of the query of this number.
+    fn of(&self, query: u32) -> &[Query]
         requires { IsComplex query }
-        ensures value { result.now ≡ list_of self.now query }
-        ensures kind { AreOf query result.now }
+        ensures { result.now ≡ list_of self.now query }
     {
         match query {
             1 => &self.one,
@@ -106,5 +106,46 @@ impl Lists {
             11 => &self.eleven,
             _ => &self.thirteen,
         }
+    }
+}
+
+impl Lists {
+    /// Seven empty lists. Takes no memory.
+    pub fn new(alloc: Global) -> Lists
+        ensures { (query : ℕ) → list_of result query ≡ [] }
+    {
+        Lists {
+            parts: Parts {
+                one: Vec::new(alloc),
+                two: Vec::new(alloc),
+                seven: Vec::new(alloc),
+                eight: Vec::new(alloc),
+                nine: Vec::new(alloc),
+                eleven: Vec::new(alloc),
+                thirteen: Vec::new(alloc),
+            },
+        }
+    }
+
+    /// Appends to the list of the query of this number, which is one of the seven and the number of
+    /// `one`. Want of memory leaves all lists as they were, and drops `one`.
+    pub fn push(&mut self, query: u32, one: Query) -> Result<(), AllocError>
+        requires complex { IsComplex query }
+        requires kind { number_of_query one ≡ query }
+        ensures appended { OnOk result (list_of self.new query ≡ list_of self.old query ++ one ∷ []) }
+        ensures others { OnOk result ((other : ℕ) → other ≢ query → list_of self.new other ≡ list_of self.old other) }
+        ensures err { OnErr result (self.new ≡ self.old) }
+    {
+        self.parts.push(query, one)
+    }
+
+    /// The list of the query of this number, in the order in which its items were appended. The number
+    /// is one of the seven.
+    pub fn of(&self, query: u32) -> &[Query]
+        requires { IsComplex query }
+        ensures value { result.now ≡ list_of self.now query }
+        ensures kind { AreOf query result.now }
+    {
+        self.parts.of(query)
     }
 }

@@ -8,6 +8,7 @@ use Rattle.std.proofs.lemmas.List.Elements.{All-cons, All-tail, All-contains, Al
 use Rattle.std.proofs.lemmas.List.Sorted.{IsPermutation-trans, IsPermutation-sym, IsPermutation-append_left, IsPermutation-append_right, IsPermutation-append_comm, IsPermutation-to_front, All-permutation, Contains-permutation}
 use Rattle.snb_schema.specs.declared.row.Row.{Row}
 use Rattle.std.proofs.Common.{Result, Ok, Err, OnOk, OnErr}
+use Rattle.std.specs.Result.{result_and}
 use Rattle.snb_schema.specs.declared.layout.Shape.TheVariants as shapes
 use Rattle.snb_schema.specs.declared.row.Row.TheVariants as row
 use Rattle.snb_schema.specs.declared.table.Table.{Table}
@@ -283,3 +284,19 @@ part_lost ss i new now k l view whole one lost is has =
 -- a row of a graph is of its table's shape
 pub held_shape : (g : List Row) (given r : Row) → IsGraph g → Contains g given → given ≡ r → row_shape r ≡ shape (table_of r)
 held_shape g given r graph held is = shape_at given r is (All-contains IsTableRow g given graph.of_tables held)
+
+-- what is frozen after the first of the parts
+pub frozen_first : {T E : Type 0} (a : Result T E) (f r : List Row) → OnOk a (f ≡ r) → OnOk a (f ∷ [] ≡ r ∷ [])
+frozen_first (Ok _) f r p = rw p refl
+frozen_first (Err _) f r p = tt
+
+-- and after one more
+pub frozen_more : {T E : Type 0} (a b : Result T E) (fs rs : List (List Row)) (f r : List Row) → OnOk a (fs ≡ rs) → OnOk b (f ≡ r) → OnOk (result_and a b) (fs ++ f ∷ [] ≡ rs ++ r ∷ [])
+frozen_more (Ok _) (Ok _) fs rs f r p q = rw (p, q) refl
+frozen_more (Ok _) (Err _) fs rs f r p q = tt
+frozen_more (Err _) b fs rs f r p q = tt
+
+-- and of all parts
+pub frozen_all : {T E : Type 0} (a : Result T E) (fs rs : List (List Row)) (now : List Row) → joined rs ≡ now → OnOk a (fs ≡ rs) → OnOk a (joined fs ≡ now)
+frozen_all (Ok _) fs rs now is p = rw p is
+frozen_all (Err _) fs rs now is p = tt

@@ -149,17 +149,17 @@ impl Tables {
         ensures ok { OnOk result (self.new.frozen ≡ self.old.rows) }
         ensures more { (r : Row) → Contains self.old.frozen r → Contains self.new.frozen r }
     {
-        self.places.freeze()?;
-        self.tag_classes.freeze()?;
-        self.tags.freeze()?;
-        self.organisations.freeze()?;
-        self.persons.freeze()?;
-        self.forums.freeze()?;
-        self.posts.freeze()?;
-        self.comments.freeze()?;
-        self.edges.freeze()?;
-        self.words.freeze()?;
-        Ok(())
+        self.places
+            .freeze()
+            .and(self.tag_classes.freeze())
+            .and(self.tags.freeze())
+            .and(self.organisations.freeze())
+            .and(self.persons.freeze())
+            .and(self.forums.freeze())
+            .and(self.posts.freeze())
+            .and(self.comments.freeze())
+            .and(self.edges.freeze())
+            .and(self.words.freeze())
     }
 
     /// The person of this id.

@@ -14,7 +14,8 @@ use Rattle.snb_schema.specs.Layouts.{id_column}
 use Rattle.snb_schema.specs.UpdateLines.{Clashes, field, line_columns, parent_comment, parent_post}
 use Rattle.snb_fields.specs.Values.{first_number, first_optional, optional_value}
 use Rattle.snb_fields.specs.Values.{starts_twice}
-use Rattle.snb_fields.proofs.Laws.{number_some, starts_alone}
+use Rattle.snb_columns.proofs.Laws.{number_some}
+use Rattle.snb_fields.proofs.Laws.{starts_alone}
 use Rattle.snb_streams.specs.Make.{are_no_parent, clash_at, parent_by}
 use Rattle.snb_streams.proofs.PlaceFacts.{no_values, none_first, none_second, prefix_from, stop_from}
 

@@ -5,7 +5,7 @@ use Rattle.snb_schema.specs.declared.op.Line.{Line}
 use Rattle.snb_schema.specs.declared.query.Query.{Query}
 use Rattle.snb_schema.specs.Lines.{HasNoEnd, fields, lines}
 use Rattle.snb_schema.specs.ParameterLines.{IsParams}
-use Rattle.snb_fields.specs.Laws.{OneList}
+use Rattle.snb_columns.specs.Laws.{OneList}
 use Rattle.snb_lines.specs.Language.{IsText}
 use Rattle.snb_lines.specs.Laws.{IsExact}
 use Rattle.snb_lines.proofs.Laws.{are_under, each_line, lines_no_end, one_reading, reads_on, under}

@@ -11,7 +11,7 @@ use Rattle.snb_schema.specs.Columns.{SpellsAll}
 use Rattle.snb_schema.specs.Lines.{HasNoEnd, begins_with_mark, fields}
 use Rattle.snb_schema.specs.UpdateLines.{IsBadInsert, IsBadLine, IsLine, all_inserts, kind_of, line_columns, line_values, op_values}
 use Rattle.snb_lines.specs.Cut.{IsCutAtEnd}
-use Rattle.snb_fields.specs.Laws.{HasPlainFields, OneList, OwnLineOfValues}
+use Rattle.snb_columns.specs.Laws.{HasPlainFields, OneList, OwnLineOfValues}
 use Rattle.snb_streams.specs.Laws.{OneInsert}
 use Rattle.snb_streams.specs.Laws as laws
 use Rattle.snb_streams.specs.Make.{op_by}

@@ -8,7 +8,8 @@ use Rattle.snb_schema.specs.declared.query.Query.TheVariants.{Is1, Is2, Is3, Is4
 use Rattle.snb_schema.specs.Columns.{SpellsAll, StopsAfter}
 use Rattle.snb_schema.specs.ParameterLines.{IsBadQuery, SpellsQuery, query_columns, query_values}
 use Rattle.snb_schema.specs.Queries.{IsComplex, number_of_query}
-use Rattle.snb_fields.specs.Laws.{OneList, TakenAgain}
+use Rattle.snb_columns.specs.Laws.{OneList}
+use Rattle.snb_fields.specs.Laws.{TakenAgain}
 use Rattle.snb_fields.specs.Values.{taken}
 use Rattle.snb_streams.specs.Laws.{NoBadQuery, OneBadQuery, OneQuery}
 use Rattle.snb_streams.specs.Parameters.{query_by}

@@ -6,7 +6,7 @@ ghost use Rattle.snb_schema.specs.Lines.{HasNoEnd};
 ghost use Rattle.snb_schema.specs.UpdateLines.{IsBadLine};
 ghost use Rattle.snb_streams.specs.Split.{IsSplit};
 
-use snb_fields::law::plain_fields;
+use snb_columns::law::plain_fields;
 use snb_lines::record::Record;
 use snb_lines::split::{cut_at_end, is_marked, split_line};
 use snb_schema::fault::LineFault;

@@ -1,7 +1,11 @@
 //! Inserts as lines.
 
-ghost use Rattle.std.specs.Prelude.{◌≡◌, ◌++◌, IfOk, OnOk, OnErr};
-ghost use Rattle.snb_schema.specs.UpdateLines.{canonical_line, parent_comment, parent_post};
+ghost use Rattle.std.specs.Prelude.{◌≡◌, ◌++◌, ◌∷◌, [], IfOk, OnOk, OnErr, map};
+ghost use Rattle.std.specs.List.{join_with_byte};
+ghost use Rattle.snb_schema.specs.declared.column.Value.TheVariants.{Digits};
+ghost use Rattle.snb_schema.specs.declared.op.OpKind.TheVariants as kinds;
+ghost use Rattle.snb_schema.specs.Columns.{canonical_field};
+ghost use Rattle.snb_schema.specs.UpdateLines.{canonical_line, kind_of, parent_comment, parent_post};
 ghost use Rattle.snb_fields.specs.Cells.{value_of};
 
 use snb_fields::write::{Cell, line_of};
@@ -28,190 +32,222 @@ fn comment_cell(parent: Parent) -> Cell<'static>
     }
 }
 
+// The line of a person's insert and its two times.
+fn person_line(alloc: Global, t: u64, t_d: u64, op: &Op) -> Result<Vec<u8>, AllocError>
+    requires { kind_of op.now ≡ kinds.AddPerson }
+    ensures { IfOk result (λ text. text.items ≡ canonical_line t t_d op.now) }
+{
+    let Op::AddPerson {
+        person_id,
+        first_name,
+        last_name,
+        gender,
+        birthday,
+        creation_date,
+        location_ip,
+        browser_used,
+        city_id,
+        languages,
+        emails,
+        tag_ids,
+        study_at,
+        work_at,
+    } = op
+    else {
+        unreachable!()
+    };
+    line_of(
+        alloc,
+        &[
+            Cell::Digits(t),
+            Cell::Digits(t_d),
+            Cell::Digits(1),
+            Cell::Digits(*person_id),
+            Cell::Letters(first_name.as_str()),
+            Cell::Letters(last_name.as_str()),
+            Cell::Letters(gender.as_str()),
+            Cell::Digits(*birthday),
+            Cell::Digits(*creation_date),
+            Cell::Letters(location_ip.as_str()),
+            Cell::Letters(browser_used.as_str()),
+            Cell::Digits(*city_id),
+            Cell::Texts(languages.as_slice()),
+            Cell::Texts(emails.as_slice()),
+            Cell::Ids(tag_ids.as_slice()),
+            Cell::Pairs(study_at.as_slice()),
+            Cell::Pairs(work_at.as_slice()),
+        ],
+    )
+}
+
+// The line of a post's insert and its two times.
+fn post_line(alloc: Global, t: u64, t_d: u64, op: &Op) -> Result<Vec<u8>, AllocError>
+    requires { kind_of op.now ≡ kinds.AddPost }
+    ensures { IfOk result (λ text. text.items ≡ canonical_line t t_d op.now) }
+{
+    let Op::AddPost {
+        post_id,
+        image_file,
+        date,
+        location_ip,
+        browser_used,
+        language,
+        content,
+        length,
+        author_id,
+        forum_id,
+        country_id,
+        tag_ids,
+    } = op
+    else {
+        unreachable!()
+    };
+    line_of(
+        alloc,
+        &[
+            Cell::Digits(t),
+            Cell::Digits(t_d),
+            Cell::Digits(6),
+            Cell::Digits(*post_id),
+            Cell::Letters(image_file.as_str()),
+            Cell::Digits(*date),
+            Cell::Letters(location_ip.as_str()),
+            Cell::Letters(browser_used.as_str()),
+            Cell::Letters(language.as_str()),
+            Cell::Letters(content.as_str()),
+            Cell::SmallDigits(*length),
+            Cell::Digits(*author_id),
+            Cell::Digits(*forum_id),
+            Cell::Digits(*country_id),
+            Cell::Ids(tag_ids.as_slice()),
+        ],
+    )
+}
+
+// The line of a comment's insert and its two times.
+fn comment_line(alloc: Global, t: u64, t_d: u64, op: &Op) -> Result<Vec<u8>, AllocError>
+    requires { kind_of op.now ≡ kinds.AddComment }
+    ensures { IfOk result (λ text. text.items ≡ canonical_line t t_d op.now) }
+{
+    let Op::AddComment {
+        comment_id,
+        date,
+        location_ip,
+        browser_used,
+        content,
+        length,
+        author_id,
+        country_id,
+        parent,
+        tag_ids,
+    } = op
+    else {
+        unreachable!()
+    };
+    line_of(
+        alloc,
+        &[
+            Cell::Digits(t),
+            Cell::Digits(t_d),
+            Cell::Digits(7),
+            Cell::Digits(*comment_id),
+            Cell::Digits(*date),
+            Cell::Letters(location_ip.as_str()),
+            Cell::Letters(browser_used.as_str()),
+            Cell::Letters(content.as_str()),
+            Cell::SmallDigits(*length),
+            Cell::Digits(*author_id),
+            Cell::Digits(*country_id),
+            post_cell(*parent),
+            comment_cell(*parent),
+            Cell::Ids(tag_ids.as_slice()),
+        ],
+    )
+}
+
+// The line of a forum's insert and its two times.
+fn forum_line(alloc: Global, t: u64, t_d: u64, op: &Op) -> Result<Vec<u8>, AllocError>
+    requires { kind_of op.now ≡ kinds.AddForum }
+    ensures { IfOk result (λ text. text.items ≡ canonical_line t t_d op.now) }
+{
+    let Op::AddForum {
+        forum_id,
+        title,
+        date,
+        moderator_id,
+        tag_ids,
+    } = op
+    else {
+        unreachable!()
+    };
+    line_of(
+        alloc,
+        &[
+            Cell::Digits(t),
+            Cell::Digits(t_d),
+            Cell::Digits(4),
+            Cell::Digits(*forum_id),
+            Cell::Letters(title.as_str()),
+            Cell::Digits(*date),
+            Cell::Digits(*moderator_id),
+            Cell::Ids(tag_ids.as_slice()),
+        ],
+    )
+}
+
+// The line of an insert of three numbers, and its two times.
+fn numbers_line(
+    alloc: Global,
+    times: (u64, u64),
+    kind: u64,
+    first: u64,
+    second: u64,
+    date: u64,
+) -> Result<Vec<u8>, AllocError>
+    ensures { IfOk result (λ text. text.items ≡ join_with_byte 124 (map canonical_field (Digits times.0 ∷ Digits times.1 ∷ Digits kind ∷ Digits first ∷ Digits second ∷ Digits date ∷ []))) }
+{
+    line_of(
+        alloc,
+        &[
+            Cell::Digits(times.0),
+            Cell::Digits(times.1),
+            Cell::Digits(kind),
+            Cell::Digits(first),
+            Cell::Digits(second),
+            Cell::Digits(date),
+        ],
+    )
+}
+
 // The line of an insert and its two times, without a line end.
 fn op_line(alloc: Global, t: u64, t_d: u64, op: &Op) -> Result<Vec<u8>, AllocError>
     ensures { IfOk result (λ text. text.items ≡ canonical_line t t_d op.now) }
 {
     match op {
-        Op::AddPerson {
-            person_id,
-            first_name,
-            last_name,
-            gender,
-            birthday,
-            creation_date,
-            location_ip,
-            browser_used,
-            city_id,
-            languages,
-            emails,
-            tag_ids,
-            study_at,
-            work_at,
-        } => line_of(
-            alloc,
-            &[
-                Cell::Digits(t),
-                Cell::Digits(t_d),
-                Cell::Digits(1),
-                Cell::Digits(*person_id),
-                Cell::Letters(first_name.as_str()),
-                Cell::Letters(last_name.as_str()),
-                Cell::Letters(gender.as_str()),
-                Cell::Digits(*birthday),
-                Cell::Digits(*creation_date),
-                Cell::Letters(location_ip.as_str()),
-                Cell::Letters(browser_used.as_str()),
-                Cell::Digits(*city_id),
-                Cell::Texts(languages.as_slice()),
-                Cell::Texts(emails.as_slice()),
-                Cell::Ids(tag_ids.as_slice()),
-                Cell::Pairs(study_at.as_slice()),
-                Cell::Pairs(work_at.as_slice()),
-            ],
-        ),
+        Op::AddPerson { .. } => person_line(alloc, t, t_d, op),
         Op::LikePost {
             person_id,
             post_id,
             date,
-        } => line_of(
-            alloc,
-            &[
-                Cell::Digits(t),
-                Cell::Digits(t_d),
-                Cell::Digits(2),
-                Cell::Digits(*person_id),
-                Cell::Digits(*post_id),
-                Cell::Digits(*date),
-            ],
-        ),
+        } => numbers_line(alloc, (t, t_d), 2, *person_id, *post_id, *date),
         Op::LikeComment {
             person_id,
             comment_id,
             date,
-        } => line_of(
-            alloc,
-            &[
-                Cell::Digits(t),
-                Cell::Digits(t_d),
-                Cell::Digits(3),
-                Cell::Digits(*person_id),
-                Cell::Digits(*comment_id),
-                Cell::Digits(*date),
-            ],
-        ),
-        Op::AddForum {
-            forum_id,
-            title,
-            date,
-            moderator_id,
-            tag_ids,
-        } => line_of(
-            alloc,
-            &[
-                Cell::Digits(t),
-                Cell::Digits(t_d),
-                Cell::Digits(4),
-                Cell::Digits(*forum_id),
-                Cell::Letters(title.as_str()),
-                Cell::Digits(*date),
-                Cell::Digits(*moderator_id),
-                Cell::Ids(tag_ids.as_slice()),
-            ],
-        ),
+        } => numbers_line(alloc, (t, t_d), 3, *person_id, *comment_id, *date),
+        Op::AddForum { .. } => forum_line(alloc, t, t_d, op),
         Op::AddMember {
             person_id,
             forum_id,
             join_date,
-        } => line_of(
-            alloc,
-            &[
-                Cell::Digits(t),
-                Cell::Digits(t_d),
-                Cell::Digits(5),
-                Cell::Digits(*person_id),
-                Cell::Digits(*forum_id),
-                Cell::Digits(*join_date),
-            ],
-        ),
-        Op::AddPost {
-            post_id,
-            image_file,
-            date,
-            location_ip,
-            browser_used,
-            language,
-            content,
-            length,
-            author_id,
-            forum_id,
-            country_id,
-            tag_ids,
-        } => line_of(
-            alloc,
-            &[
-                Cell::Digits(t),
-                Cell::Digits(t_d),
-                Cell::Digits(6),
-                Cell::Digits(*post_id),
-                Cell::Letters(image_file.as_str()),
-                Cell::Digits(*date),
-                Cell::Letters(location_ip.as_str()),
-                Cell::Letters(browser_used.as_str()),
-                Cell::Letters(language.as_str()),
-                Cell::Letters(content.as_str()),
-                Cell::SmallDigits(*length),
-                Cell::Digits(*author_id),
-                Cell::Digits(*forum_id),
-                Cell::Digits(*country_id),
-                Cell::Ids(tag_ids.as_slice()),
-            ],
-        ),
-        Op::AddComment {
-            comment_id,
-            date,
-            location_ip,
-            browser_used,
-            content,
-            length,
-            author_id,
-            country_id,
-            parent,
-            tag_ids,
-        } => line_of(
-            alloc,
-            &[
-                Cell::Digits(t),
-                Cell::Digits(t_d),
-                Cell::Digits(7),
-                Cell::Digits(*comment_id),
-                Cell::Digits(*date),
-                Cell::Letters(location_ip.as_str()),
-                Cell::Letters(browser_used.as_str()),
-                Cell::Letters(content.as_str()),
-                Cell::SmallDigits(*length),
-                Cell::Digits(*author_id),
-                Cell::Digits(*country_id),
-                post_cell(*parent),
-                comment_cell(*parent),
-                Cell::Ids(tag_ids.as_slice()),
-            ],
-        ),
+        } => numbers_line(alloc, (t, t_d), 5, *person_id, *forum_id, *join_date),
+        Op::AddPost { .. } => post_line(alloc, t, t_d, op),
+        Op::AddComment { .. } => comment_line(alloc, t, t_d, op),
         Op::AddFriend {
             person1_id,
             person2_id,
             date,
-        } => line_of(
-            alloc,
-            &[
-                Cell::Digits(t),
-                Cell::Digits(t_d),
-                Cell::Digits(8),
-                Cell::Digits(*person1_id),
-                Cell::Digits(*person2_id),
-                Cell::Digits(*date),
-            ],
-        ),
+        } => numbers_line(alloc, (t, t_d), 8, *person1_id, *person2_id, *date),
     }
 }
 

@@ -22,7 +22,7 @@ use Rattle.snb_schema.specs.Lines.{HasNoBar, HasNoEnd}
 use Rattle.snb_schema.specs.StreamLines.{AreOfStream, AreOfStreams, IsOfLine}
 use Rattle.snb_schema.specs.TableRows.{IsFieldText}
 use Rattle.snb_schema.specs.UpdateLines.{IsOfTwo, canonical_line, forum_inserts, kind_of, line_columns, line_values, op_number, op_values, person_inserts}
-use Rattle.snb_fields.specs.Laws.{OwnLineOfValues}
+use Rattle.snb_columns.specs.Laws.{OwnLineOfValues}
 use Rattle.snb_trial.specs.Trial.{half, lane, lanes, line_of}
 use Rattle.snb_trial.proofs.Elements.{all_of, none_in}
 use Rattle.snb_trial.proofs.Seven.{Comment, Forum, Friendship, IsLineIn, Like, Membership, Person, Post, Seven, entry_of, in_order, lane_number, line_in, of_lane}

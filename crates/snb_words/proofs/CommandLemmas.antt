@@ -8,7 +8,7 @@ use Rattle.snb_schema.specs.declared.query.Query.{Query}
 use Rattle.snb_words.specs.declared.command.Command.{Command}
 use Rattle.snb_words.specs.declared.command.Command.TheVariants.{Check, Run, Audit, Expect, Validate, Read, Trial}
 use Rattle.snb_words.specs.declared.options.Options.{Options}
-use Rattle.snb_fields.specs.Laws.{OneList}
+use Rattle.snb_columns.specs.Laws.{OneList}
 use Rattle.snb_words.specs.Commands.{AreOf, IsLineOf, IsOtherLine, IsReadOf, IsRunnable, form_of}
 use Rattle.snb_words.specs.Laws.{WordsAreOne}
 use Rattle.snb_words.specs.Options.{no_options}

@@ -3,7 +3,8 @@ use Rattle.std.proofs.Common.{◌≡◌, ◌↔◌, ◌<◌, ◌≤◌, Bool, fa
 use Rattle.std.specs.Option.{MatchOption, is_some}
 use Rattle.snb_base.specs.Spellings.{Date, Num}
 use Rattle.snb_fields.proofs.Laws.{spelled_long}
-use Rattle.snb_fields.specs.Laws.{OneList, TakenAgain}
+use Rattle.snb_columns.specs.Laws.{OneList}
+use Rattle.snb_fields.specs.Laws.{TakenAgain}
 use Rattle.snb_fields.specs.Values.{taken}
 use Rattle.snb_schema.specs.declared.column.Column.{Column}
 use Rattle.snb_schema.specs.declared.column.Column.TheVariants as columns

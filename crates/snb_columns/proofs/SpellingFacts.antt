@@ -12,12 +12,12 @@ use Rattle.snb_schema.specs.declared.column.Column.TheVariants.{Number, Small, O
 use Rattle.snb_schema.specs.declared.column.Value.{Value}
 use Rattle.snb_schema.specs.declared.column.Value.TheVariants.{Digits, SmallDigits, NoId, Letters, Texts, Ids, Pairs}
 use Rattle.snb_schema.specs.Columns.{Spells, SpellsAll, canonical_field, pair_text}
-use Rattle.snb_fields.specs.Laws.{OneList, OneValue}
+use Rattle.snb_columns.specs.Laws.{OneList, OneValue}
 use Rattle.snb_schema.specs.Lines.{HasNo}
-use Rattle.snb_fields.proofs.CutFacts.{all_digits}
-use Rattle.snb_fields.proofs.Laws.{number_some}
-use Rattle.snb_fields.proofs.ListFacts.{IsElement, kept_listed, one_listed, own_listed}
-use Rattle.snb_fields.proofs.PairFacts.{OneNumber, one_pair}
+use Rattle.snb_columns.proofs.CutFacts.{all_digits}
+use Rattle.snb_columns.proofs.Laws.{number_some}
+use Rattle.snb_columns.proofs.ListFacts.{IsElement, kept_listed, one_listed, own_listed}
+use Rattle.snb_columns.proofs.PairFacts.{OneNumber, one_pair}
 
 -- a text spells one number, one date and one day at most
 pub record OneEach : Type 0 where

@@ -13,9 +13,9 @@ use Rattle.snb_schema.specs.declared.column.Value.{Value}
 use Rattle.snb_schema.specs.declared.column.Value.TheVariants.{Digits}
 use Rattle.snb_schema.specs.Columns.{Spells, canonical_field}
 use Rattle.snb_schema.specs.Lines.{HasNoBar, HasNoEnd, begins_with_mark}
-use Rattle.snb_fields.specs.Laws.{OwnLineOfValues}
-use Rattle.snb_fields.proofs.CutFacts.{all_digits, around_all, around_ascii, joined_all, joined_parts}
-use Rattle.snb_fields.proofs.SpellingFacts.{IsKept, OwnDigits, digits_number, kept_fields, own_fields}
+use Rattle.snb_columns.specs.Laws.{OwnLineOfValues}
+use Rattle.snb_columns.proofs.CutFacts.{all_digits, around_all, around_ascii, joined_all, joined_parts}
+use Rattle.snb_columns.proofs.SpellingFacts.{IsKept, OwnDigits, digits_number, kept_fields, own_fields}
 
 -- what holds of digits, commas and semicolons is kept in each byte
 kept_bytes : (P : ℕ → Type 0) → ((b : ℕ) → IsDigit b → P b) → P 44 → P 59 → IsKept (All P)

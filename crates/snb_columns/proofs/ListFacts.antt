@@ -8,7 +8,7 @@ use Rattle.std.specs.List.{join_with_byte, list_any}
 use Rattle.std.specs.Str.{IsUtf8}
 use Rattle.snb_base.specs.Spellings.{EachSpells, Listed, SpellsWord, elements, once_after}
 use Rattle.snb_schema.specs.Lines.{HasNo}
-use Rattle.snb_fields.proofs.CutFacts.{around_ascii, joined_all, joined_parts, parts, parts_all, parts_uncut}
+use Rattle.snb_columns.proofs.CutFacts.{around_ascii, joined_all, joined_parts, parts, parts_all, parts_uncut}
 
 -- the second of three answers may stand first
 or_turned : (x y z : Bool) → (x || (y || z)) ≡ ((y || x) || z)

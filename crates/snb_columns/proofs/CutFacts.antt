@@ -9,7 +9,7 @@ use Rattle.std.specs.List.{AllByRecursion, join_with_byte, slice_split}
 use Rattle.std.specs.Str.{IsUtf8}
 use Rattle.snb_base.specs.Calendar.{IsDigit}
 use Rattle.snb_schema.specs.Lines.{HasNo, HasNoEnd}
-use Rattle.snb_fields.specs.Laws.{HasPlainFields}
+use Rattle.snb_columns.specs.Laws.{HasPlainFields}
 
 -- what holds of each digit holds of each byte of digits
 pub all_digits : (P : ℕ → Type 0) → ((b : ℕ) → IsDigit b → P b) → (t : List ℕ) → AllByRecursion IsDigit t → All P t

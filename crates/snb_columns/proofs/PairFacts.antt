@@ -6,8 +6,8 @@ use Rattle.std.proofs.lemmas.List.Folds.{list_any_at}
 use Rattle.std.specs.List.{Contains, list_any}
 use Rattle.snb_base.specs.Spellings.{HasOneYear, Listed, Num, PairList, SpellsPair, last_id, pair_eq}
 use Rattle.snb_schema.specs.Lines.{HasNo}
-use Rattle.snb_fields.proofs.CutFacts.{all_digits}
-use Rattle.snb_fields.proofs.ListFacts.{one_listed}
+use Rattle.snb_columns.proofs.CutFacts.{all_digits}
+use Rattle.snb_columns.proofs.ListFacts.{one_listed}
 
 -- a text spells one number at most
 abbrev pub OneNumber : Type 0
