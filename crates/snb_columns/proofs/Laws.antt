@@ -1,16 +1,14 @@
--- What another crate may cite of this one of numbers and of items of lists.
-use Rattle.std.proofs.Common.{◌≢◌, ◌++◌, ◌∷◌, ℕ, List, Bool, subst, arith}
-use Rattle.std.specs.List.{All, AllByRecursion}
-use Rattle.snb_base.specs.Calendar.{IsDigit}
-use Rattle.snb_base.specs.Spellings.{Listed, Num}
-use Rattle.snb_schema.specs.Columns.{no_id}
+-- What another crate may cite of this one: of numbers, of lists and their items, of pairs, and of what fields spell.
+use Rattle.std.proofs.Common.{◌≢◌, ◌++◌, ◌∷◌, ℕ, List, Bool, arith}
+use Rattle.std.specs.List.{All}
+use Rattle.snb_base.specs.Spellings.{Listed}
 use Rattle.snb_schema.specs.TableRows.{IsFieldText}
 use Rattle.snb_columns.proofs.CutFacts.{around_all, around_ascii}
 use Rattle.snb_columns.proofs.ListFacts.{items_all}
-
--- a number isn't `-1`, which stands for no id
-pub number_some : (x : List ℕ) (n most : ℕ) → Num x n most → x ≢ no_id
-number_some x n most s e = (let digits : AllByRecursion IsDigit no_id = subst (AllByRecursion IsDigit) e s.digits in let low = digits.0 in absurd (omega arith))
+pub use Rattle.snb_columns.proofs.ListFacts.{IsRead, element_text, elements_some, no_word, read_all, read_fails, read_new, read_repeat, same_parts, tested_some}
+pub use Rattle.snb_columns.proofs.NumberFacts.{number_some}
+pub use Rattle.snb_columns.proofs.PairFacts.{differs, no_comma, not_listed, one_year, pair_parts, two_years}
+pub use Rattle.snb_columns.proofs.SpellingFacts.{OneEach, each_itself, one_list, one_value}
 
 -- where a field can hold a text, it can hold what stands before and behind a semicolon
 around_plain : (a b : List ℕ) → IsFieldText (a ++ 59 ∷ b) → IsFieldText a × IsFieldText b

@@ -1,6 +1,7 @@
 pub mod Laws
-pub mod CutFacts
-pub mod ListFacts
-pub mod PairFacts
-pub mod SpellingFacts
+mod CutFacts
+mod ListFacts
+mod NumberFacts
+mod PairFacts
+mod SpellingFacts
 mod LineFacts

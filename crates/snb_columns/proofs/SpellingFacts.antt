@@ -15,7 +15,7 @@ use Rattle.snb_schema.specs.Columns.{Spells, SpellsAll, canonical_field, pair_te
 use Rattle.snb_columns.specs.Laws.{OneList, OneValue}
 use Rattle.snb_schema.specs.Lines.{HasNo}
 use Rattle.snb_columns.proofs.CutFacts.{all_digits}
-use Rattle.snb_columns.proofs.Laws.{number_some}
+use Rattle.snb_columns.proofs.NumberFacts.{number_some}
 use Rattle.snb_columns.proofs.ListFacts.{IsElement, kept_listed, one_listed, own_listed}
 use Rattle.snb_columns.proofs.PairFacts.{OneNumber, one_pair}
 

@@ -16,7 +16,7 @@ use Rattle.snb_schema.specs.declared.column.Value.TheVariants.{Digits, SmallDigi
 use Rattle.snb_schema.specs.Columns.{Spells, no_id}
 use Rattle.snb_schema.specs.Lines.{HasNo}
 use Rattle.snb_fields.specs.Laws.{EachIsSpelled, EachLineIsRead}
-use Rattle.snb_columns.proofs.PairFacts.{differs, no_comma, not_listed, one_year, pair_parts, two_years}
+use Rattle.snb_columns.proofs.Laws.{differs, no_comma, not_listed, one_year, pair_parts, two_years}
 use Rattle.snb_fields.proofs.ReadingFacts.{date_of, day_of, ids_of, pairs_of, texts_of}
 
 -- it holds or it doesn't

@@ -5,7 +5,7 @@ use Rattle.std.specs.List.{join_with_byte}
 use Rattle.snb_schema.specs.Columns.{canonical_field}
 use Rattle.snb_fields.specs.Cells.{value_of}
 use Rattle.snb_fields.specs.declared.write.Cell.{Cell}
-use Rattle.snb_columns.proofs.SpellingFacts.{each_itself}
+use Rattle.snb_columns.proofs.Laws.{each_itself}
 
 -- the byte c stands before each element but the first
 abbrev pub mark_before : ℕ → ℕ → List ℕ

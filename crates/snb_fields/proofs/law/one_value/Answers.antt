@@ -1,4 +1,4 @@
-use Rattle.snb_columns.proofs.SpellingFacts.{OneEach, one_list, one_value}
+use Rattle.snb_columns.proofs.Laws.{OneEach, one_list, one_value}
 use Rattle.snb_fields.proofs.law.one_value.Goals as goal
 
 pub returns : goal.returns

@@ -1,7 +1,7 @@
 use Rattle.std.proofs.Common.{◌≡◌, ◌∙◌, false, refl, subst, sym, take_all, All}
 use Rattle.std.proofs.lemmas.List.Elements.{All-more, Contains-get_or}
 use Rattle.std.specs.List.{list_any}
-use Rattle.snb_columns.proofs.PairFacts.{differs, one_year, two_years}
+use Rattle.snb_columns.proofs.Laws.{differs, one_year, two_years}
 use Rattle.snb_fields.proofs.lists.has_one_year.Goals as goal
 
 pub returns-then-has_other_year : goal.returns-then-has_other_year

@@ -1,6 +1,6 @@
 use Rattle.std.proofs.Common.{◌≡◌, false, take, All}
 use Rattle.std.specs.List.{list_any}
-use Rattle.snb_columns.proofs.PairFacts.{differs}
+use Rattle.snb_columns.proofs.Laws.{differs}
 use Rattle.snb_fields.proofs.lists.has_one_year.Given as goal
 
 -- no pair before this one has its id elsewhere with another year

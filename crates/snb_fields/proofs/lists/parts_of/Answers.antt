@@ -2,7 +2,7 @@ use Rattle.std.proofs.Common.{◌≡◌, List, ℕ, map, rules, subst, sym, test
 use Rattle.std.proofs.lemmas.Iterator.Consumers.{map_from_collect}
 use Rattle.std.proofs.lemmas.Iterator.Splits.{YieldsList-from_slice_split}
 use Rattle.std.specs.Result.{IfOk}
-use Rattle.snb_columns.proofs.ListFacts.{elements_some, tested_some}
+use Rattle.snb_columns.proofs.Laws.{elements_some, tested_some}
 use Rattle.snb_fields.proofs.lists.parts_of.Goals as goal
 
 pub returns : goal.returns

@@ -1,7 +1,7 @@
 use Rattle.std.proofs.Common.{◌∙◌, ap, sym, nat_eq}
 use Rattle.std.specs.List.{list_any}
 use Rattle.snb_base.specs.Spellings.{SpellsId}
-use Rattle.snb_columns.proofs.ListFacts.{read_all, read_fails, read_new, read_repeat, same_parts}
+use Rattle.snb_columns.proofs.Laws.{read_all, read_fails, read_new, read_repeat, same_parts}
 use Rattle.snb_fields.proofs.lists.read_ids.Goals as goal
 use Rattle.snb_fields.proofs.lists.read_ids.Goals.{then-not-has_id+in_ok-push, else-not-has_id}
 

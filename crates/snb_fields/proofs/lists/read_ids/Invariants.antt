@@ -1,6 +1,6 @@
 use Rattle.std.proofs.Common.{map, nat_eq, take}
 use Rattle.snb_base.specs.Spellings.{SpellsId}
-use Rattle.snb_columns.proofs.ListFacts.{IsRead}
+use Rattle.snb_columns.proofs.Laws.{IsRead}
 use Rattle.snb_fields.proofs.lists.read_ids.Given as goal
 
 -- the elements before this one spell these ids

@@ -1,6 +1,6 @@
 use Rattle.std.proofs.Common.{subst, sym}
 use Rattle.snb_base.specs.Spellings.{Num}
-use Rattle.snb_columns.proofs.PairFacts.{no_comma, pair_parts}
+use Rattle.snb_columns.proofs.Laws.{no_comma, pair_parts}
 use Rattle.snb_fields.proofs.lists.read_pair.Goals as goal
 
 pub returns-in_default : goal.returns-in_default

@@ -1,8 +1,7 @@
 use Rattle.std.proofs.Common.{◌∙◌, ap, sym, subst}
 use Rattle.std.specs.List.{list_any}
 use Rattle.snb_base.specs.Spellings.{HasOneYear, Listed, SpellsPair, pair_eq}
-use Rattle.snb_columns.proofs.PairFacts.{not_listed}
-use Rattle.snb_columns.proofs.ListFacts.{read_all, read_fails, read_new, read_repeat, same_parts}
+use Rattle.snb_columns.proofs.Laws.{not_listed, read_all, read_fails, read_new, read_repeat, same_parts}
 use Rattle.snb_fields.proofs.lists.read_pairs.Goals as goal
 use Rattle.snb_fields.proofs.lists.read_pairs.Goals.{After-loop-part, then-not-has_pair+in_ok-push, else-not-has_pair}
 

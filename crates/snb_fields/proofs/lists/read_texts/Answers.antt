@@ -2,7 +2,7 @@ use Rattle.std.proofs.Common.{◌∙◌, List, ℕ, ap, refl, sym}
 use Rattle.std.specs.List.{list_any}
 use Rattle.std.specs.Str.{bytes_eq}
 use Rattle.snb_base.specs.Spellings.{SpellsWord}
-use Rattle.snb_columns.proofs.ListFacts.{element_text, no_word, read_all, read_fails, read_new, read_repeat, same_parts, tested_some}
+use Rattle.snb_columns.proofs.Laws.{element_text, no_word, read_all, read_fails, read_new, read_repeat, same_parts, tested_some}
 use Rattle.snb_fields.proofs.lists.read_texts.Goals as goal
 use Rattle.snb_fields.proofs.lists.read_texts.Goals.{then-not-has_text+in_ok-text_of+in_ok-push, else-not-has_text}
 

@@ -1,7 +1,7 @@
 use Rattle.std.proofs.Common.{map, take}
 use Rattle.std.specs.Str.{bytes_eq}
 use Rattle.snb_base.specs.Spellings.{SpellsWord}
-use Rattle.snb_columns.proofs.ListFacts.{IsRead}
+use Rattle.snb_columns.proofs.Laws.{IsRead}
 use Rattle.snb_fields.proofs.lists.read_texts.Given as goal
 
 -- the elements before this one spell these texts
