@@ -23,6 +23,11 @@ fault_never (Err (Refused r)) F h = tt
 fault_never (Err ReadFault) F h = absurd h
 fault_never (Err Memory) F h = tt
 
+pub fault_none : (A B : Type 0) (load : Load) (F : Type 0) → OnReadFault {A = A} (Err load) ⊥ → OnReadFault {A = B} (Err load) F
+fault_none A B (Refused r) F h = tt
+fault_none A B ReadFault F h = absurd h
+fault_none A B Memory F h = tt
+
 -- what holds in any case holds without a fault
 pub calm_always : {A : Type 0} (result : Result A Load) (F : Type 0) → F → UnlessReadFault result F
 calm_always (Ok a) F h = h
