@@ -1,4 +1,5 @@
 pub mod Feeding
+pub mod FaultFacts
 pub mod FileFacts
 pub mod FirstLine
 pub mod Going

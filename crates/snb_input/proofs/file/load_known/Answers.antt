@@ -1,12 +1,14 @@
-use Rattle.std.proofs.Common.{rules, ◌-◌, Option, Ok, Err, ap, refl, subst, arith}
+use Rattle.std.proofs.Common.{rules, ◌∙◌, ◌-◌, ◌≤◌, Option, Ok, Err, ap, refl, subst, arith}
 use Rattle.std.proofs.lemmas.Grind.{common_steps}
 use Rattle.snb_base.specs.Shelf.{Files}
 use Rattle.snb_schema.specs.declared.limits.TheConstants.{MAX_BYTES}
 use Rattle.snb_lines.specs.Feeding.{Reader}
+use Rattle.snb_input.specs.declared.file.Loaded.{Loaded}
 use Rattle.snb_input.specs.declared.pieces.Step.{Step}
 use Rattle.snb_input.specs.declared.pieces.Step.TheVariants as step
 use Rattle.snb_input.specs.Format.{format_of}
 use Rattle.snb_input.specs.Pieces.{IsStep}
+use Rattle.snb_input.proofs.FaultFacts.{calm_always, calm_from, fault_from, fault_never}
 use Rattle.snb_input.proofs.Going.{first, going_absent, going_begins, going_end, going_err, going_more, kept_reader}
 use Rattle.snb_input.proofs.file.load_known.Goals as goal
 
@@ -68,3 +70,45 @@ pieces-preserved g c = record {
   same = search rules;
   calm = search rules;
 }
+
+pub returns-in-Err-clause-within : goal.returns-in-Err-clause-within
+returns-in-Err-clause-within g c = tt
+
+pub returns-in-Err-clause-fault : goal.returns-in-Err-clause-fault
+returns-in-Err-clause-fault g c = fault_from Step (Loaded g.row.P.Denot) c.in-Err.load (g.S.Shelf.faults c.args.shelf.now) (g.S.Shelf.faults c.pieces.shelf) (g.S.Shelf.faults c.read_piece.new.shelf) c.pieces.invariant.calm c.in-Err.ensures.fault
+
+pub returns-in-Err-clause-later : goal.returns-in-Err-clause-later
+returns-in-Err-clause-later g c = subst (λ n. n ≤ g.S.Shelf.faults c.read_piece.new.shelf) c.pieces.invariant.calm c.read_piece.ensures.later
+
+pub returns-in-Err-clause-calm : goal.returns-in-Err-clause-calm
+returns-in-Err-clause-calm g c = calm_from Step (Loaded g.row.P.Denot) c.in-Err.load (g.S.Shelf.faults c.args.shelf.now) (g.S.Shelf.faults c.pieces.shelf) (g.S.Shelf.faults c.read_piece.new.shelf) c.pieces.invariant.calm c.in-Err.ensures.calm
+
+pub returns-in-Err-clause-same : goal.returns-in-Err-clause-same
+returns-in-Err-clause-same g c = c.read_piece.ensures.same ∙ c.pieces.invariant.same
+
+pub returns-in-Ok-Absent-clause-within : goal.returns-in-Ok-Absent-clause-within
+returns-in-Ok-Absent-clause-within g c = tt
+
+pub returns-in-Ok-Absent-clause-fault : goal.returns-in-Ok-Absent-clause-fault
+returns-in-Ok-Absent-clause-fault g c = tt
+
+pub returns-in-Ok-Absent-clause-later : goal.returns-in-Ok-Absent-clause-later
+returns-in-Ok-Absent-clause-later g c = subst (λ n. n ≤ g.S.Shelf.faults c.read_piece.new.shelf) c.pieces.invariant.calm c.read_piece.ensures.later
+
+pub returns-in-Ok-Absent-clause-calm : goal.returns-in-Ok-Absent-clause-calm
+returns-in-Ok-Absent-clause-calm g c = c.in-Ok-Absent.ensures.calm ∙ c.pieces.invariant.calm
+
+pub returns-in-Ok-Absent-clause-same : goal.returns-in-Ok-Absent-clause-same
+returns-in-Ok-Absent-clause-same g c = c.read_piece.ensures.same ∙ c.pieces.invariant.same
+
+pub returns-in-Ok-End-clause-fault : goal.returns-in-Ok-End-clause-fault
+returns-in-Ok-End-clause-fault g c = fault_never c.end_file.result _ c.end_file.ensures.fault
+
+pub returns-in-Ok-End-clause-later : goal.returns-in-Ok-End-clause-later
+returns-in-Ok-End-clause-later g c = subst (λ n. n ≤ g.S.Shelf.faults c.read_piece.new.shelf) c.pieces.invariant.calm c.read_piece.ensures.later
+
+pub returns-in-Ok-End-clause-calm : goal.returns-in-Ok-End-clause-calm
+returns-in-Ok-End-clause-calm g c = calm_always c.end_file.result _ (c.in-Ok-End.ensures.calm ∙ c.pieces.invariant.calm)
+
+pub returns-in-Ok-End-clause-same : goal.returns-in-Ok-End-clause-same
+returns-in-Ok-End-clause-same g c = c.read_piece.ensures.same ∙ c.pieces.invariant.same

@@ -1,9 +1,11 @@
-use Rattle.std.proofs.Common.{rules, ◌≡◌, ◌++◌, Option, Some, None, Bool, Ok, Err, subst, sym, arith}
+use Rattle.std.proofs.Common.{rules, ◌≡◌, ◌∙◌, ◌++◌, ◌≤◌, Option, Some, None, Bool, Ok, Err, subst, sym, arith}
 use Rattle.snb_base.specs.Shelf.{Files}
 use Rattle.snb_input.specs.Format.{format_of}
 use Rattle.snb_input.specs.declared.walk.Looked.{Looked}
+use Rattle.snb_input.specs.declared.walk.Walk.{Walk}
 use Rattle.snb_input.specs.Looking.{IsFileTold, IsLook, IsLookedWithin, IsPeek}
 use Rattle.snb_input.specs.Walk.{file_at, first_role}
+use Rattle.snb_input.proofs.FaultFacts.{calm_from, fault_from}
 use Rattle.snb_input.proofs.SeriesFacts.{along_absent, along_end, along_err, along_first, along_last, along_more, along_over}
 use Rattle.snb_input.proofs.walk.walk_series.Goals as goal
 
@@ -70,3 +72,66 @@ returns-in_default-clause-answer g c =
     λ begun start looked k.
     along_last (format_of g.G.Grammar.language g.P.Taker.grammar_of g.P.Taker.limit (g.P.Taker.own begun) g.P.Taker.bare) (g.P.Taker.heard begun) (g.S.Shelf.contents c.args.shelf.now) c.args.folder.now c.args.series start looked c.loop-part.part (first_role c.loop-part.needed) c.loop-part.so_far (c.loop-part.invariant.along begun start looked k) c.in_default.is
     (omega arith) c.requires.few
+
+pub returns-in-Err-clause-within : goal.returns-in-Err-clause-within
+returns-in-Err-clause-within g c = tt
+
+pub returns-in-Err-clause-fault : goal.returns-in-Err-clause-fault
+returns-in-Err-clause-fault g c = fault_from (Looked g.row.P.Denot) (Walk g.row.P.Denot) c.in-Err.load (g.S.Shelf.faults c.args.shelf.now) (g.S.Shelf.faults c.loop-part.shelf) (g.S.Shelf.faults c.look.new.shelf) c.loop-part.invariant.calm c.in-Err.ensures.fault
+
+pub returns-in-Err-clause-later : goal.returns-in-Err-clause-later
+returns-in-Err-clause-later g c = subst (λ n. n ≤ g.S.Shelf.faults c.look.new.shelf) c.loop-part.invariant.calm c.look.ensures.later
+
+pub returns-in-Err-clause-calm : goal.returns-in-Err-clause-calm
+returns-in-Err-clause-calm g c = calm_from (Looked g.row.P.Denot) (Walk g.row.P.Denot) c.in-Err.load (g.S.Shelf.faults c.args.shelf.now) (g.S.Shelf.faults c.loop-part.shelf) (g.S.Shelf.faults c.look.new.shelf) c.loop-part.invariant.calm c.in-Err.ensures.calm
+
+pub returns-in-Err-clause-same : goal.returns-in-Err-clause-same
+returns-in-Err-clause-same g c = c.look.ensures.same ∙ c.loop-part.invariant.same
+
+pub returns-in-Ok-Absent-clause-fault : goal.returns-in-Ok-Absent-clause-fault
+returns-in-Ok-Absent-clause-fault g c = tt
+
+pub returns-in-Ok-Absent-clause-later : goal.returns-in-Ok-Absent-clause-later
+returns-in-Ok-Absent-clause-later g c = subst (λ n. n ≤ g.S.Shelf.faults c.look.new.shelf) c.loop-part.invariant.calm c.look.ensures.later
+
+pub returns-in-Ok-Absent-clause-calm : goal.returns-in-Ok-Absent-clause-calm
+returns-in-Ok-Absent-clause-calm g c = c.in-Ok-Absent.ensures.calm ∙ c.loop-part.invariant.calm
+
+pub returns-in-Ok-Absent-clause-same : goal.returns-in-Ok-Absent-clause-same
+returns-in-Ok-Absent-clause-same g c = c.look.ensures.same ∙ c.loop-part.invariant.same
+
+pub returns-in-Ok-true-clause-within : goal.returns-in-Ok-true-clause-within
+returns-in-Ok-true-clause-within g c = tt
+
+pub returns-in-Ok-true-clause-fault : goal.returns-in-Ok-true-clause-fault
+returns-in-Ok-true-clause-fault g c = tt
+
+pub returns-in-Ok-true-clause-later : goal.returns-in-Ok-true-clause-later
+returns-in-Ok-true-clause-later g c = subst (λ n. n ≤ g.S.Shelf.faults c.is_held.new.shelf) c.loop-part.invariant.calm c.is_held.ensures.later
+
+pub returns-in-Ok-true-clause-calm : goal.returns-in-Ok-true-clause-calm
+returns-in-Ok-true-clause-calm g c = c.in-Ok-true.ensures.calm ∙ c.loop-part.invariant.calm
+
+pub returns-in-Ok-true-clause-same : goal.returns-in-Ok-true-clause-same
+returns-in-Ok-true-clause-same g c = c.is_held.ensures.same ∙ c.loop-part.invariant.same
+
+pub returns-in-Ok-false-clause-fault : goal.returns-in-Ok-false-clause-fault
+returns-in-Ok-false-clause-fault g c = tt
+
+pub returns-in-Ok-false-clause-later : goal.returns-in-Ok-false-clause-later
+returns-in-Ok-false-clause-later g c = subst (λ n. n ≤ g.S.Shelf.faults c.is_held.new.shelf) c.loop-part.invariant.calm c.is_held.ensures.later
+
+pub returns-in-Ok-false-clause-calm : goal.returns-in-Ok-false-clause-calm
+returns-in-Ok-false-clause-calm g c = c.in-Ok-false.ensures.calm ∙ c.loop-part.invariant.calm
+
+pub returns-in-Ok-false-clause-same : goal.returns-in-Ok-false-clause-same
+returns-in-Ok-false-clause-same g c = c.is_held.ensures.same ∙ c.loop-part.invariant.same
+
+pub returns-in_default-clause-fault : goal.returns-in_default-clause-fault
+returns-in_default-clause-fault g c = tt
+
+pub returns-in_default-clause-calm : goal.returns-in_default-clause-calm
+returns-in_default-clause-calm g c = c.loop-part.invariant.calm
+
+pub returns-in_default-clause-same : goal.returns-in_default-clause-same
+returns-in_default-clause-same g c = c.loop-part.invariant.same
