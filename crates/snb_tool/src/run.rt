@@ -1,14 +1,18 @@
 //! The command `run`.
 
-ghost use Rattle.std.specs.Prelude.{◌≡◌, ◌≤◌, IfOk, ◌≢◌};
+ghost use Rattle.std.specs.Prelude.{◌≡◌, ℕ, ◌≤◌, IfOk, Option, ◌≢◌, length};
+ghost use Rattle.snb_base.specs.Shelf.{Files};
 ghost use Rattle.snb_plan.specs.Closed.{IsClosed};
-ghost use Rattle.snb_plan.specs.Plans.{updates_in};
+ghost use Rattle.snb_plan.specs.Plans.{queries_in, updates_in};
 ghost use Rattle.snb_runlog.specs.Writing.{AreTimed};
 ghost use Rattle.snb_schema.specs.declared.limits.TheConstants.{MAX_WORKERS};
+ghost use Rattle.snb_schema.specs.RunTexts.{log_text};
+ghost use Rattle.snb_schema.specs.ScreenTexts.{summary_text};
+ghost use Rattle.snb_tables.specs.FinalText.{final_text};
 ghost use Rattle.snb_tables.specs.Graphs.{HoldsKey};
 ghost use Rattle.snb_tables.specs.Soundness.{Sound};
 ghost use Rattle.snb_words.specs.declared.command.Command.TheVariants.{Run};
-ghost use Rattle.snb_tool.specs.Endings.{AreTexts, bytes_of};
+ghost use Rattle.snb_tool.specs.Endings.{AreTexts, IsRunAnswer, bytes_of};
 ghost use Rattle.snb_tool.specs.Outcome.{IsCommandAnswer, IsLeft};
 ghost use Rattle.snb_tool.specs.Outside.{Ends, IsReadOnly, seen};
 
@@ -19,10 +23,12 @@ use snb_base::clock::Clock;
 use snb_base::gate::Gate;
 use snb_base::outbox::Outbox;
 use snb_base::shelf::Shelf;
+use snb_graph::graph::Graph;
 use snb_input::load::Load;
 use snb_plan::plan::Plan;
 use snb_ratio::ratio::Ratio;
 use snb_runlog::write::write_log;
+use snb_schema::event::Event;
 use snb_schema::frequencies::Frequencies;
 use snb_texts::answers::answer_pieces;
 use snb_texts::counts::summary_lines;
@@ -33,7 +39,38 @@ use std::alloc::{AllocError, Global};
 use std::sync::Wait;
 use std::thread::Threads;
 
-// The texts of a run by so many workers. Each reply is let go once its line is made.
+// The log of a run, whose events are let go.
+fn log_of(alloc: Global, workers: u32, events: Vec<Event>) -> Result<Vec<u8>, AllocError>
+    requires some { 1 ≤ workers }
+    requires few { workers ≤ MAX_WORKERS }
+    requires timed { AreTimed events.items }
+    ensures { IfOk result (λ log. log.items ≡ log_text workers events.items) }
+{
+    let mut log = Vec::new(alloc);
+    write_log(workers, &events, &mut log)?;
+    Ok(log)
+}
+
+// The summary of a run of a plan that leaves so many rows.
+fn screen_of(alloc: Global, plan: &Plan, rows: u64) -> Result<Vec<u8>, AllocError>
+    ensures { IfOk result (λ screen. screen.items ≡ summary_text (length plan.now.operations) (length (updates_in plan.now)) (length (queries_in plan.now)) rows) }
+{
+    let operations = plan.schedule().steps().len() as u64;
+    summary_lines(alloc, operations, plan.updates(), plan.reads(), rows)
+}
+
+// The text of the final graph, which is let go, and the summary.
+fn graph_texts(alloc: Global, plan: &Plan, graph: Graph) -> Result<(Vec<u8>, Vec<u8>), AllocError>
+    ensures { IfOk result (λ texts. (texts.0.items ≡ final_text graph)
+        × (texts.1.items ≡ summary_text (length plan.now.operations) (length (updates_in plan.now)) (length (queries_in plan.now)) (length graph))) }
+{
+    let finals = final_lines(alloc, &graph)?;
+    let screen = screen_of(alloc, plan, graph.rows())?;
+    Ok((finals, screen))
+}
+
+// The texts of a run by so many workers. The events and the graph are let go once their texts are made, and
+// each reply once its line is.
 fn texts_of(
     alloc: Global,
     workers: u32,
@@ -46,15 +83,10 @@ fn texts_of(
     ensures { IfOk result (λ output. AreTexts workers plan.now outcome (bytes_of output)) }
 {
     let (events, replies, graph) = outcome.into_parts();
-    let mut log = Vec::new(alloc);
-    write_log(workers, &events, &mut log)?;
+    let log = log_of(alloc, workers, events)?;
+    let (finals, screen) = graph_texts(alloc, plan, graph)?;
     // The answers last: the short texts of the replies are let go meanwhile, and the long ones are handed on.
-    let finals = final_lines(alloc, &graph)?;
     let answers = answer_pieces(alloc, replies)?;
-    let updates = plan.updates();
-    let reads = plan.reads();
-    let operations = plan.schedule().steps().len() as u64;
-    let screen = summary_lines(alloc, operations, updates, reads, graph.rows())?;
     Ok(Output {
         log,
         answers,
@@ -82,6 +114,34 @@ pub fn run_output<R: Threads + Wait + Sync, C: Clock + Sync, G: Gate + Sync>(
 {
     let outcome = run_workers(rt, alloc, &input.plan, &input.graph, workers, clock, gate)?;
     texts_of(alloc, workers, &input.plan, outcome)
+}
+
+/// Runs the plan of an input by so many workers, each in a thread of its own, writes the texts of the run, and
+/// gives the status: 0, or 5 where the outbox fails, or 6 for want of memory. No file is read.
+pub fn run_input<
+    R: AllocGlobal + Threads + Wait + Sync,
+    O: Outbox,
+    C: Clock + Sync,
+    G: Gate + Sync,
+>(rt: &R, workers: u32, input: Input, out: &mut O, clock: &C, gate: &G) -> u8
+    requires workers { 1 ≤ workers }
+    requires few { workers ≤ MAX_WORKERS }
+    requires closed { IsClosed (HoldsKey input.graph) (updates_in input.plan) }
+    requires sound { Sound input.graph }
+    ensures ends { (files files_after : Option Files) (faults faults_after : ℕ) → Ends (IsRunAnswer workers input.graph input.plan)
+        (seen files (C.fixed clock.now) faults (O.faults out.old) (O.written out.old) (O.ready out.old))
+        (seen files_after (C.fixed clock.now) faults_after (O.faults out.new) (O.written out.new) (O.ready out.new)) result }
+    ensures writes_later { O.faults out.old ≤ O.faults out.new }
+    ensures writes_calm { result ≢ 5 → O.faults out.new ≡ O.faults out.old }
+{
+    let output = match run_output(rt, rt.alloc(), workers, input, clock, gate) {
+        Ok(output) => output,
+        Err(_) => return 6,
+    };
+    match deliver(out, &output) {
+        Ok(()) => 0,
+        Err(_) => 5,
+    }
 }
 
 /// Reads the tables, the streams and the parameter files of a folder, runs their plan by so many workers,
@@ -114,18 +174,10 @@ pub fn run<
     ensures writes_later { O.faults out.old ≤ O.faults out.new }
     ensures writes_calm { result ≢ 5 → O.faults out.new ≡ O.faults out.old }
 {
-    let input = match load_input(rt.alloc(), shelf, folder, ratio, frequencies) {
-        Ok(input) => input,
-        Err(Load::Refused { refusal }) => return refuse(rt.alloc(), refusal, out),
-        Err(Load::ReadFault) => return 4,
-        Err(Load::Memory) => return 6,
-    };
-    let output = match run_output(rt, rt.alloc(), workers, input, clock, gate) {
-        Ok(output) => output,
-        Err(_) => return 6,
-    };
-    match deliver(out, &output) {
-        Ok(()) => 0,
-        Err(_) => 5,
+    match load_input(rt.alloc(), shelf, folder, ratio, frequencies) {
+        Ok(input) => run_input(rt, workers, input, out, clock, gate),
+        Err(Load::Refused { refusal }) => refuse(rt.alloc(), refusal, out),
+        Err(Load::ReadFault) => 4,
+        Err(Load::Memory) => 6,
     }
 }
