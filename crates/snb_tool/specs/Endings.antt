@@ -41,7 +41,7 @@ use Rattle.snb_checker.specs.CasesFile.{IsTally}
 use Rattle.snb_tables.specs.Soundness.{Sound}
 use Rattle.snb_trial.specs.Trial.{dataset, lanes, least_ratio, lists, read_frequencies}
 use Rattle.snb_tool.specs.Inputs.{AreBadCases, IsInput, at_first, plan_checks}
-use Rattle.snb_tool.specs.Outcome.{IsJudged, IsLeft, expected_texts, reply_line}
+use Rattle.snb_tool.specs.Outcome.{IsJudged, expected_texts, reply_line}
 use Rattle.snb_tool.specs.Output.{HasBegun, Wrote, on_screen}
 
 -- a text is shown whole, with this status; or a front of it, where the outbox failed, which wasn't sure of all of it
@@ -106,10 +106,6 @@ AreTexts workers plan o texts = texts ≡ record {
   finals = final_text o.graph;
   cases = [];
 }
-
--- the status and the texts of a run by so many workers of a plan over a dataset
-abbrev pub IsRunAnswer : ℕ → List Row → Plan → Option Files → Option ℕ → ℕ → Written → Type 0
-IsRunAnswer workers graph plan files fixed status texts = (status ≡ 0) × IsLeft workers graph plan fixed texts
 
 -- the bytes of each channel
 abbrev pub bytes_of : Output → Written

@@ -1,7 +1,6 @@
 //! The command `run`.
 
-ghost use Rattle.std.specs.Prelude.{◌≡◌, ℕ, ◌≤◌, IfOk, Option, ◌≢◌, length};
-ghost use Rattle.snb_base.specs.Shelf.{Files};
+ghost use Rattle.std.specs.Prelude.{◌≡◌, ◌≤◌, IfOk, ◌≢◌, length};
 ghost use Rattle.snb_plan.specs.Closed.{IsClosed};
 ghost use Rattle.snb_plan.specs.Plans.{queries_in, updates_in};
 ghost use Rattle.snb_runlog.specs.Writing.{AreTimed};
@@ -12,7 +11,7 @@ ghost use Rattle.snb_tables.specs.FinalText.{final_text};
 ghost use Rattle.snb_tables.specs.Graphs.{HoldsKey};
 ghost use Rattle.snb_tables.specs.Soundness.{Sound};
 ghost use Rattle.snb_words.specs.declared.command.Command.TheVariants.{Run};
-ghost use Rattle.snb_tool.specs.Endings.{AreTexts, IsRunAnswer, bytes_of};
+ghost use Rattle.snb_tool.specs.Endings.{AreTexts, bytes_of};
 ghost use Rattle.snb_tool.specs.Outcome.{IsCommandAnswer, IsLeft};
 ghost use Rattle.snb_tool.specs.Outside.{Ends, IsReadOnly, seen};
 
@@ -116,34 +115,6 @@ pub fn run_output<R: Threads + Wait + Sync, C: Clock + Sync, G: Gate + Sync>(
     texts_of(alloc, workers, &input.plan, outcome)
 }
 
-/// Runs the plan of an input by so many workers, each in a thread of its own, writes the texts of the run, and
-/// gives the status: 0, or 5 where the outbox fails, or 6 for want of memory. No file is read.
-pub fn run_input<
-    R: AllocGlobal + Threads + Wait + Sync,
-    O: Outbox,
-    C: Clock + Sync,
-    G: Gate + Sync,
->(rt: &R, workers: u32, input: Input, out: &mut O, clock: &C, gate: &G) -> u8
-    requires workers { 1 ≤ workers }
-    requires few { workers ≤ MAX_WORKERS }
-    requires closed { IsClosed (HoldsKey input.graph) (updates_in input.plan) }
-    requires sound { Sound input.graph }
-    ensures ends { (files files_after : Option Files) (faults faults_after : ℕ) → Ends (IsRunAnswer workers input.graph input.plan)
-        (seen files (C.fixed clock.now) faults (O.faults out.old) (O.written out.old) (O.ready out.old))
-        (seen files_after (C.fixed clock.now) faults_after (O.faults out.new) (O.written out.new) (O.ready out.new)) result }
-    ensures writes_later { O.faults out.old ≤ O.faults out.new }
-    ensures writes_calm { result ≢ 5 → O.faults out.new ≡ O.faults out.old }
-{
-    let output = match run_output(rt, rt.alloc(), workers, input, clock, gate) {
-        Ok(output) => output,
-        Err(_) => return 6,
-    };
-    match deliver(out, &output) {
-        Ok(()) => 0,
-        Err(_) => 5,
-    }
-}
-
 /// Reads the tables, the streams and the parameter files of a folder, runs their plan by so many workers,
 /// each in a thread of its own, writes the texts of the run, and gives the status; or shows what is wrong with
 /// the files first.
@@ -174,10 +145,18 @@ pub fn run<
     ensures writes_later { O.faults out.old ≤ O.faults out.new }
     ensures writes_calm { result ≢ 5 → O.faults out.new ≡ O.faults out.old }
 {
-    match load_input(rt.alloc(), shelf, folder, ratio, frequencies) {
-        Ok(input) => run_input(rt, workers, input, out, clock, gate),
-        Err(Load::Refused { refusal }) => refuse(rt.alloc(), refusal, out),
-        Err(Load::ReadFault) => 4,
-        Err(Load::Memory) => 6,
+    let input = match load_input(rt.alloc(), shelf, folder, ratio, frequencies) {
+        Ok(input) => input,
+        Err(Load::Refused { refusal }) => return refuse(rt.alloc(), refusal, out),
+        Err(Load::ReadFault) => return 4,
+        Err(Load::Memory) => return 6,
+    };
+    let output = match run_output(rt, rt.alloc(), workers, input, clock, gate) {
+        Ok(output) => output,
+        Err(_) => return 6,
+    };
+    match deliver(out, &output) {
+        Ok(()) => 0,
+        Err(_) => 5,
     }
 }

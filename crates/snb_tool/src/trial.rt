@@ -9,8 +9,9 @@ ghost use Rattle.snb_tool.specs.Endings.{IsTrialInput};
 ghost use Rattle.snb_tool.specs.Outcome.{IsCommandAnswer};
 ghost use Rattle.snb_tool.specs.Outside.{Ends, seen};
 
+use crate::deliver::deliver;
 use crate::input::Input;
-use crate::run::run_input;
+use crate::run::run_output;
 use snb_base::clock::Clock;
 use snb_base::gate::Gate;
 use snb_base::outbox::Outbox;
@@ -61,8 +62,16 @@ pub fn trial<R: AllocGlobal + Threads + Wait + Sync, O: Outbox, C: Clock + Sync,
     ensures writes_later { O.faults out.old ≤ O.faults out.new }
     ensures writes_calm { result ≢ 5 → O.faults out.new ≡ O.faults out.old }
 {
-    match input_of_size(rt.alloc(), size) {
-        Ok(input) => run_input(rt, workers, input, out, clock, gate),
-        Err(_) => 6,
+    let input = match input_of_size(rt.alloc(), size) {
+        Ok(input) => input,
+        Err(_) => return 6,
+    };
+    let output = match run_output(rt, rt.alloc(), workers, input, clock, gate) {
+        Ok(output) => output,
+        Err(_) => return 6,
+    };
+    match deliver(out, &output) {
+        Ok(()) => 0,
+        Err(_) => 5,
     }
 }

@@ -1,13 +1,20 @@
-use Rattle.std.proofs.Common.{subst, sym, ℕ}
 use Rattle.snb_words.specs.declared.command.Command.TheVariants.{Trial}
-use Rattle.snb_tool.specs.Endings.{IsRunAnswer}
+use Rattle.snb_tool.specs.Endings.{bytes_of}
 use Rattle.snb_tool.specs.Outcome.{IsCommandAnswer}
-use Rattle.snb_tool.proofs.OutcomeLemmas.{ends_weaker, trial_done}
+use Rattle.snb_tool.specs.Outside.{Whole}
+use Rattle.snb_tool.proofs.OutcomeLemmas.{run_cut, trial_done}
 use Rattle.snb_tool.proofs.trial.trial.Goals as goal
 
-pub returns-in-Ok-clause-ends : goal.returns-in-Ok-clause-ends
-returns-in-Ok-clause-ends g c = λ contents faults.
-    ends_weaker (IsRunAnswer c.args.workers c.in-Ok.input.graph c.in-Ok.input.plan) _ _ (IsCommandAnswer (Trial c.args.size c.args.workers)) _
-    (λ s texts b. subst (λ (n : ℕ). IsCommandAnswer (Trial c.args.size c.args.workers) contents (g.C.Clock.fixed c.args.clock.now) n texts) (sym b.0)
-    (trial_done contents c.args.size c.args.workers (g.C.Clock.fixed c.args.clock.now) c.in-Ok.input texts c.in-Ok.ensures b.1))
-    (c.run_input.ensures.ends contents contents faults faults)
+pub returns-in-Ok-deliver-clause-ends : goal.returns-in-Ok-deliver-clause-ends
+returns-in-Ok-deliver-clause-ends g c = λ contents faults.
+    Whole (
+      bytes_of c.in-Ok-run_output.output,
+      trial_done contents c.args.size c.args.workers (g.C.Clock.fixed c.args.clock.now) c.in-Ok.input _ c.in-Ok.ensures c.in-Ok-run_output.ensures,
+      c.in-Ok-deliver.ensures.ok,
+    )
+
+pub returns-clause-ends : goal.returns-clause-ends
+returns-clause-ends g c = λ contents faults.
+    run_cut (IsCommandAnswer (Trial c.args.size c.args.workers)) _ _ (bytes_of c.in-Ok-run_output.output)
+    (trial_done contents c.args.size c.args.workers (g.C.Clock.fixed c.args.clock.now) c.in-Ok.input _ c.in-Ok.ensures c.in-Ok-run_output.ensures)
+    c.in-Err-deliver.ensures.failed c.in-Err-deliver.ensures.err c.in-Err-deliver.ensures.sure
