@@ -1,10 +1,13 @@
 //! The command `run`.
 
-ghost use Rattle.std.specs.Prelude.{◌≡◌, ◌≤◌, IfOk, ◌≢◌};
+ghost use Rattle.std.specs.Prelude.{◌≡◌, ◌≤◌, IfOk, ◌≢◌, length};
 ghost use Rattle.snb_plan.specs.Closed.{IsClosed};
-ghost use Rattle.snb_plan.specs.Plans.{updates_in};
+ghost use Rattle.snb_plan.specs.Plans.{queries_in, updates_in};
 ghost use Rattle.snb_runlog.specs.Writing.{AreTimed};
 ghost use Rattle.snb_schema.specs.declared.limits.TheConstants.{MAX_WORKERS};
+ghost use Rattle.snb_schema.specs.RunTexts.{log_text};
+ghost use Rattle.snb_schema.specs.ScreenTexts.{summary_text};
+ghost use Rattle.snb_tables.specs.FinalText.{final_text};
 ghost use Rattle.snb_tables.specs.Graphs.{HoldsKey};
 ghost use Rattle.snb_tables.specs.Soundness.{Sound};
 ghost use Rattle.snb_words.specs.declared.command.Command.TheVariants.{Run};
@@ -19,10 +22,12 @@ use snb_base::clock::Clock;
 use snb_base::gate::Gate;
 use snb_base::outbox::Outbox;
 use snb_base::shelf::Shelf;
+use snb_graph::graph::Graph;
 use snb_input::load::Load;
 use snb_plan::plan::Plan;
 use snb_ratio::ratio::Ratio;
 use snb_runlog::write::write_log;
+use snb_schema::event::Event;
 use snb_schema::frequencies::Frequencies;
 use snb_texts::answers::answer_pieces;
 use snb_texts::counts::summary_lines;
@@ -33,7 +38,38 @@ use std::alloc::{AllocError, Global};
 use std::sync::Wait;
 use std::thread::Threads;
 
-// The texts of a run by so many workers. Each reply is let go once its line is made.
+// The log of a run, whose events are let go.
+fn log_of(alloc: Global, workers: u32, events: Vec<Event>) -> Result<Vec<u8>, AllocError>
+    requires some { 1 ≤ workers }
+    requires few { workers ≤ MAX_WORKERS }
+    requires timed { AreTimed events.items }
+    ensures { IfOk result (λ log. log.items ≡ log_text workers events.items) }
+{
+    let mut log = Vec::new(alloc);
+    write_log(workers, &events, &mut log)?;
+    Ok(log)
+}
+
+// The summary of a run of a plan that leaves so many rows.
+fn screen_of(alloc: Global, plan: &Plan, rows: u64) -> Result<Vec<u8>, AllocError>
+    ensures { IfOk result (λ screen. screen.items ≡ summary_text (length plan.now.operations) (length (updates_in plan.now)) (length (queries_in plan.now)) rows) }
+{
+    let operations = plan.schedule().steps().len() as u64;
+    summary_lines(alloc, operations, plan.updates(), plan.reads(), rows)
+}
+
+// The text of the final graph, which is let go, and the summary.
+fn graph_texts(alloc: Global, plan: &Plan, graph: Graph) -> Result<(Vec<u8>, Vec<u8>), AllocError>
+    ensures { IfOk result (λ texts. (texts.0.items ≡ final_text graph)
+        × (texts.1.items ≡ summary_text (length plan.now.operations) (length (updates_in plan.now)) (length (queries_in plan.now)) (length graph))) }
+{
+    let finals = final_lines(alloc, &graph)?;
+    let screen = screen_of(alloc, plan, graph.rows())?;
+    Ok((finals, screen))
+}
+
+// The texts of a run by so many workers. The events and the graph are let go once their texts are made, and
+// each reply once its line is.
 fn texts_of(
     alloc: Global,
     workers: u32,
@@ -46,15 +82,10 @@ fn texts_of(
     ensures { IfOk result (λ output. AreTexts workers plan.now outcome (bytes_of output)) }
 {
     let (events, replies, graph) = outcome.into_parts();
-    let mut log = Vec::new(alloc);
-    write_log(workers, &events, &mut log)?;
+    let log = log_of(alloc, workers, events)?;
+    let (finals, screen) = graph_texts(alloc, plan, graph)?;
     // The answers last: the short texts of the replies are let go meanwhile, and the long ones are handed on.
-    let finals = final_lines(alloc, &graph)?;
     let answers = answer_pieces(alloc, replies)?;
-    let updates = plan.updates();
-    let reads = plan.reads();
-    let operations = plan.schedule().steps().len() as u64;
-    let screen = summary_lines(alloc, operations, updates, reads, graph.rows())?;
     Ok(Output {
         log,
         answers,
