@@ -16,6 +16,18 @@ pub enum Form<'a> {
     Same { call: &'a str, file: &'a str },
 }
 
+impl<'a> Form<'a> {
+    /// The call.
+    pub fn call(self) -> &'a str {
+        match self {
+            Form::Bare { call } => call,
+            Form::Below { call } => call,
+            Form::Line { call, .. } => call,
+            Form::Same { call, .. } => call,
+        }
+    }
+}
+
 /// How the line is to be read.
 pub fn form_of(text: &str) -> Form<'_> {
     if let Some((call, wanted)) = text.split_once(" => ") {

@@ -1,7 +1,5 @@
 //! A script is played, line by line.
 
-ghost use denote.Param.Send.{IsSync};
-
 use crate::answer::{Answered, Form, form_of, wanted_line};
 use crate::case::Cases;
 use crate::escape::shown_lines;
@@ -9,31 +7,15 @@ use crate::files::Files;
 use crate::flaw::{Flaw, Stop};
 use crate::words::first_word;
 use std::alloc::{AllocError, Global};
-use std::sync::Wait;
-use std::thread::Threads;
 
-/// The calls that a script may make.
-pub trait Calls {
-    /// Begins a case: what earlier ones left is forgotten.
-    fn begin(&mut self, alloc: Global);
-
-    /// Ends a case of which each answer was the wanted one. Refuses it where something came that it doesn't
-    /// ask for.
-    fn end(&self) -> Result<(), Flaw>;
-
-    /// Makes the call that begins with this word, over the files as they are, and tells what it answers;
-    /// None where there is no such call. A call may start threads and wait for them.
-    ///
-    /// The condition says what the bound `Sync` does, which isn't at hand in a method of a trait.
-    fn answer<R: AllocGlobal + Threads + Wait + Sync>(
-        &mut self,
-        rt: &R,
-        alloc: Global,
-        files: &Files,
-        word: &str,
-        rest: &str,
-    ) -> Result<Option<String>, Flaw>
-        requires shared { IsSync R.row };
+/// What a line of a script asks of whoever plays it. The calls stand in crates above this one.
+pub enum Step<'a> {
+    /// Nothing: the line is carried out.
+    Nothing,
+    /// To begin a case of this name.
+    Case { name: &'a str },
+    /// To make the call of this word.
+    Call { word: &'a str, rest: &'a str },
 }
 
 /// What is printed of a script.
@@ -53,12 +35,13 @@ impl Drop for Report {
     }
 }
 
-// How far the script is played.
-struct Player {
+/// How far a script is played. A case is played up to the first answer that isn't the wanted one; its lines
+/// about files are carried out all the same.
+pub struct Player {
     alloc: Global,
     files: Files,
     cases: Cases,
-    // The call above, until all is read that must come of it.
+    /// The call above, until all is read that must come of it.
     answered: Option<Answered>,
 }
 
@@ -79,13 +62,24 @@ fn is_silent(text: &str) -> bool {
 }
 
 impl Player {
-    fn new(alloc: Global) -> Player {
+    /// Nothing is played yet.
+    pub fn new(alloc: Global) -> Player {
         Player {
             alloc,
             files: Files::new(alloc),
             cases: Cases::new(alloc),
             answered: None,
         }
+    }
+
+    /// The files as they are.
+    pub fn files(&self) -> &Files {
+        &self.files
+    }
+
+    /// Whether a case is being played, and each answer of it was the wanted one.
+    pub fn is_right(&self) -> bool {
+        self.cases.is_begun() && !self.cases.differs()
     }
 
     // Adds a line to what must come of the call above.
@@ -99,8 +93,8 @@ impl Player {
         }
     }
 
-    // Looks whether what came of the call above is what must come.
-    fn settle(&mut self) -> Result<(), Flaw> {
+    /// Looks whether what came of the call above is what must come.
+    pub fn settle(&mut self) -> Result<(), Flaw> {
         let answered = match self.answered.take() {
             Some(answered) => answered,
             None => return Ok(()),
@@ -111,44 +105,57 @@ impl Player {
         Ok(())
     }
 
-    // The answer of a call.
-    fn answer<R: AllocGlobal + Threads + Wait + Sync, C: Calls>(
-        &self,
-        rt: &R,
-        calls: &mut C,
-        call: &str,
-    ) -> Result<String, Flaw> {
-        let (word, rest) = first_word(call);
-        match calls.answer(rt, self.alloc, &self.files, word, rest)? {
-            Some(came) => Ok(came),
-            None => Err(Flaw::NoWord),
+    // The call of a line, unless the case differs already.
+    fn step_of<'a>(&self, text: &'a str) -> Result<Step<'a>, Flaw> {
+        if !self.cases.is_begun() {
+            return Err(Flaw::NoCase);
+        }
+        if self.cases.differs() {
+            return Ok(Step::Nothing);
+        }
+        let (word, rest) = first_word(form_of(text).call());
+        Ok(Step::Call { word, rest })
+    }
+
+    /// Carries out a line, as far as it can be without a call, and tells what it asks for.
+    pub fn take_line<'a>(&mut self, text: &'a str) -> Result<Step<'a>, Flaw> {
+        if let Some(wanted) = wanted_line(text) {
+            self.add_wanted(wanted)?;
+            return Ok(Step::Nothing);
+        }
+        self.settle()?;
+        if is_silent(text) {
+            return Ok(Step::Nothing);
+        }
+        let (word, rest) = first_word(text);
+        if word == "case" {
+            return Ok(Step::Case { name: rest });
+        }
+        match self.files.take_line(word, rest) {
+            Some(Ok(())) => Ok(Step::Nothing),
+            Some(Err(flaw)) => Err(flaw),
+            None => self.step_of(text),
         }
     }
 
-    // Makes a call that must answer nothing.
-    fn call_bare<R: AllocGlobal + Threads + Wait + Sync, C: Calls>(
-        &self,
-        rt: &R,
-        calls: &mut C,
-        call: &str,
-    ) -> Result<(), Flaw> {
-        let came = self.answer(rt, calls, call)?;
-        if came.is_empty() {
-            return Ok(());
+    /// Begins a case, after the one that is being played.
+    pub fn begin(&mut self, name: &str) -> Result<(), Flaw> {
+        if name.is_empty() {
+            return Err(Flaw::NoName);
         }
-        Err(Flaw::NothingWanted)
+        self.cases.end()?;
+        self.cases.begin(name)?;
+        Ok(self.files.begin_case(name)?)
     }
 
-    // Makes a call whose answer is compared.
-    fn call_answered<R: AllocGlobal + Threads + Wait + Sync, C: Calls>(
+    // Keeps the answer of a call, which is compared with what must come.
+    fn keep_answer(
         &mut self,
-        rt: &R,
-        calls: &mut C,
         line: usize,
         call: &str,
+        came: String,
         wanted: Option<&str>,
     ) -> Result<(), Flaw> {
-        let came = self.answer(rt, calls, call)?;
         let mut answered = Answered::new(self.alloc, line, call, came)?;
         if let Some(wanted) = wanted {
             answered.add_wanted(self.alloc, wanted)?;
@@ -157,105 +164,37 @@ impl Player {
         Ok(())
     }
 
-    // Makes the call of a line, unless the case differs already.
-    fn call<R: AllocGlobal + Threads + Wait + Sync, C: Calls>(
+    /// Takes what the call of a line answered; None says that there is no such call.
+    pub fn take_answer(
         &mut self,
-        rt: &R,
-        calls: &mut C,
         line: usize,
         text: &str,
+        came: Option<String>,
     ) -> Result<(), Flaw> {
-        if !self.cases.is_begun() {
-            return Err(Flaw::NoCase);
-        }
-        if self.cases.differs() {
-            return Ok(());
-        }
+        let came = came.ok_or(Flaw::NoWord)?;
         match form_of(text) {
-            Form::Bare { call } => self.call_bare(rt, calls, call),
-            Form::Below { call } => self.call_answered(rt, calls, line, call, None),
-            Form::Line { call, wanted } => self.call_answered(rt, calls, line, call, Some(wanted)),
+            Form::Bare { .. } => {
+                if came.is_empty() {
+                    return Ok(());
+                }
+                Err(Flaw::NothingWanted)
+            }
+            Form::Below { call } => self.keep_answer(line, call, came, None),
+            Form::Line { call, wanted } => self.keep_answer(line, call, came, Some(wanted)),
             Form::Same { call, file } => {
                 let wanted = shown_lines(self.alloc, self.files.bytes(file)?)?;
-                self.call_answered(rt, calls, line, call, Some(wanted.as_str()))
+                self.keep_answer(line, call, came, Some(wanted.as_str()))
             }
         }
     }
 
-    // Ends the case that is being played, if there is one.
-    fn end_case<C: Calls>(&mut self, calls: &C) -> Result<(), Flaw> {
-        if self.cases.is_begun() && !self.cases.differs() {
-            calls.end()?;
-        }
-        Ok(self.cases.end()?)
-    }
-
-    // Begins a case.
-    fn begin<C: Calls>(&mut self, calls: &mut C, name: &str) -> Result<(), Flaw> {
-        if name.is_empty() {
-            return Err(Flaw::NoName);
-        }
-        self.end_case(calls)?;
-        self.cases.begin(name)?;
-        self.files.begin_case(name)?;
-        calls.begin(self.alloc);
-        Ok(())
-    }
-
-    // Carries out a line.
-    fn take_line<R: AllocGlobal + Threads + Wait + Sync, C: Calls>(
-        &mut self,
-        rt: &R,
-        calls: &mut C,
-        line: usize,
-        text: &str,
-    ) -> Result<(), Flaw> {
-        if let Some(wanted) = wanted_line(text) {
-            return self.add_wanted(wanted);
-        }
-        self.settle()?;
-        if is_silent(text) {
-            return Ok(());
-        }
-        let (word, rest) = first_word(text);
-        if word == "case" {
-            return self.begin(calls, rest);
-        }
-        match self.files.take_line(word, rest) {
-            Some(taken) => taken,
-            None => self.call(rt, calls, line, text),
-        }
-    }
-
-    // Ends the last case.
-    fn end<C: Calls>(&mut self, calls: &C) -> Result<(), Flaw> {
-        self.settle()?;
-        self.end_case(calls)?;
+    /// Ends the last case.
+    pub fn end(&mut self) -> Result<(), Flaw> {
+        self.cases.end()?;
         if self.cases.count() == 0 {
             return Err(Flaw::NoCases);
         }
         Ok(())
-    }
-
-    // Carries out the lines of a script.
-    fn take_lines<R: AllocGlobal + Threads + Wait + Sync, C: Calls>(
-        &mut self,
-        rt: &R,
-        calls: &mut C,
-        script: &str,
-    ) -> Result<(), Stop> {
-        let mut line: usize = 0;
-        for text in script.split('\n') {
-            line = line.saturating_add(1);
-            match self.take_line(rt, calls, line, text) {
-                Ok(()) => {}
-                Err(flaw) => return Err(Stop { line, flaw }),
-            }
-        }
-        match self.end(calls) {
-            Ok(()) => Ok(()),
-            Err(flaw) => Err(Stop { line, flaw }),
-        }
     }
 
     // The cases.
@@ -268,32 +207,14 @@ impl Player {
         } = self;
         cases
     }
-}
 
-/// Plays a script with these calls, and tells what is to be printed of it. A case is played up to the
-/// first answer that isn't the wanted one; its lines about files are carried out all the same. A line
-/// that can't be carried out ends the script.
-pub fn play<R: AllocGlobal + Threads + Wait + Sync, C: Calls>(
-    rt: &R,
-    alloc: Global,
-    calls: &mut C,
-    script: &str,
-) -> Result<Report, AllocError> {
-    let mut player = Player::new(alloc);
-    match player.take_lines(rt, calls, script) {
-        Ok(()) => {
-            let text = player.cases().counted()?;
-            Ok(Report {
-                text,
-                is_whole: true,
-            })
-        }
-        Err(stop) => {
-            let text = player.cases().stopped(stop.line, stop.flaw.text())?;
-            Ok(Report {
-                text,
-                is_whole: false,
-            })
-        }
+    /// What is to be printed of the script, which ended like this.
+    pub fn report(self, ending: Result<(), Stop>) -> Result<Report, AllocError> {
+        let is_whole = ending.is_ok();
+        let text = match ending {
+            Ok(()) => self.cases().counted()?,
+            Err(stop) => self.cases().stopped(stop.line, stop.flaw.text())?,
+        };
+        Ok(Report { text, is_whole })
     }
 }

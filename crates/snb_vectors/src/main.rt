@@ -4,8 +4,8 @@
 #![tactic(auto)]
 
 use snb_script::files::Files;
-use snb_script::flaw::Flaw;
-use snb_script::play::{Calls, play};
+use snb_script::flaw::{Flaw, Stop};
+use snb_script::play::{Player, Step};
 use std::alloc::Global;
 use std::io;
 use std::process::ExitCode;
@@ -40,16 +40,9 @@ impl Every {
     }
 }
 
-// A further crate of calls is asked here, after the others.
-impl Calls for Every {
-    fn begin(&mut self, alloc: Global) {
-        *self = Every::new(alloc);
-    }
-
-    fn end(&self) -> Result<(), Flaw> {
-        self.whole.end()
-    }
-
+impl Every {
+    // Makes the call that begins with this word, over the files as they are, and tells what it answers; None where
+    // there is no such call. A further crate of calls is asked here, after the others.
     fn answer<R: AllocGlobal + Threads + Wait + Sync>(
         &mut self,
         rt: &R,
@@ -93,11 +86,69 @@ impl Calls for Every {
     }
 }
 
+// Refuses a case of which something came that it doesn't ask for.
+fn look_at_end(every: &Every, player: &Player) -> Result<(), Flaw> {
+    if player.is_right() {
+        return every.whole.end();
+    }
+    Ok(())
+}
+
+// Carries out a line of the script.
+fn take_line<R: AllocGlobal + Threads + Wait + Sync>(
+    rt: &R,
+    every: &mut Every,
+    player: &mut Player,
+    line: usize,
+    text: &str,
+) -> Result<(), Flaw> {
+    match player.take_line(text)? {
+        Step::Nothing => Ok(()),
+        Step::Case { name } => {
+            look_at_end(every, player)?;
+            *every = Every::new(rt.alloc());
+            player.begin(name)
+        }
+        Step::Call { word, rest } => {
+            let came = every.answer(rt, rt.alloc(), player.files(), word, rest)?;
+            player.take_answer(line, text, came)
+        }
+    }
+}
+
+// Ends the script.
+fn end(every: &Every, player: &mut Player) -> Result<(), Flaw> {
+    player.settle()?;
+    look_at_end(every, player)?;
+    player.end()
+}
+
+// Carries out the lines of the script, up to the first one that can't be.
+fn take_lines<R: AllocGlobal + Threads + Wait + Sync>(
+    rt: &R,
+    player: &mut Player,
+    script: &str,
+) -> Result<(), Stop> {
+    let mut every = Every::new(rt.alloc());
+    let mut line: usize = 0;
+    for text in script.split('\n') {
+        line = line.saturating_add(1);
+        if let Err(flaw) = take_line(rt, &mut every, player, line, text) {
+            return Err(Stop { line, flaw });
+        }
+    }
+    match end(&every, player) {
+        Ok(()) => Ok(()),
+        Err(flaw) => Err(Stop { line, flaw }),
+    }
+}
+
 // Plays the script, and prints what came of it. Tells whether each line was carried out.
 fn play_input<R: AllocGlobal + Input + Print + Threads + Wait + Sync>(rt: &R) -> io::Result<bool> {
     let script = io::read_to_string(rt.alloc(), rt.reader())?;
-    let mut every = Every::new(rt.alloc());
-    let report = play(rt, rt.alloc(), &mut every, script.as_str())?;
+    let mut player = Player::new(rt.alloc());
+    let ending = take_lines(rt, &mut player, script.as_str());
+    let report = player.report(ending)?;
     let text = report.text.as_str();
     print!(rt; "{text}")?;
     Ok(report.is_whole)
