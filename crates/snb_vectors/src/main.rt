@@ -38,9 +38,7 @@ impl Every {
             book: snb_book_calls::state::State::new(),
         }
     }
-}
 
-impl Every {
     // Makes the call that begins with this word, over the files as they are, and tells what it answers; None where
     // there is no such call. A further crate of calls is asked here, after the others.
     fn answer<R: AllocGlobal + Threads + Wait + Sync>(
