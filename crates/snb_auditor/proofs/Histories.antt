@@ -3,13 +3,13 @@ use Rattle.std.proofs.Common.{◌≡◌, ℕ, zero, suc, ◌+◌, ◌*◌, ◌<�
 use Rattle.std.specs.Prelude.{All}
 use Rattle.std.proofs.lemmas.List.{get_or_default}
 use Rattle.snb_base.proofs.Laws.{split_here}
-use Rattle.snb_schema.specs.declared.event.Event.{Event}
-use Rattle.snb_schema.specs.declared.event.Event.TheVariants.{Start, Finish, Halt}
-use Rattle.snb_schema.specs.declared.step.Step.{Step}
-use Rattle.snb_schema.specs.Schedule.{Schedule}
-use Rattle.snb_schema.specs.History.{halts, halted}
-use Rattle.snb_schema.specs.Rules.{V1, Fits, IsLegal}
-use Rattle.snb_schema.proofs.Laws.{halted-push}
+use Rattle.snb_history.specs.declared.event.Event.{Event}
+use Rattle.snb_history.specs.declared.event.Event.TheVariants.{Start, Finish, Halt}
+use Rattle.snb_history.specs.declared.step.Step.{Step}
+use Rattle.snb_history.specs.Schedule.{Schedule}
+use Rattle.snb_history.specs.History.{halts, halted}
+use Rattle.snb_history.specs.Rules.{V1, Fits, IsLegal}
+use Rattle.snb_history.proofs.Laws.{halted-push}
 use Rattle.snb_book.specs.Kept.{Kept}
 use Rattle.snb_book.specs.Asked.{AllFinished}
 use Rattle.snb_auditor.specs.declared.verdict.Verdict.TheVariants.{TooLate, Accepted}

@@ -1,9 +1,9 @@
 -- What is known of an event once some rules were tried.
 use Rattle.std.proofs.Common.{◌≡◌, ℕ, suc, ◌<◌, length, cond, inl, inr, sym, ap, ◌∙◌, subst, refl, arith, eqb, Option, Some}
 use Rattle.std.proofs.lemmas.Bool.{cases_lt}
-use Rattle.snb_schema.specs.declared.event.Event.{Event}
-use Rattle.snb_schema.specs.Rules.{Rule, V1, V2, V3, V4, V5, V6, V7, V8, V9, number, Obeys, Fits}
-use Rattle.snb_schema.specs.Violation.{told_at}
+use Rattle.snb_history.specs.declared.event.Event.{Event}
+use Rattle.snb_history.specs.Rules.{Rule, V1, V2, V3, V4, V5, V6, V7, V8, V9, number, Obeys, Fits}
+use Rattle.snb_history.specs.Violation.{told_at}
 use Rattle.snb_book.specs.Kept.{Kept}
 use Rattle.snb_auditor.specs.declared.verdict.Violation.{Violation}
 use Rattle.snb_auditor.specs.declared.auditor.Values.{Values}

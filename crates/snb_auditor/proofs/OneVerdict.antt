@@ -2,12 +2,12 @@
 use Rattle.std.proofs.Common.{◌≡◌, ℕ, List, [], ◌∷◌, ◌++◌, length, true, ◌⊎◌, inl, inr, refl, sym, ap, ◌∙◌, subst, arith}
 use Rattle.std.specs.Prelude.{ℤ}
 use Rattle.std.proofs.lemmas.Bool.{cases_order, eq-eqb}
-use Rattle.snb_schema.specs.declared.event.Event.{Event}
-use Rattle.snb_schema.specs.declared.event.Event.TheVariants.{Halt}
-use Rattle.snb_schema.specs.Schedule.{Schedule}
-use Rattle.snb_schema.specs.History.{halted}
-use Rattle.snb_schema.specs.Rules.{Rule, number, Fits, IsLegal}
-use Rattle.snb_schema.specs.Violation.{Told, told_at, Breaks}
+use Rattle.snb_history.specs.declared.event.Event.{Event}
+use Rattle.snb_history.specs.declared.event.Event.TheVariants.{Halt}
+use Rattle.snb_history.specs.Schedule.{Schedule}
+use Rattle.snb_history.specs.History.{halted}
+use Rattle.snb_history.specs.Rules.{Rule, number, Fits, IsLegal}
+use Rattle.snb_history.specs.Violation.{Told, told_at, Breaks}
 use Rattle.snb_book.specs.Asked.{IsFirstUnfinished}
 use Rattle.snb_auditor.specs.declared.verdict.Violation.{Violation}
 use Rattle.snb_auditor.specs.declared.verdict.Verdict.TheVariants.{Violated, Halted, Incomplete, TooLate, Accepted}

@@ -5,14 +5,14 @@ use Rattle.std.proofs.lemmas.Bool.{cases_lt}
 use Rattle.std.proofs.lemmas.List.{get_or_append_left}
 use Rattle.std.proofs.Math.Seq.{get_or-append_seam}
 use Rattle.snb_base.proofs.Laws.{by_push, least_failing}
-use Rattle.snb_schema.specs.declared.event.Event.{Event}
-use Rattle.snb_schema.specs.declared.event.Event.TheVariants.{Start, Finish, Halt}
+use Rattle.snb_history.specs.declared.event.Event.{Event}
+use Rattle.snb_history.specs.declared.event.Event.TheVariants.{Start, Finish, Halt}
 use Rattle.snb_schema.specs.declared.limits.TheConstants.{MAX_AT}
-use Rattle.snb_schema.specs.Schedule.{Schedule}
-use Rattle.snb_schema.specs.History.{finished, moment}
-use Rattle.snb_schema.specs.Rules.{Rule, V1, V2, V3, V4, V5, V6, V7, V8, V9, number, Obeys, Fits, IsLegal}
-use Rattle.snb_schema.specs.Violation.{told_at}
-use Rattle.snb_schema.proofs.Laws.{obeys, halted-push, IsLegal-nil, IsLegal-push}
+use Rattle.snb_history.specs.Schedule.{Schedule}
+use Rattle.snb_history.specs.History.{finished, moment}
+use Rattle.snb_history.specs.Rules.{Rule, V1, V2, V3, V4, V5, V6, V7, V8, V9, number, Obeys, Fits, IsLegal}
+use Rattle.snb_history.specs.Violation.{told_at}
+use Rattle.snb_history.proofs.Laws.{obeys, halted-push, IsLegal-nil, IsLegal-push}
 use Rattle.snb_book.specs.Kept.{Kept}
 use Rattle.snb_auditor.specs.declared.verdict.Violation.{Violation}
 use Rattle.snb_auditor.specs.declared.verdict.Verdict.{Verdict}

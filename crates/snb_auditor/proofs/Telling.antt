@@ -5,16 +5,16 @@ use Rattle.std.specs.List.{list_any, position_or_len}
 use Rattle.std.proofs.lemmas.Bool.{cases_eq, eq-eqb, ne_eqb}
 use Rattle.std.proofs.lemmas.List.{get_or-set_same, get_or-set_other, get_or-replicate, length-replicate}
 use Rattle.std.proofs.Math.ListN.{length-set}
-use Rattle.snb_schema.specs.declared.event.Event.{Event}
-use Rattle.snb_schema.specs.declared.event.Event.TheVariants.{Start, Finish, Halt}
-use Rattle.snb_schema.specs.Schedule.{Schedule}
-use Rattle.snb_schema.specs.History.{starts, started, hand}
-use Rattle.snb_schema.specs.Rules.{V1, V2, Fits}
+use Rattle.snb_history.specs.declared.event.Event.{Event}
+use Rattle.snb_history.specs.declared.event.Event.TheVariants.{Start, Finish, Halt}
+use Rattle.snb_history.specs.Schedule.{Schedule}
+use Rattle.snb_history.specs.History.{starts, started, hand}
+use Rattle.snb_history.specs.Rules.{V1, V2, Fits}
 use Rattle.snb_book.specs.Kept.{Kept}
 use Rattle.snb_auditor.specs.declared.verdict.Violation.{Violation}
 use Rattle.snb_auditor.specs.Audits.{Audit}
 use Rattle.snb_auditor.specs.Judging.{AreStopped, AreBegun}
-use Rattle.snb_schema.proofs.Laws.{halted-push, hand-push, hand_has_start}
+use Rattle.snb_history.proofs.Laws.{halted-push, hand-push, hand_has_start}
 
 -- the book with one more event
 abbrev pub and_then : Kept → Event → Kept

@@ -2,8 +2,8 @@
 use Rattle.std.proofs.Common.{◌≡◌, ℕ, ◌+◌, ◌<◌, List, length, get_or, take, drop, inl, inr, subst, Some, None}
 use Rattle.std.proofs.lemmas.List.{get_or_default}
 use Rattle.snb_base.proofs.Laws.{split_here}
-use Rattle.snb_schema.specs.declared.event.Event.{Event}
-use Rattle.snb_schema.specs.Schedule.{Schedule}
+use Rattle.snb_history.specs.declared.event.Event.{Event}
+use Rattle.snb_history.specs.Schedule.{Schedule}
 use Rattle.snb_auditor.specs.declared.verdict.Violation.{Violation}
 use Rattle.snb_auditor.specs.declared.verdict.Verdict.{Verdict}
 use Rattle.snb_auditor.specs.Verdicts.{IsVerdict, IsViolation}

@@ -1,12 +1,12 @@
 -- What is found of the rules, one by one. Cited by contracts of private functions alone.
 use Rattle.std.specs.Prelude.{◌≡◌, ℕ, ◌<◌, List, [], ◌∷◌, ◌++◌, length, Bool, false, Option, Some, None, slice_index, slice_index_or}
 use Rattle.std.specs.List.{position_or_len}
-use Rattle.snb_schema.specs.declared.event.Event.{Event}
-use Rattle.snb_schema.specs.declared.event.Event.TheVariants.{Start, Finish, Halt}
-use Rattle.snb_schema.specs.Schedule.{Schedule, IsOperation}
-use Rattle.snb_schema.specs.History.{starts, halted, hand}
-use Rattle.snb_schema.specs.Rules.{Fits}
-use Rattle.snb_schema.specs.Violation.{Told}
+use Rattle.snb_history.specs.declared.event.Event.{Event}
+use Rattle.snb_history.specs.declared.event.Event.TheVariants.{Start, Finish, Halt}
+use Rattle.snb_history.specs.Schedule.{Schedule, IsOperation}
+use Rattle.snb_history.specs.History.{starts, halted, hand}
+use Rattle.snb_history.specs.Rules.{Fits}
+use Rattle.snb_history.specs.Violation.{Told}
 use Rattle.snb_book.specs.Kept.{Kept}
 use Rattle.snb_auditor.specs.declared.auditor.Values.{Values}
 use Rattle.snb_auditor.specs.declared.verdict.Violation.{Violation}

@@ -1,10 +1,10 @@
 -- Laws of verdicts.
 use Rattle.std.specs.Prelude.{◌≡◌, ℕ, ◌≤◌, ◌↔◌, List, All}
-use Rattle.snb_schema.specs.declared.event.Event.{Event}
+use Rattle.snb_history.specs.declared.event.Event.{Event}
 use Rattle.snb_schema.specs.declared.limits.TheConstants.{MAX_AT}
-use Rattle.snb_schema.specs.Schedule.{Schedule}
-use Rattle.snb_schema.specs.History.{moment}
-use Rattle.snb_schema.specs.Rules.{IsLegal, IsComplete}
+use Rattle.snb_history.specs.Schedule.{Schedule}
+use Rattle.snb_history.specs.History.{moment}
+use Rattle.snb_history.specs.Rules.{IsLegal, IsComplete}
 use Rattle.snb_auditor.specs.declared.verdict.Verdict.{Verdict}
 use Rattle.snb_auditor.specs.declared.verdict.Verdict.TheVariants.{Accepted}
 use Rattle.snb_auditor.specs.Verdicts.{IsVerdict, IsTimelyRun}

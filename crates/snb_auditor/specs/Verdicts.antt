@@ -1,11 +1,11 @@
 -- The verdict on a history.
 use Rattle.std.specs.Prelude.{◌≡◌, ℕ, ◌+◌, ◌*◌, ◌<◌, ◌≤◌, nat_le, List, ◌∷◌, ◌++◌, length, count_by, Bool, false}
-use Rattle.snb_schema.specs.declared.event.Event.{Event}
-use Rattle.snb_schema.specs.declared.event.Event.TheVariants.{Start, Finish, Halt}
-use Rattle.snb_schema.specs.Schedule.{Schedule, step_of}
-use Rattle.snb_schema.specs.History.{halted}
-use Rattle.snb_schema.specs.Rules.{Rule, number, IsLegal, IsComplete}
-use Rattle.snb_schema.specs.Violation.{Breaks}
+use Rattle.snb_history.specs.declared.event.Event.{Event}
+use Rattle.snb_history.specs.declared.event.Event.TheVariants.{Start, Finish, Halt}
+use Rattle.snb_history.specs.Schedule.{Schedule, step_of}
+use Rattle.snb_history.specs.History.{halted}
+use Rattle.snb_history.specs.Rules.{Rule, number, IsLegal, IsComplete}
+use Rattle.snb_history.specs.Violation.{Breaks}
 use Rattle.snb_book.specs.Asked.{IsFirstUnfinished}
 use Rattle.snb_auditor.specs.declared.verdict.Violation.{Violation}
 use Rattle.snb_auditor.specs.declared.verdict.Verdict.{Verdict}

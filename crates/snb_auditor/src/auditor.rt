@@ -2,20 +2,19 @@
 
 ghost use Rattle.std.specs.Prelude.{◌≡◌, ℕ, ◌<◌, ◌≤◌, ◌^◌, ◌++◌, ◌∷◌, [], All, IfErr, IfNone, IfOk, IfSome, List, MatchOption, None, OnOk, Some, false, length, replicate};
 ghost use Rattle.std.specs.List.{position_or_len};
-ghost use Rattle.snb_schema.specs.Schedule.{IsOperation, step_of};
-ghost use Rattle.snb_schema.specs.History.{hand, last, moment, starts};
-ghost use Rattle.snb_schema.specs.Rules.{Fits, IsCleared, IsFront, IsHead, IsLegal, IsNotBusy, MayAct, V1, V2, V3, V4, V5, V6, V7, V8, V9};
-ghost use Rattle.snb_schema.specs.Violation.{or_none, told, told_of_worker};
+ghost use Rattle.snb_history.specs.Schedule.{IsOperation, step_of};
+ghost use Rattle.snb_history.specs.History.{hand, last, moment, starts};
+ghost use Rattle.snb_history.specs.Rules.{Fits, IsCleared, IsFront, IsHead, IsLegal, IsNotBusy, MayAct, V1, V2, V3, V4, V5, V6, V7, V8, V9};
+ghost use Rattle.snb_history.specs.Violation.{or_none, told, told_of_worker};
 ghost use Rattle.snb_book.specs.Claims.{IsPlanHead};
 ghost use Rattle.snb_auditor.specs.Verdicts.{IsFirstHalt, IsVerdict, IsViolation, NobodyHalted, is_on_time, on_time};
 ghost use Rattle.snb_auditor.specs.Audits.{HasHeard, IsRefused};
 ghost use Rattle.snb_auditor.specs.Judging.{AreBegun, AreStopped, Finds, IsStartWithin, Judges};
 
 use crate::verdict::{Verdict, Violation};
-use snb_book::book::Book;
-use snb_schema::event::Event;
+use snb_book::Book;
+use snb_history::{Event, Schedule};
 use snb_schema::limits::{MAX_AT, MAX_WORKERS};
-use snb_schema::schedule::Schedule;
 use std::alloc::{AllocError, Global};
 use std::marker::Model;
 

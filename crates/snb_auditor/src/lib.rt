@@ -4,3 +4,6 @@
 pub mod auditor;
 pub mod law;
 pub mod verdict;
+
+pub use auditor::audit_all;
+pub use verdict::Verdict;

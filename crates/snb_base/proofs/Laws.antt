@@ -1,5 +1,5 @@
--- What other crates may cite: how numbers are spelled, and facts about lists that no library states.
-use Rattle.std.proofs.Common.{◌≡◌, ◌≢◌, ℕ, zero, suc, ◌+◌, ◌^◌, ◌<◌, ◌≤◌, List, [], ◌∷◌, ◌++◌, length, get_or, take, drop, refl, sym, ap, ◌∙◌, ◌⊎◌, inl, inr, subst, append_assoc, append-nil, add-one, drop-cons, arith, Bool, true, false, All}
+-- What other crates may cite: how numbers are spelled, facts about lists that no library states, and what calls that count faults do together.
+use Rattle.std.proofs.Common.{◌≡◌, ◌≢◌, ℕ, zero, suc, ◌+◌, ◌^◌, ◌<◌, ◌≤◌, List, [], ◌∷◌, ◌++◌, Option, length, get_or, take, drop, refl, sym, ap, ◌∙◌, ◌⊎◌, inl, inr, subst, append_assoc, append-nil, add-one, drop-cons, arith, Bool, true, false, All}
 use Rattle.std.proofs.lemmas.List.{take-append-drop}
 use Rattle.std.proofs.lemmas.Bool.{cases_Bool, cases_lt}
 use Rattle.std.proofs.lemmas.List.Elements.{All-head, All-tail}
@@ -7,6 +7,7 @@ use Rattle.std.proofs.lemmas.Str.Parse.{IsNumeralModel}
 use Rattle.std.specs.Fmt.{decimal}
 use Rattle.std.specs.List.{AllByRecursion, Contains}
 use Rattle.snb_base.specs.Calendar.{IsDigit}
+use Rattle.snb_base.specs.Shelf.{Counts, Files, HasCounted, IsRead}
 use Rattle.snb_base.specs.Spellings.{Num, value_after}
 use Rattle.snb_base.proofs.Digits
 
@@ -94,3 +95,23 @@ least_failing p (suc n) =
         | inr fails ↦ inr (n, record { within = omega arith; fails = fails; before = all })
       ]
     ]
+
+-- what two calls count of which the first didn't fail is what one call counts
+pub counted_after : {failed : Bool} {first mid last : ℕ} → HasCounted false first mid → HasCounted failed mid last → HasCounted failed first last
+counted_after {failed} {first} {mid} {last} a b = record {
+  later = (let p = a.later in let q = b.later in omega (arith, p, q));
+  told = subst (λ n. Counts failed n last) a.told b.told;
+}
+
+-- two calls that read, of which the first didn't fail, do to a shelf what one call does
+pub read_after : {failed : Bool} {files : Option Files} {first : ℕ} {between : Option Files} {mid : ℕ} {after : Option Files} {last : ℕ}
+    → IsRead false files first between mid → IsRead failed between mid after last → IsRead failed files first after last
+read_after {failed} {files} {first} {between} {mid} {after} {last} a b = record {
+  same = b.same ∙ a.same;
+  later = (let p = a.later in let q = b.later in omega (arith, p, q));
+  told = subst (λ n. Counts failed n last) a.told b.told;
+}
+
+-- what reads without a fault, and then fails in no way of the shelf's
+pub read_well : {failed : Bool} {files : Option Files} {first : ℕ} {after : Option Files} {last : ℕ} → failed ≡ false → IsRead false files first after last → IsRead failed files first after last
+read_well {failed} {files} {first} {after} {last} well a = subst (λ b. IsRead b files first after last) (sym well) a

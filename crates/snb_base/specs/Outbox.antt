@@ -1,5 +1,5 @@
 -- The bytes of five channels, and what a call of `write` does to them.
-use Rattle.std.specs.Prelude.{◌≡◌, ℕ, ◌-◌, ◌<◌, ◌≤◌, List, [], ◌++◌, length, take, Option}
+use Rattle.std.specs.Prelude.{◌≡◌, ℕ, ◌-◌, ◌<◌, ◌≤◌, Bool, true, false, List, [], ◌++◌, length, take, Option}
 use Rattle.std.specs.Option.{option_map}
 use Rattle.snb_base.specs.declared.outbox.Channel.{Channel}
 use Rattle.snb_base.specs.declared.outbox.Channel.TheVariants.{Screen, Log, Answers, Final, Cases}
@@ -67,6 +67,11 @@ with_room r Log room = record { screen = r.screen; log = room; answers = r.answe
 with_room r Answers room = record { screen = r.screen; log = r.log; answers = room; finals = r.finals; cases = r.cases }
 with_room r Final room = record { screen = r.screen; log = r.log; answers = r.answers; finals = room; cases = r.cases }
 with_room r Cases room = record { screen = r.screen; log = r.log; answers = r.answers; finals = r.finals; cases = room }
+
+-- whether the outside failed at a call of `write`
+abbrev pub is_failed : Put → Bool
+is_failed (Took count) = false
+is_failed Failed = true
 
 -- what a call of `write` may answer, with the bytes before and after it
 abbrev pub IsWriting : Channel → List ℕ → Option Written → Option Written → Put → Type 0

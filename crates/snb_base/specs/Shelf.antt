@@ -1,5 +1,5 @@
 -- What a shelf holds, and what a call of `read` answers.
-use Rattle.std.specs.Prelude.{◌≡◌, ℕ, ◌+◌, ◌-◌, ◌^◌, ◌≤◌, min, List, length, take, drop, Option, Some, None}
+use Rattle.std.specs.Prelude.{◌≡◌, ℕ, ◌+◌, ◌-◌, ◌^◌, ◌≤◌, min, Bool, true, false, List, length, take, drop, Option, Some, None}
 use Rattle.snb_base.specs.declared.shelf.Got.{Got}
 use Rattle.snb_base.specs.declared.shelf.Got.TheVariants.{Took, Absent, Failed}
 
@@ -10,6 +10,29 @@ Files = List ℕ → Option (List ℕ)
 -- a count of faults rose: it is greater by one at least, as far as 64 bits go
 abbrev pub Rose : ℕ → ℕ → Type 0
 Rose old new = min (old + 1) (2 ^ 64 - 1) ≤ new
+
+-- what came of a count of faults over a call that says whether the outside failed: it rose where it did, and else is as it was
+abbrev pub Counts : Bool → ℕ → ℕ → Type 0
+Counts true old new = Rose old new
+Counts false old new = new ≡ old
+
+-- a call counts a fault where it says that the outside failed, and forgets none
+pub record HasCounted (failed : Bool) (faults faults_after : ℕ) : Type 0 where
+  pub later : faults ≤ faults_after
+  pub told : Counts failed faults faults_after
+
+-- what a call that reads does to a shelf, by its contents and its count of faults before and after it: it changes nothing that is held, counts a
+-- fault where it says that the outside failed, and forgets none
+pub record IsRead (failed : Bool) (files : Option Files) (faults : ℕ) (files_after : Option Files) (faults_after : ℕ) : Type 0 where
+  pub same : files_after ≡ files
+  pub later : faults ≤ faults_after
+  pub told : Counts failed faults faults_after
+
+-- whether the outside failed at a call of `read`
+abbrev pub is_failed : Got → Bool
+is_failed (Took count) = false
+is_failed Absent = false
+is_failed Failed = true
 
 -- what was read is within the buffer
 abbrev pub FitsBuffer : ℕ → Got → Type 0

@@ -17,3 +17,16 @@ pub mod shelf;
 pub mod steady_shelf;
 pub mod text;
 pub mod texts;
+
+pub use clock::{Clock, FarClock, StepClock};
+pub use gate::{Gate, OpenGate, Phase};
+pub use memory_outbox::MemoryOutbox;
+pub use memory_shelf::MemoryShelf;
+pub use number::{put_number, read_number};
+pub use numbers::Numbers;
+pub use outbox::{Channel, Outbox, Put};
+pub use pairs::Pairs;
+pub use shelf::{Got, Shelf};
+pub use steady_shelf::SteadyShelf;
+pub use text::Text;
+pub use texts::Texts;

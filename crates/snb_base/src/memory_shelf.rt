@@ -2,7 +2,7 @@
 
 ghost use Rattle.std.specs.Prelude.{◌≡◌, ◌≢◌, ◌-◌, ◌^◌, ◌<◌, ◌≤◌, ◌↔◌, ◌∷◌, ◌++◌, [], length, take, drop, map, min, MatchOption, Some, None, IsTrue, OnOk, OnErr};
 ghost use Rattle.snb_base.specs.MemoryShelf.{file_of, is_listed, is_failing, after_read, IsFullReading};
-ghost use Rattle.snb_base.specs.Shelf.{FitsBuffer, IsReading, Rose};
+ghost use Rattle.snb_base.specs.Shelf.{FitsBuffer, IsRead, IsReading, is_failed};
 
 use crate::calls::is_on;
 use crate::shelf::{Got, Shelf};
@@ -120,10 +120,7 @@ impl Shelf for MemoryShelf {
         requires { 0 < length into.old }
         ensures room { FitsBuffer (length into.old) result }
         ensures told { IsReading (file_of self.old.files) name.now at into.new result }
-        ensures failed { result ≡ Got.Failed → Rose self.old.faults self.new.faults }
-        ensures later { self.old.faults ≤ self.new.faults }
-        ensures calm { result ≢ Got.Failed → self.new.faults ≡ self.old.faults }
-        ensures same { Some (file_of self.new.files) ≡ Some (file_of self.old.files) }
+        ensures read { IsRead (is_failed result) (Some (file_of self.old.files)) self.old.faults (Some (file_of self.new.files)) self.new.faults }
 
         // It fails at the listed calls alone, and else reads all that it can.
         ensures listed { self.old.calls < 2 ^ 64 - 1 →

@@ -1,8 +1,8 @@
 //! Where bytes are written.
 
-ghost use Rattle.std.specs.Prelude.{◌≡◌, ◌≢◌, ℕ, ◌<◌, ◌≤◌, length, Option};
-ghost use Rattle.snb_base.specs.Outbox.{IsSure, IsWriting, Rooms, Written, room_of};
-ghost use Rattle.snb_base.specs.Shelf.{Rose};
+ghost use Rattle.std.specs.Prelude.{ℕ, ◌<◌, ◌≤◌, length, Option};
+ghost use Rattle.snb_base.specs.Outbox.{IsSure, IsWriting, Rooms, Written, is_failed, room_of};
+ghost use Rattle.snb_base.specs.Shelf.{HasCounted};
 
 /// What is written where.
 #[derive(Clone, Copy, Debug, PartialEq, Eq)]
@@ -51,8 +51,6 @@ pub trait Outbox {
     fn write(&mut self, channel: Channel, piece: &[u8]) -> Put
         requires { 0 < length piece.now }
         ensures took { IsWriting channel piece.now (written self.old) (written self.new) result }
-        ensures failed { result ≡ Put.Failed → Rose (faults self.old) (faults self.new) }
-        ensures later { faults self.old ≤ faults self.new }
-        ensures calm { result ≢ Put.Failed → faults self.new ≡ faults self.old }
+        ensures counted { HasCounted (is_failed result) (faults self.old) (faults self.new) }
         ensures sure { (rooms : Rooms) → ready self.old rooms → length piece.now ≤ room_of rooms channel → IsSure result channel rooms (ready self.new) };
 }

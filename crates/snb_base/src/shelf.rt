@@ -1,7 +1,7 @@
 //! Where the bytes of files come from.
 
-ghost use Rattle.std.specs.Prelude.{◌≡◌, ◌≢◌, ℕ, ◌<◌, ◌≤◌, length, IfSome, Option};
-ghost use Rattle.snb_base.specs.Shelf.{Files, FitsBuffer, IsReading, Rose};
+ghost use Rattle.std.specs.Prelude.{ℕ, ◌<◌, length, IfSome, Option};
+ghost use Rattle.snb_base.specs.Shelf.{Files, FitsBuffer, IsRead, IsReading, is_failed};
 
 /// What a call of [`Shelf::read`] answers.
 #[derive(Clone, Copy, Debug, PartialEq, Eq)]
@@ -35,8 +35,5 @@ pub trait Shelf {
         requires { 0 < length into.old }
         ensures room { FitsBuffer (length into.old) result }
         ensures told { IfSome (contents self.old) (λ files. IsReading files name.now at into.new result) }
-        ensures failed { result ≡ Got.Failed → Rose (faults self.old) (faults self.new) }
-        ensures later { faults self.old ≤ faults self.new }
-        ensures calm { result ≢ Got.Failed → faults self.new ≡ faults self.old }
-        ensures same { contents self.new ≡ contents self.old };
+        ensures read { IsRead (is_failed result) (contents self.old) (faults self.old) (contents self.new) (faults self.new) };
 }

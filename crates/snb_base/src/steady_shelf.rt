@@ -2,7 +2,7 @@
 
 ghost use Rattle.std.specs.Prelude.{◌≡◌, ◌≢◌, ◌<◌, length, Some};
 ghost use Rattle.snb_base.specs.MemoryShelf.{file_of, IsFullReading};
-ghost use Rattle.snb_base.specs.Shelf.{FitsBuffer, IsReading};
+ghost use Rattle.snb_base.specs.Shelf.{FitsBuffer, IsRead, IsReading, is_failed};
 
 use crate::memory_shelf::MemoryShelf;
 use crate::shelf::{Got, Shelf};
@@ -48,7 +48,7 @@ impl Shelf for SteadyShelf {
         requires { 0 < length into.old }
         ensures room { FitsBuffer (length into.old) result }
         ensures told { IsReading (file_of self.old) name.now at into.new result }
-        ensures same { Some (file_of self.new) ≡ Some (file_of self.old) }
+        ensures read { IsRead (is_failed result) (Some (file_of self.old)) 0 (Some (file_of self.new)) 0 }
         ensures steady { result ≢ Got.Failed }
         ensures full { IsFullReading (file_of self.old) name.now at (length into.old) result }
         ensures after { self.new ≡ self.old }

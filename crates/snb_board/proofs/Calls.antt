@@ -3,14 +3,14 @@ use Rattle.std.proofs.Common.{◌≡◌, ℕ, ◌≤◌, ◌<◌, arith, Bool, t
 use Rattle.std.specs.Prelude.{ℤ, ◌≤ℤ◌}
 use Rattle.std.proofs.lemmas.Int.{ints}
 use mathlib.Core.List.{IsPrefix}
-use Rattle.snb_schema.specs.declared.event.Event.{Event}
-use Rattle.snb_schema.specs.declared.event.Event.TheVariants.{Start, Finish}
-use Rattle.snb_schema.specs.Schedule.{Schedule}
-use Rattle.snb_schema.specs.Completion.{completion}
-use Rattle.snb_schema.specs.History.{halted}
-use Rattle.snb_schema.specs.Laws.{HandIsOwn, StartStays}
-use Rattle.snb_schema.specs.Rules.{IsFront, IsLegal, MayAct}
-use Rattle.snb_schema.proofs.Laws.{completion_rises}
+use Rattle.snb_history.specs.declared.event.Event.{Event}
+use Rattle.snb_history.specs.declared.event.Event.TheVariants.{Start, Finish}
+use Rattle.snb_history.specs.Schedule.{Schedule}
+use Rattle.snb_history.specs.Completion.{completion}
+use Rattle.snb_history.specs.History.{halted}
+use Rattle.snb_history.specs.Laws.{HandIsOwn, StartStays}
+use Rattle.snb_history.specs.Rules.{IsFront, IsLegal, MayAct}
+use Rattle.snb_history.proofs.Laws.{completion_rises}
 use Rattle.snb_book.specs.declared.claim.Claim.{Claim}
 use Rattle.snb_book.specs.declared.claim.Claim.TheVariants.{Halted, AllStarted, Busy, NotDue, Go, Blocked}
 use Rattle.snb_book.specs.declared.claim.Ticket.{Ticket}

@@ -6,18 +6,18 @@ use Rattle.std.proofs.lemmas.Bool.{eq-eqb, ne_eqb}
 use Rattle.std.proofs.lemmas.Int.{ints}
 use Rattle.std.proofs.lemmas.List.Elements.{filter-append}
 use mathlib.Core.List.{IsPrefix}
-use Rattle.snb_schema.specs.declared.event.Event.{Event}
-use Rattle.snb_schema.specs.declared.event.Event.TheVariants.{Start, Finish, Halt}
-use Rattle.snb_schema.specs.History.{is_by, started, hand, halted}
-use Rattle.snb_schema.specs.Rules.{IsFront}
-use Rattle.snb_schema.specs.Laws.{HandIsOwn, StartStays}
+use Rattle.snb_history.specs.declared.event.Event.{Event}
+use Rattle.snb_history.specs.declared.event.Event.TheVariants.{Start, Finish, Halt}
+use Rattle.snb_history.specs.History.{is_by, started, hand, halted}
+use Rattle.snb_history.specs.Rules.{IsFront}
+use Rattle.snb_history.specs.Laws.{HandIsOwn, StartStays}
 use Rattle.snb_book.specs.declared.claim.Ticket.{Ticket}
 use Rattle.snb_book.specs.Kept.{IsInHand}
 use Rattle.snb_schema.specs.declared.limits.TheConstants.{MAX_TIME}
-use Rattle.snb_schema.specs.Schedule.{Schedule, step_of}
-use Rattle.snb_schema.specs.Completion.{completion, is_awaited, least_of}
+use Rattle.snb_history.specs.Schedule.{Schedule, step_of}
+use Rattle.snb_history.specs.Completion.{completion, is_awaited, least_of}
 use Rattle.std.proofs.Math.Nat.{min-le_right}
-use Rattle.snb_schema.proofs.Laws.{completion_rises}
+use Rattle.snb_history.proofs.Laws.{completion_rises}
 use Rattle.snb_board.specs.Boards.{events_of, time_below}
 use Rattle.snb_board.specs.Views.{author, reached}
 use Rattle.snb_board.specs.Steps.{number_after}

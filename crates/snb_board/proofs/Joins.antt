@@ -4,10 +4,10 @@ use mathlib.Core.Option.{some, some-injective}
 use lib.ListN.{get_elem?}
 use Rattle.atomic_table.specs.Table.{State, Splits, Joins, opening, Final, Seen}
 use Rattle.atomic_table.proofs.Lists.{set_else, at_longer}
-use Rattle.snb_schema.specs.declared.event.Event.{Event}
-use Rattle.snb_schema.specs.Schedule.{Schedule}
-use Rattle.snb_schema.specs.Rules.{IsLegal}
-use Rattle.snb_schema.proofs.Laws.{IsLegal-nil}
+use Rattle.snb_history.specs.declared.event.Event.{Event}
+use Rattle.snb_history.specs.Schedule.{Schedule}
+use Rattle.snb_history.specs.Rules.{IsLegal}
+use Rattle.snb_history.proofs.Laws.{IsLegal-nil}
 use Rattle.snb_book.specs.Kept.{Kept}
 use Rattle.snb_board.specs.declared.view.Part.{Part}
 use Rattle.snb_board.specs.declared.view.View.{View}

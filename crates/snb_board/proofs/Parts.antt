@@ -3,9 +3,9 @@ use Rattle.std.proofs.Common.{◌≡◌, ◌≢◌, ◌⊎◌, ℕ, zero, suc, �
 use mathlib.Core.Option.{some, some-injective, some-ne-none}
 use lib.ListN.{get_elem?}
 use Rattle.atomic_table.proofs.Lists.{at_set}
-use Rattle.snb_schema.specs.declared.event.Event.{Event}
+use Rattle.snb_history.specs.declared.event.Event.{Event}
 use mathlib.Core.List.{IsPrefix}
-use Rattle.snb_schema.specs.Schedule.{Schedule}
+use Rattle.snb_history.specs.Schedule.{Schedule}
 use Rattle.snb_book.specs.Kept.{Kept}
 use Rattle.snb_board.proofs.Events.{prefix-refl, prefix-push, events_of-push_other}
 use Rattle.snb_board.specs.declared.view.Part.{Part}

@@ -2,9 +2,9 @@
 use Rattle.std.proofs.Common.{◌≡◌, ℕ, List, [], ◌∷◌, ◌≤◌, sym, refl, ap, ◌∙◌, subst, Some, None}
 use mathlib.Core.Option.{none}
 use Rattle.atomic_table.specs.Table.{step, rest}
-use Rattle.snb_schema.specs.declared.event.Event.{Event}
+use Rattle.snb_history.specs.declared.event.Event.{Event}
 use mathlib.Core.List.{IsPrefix}
-use Rattle.snb_schema.specs.Rules.{IsLegal}
+use Rattle.snb_history.specs.Rules.{IsLegal}
 use Rattle.snb_book.specs.Kept.{Kept}
 use Rattle.snb_board.specs.Boards.{events_of}
 use Rattle.snb_board.specs.declared.view.View.{View}

@@ -2,9 +2,9 @@
 
 ghost use Rattle.std.specs.Prelude.{◌≡◌, ◌<◌, ◌≤◌, ◌^◌, ◌≤ℤ◌, [], ◌∷◌, ◌++◌, length, drop, map, Some, IfOk, OnErr, All, false};
 ghost use Rattle.snb_schema.specs.declared.limits.TheConstants.{MAX_WORKERS};
-ghost use Rattle.snb_schema.specs.Completion.{completion};
-ghost use Rattle.snb_schema.specs.History.{halted};
-ghost use Rattle.snb_schema.specs.Rules.{IsFront, IsLegal};
+ghost use Rattle.snb_history.specs.Completion.{completion};
+ghost use Rattle.snb_history.specs.History.{halted};
+ghost use Rattle.snb_history.specs.Rules.{IsFront, IsLegal};
 ghost use Rattle.snb_book.specs.Claims.{IfGo};
 ghost use Rattle.snb_book.specs.Kept.{IsInHand};
 ghost use Rattle.snb_board.specs.Boards.{site, mine, AreAll, AreMadeBy, AreSeats, HasClaimed, HasFinished, HasHalted, HasLearned, HasLooked, IsPartOf};
@@ -15,11 +15,9 @@ use crate::seat::Seat;
 use crate::steps::{gather, give, load, mint, reach_of, take};
 use crate::view::{Place, Rule, Top, View};
 use atomic_table::Table;
-use snb_book::book::Book;
-use snb_book::claim::{Claim, Ticket};
-use snb_schema::event::Event;
-use snb_schema::law::{hand_is_own, start_stays};
-use snb_schema::schedule::Schedule;
+use snb_book::{Book, Claim, Ticket};
+use snb_history::law::{hand_is_own, start_stays};
+use snb_history::{Event, Schedule};
 use std::alloc::{AllocError, Global};
 use std::marker::Model;
 use std::snapshot::Snapshot;

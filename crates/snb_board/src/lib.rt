@@ -7,3 +7,6 @@ mod plays;
 pub mod seat;
 mod steps;
 mod view;
+
+pub use board::Board;
+pub use seat::Seat;

@@ -4,7 +4,7 @@ ghost use Rattle.snb_board.specs.Views.{took, counted_one, raised, loaded, passe
 
 use crate::view::View;
 use atomic_table::{Join, Play, Split};
-use snb_book::book::Book;
+use snb_book::Book;
 
 /// The turn is taken, and the slot with it.
 pub struct Take;

@@ -2,7 +2,7 @@
 
 ghost use Rattle.std.specs.Prelude.{◌≡◌, ◌+◌, ◌<◌, ◌≤◌, length, [], ◌∷◌, ◌++◌, Some, None, true, false, MatchBool};
 ghost use Rattle.snb_schema.specs.declared.limits.TheConstants.{MAX_TIME};
-ghost use Rattle.snb_schema.specs.Rules.{IsLegal};
+ghost use Rattle.snb_history.specs.Rules.{IsLegal};
 ghost use Rattle.snb_board.specs.Boards.{time_below};
 ghost use Rattle.snb_board.specs.Steps.{IsSized, IsSeated, IsResting, HoldsTurn, HasTurn, Grew, told_view};
 ghost use Rattle.snb_board.specs.declared.view.Phase.TheVariants.{Idle, Holding, Counted};
@@ -11,7 +11,7 @@ ghost use Rattle.snb_board.specs.Views.{kept, posed, reached, seen_of, number_of
 use crate::plays::{Count, Gather, Load, Mint, Pass, Raise, Take};
 use crate::view::{Place, Top};
 use crossbeam_utils::Backoff;
-use snb_book::book::Book;
+use snb_book::Book;
 use std::sync::Wait;
 
 /// The word that is 1 while a seat has the turn, else 0.

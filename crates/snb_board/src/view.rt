@@ -1,9 +1,8 @@
 //! What seats know, for the proofs alone, and the table that they step on.
 
 use atomic_table::{Seat, Shared, TableRule};
-use snb_book::book::Book;
-use snb_schema::event::Event;
-use snb_schema::schedule::Schedule;
+use snb_book::Book;
+use snb_history::{Event, Schedule};
 use std::collections::LinkedList;
 use std::snapshot::Snapshot;
 

@@ -6,11 +6,11 @@ use Rattle.std.proofs.lemmas.Bool.{cases_Bool}
 use Rattle.std.proofs.lemmas.Int.{ints}
 use Rattle.std.proofs.lemmas.List.Folds.{list_all_at}
 use Rattle.snb_base.proofs.Laws.{least_failing}
-use Rattle.snb_schema.specs.declared.event.Event.{Event}
-use Rattle.snb_schema.specs.Schedule.{Schedule, step_of, IsOperation, IsPlanned}
-use Rattle.snb_schema.specs.History.{started, finished, halted, hand}
-use Rattle.snb_schema.specs.Completion.{time_left, completion, is_awaited, least_t}
-use Rattle.snb_schema.specs.Rules.{IsCleared, IsComplete, IsNotBusy}
+use Rattle.snb_history.specs.declared.event.Event.{Event}
+use Rattle.snb_history.specs.Schedule.{Schedule, step_of, IsOperation, IsPlanned}
+use Rattle.snb_history.specs.History.{started, finished, halted, hand}
+use Rattle.snb_history.specs.Completion.{time_left, completion, is_awaited, least_t}
+use Rattle.snb_history.specs.Rules.{IsCleared, IsComplete, IsNotBusy}
 use Rattle.snb_completion.specs.Progress.{Progress, flag}
 use Rattle.snb_book.specs.declared.book.Firsts.{Firsts}
 use Rattle.snb_book.specs.Kept.{Kept}
@@ -22,7 +22,7 @@ use Rattle.snb_book.proofs.Blocking.{blocked_below}
 use Rattle.snb_book.proofs.Firsts.{TellsFirst-same, none_due}
 use Rattle.snb_book.proofs.Heads.{head_from_next, next_from_head}
 use Rattle.snb_book.proofs.Waiting.{not_busy_where_free, free_where_not_busy}
-use Rattle.snb_schema.proofs.Laws.{completion_decides, time_left-same}
+use Rattle.snb_history.proofs.Laws.{completion_decides, time_left-same}
 
 -- the completion time is told by the flags of what is finished
 pub completion_is : (b : Kept) (times : Progress) (heads : List ℕ) (held : List (Option ℕ)) (latest : ℕ) (stopped : Bool)

@@ -4,14 +4,14 @@ use Rattle.std.specs.Prelude.{◌==◌, ◌&&◌, nat_lt, ◌↔◌, slice_get, 
 use Rattle.std.proofs.lemmas.Bool.{cases_lt, cases_eq, eq-eqb, ne_eqb}
 use Rattle.std.proofs.lemmas.Bool.Decides.{nat_tests}
 use Rattle.std.proofs.lemmas.List.{get_or_default}
-use Rattle.snb_schema.specs.declared.event.Event.{Event}
-use Rattle.snb_schema.specs.declared.event.Event.TheVariants.{Start}
-use Rattle.snb_schema.specs.declared.step.Step.{Step}
-use Rattle.snb_schema.specs.declared.step.LaneKind.TheVariants.{Forum}
-use Rattle.snb_schema.specs.Schedule.{Schedule, step_of, IsOperation, IsPlanned}
-use Rattle.snb_schema.specs.History.{started, finished, hand, holder}
-use Rattle.snb_schema.specs.Completion.{first_op, is_awaited, least_t}
-use Rattle.snb_schema.specs.Rules.{V1, IsCleared, IsHead, IsLegal}
+use Rattle.snb_history.specs.declared.event.Event.{Event}
+use Rattle.snb_history.specs.declared.event.Event.TheVariants.{Start}
+use Rattle.snb_history.specs.declared.step.Step.{Step}
+use Rattle.snb_history.specs.declared.step.LaneKind.TheVariants.{Forum}
+use Rattle.snb_history.specs.Schedule.{Schedule, step_of, IsOperation, IsPlanned}
+use Rattle.snb_history.specs.History.{started, finished, hand, holder}
+use Rattle.snb_history.specs.Completion.{first_op, is_awaited, least_t}
+use Rattle.snb_history.specs.Rules.{V1, IsCleared, IsHead, IsLegal}
 use Rattle.snb_completion.specs.Progress.{Progress, flag}
 use Rattle.snb_book.specs.Kept.{Kept}
 use Rattle.snb_book.specs.Book.{IsSoundBook, IsTold, IsNext}
@@ -21,7 +21,7 @@ use Rattle.snb_book.specs.Asked.{AllFinished, IsFirstUnfinished, IsFirstUnstarte
 use Rattle.snb_book.proofs.Heads.{Begins, head_from_next, next_from_head}
 use Rattle.snb_book.proofs.Places.{same_place}
 use Rattle.snb_book.proofs.Answering.{cleared_within, within_cleared}
-use Rattle.snb_schema.proofs.Laws.{forum_goes_in_turn, hand_has_start, holder_holds, least_of-le, le-least_of}
+use Rattle.snb_history.proofs.Laws.{forum_goes_in_turn, hand_has_start, holder_holds, least_of-le, le-least_of}
 
 -- the first operation that passes a test
 first_op_is : (s : Schedule) (p : ℕ → Bool) (k : ℕ) → IsOperation s k → p k ≡ true → ((j : ℕ) → j < k → p j ≡ false) → k ≡ first_op s p

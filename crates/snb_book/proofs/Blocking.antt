@@ -3,13 +3,13 @@ use Rattle.std.proofs.Common.{ℕ, zero, suc, ◌+◌, ◌≤◌, List, Bool, in
 use Rattle.std.specs.Prelude.{pos, ◌<ℤ◌, ◌≤ℤ◌, ◌-ℤ◌}
 use Rattle.std.proofs.lemmas.Bool.{cases_lt}
 use Rattle.std.proofs.lemmas.Int.{ints}
-use Rattle.snb_schema.specs.declared.event.Event.{Event}
+use Rattle.snb_history.specs.declared.event.Event.{Event}
 use Rattle.snb_schema.specs.declared.limits.TheConstants.{MAX_TIME}
-use Rattle.snb_schema.specs.Schedule.{Schedule, step_of}
-use Rattle.snb_schema.specs.Completion.{completion, is_awaited, least_of, least_t}
-use Rattle.snb_schema.specs.Rules.{IsNotBusy}
+use Rattle.snb_history.specs.Schedule.{Schedule, step_of}
+use Rattle.snb_history.specs.Completion.{completion, is_awaited, least_of, least_t}
+use Rattle.snb_history.specs.Rules.{IsNotBusy}
 use Rattle.snb_book.specs.Claims.{IsAdmitted, IsDueHead}
-use Rattle.snb_schema.proofs.Laws.{completion_decides}
+use Rattle.snb_history.proofs.Laws.{completion_decides}
 
 -- a least value isn't above the top
 pub least_top : (f : ℕ → ℕ) (top : ℕ) (p : ℕ → Bool) (n : ℕ) → least_of f top p n ≤ top

@@ -3,18 +3,18 @@ use Rattle.std.proofs.Common.{◌≡◌, ℕ, ◌<◌, ◌≤◌, List, [], ◌�
 use Rattle.std.proofs.lemmas.Bool.{eq-eqb}
 use Rattle.std.proofs.lemmas.Option.{slice_get-get_or}
 use Rattle.std.proofs.Math.Seq.{get_or-append_seam}
-use Rattle.snb_schema.specs.declared.event.Event.{Event}
-use Rattle.snb_schema.specs.declared.event.Event.TheVariants.{Start}
-use Rattle.snb_schema.specs.Schedule.{Schedule, step_of, IsOperation, IsPlanned}
+use Rattle.snb_history.specs.declared.event.Event.{Event}
+use Rattle.snb_history.specs.declared.event.Event.TheVariants.{Start}
+use Rattle.snb_history.specs.Schedule.{Schedule, step_of, IsOperation, IsPlanned}
 use Rattle.snb_book.specs.Kept.{IsInHand}
-use Rattle.snb_schema.specs.History.{started, last}
-use Rattle.snb_schema.specs.Rules.{Rule, V1, V2, V3, V4, V5, V6, V7, V8, V9, StartObeys, Fits, IsLegal, MayAct}
+use Rattle.snb_history.specs.History.{started, last}
+use Rattle.snb_history.specs.Rules.{Rule, V1, V2, V3, V4, V5, V6, V7, V8, V9, start_rules, fact_of, Fits, IsLegal, MayAct}
 use Rattle.snb_book.specs.declared.claim.Ticket.{Ticket}
 use Rattle.snb_book.specs.declared.claim.Claim.{Claim}
 use Rattle.snb_book.specs.declared.claim.Claim.TheVariants.{Halted, AllStarted, Busy, NotDue, Go, Blocked}
 use Rattle.snb_book.specs.Claims.{IsDueHead, IsAdmitted, IsClaim, IsIdle, MovesOn, NeedsEarlier}
 use Rattle.snb_book.specs.ClaimLaws.{ClaimFits, ClaimIsBlocked, ClaimIsNotStuck}
-use Rattle.snb_schema.proofs.Laws.{halted-push, hand-push, never_stuck, planned_is_timely}
+use Rattle.snb_history.proofs.Laws.{halted-push, hand-push, never_stuck, planned_is_timely}
 
 pub claim_fits : ClaimFits
 claim_fits s workers h worker at ticket known later claim = record { obeys = by_rule }
@@ -25,7 +25,7 @@ claim_fits s workers h worker at ticket known later claim = record { obeys = by_
     admitted : IsAdmitted s h ticket.op
     admitted = claim.1.0.1
 
-    by_rule : (r : Rule) → StartObeys s workers h ticket.op worker at r
+    by_rule : (r : Rule) → fact_of (start_rules s workers h ticket.op worker at) r
     by_rule V1 = (due.0, record { known = known; running = claim.0.running worker })
     by_rule V2 = due.1
     by_rule V3 = admitted.0

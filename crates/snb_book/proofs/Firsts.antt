@@ -3,7 +3,7 @@ use Rattle.std.proofs.Common.{◌≡◌, ℕ, ◌+◌, ◌<◌, ◌≤◌, List,
 use Rattle.std.specs.Prelude.{slice_index}
 use Rattle.std.proofs.lemmas.Bool.{cases_lt}
 use Rattle.std.proofs.lemmas.Bool.Decides.{nat_tests}
-use Rattle.snb_schema.specs.Schedule.{Schedule, step_of, IsPlanned}
+use Rattle.snb_history.specs.Schedule.{Schedule, step_of, IsPlanned}
 use Rattle.snb_book.specs.Book.{IsNext}
 use Rattle.snb_book.specs.Claims.{ComesFirst, IsFirst}
 use Rattle.snb_book.specs.Heads.{IsAtPlace, IsPassed, IsLate, TellsFirst, TellsFirstBelow, earlier_of, earlier_where}

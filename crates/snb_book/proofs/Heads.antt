@@ -3,13 +3,13 @@ use Rattle.std.proofs.Common.{◌≡◌, ℕ, ◌≤◌, List, false, inl, inr, 
 use Rattle.std.specs.Prelude.{nat_lt, slice_index, ◌⊎◌}
 use Rattle.std.proofs.lemmas.Bool.{cases_lt}
 use Rattle.std.proofs.lemmas.Bool.Decides.{nat_tests}
-use Rattle.snb_schema.specs.declared.event.Event.{Event}
-use Rattle.snb_schema.specs.Schedule.{Schedule, step_of, IsOperation, IsBefore, IsPlanned}
-use Rattle.snb_schema.specs.History.{started}
+use Rattle.snb_history.specs.declared.event.Event.{Event}
+use Rattle.snb_history.specs.Schedule.{Schedule, step_of, IsOperation, IsBefore, IsPlanned}
+use Rattle.snb_history.specs.History.{started}
 use Rattle.snb_book.specs.Claims.{IsPlanHead}
 use Rattle.snb_book.specs.Book.{IsNext}
 use Rattle.snb_book.proofs.Places.{earlier_place}
-use Rattle.snb_schema.proofs.Laws.{planned_is_placed}
+use Rattle.snb_history.proofs.Laws.{planned_is_placed}
 
 -- what is started stands before the place that is kept for its lane
 abbrev pub Begins : Schedule → List Event → List ℕ → Type 0

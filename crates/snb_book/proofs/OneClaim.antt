@@ -2,18 +2,18 @@
 use Rattle.std.proofs.Common.{◌≡◌, ℕ, ◌≤◌, List, true, false, inl, inr, refl, sym, ap, ◌∙◌, subst, arith, Some, Option, None}
 use Rattle.std.specs.Prelude.{slice_get}
 use Rattle.std.proofs.lemmas.Bool.{cases_order}
-use Rattle.snb_schema.specs.declared.event.Event.{Event}
-use Rattle.snb_schema.specs.declared.step.LaneKind.{LaneKind}
-use Rattle.snb_schema.specs.declared.step.LaneKind.TheVariants.{Person, Forum, Query}
-use Rattle.snb_schema.specs.Schedule.{Schedule, step_of, IsBefore, IsInForum}
-use Rattle.snb_schema.specs.History.{started, finished, holder}
-use Rattle.snb_schema.specs.Rules.{IsLegal, IsNotBusy}
+use Rattle.snb_history.specs.declared.event.Event.{Event}
+use Rattle.snb_history.specs.declared.step.LaneKind.{LaneKind}
+use Rattle.snb_history.specs.declared.step.LaneKind.TheVariants.{Person, Forum, Query}
+use Rattle.snb_history.specs.Schedule.{Schedule, step_of, IsBefore, IsInForum}
+use Rattle.snb_history.specs.History.{started, finished, holder}
+use Rattle.snb_history.specs.Rules.{IsLegal, IsNotBusy}
 use Rattle.snb_book.specs.declared.claim.Ticket.{Ticket}
 use Rattle.snb_book.specs.declared.claim.Claim.{Claim}
 use Rattle.snb_book.specs.declared.claim.Claim.TheVariants.{Halted, AllStarted, Busy, NotDue, Go, Blocked}
 use Rattle.snb_book.specs.Claims.{IsPlanHead, IsDueHead, ComesFirst, IsFirst, IsOwnBusy, IsLaneBusy, IsClaim}
 use Rattle.snb_book.specs.ClaimLaws.{ClaimIsOne}
-use Rattle.snb_schema.proofs.Laws.{forum_goes_in_turn}
+use Rattle.snb_history.proofs.Laws.{forum_goes_in_turn}
 
 -- of two that each come first both are due at once, in one lane
 first_lanes : (s : Schedule) (a b : ℕ) → ComesFirst s a b → ComesFirst s b a → (step_of s a).lane ≡ (step_of s b).lane

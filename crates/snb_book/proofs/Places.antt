@@ -4,12 +4,12 @@ use Rattle.std.specs.Prelude.{◌==◌, count_by, slice_get, MatchOption}
 use Rattle.std.proofs.lemmas.Bool.{cases_Bool, cases_lt, cases_order, eqb-true}
 use Rattle.std.proofs.lemmas.List.Sums.{count_by_more_yes, count_by_more_no}
 use Rattle.std.proofs.lemmas.Option.{slice_get-get_or}
-use Rattle.snb_schema.specs.declared.step.Step.{Step}
-use Rattle.snb_schema.specs.declared.step.LaneKind.{LaneKind}
-use Rattle.snb_schema.specs.declared.step.LaneKind.TheVariants.{Person}
-use Rattle.snb_schema.specs.Schedule.{Schedule, no_step, step_of, count_before, IsOperation, IsBefore, IsInForum, IsPlaced, IsPlanned}
+use Rattle.snb_history.specs.declared.step.Step.{Step}
+use Rattle.snb_history.specs.declared.step.LaneKind.{LaneKind}
+use Rattle.snb_history.specs.declared.step.LaneKind.TheVariants.{Person}
+use Rattle.snb_history.specs.Schedule.{Schedule, no_step, step_of, count_before, IsOperation, IsBefore, IsInForum, IsPlaced, IsPlanned}
 use Rattle.snb_book.specs.Heads.{HasNoPredecessor, IsAtPlace, IsPassed, IsPredecessor}
-use Rattle.snb_schema.proofs.Laws.{planned_is_placed}
+use Rattle.snb_history.proofs.Laws.{planned_is_placed}
 
 -- a count above p was once p, where one more passed
 count_passes : (q : Step → Bool) (xs : List Step) (p n : ℕ) → n ≤ length xs → p < count_by q (take n xs)

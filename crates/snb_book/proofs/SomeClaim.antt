@@ -2,19 +2,19 @@
 use Rattle.std.proofs.Common.{◌≡◌, ℕ, zero, suc, ◌<◌, ◌≤◌, List, [], ◌∷◌, length, Bool, true, false, not, ◌||◌, inl, inr, refl, sym, ◌∙◌, subst, arith, Option, Some, None, eqb}
 use Rattle.std.specs.Prelude.{◌⊎◌, ◌==◌}
 use Rattle.std.proofs.lemmas.Bool.{cases_lt, cases_order, eq-eqb, eqb-true}
-use Rattle.snb_schema.specs.declared.event.Event.{Event}
-use Rattle.snb_schema.specs.declared.event.Event.TheVariants.{Start, Finish, Halt}
-use Rattle.snb_schema.specs.Schedule.{Schedule, step_of, IsOperation, IsBefore}
-use Rattle.snb_schema.specs.History.{started, finished, halted, hand, holder}
-use Rattle.snb_schema.specs.Completion.{completion}
-use Rattle.snb_schema.specs.Rules.{V2, V3, V5, IsLegal, IsHead, IsNotBusy, IsCleared}
+use Rattle.snb_history.specs.declared.event.Event.{Event}
+use Rattle.snb_history.specs.declared.event.Event.TheVariants.{Start, Finish, Halt}
+use Rattle.snb_history.specs.Schedule.{Schedule, step_of, IsOperation, IsBefore}
+use Rattle.snb_history.specs.History.{started, finished, halted, hand, holder}
+use Rattle.snb_history.specs.Completion.{completion}
+use Rattle.snb_history.specs.Rules.{V2, V3, V5, IsLegal, IsHead, IsNotBusy, IsCleared}
 use Rattle.snb_book.specs.declared.claim.Claim.{Claim}
 use Rattle.snb_book.specs.declared.claim.Claim.TheVariants.{Halted, AllStarted, Busy, NotDue, Go, Blocked}
 use Rattle.snb_book.specs.Claims.{IsPlanHead, IsDueHead, IsAdmitted, ComesFirst, IsFirst, IsUnderWay, IsClaim}
 use Rattle.snb_book.specs.ClaimLaws.{ClaimExists}
 use Rattle.snb_base.proofs.Laws.{IsLeastFailing, least_failing}
 use Rattle.snb_book.proofs.Blocking.{blocked_below}
-use Rattle.snb_schema.proofs.Laws.{holder_holds, keeps_legal, obeys}
+use Rattle.snb_history.proofs.Laws.{holder_holds, keeps_legal, obeys}
 
 abbrev Decided : Type 0 → Type 0
 Decided P = P ⊎ (P → ⊥)

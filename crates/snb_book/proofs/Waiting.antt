@@ -2,17 +2,17 @@
 use Rattle.std.proofs.Common.{◌≡◌, ℕ, ◌<◌, List, Bool, true, false, inl, inr, sym, ◌∙◌, subst, arith, Some}
 use Rattle.std.specs.Prelude.{slice_get}
 use Rattle.std.proofs.lemmas.Bool.{cases_Bool, cases_lt}
-use Rattle.snb_schema.specs.declared.event.Event.{Event}
-use Rattle.snb_schema.specs.declared.event.Event.TheVariants.{Start}
-use Rattle.snb_schema.specs.declared.step.LaneKind.TheVariants.{Forum}
-use Rattle.snb_schema.specs.Schedule.{Schedule, IsOperation, IsPlanned}
-use Rattle.snb_schema.specs.History.{finished, hand}
-use Rattle.snb_schema.specs.Rules.{V1, IsLegal, IsNotBusy}
+use Rattle.snb_history.specs.declared.event.Event.{Event}
+use Rattle.snb_history.specs.declared.event.Event.TheVariants.{Start}
+use Rattle.snb_history.specs.declared.step.LaneKind.TheVariants.{Forum}
+use Rattle.snb_history.specs.Schedule.{Schedule, IsOperation, IsPlanned}
+use Rattle.snb_history.specs.History.{finished, hand}
+use Rattle.snb_history.specs.Rules.{V1, IsLegal, IsNotBusy}
 use Rattle.snb_completion.specs.Progress.{flag}
 use Rattle.snb_book.specs.Claims.{HoldsBefore, IsPlanHead}
 use Rattle.snb_book.specs.Heads.{IsFree, IsPredecessor}
 use Rattle.snb_book.proofs.Places.{has_predecessor}
-use Rattle.snb_schema.proofs.Laws.{forum_goes_in_turn, hand_has_start, holder_holds, keeps_legal}
+use Rattle.snb_history.proofs.Laws.{forum_goes_in_turn, hand_has_start, holder_holds, keeps_legal}
 
 -- once the operation before a head is finished, all before it are
 pub all_before : (s : Schedule) (workers : ℕ) (h : List Event) → IsLegal s workers h → (op p : ℕ) → IsPlanHead s h op → IsPredecessor s op p → finished h p ≡ true → IsNotBusy s h op

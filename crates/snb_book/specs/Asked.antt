@@ -1,11 +1,11 @@
 -- What a book answers of its history when it is asked.
 use Rattle.std.specs.Prelude.{◌≡◌, ℕ, ◌<◌, ◌↔◌, ◌&&◌, not, List, true, false}
-use Rattle.snb_schema.specs.declared.event.Event.{Event}
-use Rattle.snb_schema.specs.Schedule.{Schedule, IsOperation}
-use Rattle.snb_schema.specs.History.{started, finished}
-use Rattle.snb_schema.specs.Completion.{first_op}
-use Rattle.snb_schema.specs.Rules.{IsHead, IsNotBusy}
-use Rattle.snb_schema.specs.Violation.{in_lane_of}
+use Rattle.snb_history.specs.declared.event.Event.{Event}
+use Rattle.snb_history.specs.Schedule.{Schedule, IsOperation}
+use Rattle.snb_history.specs.History.{started, finished}
+use Rattle.snb_history.specs.Completion.{first_op}
+use Rattle.snb_history.specs.Rules.{IsHead, IsNotBusy}
+use Rattle.snb_history.specs.Violation.{in_lane_of}
 
 -- an unstarted operation's lane has this first unstarted one, which is the operation itself exactly where it is a head
 pub record IsFirstUnstarted (s : Schedule) (h : List Event) (op first : ℕ) : Type 0 where

@@ -1,9 +1,9 @@
 -- What a book keeps beside its history, to answer without reading it. Cited by contracts of private functions alone.
 use Rattle.std.specs.Prelude.{◌≡◌, ℕ, ◌+◌, ◌*◌, ◌<◌, ◌≤◌, nat_lt, List, length, Bool, true, false, Option, None, slice_index, slice_index_or}
 use Rattle.snb_schema.specs.declared.limits.TheConstants.{MAX_WORKERS}
-use Rattle.snb_schema.specs.Schedule.{Schedule, step_of, IsOperation, IsPlanned}
-use Rattle.snb_schema.specs.History.{started, finished, halted, hand, last}
-use Rattle.snb_schema.specs.Rules.{IsLegal}
+use Rattle.snb_history.specs.Schedule.{Schedule, step_of, IsOperation, IsPlanned}
+use Rattle.snb_history.specs.History.{started, finished, halted, hand, last}
+use Rattle.snb_history.specs.Rules.{IsLegal}
 use Rattle.snb_completion.specs.Progress.{Progress, flag}
 use Rattle.snb_book.specs.Kept.{Kept}
 

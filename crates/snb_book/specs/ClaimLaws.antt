@@ -1,10 +1,10 @@
 -- Laws of claims.
 use Rattle.std.specs.Prelude.{◌≡◌, ℕ, ◌<◌, ◌≤◌, ◌⊎◌, ℤ, pos, ◌<ℤ◌, List, false, None}
-use Rattle.snb_schema.specs.declared.event.Event.{Event}
-use Rattle.snb_schema.specs.declared.event.Event.TheVariants.{Start}
-use Rattle.snb_schema.specs.Schedule.{Schedule, IsOperation, IsTimely}
-use Rattle.snb_schema.specs.History.{started, halted, hand, last}
-use Rattle.snb_schema.specs.Rules.{Fits, IsLegal}
+use Rattle.snb_history.specs.declared.event.Event.{Event}
+use Rattle.snb_history.specs.declared.event.Event.TheVariants.{Start}
+use Rattle.snb_history.specs.Schedule.{Schedule, IsOperation, IsTimely}
+use Rattle.snb_history.specs.History.{started, halted, hand, last}
+use Rattle.snb_history.specs.Rules.{Fits, IsLegal}
 use Rattle.snb_book.specs.declared.claim.Ticket.{Ticket}
 use Rattle.snb_book.specs.declared.claim.Claim.{Claim}
 use Rattle.snb_book.specs.declared.claim.Claim.TheVariants.{NotDue, Go, Blocked}

@@ -1,10 +1,10 @@
 -- What a claim by a worker answers, at a moment.
 use Rattle.std.specs.Prelude.{◌≡◌, ℕ, ◌<◌, ◌≤◌, ◌⊎◌, pos, ◌<ℤ◌, List, length, true, false, Some, None}
-use Rattle.snb_schema.specs.declared.event.Event.{Event}
-use Rattle.snb_schema.specs.Schedule.{Schedule, step_of, IsOperation, IsBefore}
-use Rattle.snb_schema.specs.History.{started, finished, halted, hand, holder}
-use Rattle.snb_schema.specs.Completion.{completion}
-use Rattle.snb_schema.specs.Rules.{IsHead, IsNotBusy, IsCleared}
+use Rattle.snb_history.specs.declared.event.Event.{Event}
+use Rattle.snb_history.specs.Schedule.{Schedule, step_of, IsOperation, IsBefore}
+use Rattle.snb_history.specs.History.{started, finished, halted, hand, holder}
+use Rattle.snb_history.specs.Completion.{completion}
+use Rattle.snb_history.specs.Rules.{IsHead, IsNotBusy, IsCleared}
 use Rattle.snb_book.specs.declared.claim.Ticket.{Ticket}
 use Rattle.snb_book.specs.declared.claim.Claim.{Claim}
 use Rattle.snb_book.specs.declared.claim.Claim.TheVariants.{Halted, AllStarted, Busy, NotDue, Go, Blocked}

@@ -1,9 +1,9 @@
 -- The heads of a schedule's lanes. Cited by contracts of private functions alone.
 use Rattle.std.specs.Prelude.{◌≡◌, ℕ, ◌<◌, ◌≤◌, nat_lt, true, false, List, length, Bool, Option, Some, None, slice_index_or, if◌then◌else◌, MatchOption}
-use Rattle.snb_schema.specs.declared.event.Event.{Event}
-use Rattle.snb_schema.specs.declared.step.Step.{Step}
-use Rattle.snb_schema.specs.Schedule.{Schedule, no_step, step_of, IsOperation, IsBefore, IsInForum}
-use Rattle.snb_schema.specs.Rules.{IsNotBusy}
+use Rattle.snb_history.specs.declared.event.Event.{Event}
+use Rattle.snb_history.specs.declared.step.Step.{Step}
+use Rattle.snb_history.specs.Schedule.{Schedule, no_step, step_of, IsOperation, IsBefore, IsInForum}
+use Rattle.snb_history.specs.Rules.{IsNotBusy}
 use Rattle.snb_completion.specs.Progress.{flag}
 use Rattle.snb_book.specs.declared.book.Firsts.{Firsts}
 use Rattle.snb_book.specs.Book.{IsNext}

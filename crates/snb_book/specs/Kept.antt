@@ -1,11 +1,11 @@
 -- What a book is seen as, and what it does to it.
 use Rattle.std.specs.Prelude.{◌≡◌, ℕ, max, min, ◌<◌, ◌^◌, ◌++◌, List, length, All, true, Some, slice_get}
-use Rattle.snb_schema.specs.declared.event.Event.{Event}
-use Rattle.snb_schema.specs.declared.event.Event.TheVariants.{Start}
+use Rattle.snb_history.specs.declared.event.Event.{Event}
+use Rattle.snb_history.specs.declared.event.Event.TheVariants.{Start}
 use Rattle.snb_schema.specs.declared.limits.TheConstants.{MAX_AT}
-use Rattle.snb_schema.specs.Schedule.{Schedule}
-use Rattle.snb_schema.specs.History.{is_by, hand, last}
-use Rattle.snb_schema.specs.Rules.{IsLegal}
+use Rattle.snb_history.specs.Schedule.{Schedule}
+use Rattle.snb_history.specs.History.{is_by, hand, last}
+use Rattle.snb_history.specs.Rules.{IsLegal}
 use Rattle.snb_book.specs.declared.claim.Ticket.{Ticket}
 
 -- a schedule, the count of workers, and what has happened

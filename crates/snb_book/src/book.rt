@@ -3,10 +3,10 @@
 ghost use Rattle.std.specs.Prelude.{◌≡◌, ℕ, pos, ◌+◌, ◌<◌, ◌≤◌, ◌<ℤ◌, ◌≤ℤ◌, ◌^◌, ◌↔◌, ◌++◌, ◌∷◌, []};
 ghost use Rattle.std.specs.Prelude.{IfOk, IfSome, IsTrue, MatchOption, length, replicate, slice_index_or, vec_capacity, None, Some, true, false};
 ghost use Rattle.std.specs.List.{list_all};
-ghost use Rattle.snb_schema.specs.Schedule.{IsOperation, IsPlanned, is_dependency, step_of};
-ghost use Rattle.snb_schema.specs.History.{finished, hand, holder, last, moment, started};
-ghost use Rattle.snb_schema.specs.Completion.{completion, is_awaited, least_t};
-ghost use Rattle.snb_schema.specs.Rules.{Fits, IsCleared, IsComplete, IsFront, IsLegal, IsNotBusy, MayAct};
+ghost use Rattle.snb_history.specs.Schedule.{IsOperation, IsPlanned, is_dependency, step_of};
+ghost use Rattle.snb_history.specs.History.{finished, hand, holder, last, moment, started};
+ghost use Rattle.snb_history.specs.Completion.{completion, is_awaited, least_t};
+ghost use Rattle.snb_history.specs.Rules.{Fits, IsCleared, IsComplete, IsFront, IsLegal, IsNotBusy, MayAct};
 ghost use Rattle.snb_book.specs.Kept.{IsAdding, IsInHand, moment_after};
 ghost use Rattle.snb_book.specs.Claims.{IsAdmitted, IsClaim, IsDueHead, IsFirst, IsPlanHead, IsUnderWay};
 ghost use Rattle.snb_book.specs.Claims.{HoldsBefore, IfGo, IfNotGo, IsIdle, MovesOn, NeedsEarlier};
@@ -16,11 +16,9 @@ ghost use Rattle.snb_book.specs.Heads.{AreSet, HasNobody, IsFirstUnset, IsWith};
 ghost use Rattle.snb_book.specs.Asked.{AllFinished, IsFirstUnfinished, IsFirstUnstarted, IsWaitedFor};
 
 use crate::claim::{Claim, Ticket};
-use snb_completion::times::Times;
-use snb_schema::event::Event;
+use snb_completion::Times;
+use snb_history::{Event, LaneKind, Schedule, Step};
 use snb_schema::limits::{MAX_AT, MAX_TIME, MAX_WORKERS};
-use snb_schema::schedule::Schedule;
-use snb_schema::step::{LaneKind, Step};
 use std::alloc::{AllocError, Global};
 use std::marker::Model;
 

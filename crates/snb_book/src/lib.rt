@@ -4,3 +4,6 @@
 pub mod book;
 pub mod claim;
 pub mod law;
+
+pub use book::Book;
+pub use claim::{Claim, Ticket};

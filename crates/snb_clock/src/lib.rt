@@ -3,3 +3,5 @@
 
 pub mod date;
 pub mod law;
+
+pub use date::{read_date, read_day};

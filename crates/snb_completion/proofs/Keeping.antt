@@ -9,13 +9,13 @@ use Rattle.std.proofs.lemmas.Bool.{cases_eq, cases_lt, eq-eqb, ne_eqb, eqb-true,
 use Rattle.std.proofs.lemmas.List.{get_or-set_same, get_or-set_other, get_or-replicate, get_or_past, length-replicate}
 use Rattle.std.proofs.Math.ListN.{length-set, get_or-append}
 use Rattle.std.proofs.Math.Seq.{get_or-append_seam}
-use Rattle.snb_schema.specs.Schedule.{Schedule, step_of, IsOperation, IsPlanned, is_dependency}
-use Rattle.snb_schema.specs.Completion.{is_left, least_t, time_before, time_left_in}
+use Rattle.snb_history.specs.Schedule.{Schedule, step_of, IsOperation, IsPlanned, is_dependency}
+use Rattle.snb_history.specs.Completion.{is_left, least_t, time_before, time_left_in}
 use Rattle.snb_completion.specs.declared.times.LaneTimes.{LaneTimes}
 use Rattle.snb_completion.specs.Progress.{Progress, flag, nothing_started}
 use Rattle.snb_completion.specs.Waiting.{has, HasThose, is_left_in, IsLaneOf, AreTimesOf}
 use Rattle.snb_completion.proofs.Waits.{HasThose-same, HasThose-remove, least_t-none}
-use Rattle.snb_schema.proofs.Laws.{least_of-same}
+use Rattle.snb_history.proofs.Laws.{least_of-same}
 
 -- a value at each place, one of them new
 get_or-set : {X : Type 0} (xs : List X) (i k : ℕ) (x d : X) → i < length xs → get_or (set xs i x) k d ≡ cond (eqb i k) x (get_or xs k d)

@@ -9,10 +9,10 @@ use Rattle.std.proofs.lemmas.Bool.Decides.{nat_tests, same_from_decides}
 use Rattle.std.proofs.lemmas.List.{take_all}
 use Rattle.std.proofs.lemmas.List.Folds.{list_any_more, Any-from_list_any, list_any-from_Any}
 use Rattle.snb_schema.specs.declared.limits.TheConstants.{MAX_TIME}
-use Rattle.snb_schema.specs.Schedule.{Schedule, step_of, IsOperation, IsPlanned, IsLane, is_dependency}
-use Rattle.snb_schema.specs.Completion.{least_t}
+use Rattle.snb_history.specs.Schedule.{Schedule, step_of, IsOperation, IsPlanned, IsLane, is_dependency}
+use Rattle.snb_history.specs.Completion.{least_t}
 use Rattle.snb_completion.specs.Waiting.{has, HasThose}
-use Rattle.snb_schema.proofs.Laws.{le-least_of, least_of-le, least_of-reached, t_rises_along}
+use Rattle.snb_history.proofs.Laws.{le-least_of, least_of-le, least_of-reached, t_rises_along}
 
 -- a number finds itself alone
 pub finds-eqb : (j k : ℕ) → is_at (nat_cmp j) k ≡ eqb j k

@@ -1,6 +1,6 @@
 -- What of a plan is started and finished.
 use Rattle.std.specs.Prelude.{◌≡◌, ℕ, List, length, Bool, true, false, replicate, slice_index_or}
-use Rattle.snb_schema.specs.Schedule.{Schedule, IsOperation, IsBefore}
+use Rattle.snb_history.specs.Schedule.{Schedule, IsOperation, IsBefore}
 
 -- a schedule, and for each operation whether it is started and whether it is finished
 pub record Progress : Type 0 where

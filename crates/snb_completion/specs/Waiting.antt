@@ -2,8 +2,8 @@
 use Rattle.std.specs.Prelude.{◌≡◌, ℕ, ◌<◌, ◌==◌, nat_lt, ◌&&◌, List, length, Bool, slice_index_or}
 use Rattle.std.specs.BTreeSet.{BTreeSet, contains}
 use Rattle.std.specs.Ordering.{nat_cmp}
-use Rattle.snb_schema.specs.Schedule.{Schedule, step_of, IsPlanned}
-use Rattle.snb_schema.specs.Completion.{is_left}
+use Rattle.snb_history.specs.Schedule.{Schedule, step_of, IsPlanned}
+use Rattle.snb_history.specs.Completion.{is_left}
 use Rattle.snb_completion.specs.declared.times.LaneTimes.{LaneTimes}
 use Rattle.snb_completion.specs.Progress.{Progress, flag}
 

@@ -3,3 +3,5 @@
 
 pub mod law;
 pub mod times;
+
+pub use times::Times;

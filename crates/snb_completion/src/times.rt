@@ -2,12 +2,12 @@
 
 ghost use Rattle.std.specs.Prelude.{◌≡◌, ℕ, ◌<◌, ◌≤◌, ◌==◌, ◌&&◌, IfOk, List, length, replicate, slice_index_or, slice_set, false, true};
 ghost use Rattle.std.specs.BTreeSet.{BTreeSet as Set};
-ghost use Rattle.snb_schema.specs.Schedule.{is_dependency, step_of};
-ghost use Rattle.snb_schema.specs.Completion.{least_t, time_before, time_left, time_left_in};
+ghost use Rattle.snb_history.specs.Schedule.{is_dependency, step_of};
+ghost use Rattle.snb_history.specs.Completion.{least_t, time_before, time_left, time_left_in};
 ghost use Rattle.snb_completion.specs.Progress.{flag, nothing_started, IsNextInLane, IsOpen};
 
+use snb_history::Schedule;
 use snb_schema::limits::MAX_TIME;
-use snb_schema::schedule::Schedule;
 use std::alloc::{AllocError, Global};
 use std::collections::BTreeSet;
 use std::marker::Model;

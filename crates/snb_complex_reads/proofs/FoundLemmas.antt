@@ -3,12 +3,12 @@ use Rattle.std.proofs.Common.{ℕ, List, subst}
 use Rattle.std.proofs.lemmas.List.Elements.{All-contains_itself, All-weaker}
 use Rattle.std.specs.List.{All, Contains}
 use Rattle.snb_schema.specs.declared.row.Row.{Row}
-use Rattle.snb_tables.specs.Graphs.{IsGraph}
-use Rattle.snb_tables.specs.Soundness.{Held}
-use Rattle.snb_soundness.specs.SoundLaws.{NumbersFit}
-use Rattle.snb_tables.proofs.Laws.{friend_there, sent_there}
-use Rattle.snb_tables.specs.Around.{friends, messages}
-use Rattle.snb_reads.specs.Distance.{IsPerson, IsWithin, Walk}
+use Rattle.snb_graph_model.specs.Graphs.{IsGraph}
+use Rattle.snb_graph_model.specs.Soundness.{Held}
+use Rattle.snb_graph_integrity.specs.SoundLaws.{NumbersFit}
+use Rattle.snb_graph_model.proofs.Laws.{friend_there, sent_there}
+use Rattle.snb_graph_model.specs.Around.{friends, messages}
+use Rattle.snb_read_model.specs.Distance.{IsPerson, IsWithin, Walk}
 use Rattle.snb_short_reads.proofs.Laws.{found_person, friend_found, message_found, person_at}
 use Rattle.snb_short_reads.specs.Found.{IsMessageFound}
 use Rattle.snb_short_reads.specs.Lookups.{IsCellNumber}

@@ -10,8 +10,8 @@ use Rattle.std.specs.Cmp.{IsTotalOrder}
 use Rattle.std.specs.List.{All, filter, list_any, slice_get}
 use Rattle.std.specs.List.Sorted.{IsSorted}
 use Rattle.std.specs.Ordering.{is_lt, nat_cmp, ordering_then}
-use Rattle.snb_reads.specs.declared.like.Like.{Like}
-use Rattle.snb_reads.specs.ComplexReads.{beats}
+use Rattle.snb_read_model.specs.declared.like.Like.{Like}
+use Rattle.snb_read_model.specs.ComplexReads.{beats}
 use Rattle.snb_complex_reads.proofs.Moves.{filter_push}
 use Rattle.snb_complex_reads.specs.Found.{weigh}
 

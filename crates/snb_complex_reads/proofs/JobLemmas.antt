@@ -18,15 +18,15 @@ use Rattle.snb_schema.specs.declared.nodes.Organisation.{Organisation}
 use Rattle.snb_schema.specs.declared.nodes.Place.{Place}
 use Rattle.snb_schema.specs.declared.row.Row.{Row}
 use Rattle.snb_schema.specs.declared.table.Table.TheVariants as table
-use Rattle.snb_soundness.specs.SoundLaws.{NumbersFit}
-use Rattle.snb_tables.specs.Graphs.{IsGraph}
-use Rattle.snb_order.proofs.Laws.{answers_from, answers_mapped, chosen, then_assoc, zip_with}
-use Rattle.snb_reads.specs.declared.cell.Cell.{Cell}
-use Rattle.snb_reads.specs.declared.cell.Cell.TheVariants as cell
-use Rattle.snb_reads.specs.Cells.{cell_cmp, number}
-use Rattle.snb_tables.specs.Around.{ends, organisations, places, work}
-use Rattle.snb_reads.specs.ComplexReads.{IsAt, IsJob, is_in}
-use Rattle.snb_reads.specs.Order.{Answers, Falling, First, FirstOf, Rising, by}
+use Rattle.snb_graph_integrity.specs.SoundLaws.{NumbersFit}
+use Rattle.snb_graph_model.specs.Graphs.{IsGraph}
+use Rattle.snb_read_order.proofs.Laws.{answers_from, answers_mapped, chosen, then_assoc, zip_with}
+use Rattle.snb_read_model.specs.declared.cell.Cell.{Cell}
+use Rattle.snb_read_model.specs.declared.cell.Cell.TheVariants as cell
+use Rattle.snb_read_model.specs.Cells.{cell_cmp, number}
+use Rattle.snb_graph_model.specs.Around.{ends, organisations, places, work}
+use Rattle.snb_read_model.specs.ComplexReads.{IsAt, IsJob, is_in}
+use Rattle.snb_read_model.specs.Order.{Answers, Falling, First, FirstOf, Rising, by}
 use Rattle.snb_short_reads.proofs.Laws.{found_person, person_at}
 use Rattle.snb_complex_reads.proofs.Columns.{any_one, number_cmp, one_only, then_end, words_cmp}
 use Rattle.snb_complex_reads.proofs.Moves.{joined_push}

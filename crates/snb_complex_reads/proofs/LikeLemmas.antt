@@ -12,17 +12,17 @@ use Rattle.snb_schema.specs.declared.column.Value.TheVariants.{NoId}
 use Rattle.snb_schema.specs.declared.row.Row.{Row}
 use Rattle.snb_schema.specs.declared.row.Row.TheVariants as row
 use Rattle.snb_schema.specs.declared.table.Table.TheVariants as table
-use Rattle.snb_soundness.specs.SoundLaws.{NumbersFit}
-use Rattle.snb_tables.specs.Graphs.{IsGraph}
-use Rattle.snb_tables.specs.Soundness.{Held}
-use Rattle.snb_order.proofs.Laws.{answers_from, two_columns}
-use Rattle.snb_tables.proofs.Laws.{Liked, like_there}
-use Rattle.snb_reads.specs.declared.cell.Cell.{Cell}
-use Rattle.snb_reads.specs.declared.like.Like.{Like}
-use Rattle.snb_tables.specs.Around.{likes, messages}
-use Rattle.snb_reads.specs.ComplexReads.{IsLiked, beats, best_likes, liked}
-use Rattle.snb_reads.specs.Distance.{IsPerson}
-use Rattle.snb_reads.specs.Order.{Answers, Falling, First, FirstOf, Rising, by}
+use Rattle.snb_graph_integrity.specs.SoundLaws.{NumbersFit}
+use Rattle.snb_graph_model.specs.Graphs.{IsGraph}
+use Rattle.snb_graph_model.specs.Soundness.{Held}
+use Rattle.snb_read_order.proofs.Laws.{answers_from, two_columns}
+use Rattle.snb_graph_model.proofs.Laws.{Liked, like_there}
+use Rattle.snb_read_model.specs.declared.cell.Cell.{Cell}
+use Rattle.snb_read_model.specs.declared.like.Like.{Like}
+use Rattle.snb_graph_model.specs.Around.{likes, messages}
+use Rattle.snb_read_model.specs.ComplexReads.{IsLiked, beats, best_likes, liked}
+use Rattle.snb_read_model.specs.Distance.{IsPerson}
+use Rattle.snb_read_model.specs.Order.{Answers, Falling, First, FirstOf, Rising, by}
 use Rattle.snb_short_reads.proofs.Laws.{any, found_person, person_at, shows}
 use Rattle.snb_short_reads.specs.Found.{IsMessageFound}
 use Rattle.snb_short_reads.specs.Lookups.{IsCellNumber}

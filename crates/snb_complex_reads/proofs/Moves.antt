@@ -7,9 +7,9 @@ use Rattle.std.proofs.lemmas.List.Sorted.{IsPermutation-append, IsPermutation-ap
 use Rattle.std.specs.List.{All, filter, flat_map, swap}
 use Rattle.std.specs.List.Sorted.{IsPermutation, IsSorted}
 use Rattle.std.specs.declared.cmp.Ordering.{Ordering}
-use Rattle.snb_order.proofs.Laws.{zip_moved}
-use Rattle.snb_reads.specs.declared.cell.Cell.{Cell}
-use Rattle.snb_reads.specs.Order.{Answers, Cut, FirstOf, Way, Whole}
+use Rattle.snb_read_order.proofs.Laws.{zip_moved}
+use Rattle.snb_read_model.specs.declared.cell.Cell.{Cell}
+use Rattle.snb_read_model.specs.Order.{Answers, Cut, FirstOf, Way, Whole}
 use Rattle.snb_complex_reads.specs.Found.{HasAppended}
 
 -- two parts before the rest change places

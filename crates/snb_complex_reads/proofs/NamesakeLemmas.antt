@@ -17,19 +17,19 @@ use Rattle.snb_schema.specs.declared.row.Row.TheVariants as row
 use Rattle.snb_schema.specs.declared.table.Kind.TheVariants as kinds
 use Rattle.snb_schema.specs.declared.table.Table.TheVariants as table
 use Rattle.snb_schema.specs.RowKeys.{node_key}
-use Rattle.snb_soundness.specs.SoundLaws.{RequiredEdgesAreThere}
-use Rattle.snb_tables.specs.Graphs.{HasKey, IsGraph}
-use Rattle.snb_tables.specs.Soundness.{Held, Sound}
-use Rattle.snb_order.specs.Laws.{SomeFirst}
-use Rattle.snb_order.proofs.Laws.{answers_from, answers_mapped, chosen, then_assoc, zip_push, zip_with}
-use Rattle.snb_tables.proofs.Laws.{end_only, end_there}
-use Rattle.snb_reads.specs.declared.cell.Cell.{Cell}
-use Rattle.snb_reads.specs.declared.cell.Cell.TheVariants as cell
-use Rattle.snb_reads.specs.Cells.{cell_cmp, number}
-use Rattle.snb_tables.specs.Around.{ends, persons, study, words, work}
-use Rattle.snb_reads.specs.ComplexReads.{AreStays, IsNamesake, IsStay, Stay, is_named, stay_cmp}
-use Rattle.snb_reads.specs.Distance.{IsPerson, IsWithin}
-use Rattle.snb_reads.specs.Order.{Answers, First, FirstOf, Rising, Whole, by}
+use Rattle.snb_graph_integrity.specs.SoundLaws.{RequiredEdgesAreThere}
+use Rattle.snb_graph_model.specs.Graphs.{HasKey, IsGraph}
+use Rattle.snb_graph_model.specs.Soundness.{Held, Sound}
+use Rattle.snb_read_order.specs.Laws.{SomeFirst}
+use Rattle.snb_read_order.proofs.Laws.{answers_from, answers_mapped, chosen, then_assoc, zip_push, zip_with}
+use Rattle.snb_graph_model.proofs.Laws.{end_only, end_there}
+use Rattle.snb_read_model.specs.declared.cell.Cell.{Cell}
+use Rattle.snb_read_model.specs.declared.cell.Cell.TheVariants as cell
+use Rattle.snb_read_model.specs.Cells.{cell_cmp, number}
+use Rattle.snb_graph_model.specs.Around.{ends, persons, study, words, work}
+use Rattle.snb_read_model.specs.ComplexReads.{AreStays, IsNamesake, IsStay, Stay, is_named, stay_cmp}
+use Rattle.snb_read_model.specs.Distance.{IsPerson, IsWithin}
+use Rattle.snb_read_model.specs.Order.{Answers, First, FirstOf, Rising, Whole, by}
 use Rattle.snb_short_reads.proofs.Laws.{any, edge_key_held}
 use Rattle.snb_short_reads.proofs.Laws as lookups
 use Rattle.snb_complex_reads.proofs.Columns.{any_one, number_cmp, one_only, then_end, words_cmp}

@@ -13,19 +13,19 @@ use Rattle.std.specs.Ordering.{is_lt, nat_cmp, ordering_then}
 use Rattle.std.specs.declared.cmp.Ordering.{Ordering}
 use Rattle.std.specs.declared.cmp.Ordering.TheVariants.{Greater}
 use Rattle.snb_schema.specs.declared.row.Row.{Row}
-use Rattle.snb_soundness.specs.SoundLaws.{RequiredEdgesAreThere}
-use Rattle.snb_tables.specs.Graphs.{IsGraph}
-use Rattle.snb_tables.specs.Soundness.{Sound}
-use Rattle.snb_order.specs.Laws.{SomeFirst}
-use Rattle.snb_order.proofs.Laws.{zip_length}
-use Rattle.snb_tables.proofs.Laws.{contains_none, in_filter}
-use Rattle.snb_shelf.proofs.Laws.{contains_cases, contains_here, contains_there}
-use Rattle.snb_reads.specs.declared.cell.Cell.{Cell}
-use Rattle.snb_reads.specs.Cells.{cell_cmp, number}
-use Rattle.snb_reads.specs.ComplexReads.{Ic1, IsNamesake, Stay, is_named}
-use Rattle.snb_reads.specs.Distance.{IsWithin}
-use Rattle.snb_reads.specs.Order.{Answers, First, FirstOf, Rising, Way, Whole, by}
-use Rattle.snb_reply_laws.proofs.Laws.{by_total, near_held, some_namesake, some_within, some_zip}
+use Rattle.snb_graph_integrity.specs.SoundLaws.{RequiredEdgesAreThere}
+use Rattle.snb_graph_model.specs.Graphs.{IsGraph}
+use Rattle.snb_graph_model.specs.Soundness.{Sound}
+use Rattle.snb_read_order.specs.Laws.{SomeFirst}
+use Rattle.snb_read_order.proofs.Laws.{zip_length}
+use Rattle.snb_graph_model.proofs.Laws.{contains_none, in_filter}
+use Rattle.snb_graph_rows.proofs.Laws.{contains_cases, contains_here, contains_there}
+use Rattle.snb_read_model.specs.declared.cell.Cell.{Cell}
+use Rattle.snb_read_model.specs.Cells.{cell_cmp, number}
+use Rattle.snb_read_model.specs.ComplexReads.{Ic1, IsNamesake, Stay, is_named}
+use Rattle.snb_read_model.specs.Distance.{IsWithin}
+use Rattle.snb_read_model.specs.Order.{Answers, First, FirstOf, Rising, Way, Whole, by}
+use Rattle.snb_read_laws.proofs.Laws.{by_total, near_held, some_namesake, some_within, some_zip}
 use Rattle.snb_reach.proofs.Laws.{one_within}
 use Rattle.snb_complex_reads.proofs.Columns.{number_cmp}
 use Rattle.snb_complex_reads.proofs.Moves.{answers_moved}

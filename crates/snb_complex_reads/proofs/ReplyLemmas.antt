@@ -12,15 +12,15 @@ use Rattle.snb_schema.specs.declared.row.Row.{Row}
 use Rattle.snb_schema.specs.declared.row.Row.TheVariants as row
 use Rattle.snb_schema.specs.declared.table.Kind.TheVariants as kinds
 use Rattle.snb_schema.specs.RowKeys.{node_key}
-use Rattle.snb_soundness.specs.SoundLaws.{MessagesAreOfOneKind, MessagesHaveOneAuthor, NumbersFit}
-use Rattle.snb_tables.specs.Graphs.{IsGraph}
-use Rattle.snb_tables.specs.Soundness.{Sound}
-use Rattle.snb_order.proofs.Laws.{answers_from, two_columns}
-use Rattle.snb_tables.proofs.Laws.{HasComment, comment_alone, replied_there}
-use Rattle.snb_reads.specs.declared.cell.Cell.{Cell}
-use Rattle.snb_tables.specs.Around.{comment_shown, comments, replies}
-use Rattle.snb_reads.specs.ComplexReads.{IsAnswered}
-use Rattle.snb_reads.specs.Order.{Answers, Falling, First, FirstOf, Rising, by}
+use Rattle.snb_graph_integrity.specs.SoundLaws.{MessagesAreOfOneKind, MessagesHaveOneAuthor, NumbersFit}
+use Rattle.snb_graph_model.specs.Graphs.{IsGraph}
+use Rattle.snb_graph_model.specs.Soundness.{Sound}
+use Rattle.snb_read_order.proofs.Laws.{answers_from, two_columns}
+use Rattle.snb_graph_model.proofs.Laws.{HasComment, comment_alone, replied_there}
+use Rattle.snb_read_model.specs.declared.cell.Cell.{Cell}
+use Rattle.snb_graph_model.specs.Around.{comment_shown, comments, replies}
+use Rattle.snb_read_model.specs.ComplexReads.{IsAnswered}
+use Rattle.snb_read_model.specs.Order.{Answers, Falling, First, FirstOf, Rising, by}
 use Rattle.snb_short_reads.proofs.Laws.{comment_at, found_person, person_at, written}
 use Rattle.snb_short_reads.specs.Lookups.{IsCellNumber}
 use Rattle.snb_complex_reads.proofs.Moves.{All-flat_map}

@@ -15,13 +15,13 @@ use Rattle.snb_schema.specs.declared.row.Row.TheVariants as row
 use Rattle.snb_schema.specs.declared.table.Table.TheVariants as table
 use Rattle.snb_schema.specs.RowLines.{table_of}
 use Rattle.snb_schema.specs.TableOrder.{same_table}
-use Rattle.snb_tables.specs.Around.{friends, is_friend}
-use Rattle.snb_tables.specs.Graphs.{IsGraph, row_order, rows}
-use Rattle.snb_tables.proofs.Laws.{any_from, friend_here, friend_tells, friend_there, friend_told, from_any, in_filter, in_rows, of_each}
-use Rattle.snb_shelf.proofs.Laws.{contains_map, map_contains}
-use Rattle.snb_reads.specs.ComplexReads.{is_named}
-use Rattle.snb_reads.specs.Distance.{IsDistance, IsPerson, IsWithin, Walk}
-use Rattle.snb_reply_laws.proofs.Laws.{some_within}
+use Rattle.snb_graph_model.specs.Around.{friends, is_friend}
+use Rattle.snb_graph_model.specs.Graphs.{IsGraph, row_order, rows}
+use Rattle.snb_graph_model.proofs.Laws.{any_from, friend_here, friend_tells, friend_there, friend_told, from_any, in_filter, in_rows, of_each}
+use Rattle.snb_graph_rows.proofs.Laws.{contains_map, map_contains}
+use Rattle.snb_read_model.specs.ComplexReads.{is_named}
+use Rattle.snb_read_model.specs.Distance.{IsDistance, IsPerson, IsWithin, Walk}
+use Rattle.snb_read_laws.proofs.Laws.{some_within}
 use Rattle.snb_short_reads.proofs.Laws.{person_at}
 use Rattle.snb_short_reads.specs.Lookups.{IsOnlyPerson}
 use Rattle.snb_reach.specs.Distances.{AreDistances}

@@ -7,14 +7,14 @@ use Rattle.std.specs.Cmp.{IsTotalOrder}
 use Rattle.std.specs.List.{All, AllZip, filter}
 use Rattle.std.specs.Ordering.{is_lt}
 use Rattle.snb_schema.specs.declared.row.Row.{Row}
-use Rattle.snb_soundness.specs.SoundLaws.{NumbersFit}
-use Rattle.snb_tables.specs.Graphs.{IsGraph}
-use Rattle.snb_order.proofs.Laws.{answers_from, two_columns}
-use Rattle.snb_reads.specs.declared.cell.Cell.{Cell}
-use Rattle.snb_tables.specs.Around.{messages}
-use Rattle.snb_reads.specs.ComplexReads.{IsSent, latest, messages_of}
-use Rattle.snb_reads.specs.Distance.{IsPerson}
-use Rattle.snb_reads.specs.Order.{Answers, First, FirstOf, by}
+use Rattle.snb_graph_integrity.specs.SoundLaws.{NumbersFit}
+use Rattle.snb_graph_model.specs.Graphs.{IsGraph}
+use Rattle.snb_read_order.proofs.Laws.{answers_from, two_columns}
+use Rattle.snb_read_model.specs.declared.cell.Cell.{Cell}
+use Rattle.snb_graph_model.specs.Around.{messages}
+use Rattle.snb_read_model.specs.ComplexReads.{IsSent, latest, messages_of}
+use Rattle.snb_read_model.specs.Distance.{IsPerson}
+use Rattle.snb_read_model.specs.Order.{Answers, First, FirstOf, by}
 use Rattle.snb_short_reads.proofs.Laws.{found_person, person_at, shows}
 use Rattle.snb_short_reads.specs.Found.{IsMessageFound}
 use Rattle.snb_complex_reads.proofs.FoundLemmas.{messages_found, person_fits}

@@ -16,14 +16,14 @@ use Rattle.snb_schema.specs.Layouts.{key_columns, shape}
 use Rattle.snb_schema.specs.RowKeys.{RowKey, edge_key, node_key, row_key, sharing, slot, slot_of}
 use Rattle.snb_schema.specs.RowLines.{row_shape, table_of}
 use Rattle.snb_schema.specs.TableRows.{IsTableRow}
-use Rattle.snb_shelf.specs.Keyed.{key_table}
-use Rattle.snb_store.specs.Words.{words_of}
-use Rattle.snb_soundness.specs.SoundLaws.{RequiredEdgesAreThere}
-use Rattle.snb_tables.specs.Graphs.{HasKey, IsGraph, rows}
-use Rattle.snb_tables.specs.Soundness.{Held, Sound}
-use Rattle.snb_tables.proofs.Laws.{end_only, in_rows, one_chosen, rows_apart, stay_there}
-use Rattle.snb_tables.specs.Around.{ends, organisation_in, organisations, place_in, places, study, word_in, words, work}
-use Rattle.snb_reads.specs.ComplexReads.{IsAt}
+use Rattle.snb_graph_rows.specs.Keyed.{key_table}
+use Rattle.snb_graph_tables.specs.Words.{words_of}
+use Rattle.snb_graph_integrity.specs.SoundLaws.{RequiredEdgesAreThere}
+use Rattle.snb_graph_model.specs.Graphs.{HasKey, IsGraph, rows}
+use Rattle.snb_graph_model.specs.Soundness.{Held, Sound}
+use Rattle.snb_graph_model.proofs.Laws.{end_only, in_rows, one_chosen, rows_apart, stay_there}
+use Rattle.snb_graph_model.specs.Around.{ends, organisation_in, organisations, place_in, places, study, word_in, words, work}
+use Rattle.snb_read_model.specs.ComplexReads.{IsAt}
 use Rattle.snb_short_reads.proofs.Laws.{any, edge_key_held}
 use Rattle.snb_complex_reads.specs.Found.{IsStayFound}
 

@@ -6,11 +6,11 @@ use Rattle.std.specs.declared.cmp.Ordering.{Ordering}
 use Rattle.snb_schema.specs.declared.row.Row.{Row}
 use Rattle.snb_schema.specs.declared.table.Kind.TheVariants as kinds
 use Rattle.snb_schema.specs.RowKeys.{node_key}
-use Rattle.snb_tables.specs.Graphs.{HasKey}
-use Rattle.snb_reads.specs.declared.like.Like.{Like}
-use Rattle.snb_tables.specs.Around.{messages}
-use Rattle.snb_reads.specs.Distance.{IsPerson}
-use Rattle.snb_order.specs.Top.{IsTop, Kept}
+use Rattle.snb_graph_model.specs.Graphs.{HasKey}
+use Rattle.snb_read_model.specs.declared.like.Like.{Like}
+use Rattle.snb_graph_model.specs.Around.{messages}
+use Rattle.snb_read_model.specs.Distance.{IsPerson}
+use Rattle.snb_read_order.specs.TopK.{IsTopK, Kept}
 use Rattle.snb_short_reads.specs.Found.{IsMessageFound}
 use Rattle.snb_short_reads.specs.Lookups.{IsCellNumber}
 
@@ -63,7 +63,7 @@ sent_first = then_cmp (flip_args (on (λ (s : ℕ × ℕ × ℕ). s.2) nat_cmp))
 
 -- of these messages the latest twenty are kept
 abbrev pub IsLatest : List (ℕ × ℕ × ℕ) → Kept (ℕ × ℕ × ℕ) → Type 0
-IsLatest found kept = IsTop sent_first found kept × (kept.most ≡ 20)
+IsLatest found kept = IsTopK sent_first found kept × (kept.most ≡ 20)
 
 -- whatever the messages were of which the latest were kept: those of them, and of these, are kept now
 abbrev pub HasOffered : List (ℕ × ℕ × ℕ) → Kept (ℕ × ℕ × ℕ) → Kept (ℕ × ℕ × ℕ) → Type 0

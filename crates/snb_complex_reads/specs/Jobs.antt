@@ -3,9 +3,9 @@ use Rattle.std.specs.Prelude.{◌≡◌, ℕ, ◌&&◌, nat_lt, Bool, Option, So
 use Rattle.std.specs.List.{All}
 use Rattle.snb_schema.specs.declared.nodes.Organisation.{Organisation}
 use Rattle.snb_schema.specs.declared.row.Row.{Row}
-use Rattle.snb_tables.specs.Around.{organisations, work}
-use Rattle.snb_reads.specs.ComplexReads.{is_in}
-use Rattle.snb_reads.specs.Distance.{IsPerson}
+use Rattle.snb_graph_model.specs.Around.{organisations, work}
+use Rattle.snb_read_model.specs.ComplexReads.{is_in}
+use Rattle.snb_read_model.specs.Distance.{IsPerson}
 use Rattle.snb_short_reads.specs.Lookups.{IsCellNumber}
 use denote.Ref.{Bor}
 

@@ -3,8 +3,8 @@ use Rattle.std.specs.Prelude.{◌≡◌, ℕ, List, map}
 use Rattle.std.specs.List.{All, filter}
 use Rattle.snb_schema.specs.declared.person.Person.{Person}
 use Rattle.snb_schema.specs.declared.row.Row.{Row}
-use Rattle.snb_reads.specs.ComplexReads.{is_named}
-use Rattle.snb_reads.specs.Distance.{IsPerson, IsWithin}
+use Rattle.snb_read_model.specs.ComplexReads.{is_named}
+use Rattle.snb_read_model.specs.Distance.{IsPerson, IsWithin}
 use Rattle.snb_short_reads.specs.Lookups.{IsCellNumber, IsOnlyPerson}
 use denote.Ref.{Bor}
 

@@ -3,8 +3,8 @@ use Rattle.std.specs.Prelude.{◌≡◌, ◌&&◌, ◌==◌, ℕ, nat_lt, Bool, 
 use Rattle.std.specs.List.{list_any}
 use Rattle.snb_schema.specs.declared.row.Row.{Row}
 use Rattle.snb_schema.specs.declared.row.Row.TheVariants as row
-use Rattle.snb_tables.specs.Around.{friends}
-use Rattle.snb_reads.specs.ComplexReads.{is_named}
+use Rattle.snb_graph_model.specs.Around.{friends}
+use Rattle.snb_read_model.specs.ComplexReads.{is_named}
 use Rattle.snb_short_reads.specs.Lookups.{IsOnlyPerson}
 use Rattle.snb_complex_reads.specs.Namesakes.{Namesake, namesake_of}
 

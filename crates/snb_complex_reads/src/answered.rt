@@ -3,18 +3,16 @@
 ghost use Rattle.std.specs.Prelude.{◌∷◌, [], IfOk, OnOk};
 ghost use Rattle.std.specs.List.{All, AllZip};
 ghost use Rattle.snb_complex_reads.specs.Found.{HasAppended, IsCommentFound};
-ghost use Rattle.snb_tables.specs.Around.{replies};
-ghost use Rattle.snb_reads.specs.ComplexReads.{Ic8, IsAnswered};
-ghost use Rattle.snb_reads.specs.Order.{Answers, Falling, First, Rising};
-ghost use Rattle.snb_tables.specs.Soundness.{Sound};
+ghost use Rattle.snb_graph_model.specs.Around.{replies};
+ghost use Rattle.snb_read_model.specs.ComplexReads.{Ic8, IsAnswered};
+ghost use Rattle.snb_read_model.specs.Order.{Answers, Falling, First, Rising};
+ghost use Rattle.snb_graph_model.specs.Soundness.{Sound};
 
-use snb_graph::graph::Graph;
-use snb_order::first::first_of;
-use snb_reads::answer::Answer;
-use snb_reads::answer_row::AnswerRow;
-use snb_reads::cell::Cell;
+use snb_graph::Graph;
+use snb_graph_integrity::law::sound_graphs;
+use snb_read_model::{Answer, AnswerRow, Cell};
+use snb_read_order::first_of;
 use snb_short_reads::lookups::{author_id, known, words};
-use snb_soundness::law::sound_graphs;
 use std::alloc::{AllocError, Global};
 
 // The row of a reply: (comment, date).

@@ -4,24 +4,22 @@ ghost use Rattle.std.specs.Prelude.{◌≡◌, ◌∷◌, ◌++◌, ℕ, List, [
 ghost use Rattle.std.specs.HashMap.{get};
 ghost use Rattle.std.specs.List.{All, AllZip};
 ghost use Rattle.snb_complex_reads.specs.Jobs.{AreJobs, AreSeen, IsJobFound, job_of, jobs_by};
-ghost use Rattle.snb_reads.specs.ComplexReads.{Ic11, IsJob, is_in};
-ghost use Rattle.snb_reads.specs.Distance.{IsPerson};
-ghost use Rattle.snb_reads.specs.Order.{Answers, Falling, First, Rising};
+ghost use Rattle.snb_read_model.specs.ComplexReads.{Ic11, IsJob, is_in};
+ghost use Rattle.snb_read_model.specs.Distance.{IsPerson};
+ghost use Rattle.snb_read_model.specs.Order.{Answers, Falling, First, Rising};
 ghost use Rattle.snb_schema.specs.RowKeys.{node_key};
 ghost use Rattle.snb_schema.specs.declared.table.Kind.TheVariants as kinds;
-ghost use Rattle.snb_tables.specs.Graphs.{HasKey};
-ghost use Rattle.snb_tables.specs.Soundness.{Sound};
+ghost use Rattle.snb_graph_model.specs.Graphs.{HasKey};
+ghost use Rattle.snb_graph_model.specs.Soundness.{Sound};
 
 use crate::places::located;
-use snb_base::text::Text;
-use snb_graph::graph::Graph;
-use snb_order::first::first_of;
+use snb_base::Text;
+use snb_graph::Graph;
+use snb_graph_integrity::law::sound_graphs;
 use snb_reach::reach::within;
-use snb_reads::answer::Answer;
-use snb_reads::answer_row::AnswerRow;
-use snb_reads::cell::Cell;
+use snb_read_model::{Answer, AnswerRow, Cell};
+use snb_read_order::first_of;
 use snb_short_reads::lookups::{known, words};
-use snb_soundness::law::sound_graphs;
 use std::alloc::{AllocError, Global};
 use std::collections::HashMap;
 

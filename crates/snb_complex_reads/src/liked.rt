@@ -4,20 +4,17 @@ ghost use Rattle.std.specs.Prelude.{◌≡◌, ◌∷◌, ◌==◌, [], IfOk, On
 ghost use Rattle.std.specs.List.{All, AllZip, filter, list_any};
 ghost use Rattle.std.specs.List.Sorted.{IsSorted};
 ghost use Rattle.snb_complex_reads.specs.Found.{HasAppended, IsLikeFound, like_of, weigh};
-ghost use Rattle.snb_tables.specs.Around.{likes};
-ghost use Rattle.snb_reads.specs.ComplexReads.{Ic7, IsLiked, beats, minutes};
-ghost use Rattle.snb_reads.specs.Order.{Answers, Falling, First, Rising};
+ghost use Rattle.snb_graph_model.specs.Around.{likes};
+ghost use Rattle.snb_read_model.specs.ComplexReads.{Ic7, IsLiked, beats, minutes};
+ghost use Rattle.snb_read_model.specs.Order.{Answers, Falling, First, Rising};
 ghost use Rattle.snb_short_reads.specs.Lookups.{IsCellNumber};
-ghost use Rattle.snb_tables.specs.Soundness.{Sound};
+ghost use Rattle.snb_graph_model.specs.Soundness.{Sound};
 
-use snb_graph::graph::Graph;
-use snb_order::first::{first_of, in_order};
-use snb_reads::answer::Answer;
-use snb_reads::answer_row::AnswerRow;
-use snb_reads::cell::Cell;
-use snb_reads::like::Like;
+use snb_graph::Graph;
+use snb_graph_integrity::law::sound_graphs;
+use snb_read_model::{Answer, AnswerRow, Cell, Like};
+use snb_read_order::{first_of, in_order};
 use snb_short_reads::lookups::{are_friends, known, shown, words};
-use snb_soundness::law::sound_graphs;
 use std::alloc::{AllocError, Global};
 
 // Whole minutes from a message to a like, rounded down, also below zero.

@@ -7,57 +7,50 @@ ghost use Rattle.std.specs.List.{All, AllZip};
 ghost use Rattle.std.specs.Ordering.{nat_cmp};
 ghost use Rattle.snb_complex_reads.specs.Found.{IsStayFound};
 ghost use Rattle.snb_complex_reads.specs.Namesakes.{AreNamesakes, AreNamesakesWithin, IsNamesakeFound, IsNearFound, namesake_of};
-ghost use Rattle.snb_parts.specs.Pairs.{rest};
+ghost use Rattle.snb_graph_maps.specs.Pairs.{rest};
 ghost use Rattle.snb_reach.specs.Distances.{AreDistances};
-ghost use Rattle.snb_reads.specs.ComplexReads.{AreStays, Ic1, IsNamesake, IsStay, is_named};
-ghost use Rattle.snb_reads.specs.Order.{Answers, First, FirstOf, Rising, Whole};
-ghost use Rattle.snb_tables.specs.Soundness.{Sound};
+ghost use Rattle.snb_read_model.specs.ComplexReads.{AreStays, Ic1, IsNamesake, IsStay, is_named};
+ghost use Rattle.snb_read_model.specs.Order.{Answers, First, FirstOf, Rising, Whole};
+ghost use Rattle.snb_graph_model.specs.Soundness.{Sound};
 
 use crate::places::{located, place};
 use crate::scan::scanned;
-use snb_base::text::Text;
-use snb_graph::graph::Graph;
-use snb_graph::walk::Links;
-use snb_order::first::{first_of, in_order};
-use snb_order::law::first_is_some;
+use snb_base::Text;
+use snb_graph::{Graph, Links};
+use snb_graph_integrity::law::sound_graphs;
+use snb_graph_tables::Words;
 use snb_reach::reach::{distances, listed, within};
-use snb_reads::answer::Answer;
-use snb_reads::answer_row::AnswerRow;
-use snb_reads::cell::Cell;
-use snb_reads::stays::Stays;
-use snb_reads::wording::Wording;
-use snb_reads::wordings::Wordings;
-use snb_schema::person::Person;
-use snb_schema::table::Table;
+use snb_read_model::{Answer, AnswerRow, Cell, CowText, CowTexts, Stays};
+use snb_read_order::law::first_is_some;
+use snb_read_order::{first_of, in_order};
+use snb_schema::{Person, Table};
 use snb_short_reads::lookups::{city, known, words};
-use snb_soundness::law::sound_graphs;
-use snb_store::words::Words;
 use std::alloc::{AllocError, Global};
 use std::collections::HashMap;
 
 // The texts of a walk, in byte order.
-fn sorted<'a>(alloc: Global, texts: Words<'a>) -> Result<Wordings<'a>, AllocError>
+fn sorted<'a>(alloc: Global, texts: Words<'a>) -> Result<CowTexts<'a>, AllocError>
     ensures { IfOk result (FirstOf (slice_cmp nat_cmp) Whole texts.entry) }
 {
     let mut lent = Vec::new(alloc);
     for text in texts {
-        lent.push(Wording::lent(text))?;
+        lent.push(CowText::lent(text))?;
     }
-    let ordered = in_order(lent, |a: &Wording<'_>, b: &Wording<'_>| a.compare(b));
-    Ok(Wordings::from_vec(alloc, ordered))
+    let ordered = in_order(lent, |a: &CowText<'_>, b: &CowText<'_>| a.compare(b));
+    Ok(CowTexts::from_vec(alloc, ordered))
 }
 
 // The names of a stay: (organisation, year).
-fn stay(graph: &Graph, stay: (u64, u64)) -> (Wording<'_>, u32, Wording<'_>)
+fn stay(graph: &Graph, stay: (u64, u64)) -> (CowText<'_>, u32, CowText<'_>)
     requires sound { Sound graph.now }
     requires found { IsStayFound graph.now stay }
     ensures { IsStay graph.now stay result }
 {
     let (organisation, place) = located(graph, stay.0);
     (
-        Wording::lent(&organisation.name),
+        CowText::lent(&organisation.name),
         stay.1 as u32,
-        Wording::lent(&place.name),
+        CowText::lent(&place.name),
     )
 }
 
@@ -73,7 +66,7 @@ fn stays<'a>(alloc: Global, graph: &'a Graph, found: Links<'_>) -> Result<Stays<
     }
     let ordered = in_order(
         named,
-        |a: &(Wording<'_>, u32, Wording<'_>), b: &(Wording<'_>, u32, Wording<'_>)| {
+        |a: &(CowText<'_>, u32, CowText<'_>), b: &(CowText<'_>, u32, CowText<'_>)| {
             a.0.compare(&b.0)
                 .then(a.1.cmp(&b.1).then(a.2.compare(&b.2)))
         },

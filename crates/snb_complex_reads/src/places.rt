@@ -1,17 +1,16 @@
 //! Places, and organisations with the places where they stand.
 
 ghost use Rattle.std.specs.Prelude.{◌≡◌, ◌∷◌, []};
-ghost use Rattle.snb_tables.specs.Around.{places};
-ghost use Rattle.snb_reads.specs.ComplexReads.{IsAt};
+ghost use Rattle.snb_graph_model.specs.Around.{places};
+ghost use Rattle.snb_read_model.specs.ComplexReads.{IsAt};
 ghost use Rattle.snb_schema.specs.declared.table.Kind.TheVariants as kinds;
 ghost use Rattle.snb_schema.specs.RowKeys.{node_key};
-ghost use Rattle.snb_tables.specs.Graphs.{HasKey};
-ghost use Rattle.snb_tables.specs.Soundness.{Sound};
+ghost use Rattle.snb_graph_model.specs.Graphs.{HasKey};
+ghost use Rattle.snb_graph_model.specs.Soundness.{Sound};
 
-use snb_graph::graph::Graph;
-use snb_schema::nodes::{Organisation, Place};
-use snb_schema::table::Table;
-use snb_soundness::law::sound_graphs;
+use snb_graph::Graph;
+use snb_graph_integrity::law::sound_graphs;
+use snb_schema::{Organisation, Place, Table};
 
 // The place of this id.
 pub(crate) fn place(graph: &Graph, id: u64) -> &Place

@@ -8,9 +8,9 @@ ghost use Rattle.snb_complex_reads.specs.Scan.{IsScanned, distance_by, has_secon
 ghost use Rattle.snb_reach.specs.Distances.{AreDistances};
 ghost use Rattle.snb_short_reads.specs.Lookups.{IsOnlyPerson};
 
-use snb_graph::graph::Graph;
-use snb_schema::person::Person;
-use snb_soundness::law::sound_graphs;
+use snb_graph::Graph;
+use snb_graph_integrity::law::sound_graphs;
+use snb_schema::Person;
 use std::alloc::{AllocError, Global};
 use std::collections::HashMap;
 

@@ -3,18 +3,16 @@
 ghost use Rattle.std.specs.Prelude.{◌∷◌, ◌++◌, ℕ, List, [], IfOk, OnOk, nat_le, nat_lt};
 ghost use Rattle.std.specs.List.{All, AllZip};
 ghost use Rattle.snb_complex_reads.specs.Found.{HasOffered, IsLatest, IsSentFound, sent_by};
-ghost use Rattle.snb_reads.specs.ComplexReads.{Ic2, Ic9, IsSent, latest};
-ghost use Rattle.snb_reads.specs.Order.{Answers, First};
-ghost use Rattle.snb_tables.specs.Soundness.{Sound};
+ghost use Rattle.snb_read_model.specs.ComplexReads.{Ic2, Ic9, IsSent, latest};
+ghost use Rattle.snb_read_model.specs.Order.{Answers, First};
+ghost use Rattle.snb_graph_model.specs.Soundness.{Sound};
 
-use snb_graph::graph::Graph;
-use snb_order::top::Top;
+use snb_graph::Graph;
+use snb_graph_integrity::law::sound_graphs;
 use snb_reach::reach::within;
-use snb_reads::answer::Answer;
-use snb_reads::answer_row::AnswerRow;
-use snb_reads::cell::Cell;
+use snb_read_model::{Answer, AnswerRow, Cell};
+use snb_read_order::TopK;
 use snb_short_reads::lookups::{known, shown, words};
-use snb_soundness::law::sound_graphs;
 use std::alloc::{AllocError, Global};
 
 // The row of a message: (person, message, date).
@@ -60,14 +58,14 @@ fn sent_rows<'a>(
 }
 
 // Nothing yet, of which the latest twenty are wanted.
-fn none_yet(alloc: Global) -> Top<(u64, u64, u64)>
+fn none_yet(alloc: Global) -> TopK<(u64, u64, u64)>
     ensures { IsLatest [] result }
 {
-    Top::new(alloc, 20)
+    TopK::new(alloc, 20)
 }
 
 // Offers a message: (person, message, date).
-fn offer(top: &mut Top<(u64, u64, u64)>, sent: (u64, u64, u64)) -> Result<(), AllocError>
+fn offer(top: &mut TopK<(u64, u64, u64)>, sent: (u64, u64, u64)) -> Result<(), AllocError>
     ensures { OnOk result ((found : List (ℕ × ℕ × ℕ)) → IsLatest found top.old → IsLatest (found ++ sent ∷ []) top.new) }
 {
     top.offer(sent, |a, b| b.2.cmp(&a.2).then(a.1.cmp(&b.1)))?;
@@ -78,7 +76,7 @@ fn offer(top: &mut Top<(u64, u64, u64)>, sent: (u64, u64, u64)) -> Result<(), Al
 fn latest_sent(
     alloc: Global,
     graph: &Graph,
-    top: Top<(u64, u64, u64)>,
+    top: TopK<(u64, u64, u64)>,
 ) -> Result<Answer<'_>, AllocError>
     requires { (found : List (ℕ × ℕ × ℕ)) × IsLatest found top × All (IsSentFound graph.now) found }
     ensures { IfOk result (λ answer. (found : List (ℕ × ℕ × ℕ)) → IsLatest found top → All (IsSentFound graph.now) found
@@ -95,7 +93,7 @@ fn offer_until(
     graph: &Graph,
     person: u64,
     max_date: u64,
-    top: &mut Top<(u64, u64, u64)>,
+    top: &mut TopK<(u64, u64, u64)>,
 ) -> Result<(), AllocError>
     ensures { OnOk result (HasOffered (sent_by graph.now (λ date. nat_le date max_date) person) top.old top.new) }
 {
@@ -112,7 +110,7 @@ fn offer_before(
     graph: &Graph,
     person: u64,
     max_date: u64,
-    top: &mut Top<(u64, u64, u64)>,
+    top: &mut TopK<(u64, u64, u64)>,
 ) -> Result<(), AllocError>
     ensures { OnOk result (HasOffered (sent_by graph.now (λ date. nat_lt date max_date) person) top.old top.new) }
 {

@@ -9,9 +9,9 @@ use Rattle.snb_schema.specs.declared.row.Placed.{Placed}
 use Rattle.snb_schema.specs.declared.table.Table.{Table}
 use Rattle.snb_schema.specs.Lines.{HasNoEnd, fields, lines}
 use Rattle.snb_schema.specs.RowLines.{IsBadColumn, IsHeader}
-use Rattle.snb_lines.specs.Language.{IsSplit, IsText, SplitAs}
-use Rattle.snb_lines.specs.Laws.{IsExact}
-use Rattle.snb_lines.proofs.Laws.{are_under, lines_no_end, one_reading, under}
+use Rattle.snb_input_lines.specs.Language.{IsSplit, IsText, SplitAs}
+use Rattle.snb_input_lines.specs.Laws.{IsExact}
+use Rattle.snb_input_lines.proofs.Laws.{are_under, lines_no_end, one_reading, under}
 use Rattle.snb_csv.specs.FileLaws.{IsPlacedRow, OneTableReading, TableFiles}
 use Rattle.snb_csv.specs.Laws.{OneRow, RowsAreRight}
 use Rattle.snb_csv.specs.Rows.{row_language, table_language}

@@ -1,3 +1,4 @@
+pub mod CaseFacts
 pub mod FileFacts
 pub mod OneFacts
 pub mod OwnFacts

@@ -11,9 +11,10 @@ use Rattle.snb_schema.specs.Columns.{SpellsAll}
 use Rattle.snb_schema.specs.Layouts.{columns, has_no_direction}
 use Rattle.snb_schema.specs.RowLines.{Differ, IsLoop, IsWide, SpellsRow, in_order, is_turned, row_shape, table_of, values}
 use Rattle.snb_columns.specs.Laws.{OneList}
-use Rattle.snb_fields.proofs.Laws.{no_stop, one_stop, spelled_long}
+use Rattle.snb_input_fields.proofs.Laws.{no_stop, one_stop, spelled_long}
 use Rattle.snb_csv.specs.Laws.{OneColumn, OneRow, RowsAreRight}
 use Rattle.snb_csv.specs.Make.{row_by}
+use Rattle.snb_csv.proofs.CaseFacts.{IsBadColumnCase, to_case}
 use Rattle.snb_csv.proofs.RowFacts.{IsPair, pair_of}
 
 -- the fields of a row are wide
@@ -62,21 +63,27 @@ no_loop t own extra vs false e s d l = l
 no_loop t own extra vs true e s d l = pair_differs own extra vs (pair_of (Date ∷ []) own vs (subst (λ (u : Table). SpellsAll (columns u) own vs) (only_friends t e) s)) d l
 
 -- fields that spell a row have no bad column
-pub rows_are_right : RowsAreRight
-rows_are_right t fs r turned column s (inl narrow) = narrow.0 (row_wide t fs r turned s)
-rows_are_right t fs r turned column s (inr (inl loop)) =
+right_case : (t : Table) (fs : List (List ℕ)) (r : Row) (turned : Bool) (column : ℕ) → SpellsRow t fs r turned → ¬ IsBadColumnCase t fs column
+right_case t fs r turned column s (inl narrow) = narrow.0 (row_wide t fs r turned s)
+right_case t fs r turned column s (inr (inl loop)) =
     no_loop t s.own s.extra s.said (has_no_direction t) refl s.spelled s.differ (subst (IsLoop (has_no_direction t)) s.split loop.1)
-rows_are_right t fs r turned column s (inr (inr stop)) =
+right_case t fs r turned column s (inr (inr stop)) =
     no_stop (columns t) fs s.said (subst (λ (xs : List (List ℕ)). SpellsAll (columns t) xs s.said) (sym (first_own t fs r turned s)) s.spelled) stop.2.0 stop.2.1
 
+pub rows_are_right : RowsAreRight
+rows_are_right t fs r turned column s bad = right_case t fs r turned column s (to_case t fs column bad)
+
 -- and others have one at most
+one_case : (t : Table) (fs : List (List ℕ)) (a b : ℕ) → IsBadColumnCase t fs a → IsBadColumnCase t fs b → a ≡ b
+one_case t fs a b (inl p) (inl q) = p.1 ∙ sym q.1
+one_case t fs a b (inl p) (inr (inl q)) = absurd (p.0 q.0)
+one_case t fs a b (inl p) (inr (inr q)) = absurd (p.0 q.0)
+one_case t fs a b (inr (inl p)) (inl q) = absurd (q.0 p.0)
+one_case t fs a b (inr (inl p)) (inr (inl q)) = p.2 ∙ sym q.2
+one_case t fs a b (inr (inl p)) (inr (inr q)) = absurd (q.1 p.1)
+one_case t fs a b (inr (inr p)) (inl q) = absurd (q.0 p.0)
+one_case t fs a b (inr (inr p)) (inr (inl q)) = absurd (p.1 q.1)
+one_case t fs a b (inr (inr p)) (inr (inr q)) = p.2.2 ∙ ap (λ n. n + 1) (one_stop (columns t) fs p.2.0 q.2.0 p.2.1 q.2.1) ∙ sym q.2.2
+
 pub one_column : OneColumn
-one_column t fs a b (inl p) (inl q) = p.1 ∙ sym q.1
-one_column t fs a b (inl p) (inr (inl q)) = absurd (p.0 q.0)
-one_column t fs a b (inl p) (inr (inr q)) = absurd (p.0 q.0)
-one_column t fs a b (inr (inl p)) (inl q) = absurd (q.0 p.0)
-one_column t fs a b (inr (inl p)) (inr (inl q)) = p.2 ∙ sym q.2
-one_column t fs a b (inr (inl p)) (inr (inr q)) = absurd (q.1 p.1)
-one_column t fs a b (inr (inr p)) (inl q) = absurd (q.0 p.0)
-one_column t fs a b (inr (inr p)) (inr (inl q)) = absurd (p.1 q.1)
-one_column t fs a b (inr (inr p)) (inr (inr q)) = p.2.2 ∙ ap (λ n. n + 1) (one_stop (columns t) fs p.2.0 q.2.0 p.2.1 q.2.1) ∙ sym q.2.2
+one_column t fs a b p q = one_case t fs a b (to_case t fs a p) (to_case t fs b q)

@@ -15,9 +15,10 @@ use Rattle.snb_schema.specs.declared.table.Table.TheVariants as table
 use Rattle.snb_schema.specs.Columns.{SpellsAll, StopsAfter}
 use Rattle.snb_schema.specs.Layouts.{columns, has_no_direction, id_column, shape, shape_columns}
 use Rattle.snb_schema.specs.RowLines.{IsBadColumn, IsLoop, IsWide, NoneOrEmpty, SpellsRow, in_order, is_turned, row_shape, table_of, values}
-use Rattle.snb_fields.proofs.Laws.{starts_alone, taken_again}
-use Rattle.snb_fields.specs.Values.{starts_twice, taken}
+use Rattle.snb_input_fields.proofs.Laws.{starts_alone, taken_again}
+use Rattle.snb_input_fields.specs.Values.{starts_twice, taken}
 use Rattle.snb_csv.specs.Make.{IsRowOf, row_by}
+use Rattle.snb_csv.proofs.CaseFacts.{from_case}
 
 -- a row that is made of values has them
 made_values : (s : Shape) (t : Table) (vs : List Value) → values (row_by s t vs) ≡ taken (shape_columns s) vs
@@ -137,7 +138,8 @@ wide_long n fs w = let e = ap length w.split in let size = w.size in omega (arit
 
 -- a stop before anything else
 stop_alone : (fs : List (List ℕ)) (vs : List Value) (n : ℕ) → IsWide 3 fs → StopsAfter (columns table.PersonKnowsPerson) fs n → starts_twice vs ≡ false → ¬ IsLoop true fs → IsBadColumn table.PersonKnowsPerson fs (cond (starts_twice vs) 2 (n + 1))
-stop_alone fs vs n w s apart open_ = inr (inr (w, open_, (n, s, ap (λ b. cond b 2 (n + 1)) apart)))
+stop_alone fs vs n w s apart open_ =
+    from_case table.PersonKnowsPerson fs (cond (starts_twice vs) 2 (n + 1)) (inr (inr (w, open_, (n, s, ap (λ b. cond b 2 (n + 1)) apart))))
 
 first_same : {a b c d : List ℕ} {xs ys : List (List ℕ)} → a ∷ b ∷ xs ≡ c ∷ d ∷ ys → a ≡ c
 first_same e = cc
@@ -171,14 +173,16 @@ friends_stop (x ∷ y ∷ fs) (v ∷ u ∷ vs) (suc zero) w s = absurd s.1.1
 friends_stop (x ∷ y ∷ fs) vs (suc (suc n)) w s =
     let p = pair_of (take n (Date ∷ [])) (x ∷ y ∷ take n fs) vs s.1 in
     elim (cases_Bool (starts_twice vs)) [
-      | inl e ↦ inr (inl (w, pair_loops (take n (Date ∷ [])) x y (take n fs) vs p e, ap (λ b. cond b 2 (suc (suc n) + 1)) e))
+      | inl e ↦
+          from_case table.PersonKnowsPerson (x ∷ y ∷ fs) (cond (starts_twice vs) 2 (suc (suc n) + 1))
+          (inr (inl (w, pair_loops (take n (Date ∷ [])) x y (take n fs) vs p e, ap (λ b. cond b 2 (suc (suc n) + 1)) e)))
       | inr e ↦ stop_alone (x ∷ y ∷ fs) vs (suc (suc n)) w s.0 e (pair_apart (take n (Date ∷ [])) x y (take n fs) vs p e)
     ]
 
 -- lines that stop there, by what is known of the table
 pub bad_at : (t : Table) (fs : List (List ℕ)) (vs : List Value) (n column : ℕ) (undirected : Bool) → undirected ≡ has_no_direction t → (undirected ≡ true → t ≡ table.PersonKnowsPerson) → IsWide (length (columns t)) fs → Stopping t fs vs n
     → column ≡ n + 1 → IsBadColumn t fs (cond (undirected && starts_twice vs) 2 column)
-bad_at t fs vs n column false e knows w s at = inr (inr (w, rw (← e) (λ l. l), (n, s.0, at)))
+bad_at t fs vs n column false e knows w s at = from_case t fs column (inr (inr (w, rw (← e) (λ l. l), (n, s.0, at))))
 bad_at t fs vs n column true e knows w s at =
     subst (λ (k : ℕ). IsBadColumn t fs (cond (starts_twice vs) 2 k)) (sym at)
     (subst (λ (u : Table). IsBadColumn u fs (cond (starts_twice vs) 2 (n + 1))) (sym (knows refl))
@@ -188,7 +192,8 @@ bad_at t fs vs n column true e knows w s at =
 friends_loop : (fs : List (List ℕ)) (vs : List Value) → IsWide 3 fs → SpellsAll (columns table.PersonKnowsPerson) (take 3 fs) vs → starts_twice vs ≡ true → IsBadColumn table.PersonKnowsPerson fs 2
 friends_loop [] vs w s twice = absurd (omega (arith, wide_long 3 [] w))
 friends_loop (x ∷ []) vs w s twice = absurd (omega (arith, wide_long 3 (x ∷ []) w))
-friends_loop (x ∷ y ∷ fs) vs w s twice = inr (inl (w, pair_loops (Date ∷ []) x y (take 1 fs) vs (pair_of (Date ∷ []) (x ∷ y ∷ take 1 fs) vs s) twice, refl))
+friends_loop (x ∷ y ∷ fs) vs w s twice =
+    from_case table.PersonKnowsPerson (x ∷ y ∷ fs) 2 (inr (inl (w, pair_loops (Date ∷ []) x y (take 1 fs) vs (pair_of (Date ∷ []) (x ∷ y ∷ take 1 fs) vs s) twice, refl)))
 
 -- a line that leads back
 pub bad_loop : (t : Table) (fs : List (List ℕ)) (vs : List Value) (column : ℕ) → t ≡ table.PersonKnowsPerson → IsWide (length (columns t)) fs → SpellsAll (columns t) (take (length (columns t)) fs) vs → starts_twice vs ≡ true → column ≡ 2

@@ -7,11 +7,11 @@ use Rattle.snb_schema.specs.declared.table.Table.{Table}
 use Rattle.snb_schema.specs.Columns.{SpellsAll}
 use Rattle.snb_schema.specs.Layouts.{columns, has_no_direction, shape}
 use Rattle.snb_schema.specs.RowLines.{IsBadColumn, IsWide, SpellsRow, in_order, is_turned}
-use Rattle.snb_fields.specs.Laws.{EachLineIsRead}
-use Rattle.snb_fields.specs.Values.{starts_twice}
+use Rattle.snb_input_fields.specs.Laws.{EachLineIsRead}
+use Rattle.snb_input_fields.specs.Values.{starts_twice}
 use Rattle.snb_csv.specs.Laws.{RowOrColumn}
 use Rattle.snb_csv.specs.Make.{row_by}
-use Rattle.snb_fields.proofs.Laws.{wide_or_not}
+use Rattle.snb_input_fields.proofs.Laws.{wide_or_not}
 use Rattle.snb_csv.proofs.OneFacts.{only_friends}
 use Rattle.snb_csv.proofs.RowFacts.{bad_at, bad_loop, row_as_said, row_in_order, spells_row, wide_long}
 

@@ -4,9 +4,9 @@ use Rattle.snb_schema.specs.declared.row.Placed.{Placed}
 use Rattle.snb_schema.specs.declared.table.Table.{Table}
 use Rattle.snb_schema.specs.Lines.{lines}
 use Rattle.snb_schema.specs.RowLines.{IsHeader, IsRow}
-use Rattle.snb_lines.specs.Files.{AreUnder}
-use Rattle.snb_lines.specs.Laws.{ReadsOnce}
-use Rattle.snb_lines.specs.Reading.{Says}
+use Rattle.snb_input_lines.specs.Files.{AreUnder}
+use Rattle.snb_input_lines.specs.Laws.{ReadsOnce}
+use Rattle.snb_input_lines.specs.Reading.{Says}
 use Rattle.snb_csv.specs.Rows.{row_language}
 
 -- the line of this number is that of the row, which has its number and says whether the line has its ends the other way round

@@ -15,7 +15,7 @@ use Rattle.snb_schema.specs.declared.row.Row.TheVariants as row
 use Rattle.snb_schema.specs.declared.table.Table.{Table}
 use Rattle.snb_schema.specs.Layouts.{has_no_direction, shape}
 use Rattle.snb_schema.specs.RowLines.{Differ, in_order, is_turned, row_shape, table_of, values}
-use Rattle.snb_fields.specs.Values.{first_number, first_small, first_text}
+use Rattle.snb_input_fields.specs.Values.{first_number, first_small, first_text}
 
 abbrev pub place_of : List Value → Place
 place_of vs = record { id = first_number vs; name = first_text (drop 1 vs); url = first_text (drop 1 (drop 1 vs)); kind = first_text (drop 1 (drop 1 (drop 1 vs))) }

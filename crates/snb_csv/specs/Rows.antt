@@ -8,7 +8,7 @@ use Rattle.snb_schema.specs.declared.table.Table.{Table}
 use Rattle.snb_schema.specs.Layouts.{columns}
 use Rattle.snb_schema.specs.Lines.{fields}
 use Rattle.snb_schema.specs.RowLines.{IsBadColumn, IsWide, SpellsRow}
-use Rattle.snb_lines.specs.Language.{Language}
+use Rattle.snb_input_lines.specs.Language.{Language}
 
 -- the file is a table's
 abbrev pub IsTableFile : FileId → Type 0

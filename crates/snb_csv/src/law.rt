@@ -5,7 +5,7 @@ ghost use Rattle.snb_csv.specs.Laws.{OneColumn, OneRow, OwnRowLine, RowOrColumn,
 
 use snb_base::number::one_spelling;
 use snb_columns::law::{own_line as own_line_of_values, plain_fields};
-use snb_fields::law::{one_value, spelled_or_not};
+use snb_input_fields::law::{one_value, spelled_or_not};
 
 /// The fields of a line spell one row of a table at most.
 pub fn one_row()

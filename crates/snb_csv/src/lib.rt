@@ -7,3 +7,6 @@ mod make;
 pub mod read;
 pub mod rows;
 pub mod write;
+
+pub use rows::{Rows, TableLines};
+pub use write::write_row;

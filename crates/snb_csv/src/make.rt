@@ -5,13 +5,11 @@ ghost use Rattle.snb_schema.specs.Layouts.{shape};
 ghost use Rattle.snb_schema.specs.RowLines.{in_order, is_turned};
 ghost use Rattle.snb_csv.specs.Make.{comment_of, forum_of, named_of, organisation_of, person_of, place_of, post_of, row_by};
 
-use snb_fields::values::Values;
-use snb_schema::column::Value;
-use snb_schema::layout::{Shape, shape_of};
-use snb_schema::nodes::{Comment, Forum, Named, Organisation, Place, Post};
-use snb_schema::person::Person;
-use snb_schema::row::Row;
-use snb_schema::table::Table;
+use snb_input_fields::Values;
+use snb_schema::layout::shape_of;
+use snb_schema::{
+    Comment, Forum, Named, Organisation, Person, Place, Post, Row, Shape, Table, Value,
+};
 
 fn place(values: &mut Values) -> Place
     ensures { result ≡ place_of values.old }

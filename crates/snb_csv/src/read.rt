@@ -7,17 +7,15 @@ ghost use Rattle.snb_schema.specs.declared.table.Table.TheVariants as tables;
 ghost use Rattle.snb_schema.specs.Layouts.{columns};
 ghost use Rattle.snb_schema.specs.RowLines.{IsBadColumn, SpellsRow};
 ghost use Rattle.snb_csv.specs.Make.{IsRowOf};
-ghost use Rattle.snb_fields.specs.Values.{starts_twice};
+ghost use Rattle.snb_input_fields.specs.Values.{starts_twice};
 
 use crate::make::{make_row, put_in_order};
-use snb_fields::read::{is_wide, read_values};
-use snb_fields::values::{Values, starts_twice};
-use snb_lines::record::Record;
-use snb_schema::column::Value;
-use snb_schema::fault::LineFault;
+use snb_input_fields::read::is_wide;
+use snb_input_fields::values::starts_twice;
+use snb_input_fields::{Values, read_values};
+use snb_input_lines::Record;
 use snb_schema::layout::{columns_of, is_undirected};
-use snb_schema::row::Row;
-use snb_schema::table::Table;
+use snb_schema::{LineFault, Row, Table, Value};
 use std::alloc::Global;
 
 /// A row that is read out of a line.

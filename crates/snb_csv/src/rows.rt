@@ -5,16 +5,10 @@ ghost use Rattle.snb_schema.specs.Faults.{OnBadColumn};
 ghost use Rattle.snb_schema.specs.RowLines.{IsBadColumn, SpellsRow};
 
 use crate::read::read_row;
-use snb_fields::read::is_wide;
-use snb_lines::grammar::Grammar;
-use snb_lines::lines::Lines;
-use snb_lines::open::Open;
-use snb_lines::record::Record;
-use snb_schema::fault::LineFault;
-use snb_schema::file::{FileId, FileKind};
+use snb_input_fields::read::is_wide;
+use snb_input_lines::{Grammar, LineReader, Open, Record};
 use snb_schema::layout::columns_of;
-use snb_schema::row::Placed;
-use snb_schema::table::Table;
+use snb_schema::{FileId, FileKind, LineFault, Placed, Table};
 use std::alloc::Global;
 use std::marker::Model;
 
@@ -141,7 +135,7 @@ impl Grammar for TableLines {
 }
 
 /// Turns the pieces of one part of a table's file into rows: `Rows::new(alloc, file)`, where the file
-/// is a table's. It is the reader of lines of `snb_lines`, so a line is refused for its bytes first;
+/// is a table's. It is the reader of lines of `snb_input_lines`, so a line is refused for its bytes first;
 /// then the first line with a byte is refused where it hasn't a field for each column, and a later one
 /// in its first bad column. An extra field at the end of a line is passed over where it is empty.
-pub type Rows = Lines<TableLines>;
+pub type Rows = LineReader<TableLines>;

@@ -4,10 +4,8 @@ ghost use Rattle.std.specs.Prelude.{◌≡◌, ◌++◌, ◌∷◌, [], IfOk, On
 ghost use Rattle.snb_schema.specs.declared.row.Row.TheVariants as rows;
 ghost use Rattle.snb_schema.specs.RowLines.{canonical};
 
-use snb_fields::write::{Cell, line_of};
-use snb_schema::nodes::{Comment, Forum, Named, Organisation, Place, Post};
-use snb_schema::person::Person;
-use snb_schema::row::Row;
+use snb_input_fields::{Cell, line_of};
+use snb_schema::{Comment, Forum, Named, Organisation, Person, Place, Post, Row};
 use std::alloc::{AllocError, Global};
 
 fn place_line(alloc: Global, place: &Place) -> Result<Vec<u8>, AllocError>

@@ -12,20 +12,20 @@ use mathlib.Core.Bool.{false≢true}
 use Rattle.snb_base.proofs.Laws.{push_split}
 use Rattle.snb_schema.specs.declared.row.Row.{Row}
 use Rattle.snb_schema.specs.RowKeys.{RowKey, row_key, slot, slot_of}
-use Rattle.snb_shelf.proofs.Laws.{contains_cases, contains_here}
-use Rattle.snb_shelf.specs.Rows.{Stock}
-use Rattle.snb_tables.specs.Graphs.{HasGained, HasKey, HasSlot, IsGraph, row_order, rows}
-use Rattle.snb_tables.specs.Laws.{GraphsAreTheirRows}
-use Rattle.snb_tables.proofs.Laws.{contains_none, row_total}
-use Rattle.snb_links.specs.declared.indexes.Indexes.{Indexes}
-use Rattle.snb_links.specs.declared.link.Link.{Link}
-use Rattle.snb_links.specs.declared.link.Walk.{Walk}
-use Rattle.snb_links.specs.declared.link.Walk.TheVariants.{Friends, Messages, Replies, PostLikes, CommentLikes, Work, Study}
-use Rattle.snb_links.specs.Concerns.{concerns}
-use Rattle.snb_links.specs.Kept.{HasFrozenLink, HasLink, IsAlong, IsIndexed, along}
-use Rattle.snb_links.proofs.Laws.{more_backed, mute_indexed}
-use Rattle.snb_store.proofs.Laws.{contains_gained}
-use Rattle.snb_store.specs.Parts.{HasGivenBack}
+use Rattle.snb_graph_rows.proofs.Laws.{contains_cases, contains_here}
+use Rattle.snb_graph_rows.specs.Rows.{Stock}
+use Rattle.snb_graph_model.specs.Graphs.{HasGained, HasKey, HasSlot, IsGraph, row_order, rows}
+use Rattle.snb_graph_model.specs.Laws.{GraphsAreTheirRows}
+use Rattle.snb_graph_model.proofs.Laws.{contains_none, row_total}
+use Rattle.snb_graph_adjacency.specs.declared.indexes.Indexes.{Indexes}
+use Rattle.snb_graph_adjacency.specs.declared.link.Link.{Link}
+use Rattle.snb_graph_adjacency.specs.declared.link.Walk.{Walk}
+use Rattle.snb_graph_adjacency.specs.declared.link.Walk.TheVariants.{Friends, Messages, Replies, PostLikes, CommentLikes, Work, Study}
+use Rattle.snb_graph_adjacency.specs.Concerns.{concerns}
+use Rattle.snb_graph_adjacency.specs.Kept.{HasFrozenLink, HasLink, IsAlong, IsIndexed, along}
+use Rattle.snb_graph_adjacency.proofs.Laws.{more_backed, mute_indexed}
+use Rattle.snb_graph_tables.proofs.Laws.{contains_gained}
+use Rattle.snb_graph_tables.specs.Parts.{HasGivenBack}
 use Rattle.snb_graph.specs.Additions.{AddsUp, HasClash, HasTaken, HoldsAll, IsKept}
 
 pub not_held : {H : Type 0} (test : Bool) → IsTrue test ↔ H → test ≡ false → ¬ H

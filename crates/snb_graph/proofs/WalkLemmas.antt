@@ -19,17 +19,17 @@ use Rattle.snb_schema.specs.References.{ref}
 use Rattle.snb_schema.specs.RowKeys.{RowKey, node_key, row_key, slot}
 use Rattle.snb_schema.specs.RowLines.{table_of}
 use Rattle.snb_schema.specs.TableOrder.{same_table}
-use Rattle.snb_tables.proofs.Laws.{IsApart, chosen_from, friends_apart, in_rows, liker_there, likers_apart, likes_split, messages_apart, none_of, of_each, replies_apart, same_list, stay_row, walk_moved}
-use Rattle.snb_tables.specs.Around.{friends, likes, likes_in, messages, replies, stay_in, study, work}
-use Rattle.snb_tables.specs.Graphs.{HasKey, IsGraph, key_order, part_of, row_order, rows}
-use Rattle.snb_tables.specs.Soundness.{Held}
-use Rattle.snb_parts.specs.Pairs.{ArePairsOf}
-use Rattle.snb_shelf.specs.KeysApart.{table_itself, then_last}
-use Rattle.snb_links.specs.declared.indexes.Indexes.{Indexes}
-use Rattle.snb_links.specs.declared.link.Walk.{Walk}
-use Rattle.snb_links.specs.declared.link.Walk.TheVariants.{Friends, Messages, Replies, PostLikes, CommentLikes, Work, Study}
-use Rattle.snb_links.specs.Kept.{IsIndexed, along, at}
-use Rattle.snb_links.specs.News.{link}
+use Rattle.snb_graph_model.proofs.Laws.{IsApart, chosen_from, friends_apart, in_rows, liker_there, likers_apart, likes_split, messages_apart, none_of, of_each, replies_apart, same_list, stay_row, walk_moved}
+use Rattle.snb_graph_model.specs.Around.{friends, likes, likes_in, messages, replies, stay_in, study, work}
+use Rattle.snb_graph_model.specs.Graphs.{HasKey, IsGraph, key_order, part_of, row_order, rows}
+use Rattle.snb_graph_model.specs.Soundness.{Held}
+use Rattle.snb_graph_maps.specs.Pairs.{ArePairsOf}
+use Rattle.snb_graph_rows.specs.KeysApart.{table_itself, then_last}
+use Rattle.snb_graph_adjacency.specs.declared.indexes.Indexes.{Indexes}
+use Rattle.snb_graph_adjacency.specs.declared.link.Walk.{Walk}
+use Rattle.snb_graph_adjacency.specs.declared.link.Walk.TheVariants.{Friends, Messages, Replies, PostLikes, CommentLikes, Work, Study}
+use Rattle.snb_graph_adjacency.specs.Kept.{IsIndexed, along, at}
+use Rattle.snb_graph_adjacency.specs.LinkDelta.{link}
 use Rattle.snb_graph.specs.Walks.{IsWalkOver}
 
 -- ---- likes

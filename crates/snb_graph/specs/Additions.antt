@@ -2,10 +2,10 @@
 use Rattle.std.specs.Prelude.{◌≡◌, ◌↔◌, ◌⊎◌, ◌++◌, ◌∷◌, List, Contains, IsPermutation}
 use Rattle.snb_schema.specs.declared.row.Row.{Row}
 use Rattle.snb_schema.specs.RowKeys.{slot_of}
-use Rattle.snb_tables.specs.Graphs.{HasSlot, IsGraph}
-use Rattle.snb_shelf.specs.Rows.{Stock}
-use Rattle.snb_links.specs.declared.indexes.Indexes.{Indexes}
-use Rattle.snb_links.specs.Kept.{IsBacked, IsIndexed}
+use Rattle.snb_graph_model.specs.Graphs.{HasSlot, IsGraph}
+use Rattle.snb_graph_rows.specs.Rows.{Stock}
+use Rattle.snb_graph_adjacency.specs.declared.indexes.Indexes.{Indexes}
+use Rattle.snb_graph_adjacency.specs.Kept.{IsBacked, IsIndexed}
 
 -- the slot of one of the rows is that of a row that is held, or of a row before it
 pub record HasClash (g more : List Row) : Type 0 where

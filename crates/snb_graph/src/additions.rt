@@ -1,27 +1,25 @@
 //! Rows that are added to a graph with their links, and taken out again.
 
 ghost use Rattle.std.specs.Prelude.{◌≡◌, ◌++◌, ◌∷◌, [], ◌↔◌, All, Contains, Err, IfOk, List, OnErr, OnOk};
-ghost use Rattle.snb_parts.specs.declared.half.Half.TheVariants as Half;
+ghost use Rattle.snb_graph_maps.specs.declared.layer.Layer.TheVariants as Layer;
 ghost use Rattle.snb_schema.specs.declared.row.Row.{Row};
 ghost use Rattle.snb_schema.specs.declared.row.Row.TheVariants as row;
 ghost use Rattle.snb_schema.specs.RowKeys.{row_key, slot_of};
 ghost use Rattle.snb_schema.specs.TableRows.{IsTableRow};
-ghost use Rattle.snb_tables.specs.Graphs.{HasGained, HasKey, HasSlot, IsGraph};
-ghost use Rattle.snb_store.specs.declared.insert.Insert.TheVariants as Insert;
-ghost use Rattle.snb_store.specs.Parts.{HasGivenBack};
-ghost use Rattle.snb_store.specs.Twins.{IsNoWord};
+ghost use Rattle.snb_graph_model.specs.Graphs.{HasGained, HasKey, HasSlot, IsGraph};
+ghost use Rattle.snb_graph_tables.specs.declared.insert.Insert.TheVariants as Insert;
+ghost use Rattle.snb_graph_tables.specs.Parts.{HasGivenBack};
+ghost use Rattle.snb_graph_tables.specs.Twins.{IsNoWord};
 ghost use Rattle.snb_graph.specs.Additions.{AddsUp, HasClash, HasTaken, HoldsAll, IsKept};
 
-use snb_base::text::Text;
-use snb_links::indexes::Indexes;
-use snb_links::news::news_of;
-use snb_parts::half::Half;
-use snb_schema::row::Row;
-use snb_schema::table::Table;
-use snb_shelf::keys::WordKey;
-use snb_store::insert::Insert;
-use snb_store::tables::Tables;
-use snb_tables::law::graphs_are_their_rows;
+use snb_base::Text;
+use snb_graph_adjacency::Indexes;
+use snb_graph_adjacency::link_delta::delta_of;
+use snb_graph_maps::Layer;
+use snb_graph_model::law::graphs_are_their_rows;
+use snb_graph_rows::WordKey;
+use snb_graph_tables::{Insert, Tables};
+use snb_schema::{Row, Table};
 use std::alloc::AllocError;
 
 // An equal row.
@@ -55,14 +53,14 @@ fn insert_word(
     table: Table,
     person: u64,
     text: Text,
-    half: Half,
+    half: Layer,
 ) -> Result<(), Insert>
     requires shaped { IsTableRow (row.Word table person text) }
     requires kept { IsKept tables.old links.old }
     ensures ok { OnOk result (HasGained tables.old.rows (row.Word table person text ∷ []) tables.new.rows) }
     ensures duplicate { (result ≡ Err Insert.Duplicate) ↔ HasSlot tables.old.rows (slot_of (row.Word table person text)) }
     ensures err { OnErr result (tables.new.rows ≡ tables.old.rows) }
-    ensures frozen { half ≡ Half.Added → tables.new.frozen ≡ tables.old.frozen }
+    ensures frozen { half ≡ Layer.Added → tables.new.frozen ≡ tables.old.frozen }
     ensures kept { IsKept tables.new links.new }
 {
     let _ = links;
@@ -79,7 +77,7 @@ fn insert_other(
     tables: &mut Tables,
     links: &mut Indexes,
     row: Row,
-    half: Half,
+    half: Layer,
 ) -> Result<(), Insert>
     requires shaped { IsTableRow row }
     requires no_word { IsNoWord row }
@@ -87,19 +85,19 @@ fn insert_other(
     ensures ok { OnOk result (HasGained tables.old.rows (row ∷ []) tables.new.rows) }
     ensures duplicate { (result ≡ Err Insert.Duplicate) ↔ HasSlot tables.old.rows (slot_of row) }
     ensures err { OnErr result (tables.new.rows ≡ tables.old.rows) }
-    ensures frozen { half ≡ Half.Added → tables.new.frozen ≡ tables.old.frozen }
+    ensures frozen { half ≡ Layer.Added → tables.new.frozen ≡ tables.old.frozen }
     ensures kept { IsKept tables.new links.new }
 {
     if tables.holds(&row) {
         return Err(Insert::Duplicate);
     }
     links.known();
-    let news = news_of(tables, &row);
-    if links.add_news(news).is_err() {
+    let delta = delta_of(tables, &row);
+    if links.add_delta(delta).is_err() {
         return Err(Insert::Memory);
     }
     if tables.put(row, half).is_err() {
-        links.drop_news(news);
+        links.drop_delta(delta);
         return Err(Insert::Memory);
     }
     Ok(())
@@ -112,14 +110,14 @@ pub(crate) fn insert(
     tables: &mut Tables,
     links: &mut Indexes,
     row: Row,
-    half: Half,
+    half: Layer,
 ) -> Result<(), Insert>
     requires shaped { IsTableRow row }
     requires kept { IsKept tables.old links.old }
     ensures ok { OnOk result (HasGained tables.old.rows (row ∷ []) tables.new.rows) }
     ensures duplicate { (result ≡ Err Insert.Duplicate) ↔ HasSlot tables.old.rows (slot_of row) }
     ensures err { OnErr result (tables.new.rows ≡ tables.old.rows) }
-    ensures frozen { half ≡ Half.Added → tables.new.frozen ≡ tables.old.frozen }
+    ensures frozen { half ≡ Layer.Added → tables.new.frozen ≡ tables.old.frozen }
     ensures kept { IsKept tables.new links.new }
 {
     match row {
@@ -163,8 +161,8 @@ fn take_other(tables: &mut Tables, links: &mut Indexes, row: &Row)
     tables.known();
     tables.take_back(row);
     tables.shared();
-    let news = news_of(tables, row);
-    links.drop_news(news);
+    let delta = delta_of(tables, row);
+    links.drop_delta(delta);
 }
 
 // Takes out a row that is held and isn't frozen.
@@ -207,7 +205,7 @@ fn insert_noted(
     if note(added, &row).is_err() {
         return Err(Insert::Memory);
     }
-    match insert(tables, links, row, Half::Added) {
+    match insert(tables, links, row, Layer::Added) {
         Ok(()) => Ok(()),
         Err(why) => {
             forget(added);

@@ -10,35 +10,25 @@ ghost use Rattle.snb_schema.specs.declared.table.Table.TheVariants as table;
 ghost use Rattle.snb_schema.specs.Layouts.{key_columns, shape};
 ghost use Rattle.snb_schema.specs.RowKeys.{node_key, slot_of};
 ghost use Rattle.snb_schema.specs.TableRows.{IsTableRow};
-ghost use Rattle.snb_tables.specs.Around.{friends, likes, likes_in, messages, replies, study, work};
-ghost use Rattle.snb_tables.specs.Graphs.{HasGained, HasKey, HasSlot, IsGraph, count, rows};
-ghost use Rattle.snb_tables.specs.Soundness.{Held as IsHeld, Sound};
-ghost use Rattle.snb_soundness.specs.Outcomes.{IsWrong};
-ghost use Rattle.snb_shelf.specs.Edges.{link_of};
-ghost use Rattle.snb_store.specs.declared.insert.Insert.TheVariants as Insert;
-ghost use Rattle.snb_store.specs.Words.{words_of};
+ghost use Rattle.snb_graph_model.specs.Around.{friends, likes, likes_in, messages, replies, study, work};
+ghost use Rattle.snb_graph_model.specs.Graphs.{HasGained, HasKey, HasSlot, IsGraph, count, rows};
+ghost use Rattle.snb_graph_model.specs.Soundness.{Held as IsHeld, Sound};
+ghost use Rattle.snb_graph_integrity.specs.Outcomes.{IsWrong};
+ghost use Rattle.snb_graph_rows.specs.Edges.{link_of};
+ghost use Rattle.snb_graph_tables.specs.declared.insert.Insert.TheVariants as Insert;
+ghost use Rattle.snb_graph_tables.specs.Words.{words_of};
 ghost use Rattle.snb_graph.specs.Additions.{AreNew, HasClash};
 ghost use Rattle.snb_graph.specs.Walks.{IsWalkOver};
-ghost use Rattle.snb_parts.specs.Pairs.{rest};
+ghost use Rattle.snb_graph_maps.specs.Pairs.{rest};
 
 use crate::additions::{insert, insert_each, take_all};
-use snb_links::indexes::Indexes;
-use snb_links::link::Walk;
-use snb_parts::half::Half;
-use snb_parts::links::Links;
-use snb_parts::walk::Walk as Entries;
-use snb_schema::key::{Held, Key};
-use snb_schema::nodes::{Comment, Forum, Named, Organisation, Place, Post};
-use snb_schema::person::Person;
-use snb_schema::row::Row;
-use snb_schema::table::Table;
-use snb_soundness::sound::sound;
-use snb_soundness::unsound::Unsound;
-use snb_store::each::TableRows;
-use snb_store::insert::Insert;
-use snb_store::same::holds_same;
-use snb_store::tables::Tables;
-use snb_store::words::Words;
+use snb_graph_adjacency::{Indexes, Walk};
+use snb_graph_integrity::Unsound;
+use snb_graph_integrity::sound::sound;
+use snb_graph_maps::{Layer, Links, Walk as Entries};
+use snb_graph_tables::same::holds_same;
+use snb_graph_tables::{Insert, TableRows, Tables, Words};
+use snb_schema::{Comment, Forum, Held, Key, Named, Organisation, Person, Place, Post, Row, Table};
 use std::alloc::{AllocError, Global};
 use std::marker::Model;
 
@@ -279,7 +269,7 @@ impl Graph {
         ensures duplicate { (result ≡ Err Insert.Duplicate) ↔ HasSlot self.old (slot_of row) }
         ensures err { OnErr result (self.new ≡ self.old) }
     {
-        insert(&mut self.tables, &mut self.links, row, Half::Frozen)
+        insert(&mut self.tables, &mut self.links, row, Layer::Frozen)
     }
 
     /// Adds all of the rows, or none. `Duplicate` says that a row of the slot of one of them is held,
@@ -342,7 +332,7 @@ impl Graph {
 }
 
 impl Held for Graph {
-    ghost use Rattle.snb_tables.specs.Graphs.{HoldsKey};
+    ghost use Rattle.snb_graph_model.specs.Graphs.{HoldsKey};
 
     ghost holds = { HoldsKey };
 

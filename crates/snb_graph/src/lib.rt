@@ -4,3 +4,6 @@
 mod additions;
 pub mod graph;
 pub mod walk;
+
+pub use graph::Graph;
+pub use walk::Links;

@@ -5,8 +5,8 @@ use Rattle.std.proofs.lemmas.List.Sorted.{Contains-permutation, IsPermutation-sy
 use Rattle.std.specs.List.{AllByRecursion, Contains}
 use Rattle.snb_schema.specs.declared.row.Row.{Row}
 use Rattle.snb_schema.specs.RowKeys.{RowKey}
-use Rattle.snb_tables.specs.Graphs.{HasGained, HasKey, HasSlot}
-use Rattle.snb_tables.specs.Soundness.{EndsAfter, IsRooted}
+use Rattle.snb_graph_model.specs.Graphs.{HasGained, HasKey, HasSlot}
+use Rattle.snb_graph_model.specs.Soundness.{EndsAfter, IsRooted}
 
 -- one graph holds each row of another
 abbrev pub HoldsAll : List Row → List Row → Type 0

@@ -2,7 +2,7 @@
 use Rattle.std.proofs.Common.{◌≡◌, List, [], ◌∷◌, ◌++◌, Bool, false, cond, map, filter, refl, ap, ◌∙◌, inl, inr, arith}
 use Rattle.std.proofs.lemmas.List.Elements.{Contains-append_cases}
 use Rattle.std.specs.List.{AllByRecursion, Contains, flat_map}
-use Rattle.snb_shelf.proofs.Laws.{contains_here, contains_there}
+use Rattle.snb_graph_rows.proofs.Laws.{contains_here, contains_there}
 
 -- what holds of two lists put together holds of each
 pub each_parts : {X : Type 0} (P : X → Type 0) (xs ys : List X) → AllByRecursion P (xs ++ ys) → AllByRecursion P xs × AllByRecursion P ys

@@ -12,9 +12,9 @@ use Rattle.snb_schema.specs.declared.table.Table.TheVariants as table
 use Rattle.snb_inserts.proofs.Keys.{key_of}
 use Rattle.snb_schema.specs.UpdateLines.{insert_columns, kind_of, op_values}
 use Rattle.snb_columns.specs.Laws.{HasPlainFields}
-use Rattle.snb_tables.specs.Graphs.{IsGraph}
+use Rattle.snb_graph_model.specs.Graphs.{IsGraph}
 use Rattle.snb_schema.specs.Inserts.{parent_row, rows_of}
-use Rattle.snb_tables.specs.Soundness.{Held}
+use Rattle.snb_graph_model.specs.Soundness.{Held}
 use Rattle.snb_inserts.specs.Laws.{RowsAreNew}
 use Rattle.snb_inserts.proofs.Fields.{AreProper, op_proper}
 use Rattle.snb_inserts.proofs.TakenLemmas.{IsKeyFilled, filled_taken}

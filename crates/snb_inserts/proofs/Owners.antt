@@ -17,10 +17,10 @@ use Rattle.snb_schema.specs.References.{end_ref, from_kind, ref, to_kind}
 use Rattle.snb_schema.specs.RowKeys.{RowKey, edge_key, node_key, row_key, sharing, slot}
 use Rattle.snb_schema.specs.RowLines.{table_of}
 use Rattle.snb_schema.specs.TableRows.{IsTableRow}
-use Rattle.snb_shelf.specs.Keyed.{key_table}
-use Rattle.snb_shelf.proofs.Laws.{contains_here}
-use Rattle.snb_tables.specs.Graphs.{HasKey, HasSlot, IsGraph}
-use Rattle.snb_tables.specs.Soundness.{Held}
+use Rattle.snb_graph_rows.specs.Keyed.{key_table}
+use Rattle.snb_graph_rows.proofs.Laws.{contains_here}
+use Rattle.snb_graph_model.specs.Graphs.{HasKey, HasSlot, IsGraph}
+use Rattle.snb_graph_model.specs.Soundness.{Held}
 
 -- ---- tables
 

@@ -15,7 +15,7 @@ use Rattle.snb_schema.specs.declared.table.Table.{Table}
 use Rattle.snb_schema.specs.declared.table.Table.TheVariants as table
 use Rattle.snb_schema.specs.References.{edge_refs, end_ref, from_kind, parent_ref, ref, refs_of, refs_of_row, to_kind}
 use Rattle.snb_schema.specs.RowKeys.{node_key}
-use Rattle.snb_tables.proofs.Laws.{of_each}
+use Rattle.snb_graph_model.proofs.Laws.{of_each}
 use Rattle.snb_schema.specs.Inserts.{parent_row, rows_of}
 use Rattle.snb_inserts.proofs.ListRows.{links, stays, words}
 use Rattle.snb_inserts.specs.Applying.{IsThere}

@@ -17,13 +17,13 @@ use Rattle.snb_schema.specs.References.{parent_ref, refs_of}
 use Rattle.snb_schema.specs.RowKeys.{RowKey, node_key, row_key, slot, slot_of}
 use Rattle.snb_schema.specs.RowLines.{table_of}
 use Rattle.snb_schema.specs.TableOrder.{all_tables, same_table}
-use Rattle.snb_shelf.proofs.Laws.{in_filter, map_contains}
-use Rattle.snb_soundness.proofs.Laws.{fills_decides, in_flat_map}
-use Rattle.snb_tables.proofs.Laws.{of_each}
-use Rattle.snb_tables.specs.Graphs.{HasGained, HasKey, HasSlot, fills, rows}
+use Rattle.snb_graph_rows.proofs.Laws.{in_filter, map_contains}
+use Rattle.snb_graph_integrity.proofs.Laws.{fills_decides, in_flat_map}
+use Rattle.snb_graph_model.proofs.Laws.{of_each}
+use Rattle.snb_graph_model.specs.Graphs.{HasGained, HasKey, HasSlot, fills, rows}
 use Rattle.snb_schema.specs.Inserts.{parent_row, rows_of}
 use Rattle.snb_inserts.proofs.ListRows.{links, stays, words}
-use Rattle.snb_tables.specs.Soundness.{IsComplete, IsRooted, Need, Sound, edges_of, needs, needs_of}
+use Rattle.snb_graph_model.specs.Soundness.{IsComplete, IsRooted, Need, Sound, edges_of, needs, needs_of}
 use Rattle.snb_inserts.specs.Applying.{IsThere, IsWelcome}
 use Rattle.snb_inserts.specs.Laws.{SoundIsKept}
 use Rattle.snb_inserts.proofs.Gained.{held_cases, more_held, old_held, root_kept, slot_kept}

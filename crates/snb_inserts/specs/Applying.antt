@@ -8,7 +8,7 @@ use Rattle.snb_schema.specs.Inserts.{keys_of}
 use Rattle.snb_schema.specs.References.{refs_of}
 use Rattle.snb_schema.specs.RowKeys.{node_key}
 use Rattle.snb_schema.specs.UpdateLines.{IsLine}
-use Rattle.snb_tables.specs.Graphs.{HasKey, HoldsKey}
+use Rattle.snb_graph_model.specs.Graphs.{HasKey, HoldsKey}
 
 -- some line is the insert's
 abbrev pub HasLine : Op → Type 0

@@ -4,9 +4,9 @@ use Rattle.snb_schema.specs.declared.op.Op.{Op}
 use Rattle.snb_schema.specs.declared.row.Row.{Row}
 use Rattle.snb_schema.specs.TableRows.{IsTableRow}
 use Rattle.snb_graph.specs.Additions.{AreNew}
-use Rattle.snb_tables.specs.Graphs.{HasGained, IsGraph}
+use Rattle.snb_graph_model.specs.Graphs.{HasGained, IsGraph}
 use Rattle.snb_schema.specs.Inserts.{rows_of}
-use Rattle.snb_tables.specs.Soundness.{Held, Sound}
+use Rattle.snb_graph_model.specs.Soundness.{Held, Sound}
 use Rattle.snb_inserts.specs.Applying.{HasLine, IsWelcome}
 
 -- the rows of an insert that has a line are rows that their tables can have

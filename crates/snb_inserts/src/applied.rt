@@ -1,6 +1,6 @@
 //! Why an insert isn't applied.
 
-use snb_schema::refusal::Missing;
+use snb_schema::Missing;
 
 /// Why an insert isn't applied.
 #[derive(Clone, Copy)]

@@ -3,9 +3,9 @@
 ghost use Rattle.std.specs.Prelude.{◌≡◌, ◌↔◌, OnOk, OnErr, Err};
 ghost use Rattle.snb_schema.specs.References.{refs_of};
 ghost use Rattle.snb_schema.specs.declared.refusal.Missing.{Missing as MissingNode};
-ghost use Rattle.snb_tables.specs.Graphs.{HasGained};
+ghost use Rattle.snb_graph_model.specs.Graphs.{HasGained};
 ghost use Rattle.snb_schema.specs.Inserts.{rows_of as rows_of_op};
-ghost use Rattle.snb_tables.specs.Soundness.{Held, Sound};
+ghost use Rattle.snb_graph_model.specs.Soundness.{Held, Sound};
 ghost use Rattle.snb_inserts.specs.Applying.{HasLine, IsDuplicate, IsFirstMissing, IsWelcome};
 
 use crate::applied::Applied;
@@ -13,9 +13,9 @@ use crate::law::inserts_are_kept;
 use crate::missing::first_missing;
 use crate::rows::rows_of;
 use crate::taken::is_taken;
-use snb_graph::graph::Graph;
-use snb_schema::op::Op;
-use snb_store::insert::Insert;
+use snb_graph::Graph;
+use snb_graph_tables::Insert;
+use snb_schema::Op;
 use std::alloc::{AllocError, Global};
 
 /// Adds the rows of an insert: a node with its edges and words, or one edge. `Missing` names the

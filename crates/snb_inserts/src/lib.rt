@@ -7,3 +7,6 @@ pub mod law;
 mod missing;
 pub mod rows;
 mod taken;
+
+pub use applied::Applied;
+pub use apply::apply_welcome;

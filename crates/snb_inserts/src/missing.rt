@@ -3,11 +3,9 @@
 ghost use Rattle.snb_schema.specs.References.{refs_of};
 ghost use Rattle.snb_inserts.specs.Applying.{FindsMissing};
 
-use snb_graph::graph::Graph;
-use snb_schema::key::{Held, Key};
-use snb_schema::op::Op;
+use snb_graph::Graph;
 use snb_schema::references::refs_of;
-use snb_schema::refusal::Missing;
+use snb_schema::{Held, Key, Missing, Op};
 
 /// The first node that the insert refers to, in the order of its fields, and that isn't held.
 pub fn first_missing(graph: &Graph, op: &Op) -> Option<Missing>

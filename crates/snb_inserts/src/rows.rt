@@ -5,12 +5,8 @@ ghost use Rattle.snb_schema.specs.declared.row.Row.TheVariants as row;
 ghost use Rattle.snb_schema.specs.declared.table.Table.TheVariants as table;
 ghost use Rattle.snb_schema.specs.Inserts.{parent_row, rows_of as rows_of_op};
 
-use snb_base::text::Text;
-use snb_schema::nodes::{Comment, Forum, Post};
-use snb_schema::op::{Op, Parent};
-use snb_schema::person::Person;
-use snb_schema::row::Row;
-use snb_schema::table::Table;
+use snb_base::Text;
+use snb_schema::{Comment, Forum, Op, Parent, Person, Post, Row, Table};
 use std::alloc::{AllocError, Global};
 
 // Appends a row.

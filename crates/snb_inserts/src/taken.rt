@@ -4,10 +4,9 @@ ghost use Rattle.std.specs.Prelude.{◌↔◌, IsTrue};
 ghost use Rattle.snb_schema.specs.Inserts.{keys_of};
 ghost use Rattle.snb_inserts.specs.Applying.{IsAnyHeld};
 
-use snb_graph::graph::Graph;
-use snb_schema::key::Held;
-use snb_schema::op::Op;
+use snb_graph::Graph;
 use snb_schema::references::keys_of;
+use snb_schema::{Held, Op};
 
 /// Whether a key that the insert takes is held: that of its node or of its edge, and for a post or a
 /// comment that of either with its id.

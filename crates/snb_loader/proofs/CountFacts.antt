@@ -5,13 +5,13 @@ use Rattle.std.specs.List.{flat_map}
 use Rattle.snb_schema.specs.declared.op.Line.{Line}
 use Rattle.snb_schema.specs.Lines.{lines}
 use Rattle.snb_streams.specs.Lines.{stream_language}
-use Rattle.snb_input.specs.declared.load.Used.{Used}
-use Rattle.snb_input.specs.declared.series.Series.{Series}
-use Rattle.snb_input.specs.declared.walk.Walk.{Walk}
-use Rattle.snb_input.specs.Places.{FilesSay, Source, rows_in}
-use Rattle.snb_input.specs.Stages.{Walked, before}
-use Rattle.snb_input.specs.Walk.{Before, Held, Look, after_walk, stage_looks}
-use Rattle.snb_input.proofs.Laws.{says_count}
+use Rattle.snb_input_files.specs.declared.load.Used.{Used}
+use Rattle.snb_input_files.specs.declared.series.Series.{Series}
+use Rattle.snb_input_files.specs.declared.walk.Walk.{Walk}
+use Rattle.snb_input_files.specs.Places.{FilesSay, Source, rows_in}
+use Rattle.snb_input_files.specs.Stages.{Walked, before}
+use Rattle.snb_input_files.specs.Walk.{Before, Held, Look, after_walk, stage_looks}
+use Rattle.snb_input_files.proofs.Laws.{says_count}
 use Rattle.snb_loader.specs.Lanes.{IsHeard, StreamLines, stream_format}
 use Rattle.snb_loader.proofs.PastFacts.{data_count, stage_read}
 
@@ -30,15 +30,15 @@ files_count (s ∷ ss) (xs ∷ xss) h =
     let more = files_count ss xss h.1 in
     omega (arith, both, here, more)
 
--- what the taker has are the lists that the files say
-pub said_by : (at : Before) (looked : List Look) (w : Walk StreamLines) → Walked stream_format IsHeard at looked w → FilesSay stream_format (after_walk stream_format at looked).past w.taker.done
+-- what the file_sink has are the lists that the files say
+pub said_by : (at : Before) (looked : List Look) (w : Walk StreamLines) → Walked stream_format IsHeard at looked w → FilesSay stream_format (after_walk stream_format at looked).past w.file_sink.done
 said_by at looked w k = subst (λ (xss : List (List Line)). FilesSay stream_format (after_walk stream_format at looked).past xss) (sym k.fresh.0) k.said
 
 -- a stage of one series counts the lines that were taken
-pub walk_count : (s : Series) (used : Used) (held : Held) (w : Walk StreamLines) → Walked stream_format IsHeard (before used) (stage_looks held (s ∷ [])) w → w.used.rows ≡ used.rows + length (concat w.taker.done)
+pub walk_count : (s : Series) (used : Used) (held : Held) (w : Walk StreamLines) → Walked stream_format IsHeard (before used) (stage_looks held (s ∷ [])) w → w.used.rows ≡ used.rows + length (concat w.file_sink.done)
 walk_count s used held w k =
     let grown = stage_read stream_format held s (before used) in
-    let lines_are = files_count grown.more w.taker.done (subst (λ (ss : List Source). FilesSay stream_format ss w.taker.done) grown.past (said_by (before used) (stage_looks held (s ∷ [])) w k)) in
+    let lines_are = files_count grown.more w.file_sink.done (subst (λ (ss : List Source). FilesSay stream_format ss w.file_sink.done) grown.past (said_by (before used) (stage_looks held (s ∷ [])) w k)) in
     let rows = grown.rows in
     let are = k.rows_are in
     omega (arith, lines_are, rows, are)

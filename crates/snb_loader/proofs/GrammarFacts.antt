@@ -10,13 +10,14 @@ use Rattle.snb_schema.specs.declared.row.Row.{Row}
 use Rattle.snb_schema.specs.References.{refs_of_row}
 use Rattle.snb_schema.specs.Lines.{fields}
 use Rattle.snb_schema.specs.TableRows.{IsTableRow}
-use Rattle.snb_lines.specs.Language.{Fits}
-use Rattle.snb_lines.specs.Laws.{IsExact}
-use Rattle.snb_lines.proofs.Laws.{fields_plain}
+use Rattle.snb_input_lines.specs.Language.{Fits}
+use Rattle.snb_input_lines.specs.Laws.{IsExact}
+use Rattle.snb_input_lines.proofs.Laws.{fields_plain}
 use Rattle.snb_csv.specs.Laws.{OneColumn, OneRow, RowsAreRight, RowsOfFieldsFit}
 use Rattle.snb_csv.specs.Rows.{no_rows, table_language}
-use Rattle.snb_input.specs.Format.{Lawful}
+use Rattle.snb_input_files.specs.Format.{Lawful}
 use Rattle.snb_loader.specs.Tables.{IsAmissBeside, said_rows, table_format}
+use Rattle.snb_loader.proofs.CaseFacts.{IsAmissCase, to_case}
 use Rattle.snb_loader.proofs.LackingFacts.{none_first, one_first}
 
 -- lines of no table say nothing
@@ -29,11 +30,14 @@ no_exact = record {
 }
 
 -- a line is refused in one way beside the rows before it
+one_case : (rows : List Row) (file : FileId) (p : Placed) (r q : Refusal) → IsAmissCase rows file p r → IsAmissCase rows file p q → r ≡ q
+one_case rows file p r q (inl a) (inl b) = a.2 ∙ ap (Dangling file p.line) (one_first rows (refs_of_row p.row p.turned) a.0 b.0 a.1 b.1) ∙ sym b.2
+one_case rows file p r q (inl a) (inr b) = absurd (none_first rows (refs_of_row p.row p.turned) a.0 b.0 a.1)
+one_case rows file p r q (inr a) (inl b) = absurd (none_first rows (refs_of_row p.row p.turned) b.0 a.0 b.1)
+one_case rows file p r q (inr a) (inr b) = a.2 ∙ sym b.2
+
 one_amiss : (rows : List Row) (file : FileId) (p : Placed) (r q : Refusal) → IsAmissBeside rows file p r → IsAmissBeside rows file p q → r ≡ q
-one_amiss rows file p r q (inl a) (inl b) = a.2 ∙ ap (Dangling file p.line) (one_first rows (refs_of_row p.row p.turned) a.0 b.0 a.1 b.1) ∙ sym b.2
-one_amiss rows file p r q (inl a) (inr b) = absurd (none_first rows (refs_of_row p.row p.turned) a.0 b.0 a.1)
-one_amiss rows file p r q (inr a) (inl b) = absurd (none_first rows (refs_of_row p.row p.turned) b.0 a.0 b.1)
-one_amiss rows file p r q (inr a) (inr b) = a.2 ∙ sym b.2
+one_amiss rows file p r q a b = one_case rows file p r q (to_case rows file p r a) (to_case rows file p q b)
 
 module _ (one : OneRow) (right : RowsAreRight) (column : OneColumn) where
   -- a line of a table says one row at most, and one of no table says none

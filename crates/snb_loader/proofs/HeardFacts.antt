@@ -14,11 +14,12 @@ use Rattle.snb_schema.specs.declared.row.Row.TheVariants as row
 use Rattle.snb_schema.specs.declared.table.Kind.{Kind}
 use Rattle.snb_schema.specs.References.{end_ref, from_kind, ref, refs_of_row, to_kind}
 use Rattle.snb_schema.specs.RowKeys.{RowKey, node_key, slot_of}
-use Rattle.snb_store.proofs.Laws.{contains_gained}
-use Rattle.snb_lines.specs.Sinks.{Hears}
-use Rattle.snb_tables.specs.Graphs.{HasGained, HasKey, HasSlot, IsGraph}
-use Rattle.snb_tables.specs.Soundness.{Held}
+use Rattle.snb_graph_tables.proofs.Laws.{contains_gained}
+use Rattle.snb_input_lines.specs.Sinks.{Hears}
+use Rattle.snb_graph_model.specs.Graphs.{HasGained, HasKey, HasSlot, IsGraph}
+use Rattle.snb_graph_model.specs.Soundness.{Held}
 use Rattle.snb_loader.specs.Tables.{HasTaken, IsAmiss, IsAmissBeside, IsFirstLacking, IsHeard, IsRepeat, IsSecond, IsThere, TakesPlaced, said_rows}
+use Rattle.snb_loader.proofs.CaseFacts.{IsAmissCase, from_case, to_case}
 use Rattle.snb_loader.proofs.LackingFacts.{none_first}
 
 -- ---- the rows that lines said
@@ -115,9 +116,12 @@ straight g (row.Comment x) true all = all
 
 module _ (g : List Row) (done : List (List Placed)) (mine : List Placed) (p : Placed) (h : IsHeard g done mine) where
   -- what is wrong with a line beside the rows of the graph is wrong beside those that lines said
+  case_moved : (file : FileId) (r : Refusal) → IsAmissCase g file p r → IsAmissCase (said_rows done mine) file p r
+  case_moved file r (inl a) = inl (a.0, first_moved g (said_rows done mine) h.same (refs_of_row p.row p.turned) a.0 a.1, a.2)
+  case_moved file r (inr b) = inr (there_moved g (said_rows done mine) (λ x. (h.same x).0) (refs_of_row p.row p.turned) b.0, second_moved g (said_rows done mine) h.same p.row b.1, b.2)
+
   is_amiss : (file : FileId) (r : Refusal) → IsAmissBeside g file p r → IsAmiss file done mine p r
-  is_amiss file r (inl a) = inl (a.0, first_moved g (said_rows done mine) h.same (refs_of_row p.row p.turned) a.0 a.1, a.2)
-  is_amiss file r (inr b) = inr (there_moved g (said_rows done mine) (λ x. (h.same x).0) (refs_of_row p.row p.turned) b.0, second_moved g (said_rows done mine) h.same p.row b.1, b.2)
+  is_amiss file r a = from_case (said_rows done mine) file p r (case_moved file r (to_case g file p r a))
 
   module _ (new : List Row) (taken : TakesPlaced g p new) where
     not_second : HasTaken g p.row new → ¬ IsSecond (said_rows done mine) p.row
@@ -125,9 +129,12 @@ module _ (g : List Row) (done : List (List Placed)) (mine : List Placed) (p : Pl
     not_second (inr more) second = more.1 (slot_moved (said_rows done mine) g (λ r. (h.same r).1) (slot_of p.row) second.0)
 
     -- nothing is wrong with a line that is taken
+    no_case : (file : FileId) (r : Refusal) → ¬ IsAmissCase (said_rows done mine) file p r
+    no_case file r (inl a) = none_first (said_rows done mine) (refs_of_row p.row p.turned) a.0 (there_moved g (said_rows done mine) (λ x. (h.same x).0) (refs_of_row p.row p.turned) taken.0) a.1
+    no_case file r (inr b) = not_second taken.1 b.1
+
     is_fine : (file : FileId) (r : Refusal) → ¬ IsAmiss file done mine p r
-    is_fine file r (inl a) = none_first (said_rows done mine) (refs_of_row p.row p.turned) a.0 (there_moved g (said_rows done mine) (λ x. (h.same x).0) (refs_of_row p.row p.turned) taken.0) a.1
-    is_fine file r (inr b) = not_second taken.1 b.1
+    is_fine file r a = no_case file r (to_case (said_rows done mine) file p r a)
 
     -- a row more at the end of what was said
     said_cases : (r : Row) → Contains (said_rows done mine ++ p.row ∷ []) r → Contains (said_rows done mine) r ⊎ (p.row ≡ r)

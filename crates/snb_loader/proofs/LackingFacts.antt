@@ -7,7 +7,7 @@ use Rattle.snb_schema.specs.declared.row.Row.{Row}
 use Rattle.snb_schema.specs.declared.table.Kind.{Kind}
 use Rattle.snb_schema.specs.References.{ref}
 use Rattle.snb_schema.specs.RowKeys.{node_key}
-use Rattle.snb_tables.specs.Graphs.{HasKey}
+use Rattle.snb_graph_model.specs.Graphs.{HasKey}
 use Rattle.snb_loader.specs.Tables.{FindsLacking, IsFirstLacking, IsThere}
 
 -- a test that fails

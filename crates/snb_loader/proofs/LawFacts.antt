@@ -8,14 +8,14 @@ use Rattle.snb_schema.specs.declared.row.Row.{Row}
 use Rattle.snb_schema.specs.Frequencies.{frequency_at}
 use Rattle.snb_schema.specs.QueryLists.{list_of}
 use Rattle.snb_streams.specs.Parameters.{params_file}
-use Rattle.snb_input.specs.declared.series.Series.{Series}
-use Rattle.snb_input.specs.Format.{Format}
-use Rattle.snb_input.specs.Laws.{OneRefusal, OneSaying, RefusedOrNot}
-use Rattle.snb_input.specs.Places.{FileSays, Source}
-use Rattle.snb_input.specs.Walk.{Before, Held, stage_checks}
-use Rattle.snb_tables.specs.Laws.{GraphsAreTheirRows}
-use Rattle.snb_tables.specs.Soundness.{Need, missing}
-use Rattle.snb_loader.specs.declared.order.TheConstants.{FORUM_STREAMS, PERSON_STREAMS, TABLES}
+use Rattle.snb_input_files.specs.declared.series.Series.{Series}
+use Rattle.snb_input_files.specs.Format.{Format}
+use Rattle.snb_input_files.specs.Laws.{OneRefusal, OneSaying, RefusedOrNot}
+use Rattle.snb_input_files.specs.Places.{FileSays, Source}
+use Rattle.snb_input_files.specs.Walk.{Before, Held, stage_checks}
+use Rattle.snb_graph_model.specs.Laws.{GraphsAreTheirRows}
+use Rattle.snb_graph_model.specs.Soundness.{Need, missing}
+use Rattle.snb_loader.specs.Order.{forum_series, person_series, table_series}
 use Rattle.snb_loader.specs.Dataset.{IsRefusedGraph, IsUnsound, after_tables}
 use Rattle.snb_loader.specs.Dataset.IsRefusedGraph.{lacks, cycle}
 use Rattle.snb_loader.specs.Lanes.{after_lanes, after_persons, next_stage, stream_format}
@@ -59,8 +59,8 @@ module _ (one : OneSaying table_format) (apart : GraphsAreTheirRows) where
 
   pub dataset_once : OneRefusal table_format → RefusedOrNot table_format → DatasetRefusesOnce
   dataset_once refusal or_not at held =
-      once_append (stage_checks table_format at held TABLES) (IsUnsound (after_tables at held).past ∷ [])
-      (stage_once table_format refusal or_not at held TABLES)
+      once_append (stage_checks table_format at held table_series) (IsUnsound (after_tables at held).past ∷ [])
+      (stage_once table_format refusal or_not at held table_series)
       (once_single (IsUnsound (after_tables at held).past) (one_unsound (after_tables at held).past))
 
   pub dataset_one : DatasetIsOne
@@ -76,9 +76,9 @@ module _ (one : OneSaying stream_format) where
 module _ (refusal : OneRefusal stream_format) (or_not : RefusedOrNot stream_format) where
   pub lanes_once : LanesRefuseOnce
   lanes_once at held =
-      once_append (stage_checks stream_format at held PERSON_STREAMS) (stage_checks stream_format (next_stage (after_persons at held)) held FORUM_STREAMS)
-      (stage_once stream_format refusal or_not at held PERSON_STREAMS)
-      (stage_once stream_format refusal or_not (next_stage (after_persons at held)) held FORUM_STREAMS)
+      once_append (stage_checks stream_format at held person_series) (stage_checks stream_format (next_stage (after_persons at held)) held forum_series)
+      (stage_once stream_format refusal or_not at held person_series)
+      (stage_once stream_format refusal or_not (next_stage (after_persons at held)) held forum_series)
 
 pub params_once : OneRefusal params_format → RefusedOrNot params_format → ParamsRefuseOnce
 params_once refusal or_not at held table = stage_once params_format refusal or_not at held (params_stage table)

@@ -7,16 +7,16 @@ use Rattle.snb_schema.specs.Frequencies.{FrequencyTable}
 use Rattle.snb_schema.specs.LineLanes.{LineLanes}
 use Rattle.snb_schema.specs.QueryLists.{QueryLists}
 use Rattle.snb_streams.specs.Parameters.{params_file}
-use Rattle.snb_input.specs.declared.series.Series.{Series}
-use Rattle.snb_input.specs.FirstOf.{FirstOf, NoneOf}
-use Rattle.snb_input.specs.Laws.{AreBelow, AreFrom, Joined}
-use Rattle.snb_input.specs.Places.{FilesSay}
-use Rattle.snb_input.specs.Walk.{Before, Held, Look, after_walk, looks_from, series_looks, stage_looks, walk_checks}
-use Rattle.snb_loader.specs.declared.order.TheConstants.{FORUM_STREAMS, PERSON_STREAMS, TABLES}
+use Rattle.snb_input_files.specs.declared.series.Series.{Series}
+use Rattle.snb_base.specs.FirstOf.{FirstOf, NoneOf}
+use Rattle.snb_input_files.specs.Laws.{AreBelow, AreFrom, Joined}
+use Rattle.snb_input_files.specs.Places.{FilesSay}
+use Rattle.snb_input_files.specs.Walk.{Before, Held, Look, after_walk, looks_from, series_looks, stage_looks, walk_checks}
+use Rattle.snb_loader.specs.Order.{forum_series, person_series, table_series, params_series}
 use Rattle.snb_loader.specs.Dataset.{IsDataset, IsUnsound, after_tables, dataset_checks}
 use Rattle.snb_loader.specs.Lanes.{AreLanes, after_lanes, after_persons, lane_checks, next_stage, stream_format}
 use Rattle.snb_loader.specs.Laws.{RefuseOnce}
-use Rattle.snb_loader.specs.Params.{AreParams, after_params, asked, params_checks, params_format, params_series, params_stage}
+use Rattle.snb_loader.specs.Params.{AreParams, after_params, asked, params_checks, params_format, params_stage}
 use Rattle.snb_loader.specs.Tables.{table_format}
 
 -- ---- checks, and then more checks
@@ -88,7 +88,7 @@ pub record SameParams (table : FrequencyTable) (a b : Held) : Type 1 where
   pub after : (at : Before) → after_params at a table ≡ after_params at b table
   pub are : (at : Before) (lists : QueryLists) → AreParams at a table lists → AreParams at b table lists
 
-same_dataset : (a b : Held) → stage_looks a TABLES ≡ stage_looks b TABLES → SameDataset a b
+same_dataset : (a b : Held) → stage_looks a table_series ≡ stage_looks b table_series → SameDataset a b
 same_dataset a b e = record {
   checks = λ at. checks at;
   after = λ at. after at;
@@ -107,7 +107,7 @@ same_dataset a b e = record {
     after : (at : Before) → after_tables at a ≡ after_tables at b
     after at = ap (λ (ls : List Look). after_walk table_format at ls) e
 
-same_lanes : (a b : Held) → stage_looks a PERSON_STREAMS ≡ stage_looks b PERSON_STREAMS → stage_looks a FORUM_STREAMS ≡ stage_looks b FORUM_STREAMS → SameLanes a b
+same_lanes : (a b : Held) → stage_looks a person_series ≡ stage_looks b person_series → stage_looks a forum_series ≡ stage_looks b forum_series → SameLanes a b
 same_lanes a b e f = record {
   checks = λ at. checks at;
   after = λ at. after at;
@@ -151,7 +151,7 @@ below_more : (n m : ℕ) (stage : List Series) → n ≤ m → AreBelow n stage 
 below_more n m [] le h = tt
 below_more n m (s ∷ ss) le h = (let first = h.0 in omega (arith, le, first), below_more n m ss le h.1)
 
-tables_below : AreBelow 33 TABLES
+tables_below : AreBelow 33 table_series
 tables_below = search rules
 
 params_are_from : (n : ℕ) (qs : List ℕ) → n ≤ 35 → AreFrom n (map params_series qs)
@@ -161,14 +161,14 @@ params_are_from n (q ∷ qs) le = (omega (arith, le), params_are_from n qs le)
 module _ (contents : Option Files) (folder : List ℕ) (first second held : Held) (n : ℕ) (join : Joined contents folder first second n held) where
   -- the files below a number are those of the first read
   pub dataset_below : 33 ≤ n → SameDataset first held
-  dataset_below le = same_dataset first held (sym (join.below TABLES (below_more 33 n TABLES le tables_below)))
+  dataset_below le = same_dataset first held (sym (join.below table_series (below_more 33 n table_series le tables_below)))
 
   pub lanes_below : 35 ≤ n → SameLanes first held
-  lanes_below le = same_lanes first held (sym (join.below PERSON_STREAMS (omega (arith, le), tt))) (sym (join.below FORUM_STREAMS (omega (arith, le), tt)))
+  lanes_below le = same_lanes first held (sym (join.below person_series (omega (arith, le), tt))) (sym (join.below forum_series (omega (arith, le), tt)))
 
   -- those from it on are those of the second
   pub lanes_from : n ≤ 33 → SameLanes second held
-  lanes_from le = same_lanes second held (sym (join.from PERSON_STREAMS (le, tt))) (sym (join.from FORUM_STREAMS (omega (arith, le), tt)))
+  lanes_from le = same_lanes second held (sym (join.from person_series (le, tt))) (sym (join.from forum_series (omega (arith, le), tt)))
 
   pub params_from : (table : FrequencyTable) → n ≤ 35 → SameParams table second held
   params_from table le =

@@ -1,3 +1,4 @@
+mod CaseFacts
 mod CountFacts
 mod DatasetFacts
 mod GrammarFacts
@@ -11,5 +12,5 @@ mod ParamListFacts
 mod PastFacts
 mod StreamFacts
 pub mod Laws
-pub mod TakerFacts
+pub mod FileSinkFacts
 mod WordFacts

@@ -15,10 +15,10 @@ use Rattle.snb_schema.specs.declared.refusal.Refusal.TheVariants.{OutOfOrder}
 use Rattle.snb_schema.specs.Lines.{lines}
 use Rattle.snb_schema.specs.StreamLines.{AreInserts, AreOfStream, IsOfLine, NeverFalls}
 use Rattle.snb_schema.specs.UpdateLines.{kind_of}
-use Rattle.snb_lines.proofs.Laws.{says_each}
+use Rattle.snb_input_lines.proofs.Laws.{says_each}
 use Rattle.snb_streams.specs.Lines.{stream_language}
 use Rattle.snb_streams.specs.Updates.{allowed_in}
-use Rattle.snb_input.specs.Places.{FileSays, FilesSay, Source}
+use Rattle.snb_input_files.specs.Places.{FileSays, FilesSay, Source}
 use Rattle.snb_loader.specs.Lanes.{AreTaken, Falls, IsLastOf, stream_format}
 use Rattle.snb_loader.proofs.PastFacts.{AreOfKind}
 

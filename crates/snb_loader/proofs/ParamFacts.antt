@@ -10,30 +10,33 @@ use Rattle.snb_schema.specs.ParameterLines.{SpellsQuery}
 use Rattle.snb_schema.specs.Queries.{IsComplex, number_of_query}
 use Rattle.snb_schema.specs.QueryLists.{AreOf, HaveParameters, QueryLists, list_of}
 use Rattle.snb_streams.specs.Laws.{NoBadQuery, OneBadQuery, OneQuery}
-use Rattle.snb_lines.proofs.Laws.{says_each}
+use Rattle.snb_input_lines.proofs.Laws.{says_each}
 use Rattle.snb_streams.specs.Parameters.{IsBadParams, params_file, params_language}
-use Rattle.snb_input.specs.declared.load.Used.{Used}
-use Rattle.snb_input.specs.declared.series.Series.{Series}
-use Rattle.snb_input.specs.declared.walk.Walk.{Walk}
-use Rattle.snb_input.specs.FirstOf.{NoneOf}
-use Rattle.snb_input.specs.Format.{Lawful}
-use Rattle.snb_input.specs.Places.{FileSays, FilesSay, Source}
-use Rattle.snb_input.specs.Stages.{IsStage, before}
-use Rattle.snb_input.specs.Walk.{Before, Held, Look, after_walk, looks_from, series_looks, stage_looks, walk_checks, with_file}
-use Rattle.snb_input.specs.Walk.Role.{Needed}
-use Rattle.snb_loader.specs.declared.params.TheConstants.{COMPLEX_QUERIES}
-use Rattle.snb_loader.specs.Params.{AreOfEach, HasHeard, IsListSaid, IsParamsAnswer, ParamLines, asked, params_format, params_series, params_stage, query_in}
+use Rattle.snb_input_files.specs.declared.load.Used.{Used}
+use Rattle.snb_input_files.specs.declared.series.Series.{Series}
+use Rattle.snb_input_files.specs.declared.walk.Walk.{Walk}
+use Rattle.snb_base.specs.FirstOf.{NoneOf}
+use Rattle.snb_input_files.specs.Format.{Lawful}
+use Rattle.snb_input_files.specs.Places.{FileSays, FilesSay, Source}
+use Rattle.snb_input_files.specs.Stages.{IsStage, before}
+use Rattle.snb_input_files.specs.Walk.{Before, Held, Look, after_walk, looks_from, series_looks, stage_looks, walk_checks, with_file}
+use Rattle.snb_input_files.specs.Walk.Role.{Needed}
+use Rattle.snb_loader.specs.Order.{complex_queries, params_series}
+use Rattle.snb_loader.specs.Params.{AreOfEach, HasHeard, IsListSaid, IsParamsAnswer, ParamLines, asked, params_format, params_stage, query_in}
 use Rattle.snb_loader.proofs.ParamListFacts.{Each, each_passing}
 
 bad_one : OneBadQuery → (q : ℕ) (fs : List (List ℕ)) (a b : ℕ) → IsBadParams q fs a → IsBadParams q fs b → a ≡ b
-bad_one one q fs a b (inl p) (inl r) = one q fs a b p.1 r.1
-bad_one one q fs a b (inl p) (inr r) = absurd (r.0 p.0)
-bad_one one q fs a b (inr p) (inl r) = absurd (p.0 r.0)
-bad_one one q fs a b (inr p) (inr r) = p.1 ∙ sym r.1
+bad_one one q fs a b (inl p) (inl r) = p.1 ∙ sym r.1
+bad_one one q fs a b (inl p) (inr r) = absurd (r.0 a p)
+bad_one one q fs a b (inr p) (inl r) = absurd (p.0 b r)
+bad_one one q fs a b (inr (short, inl p)) (inr (few, inl r)) = one q fs a b p r
+bad_one one q fs a b (inr (short, inr p)) (inr r) = absurd p.1
+bad_one one q fs a b (inr (short, inl p)) (inr (few, inr r)) = absurd r.1
 
 bad_none : NoBadQuery → (q : ℕ) (fs : List (List ℕ)) (x : Query) (c : ℕ) → IsComplex q × SpellsQuery q fs x → ¬ IsBadParams q fs c
-bad_none right q fs x c p (inl r) = right q fs x c p.1 r.1
-bad_none right q fs x c p (inr r) = r.0 p.0
+bad_none right q fs x c p (inl r) = r.0 p.0
+bad_none right q fs x c p (inr (short, inl r)) = right q fs x c p.1 r
+bad_none right q fs x c p (inr (short, inr r)) = r.1
 
 -- lines say the parameters of one query at most, and are refused in one way at most
 pub params_lawful : OneQuery → NoBadQuery → OneBadQuery → Lawful params_format
@@ -100,7 +103,7 @@ said_each held f (q ∷ qs) (s ∷ ss) t h =
 complex : (table : FrequencyTable) (q : ℕ) → 0 < frequency_at table q → IsComplex q
 complex table q l = search rules
 
-one_of : (P : ℕ → Type 0) (q : ℕ) → IsComplex q → Each P COMPLEX_QUERIES → P q
+one_of : (P : ℕ → Type 0) (q : ℕ) → IsComplex q → Each P complex_queries → P q
 one_of P q (inl e) h = subst P (sym e) h.0
 one_of P q (inr (inl e)) h = subst P (sym e) h.1.0
 one_of P q (inr (inr (inl e))) h = subst P (sym e) h.1.1.0
@@ -114,7 +117,7 @@ has_any n l = search rules
 
 -- what holds of the queries with a frequency, one after the other, holds of each
 of_asked : (P : ℕ → Type 0) (table : FrequencyTable) → Each P (asked table) → (q : ℕ) → 0 < frequency_at table q → P q
-of_asked P table h q l = one_of (λ x. ltb 0 (frequency_at table x) ≡ true → P x) q (complex table q l) (each_passing P (λ x. ltb 0 (frequency_at table x)) COMPLEX_QUERIES h) (has_any (frequency_at table q) l)
+of_asked P table h q l = one_of (λ x. ltb 0 (frequency_at table x) ≡ true → P x) q (complex table q l) (each_passing P (λ x. ltb 0 (frequency_at table x)) complex_queries h) (has_any (frequency_at table q) l)
 
 -- the answer is one of the stage of the queries with a frequency
 pub of_stage : (contents : Option Files) (folder : List ℕ) (table : FrequencyTable) (old : Used) (w : Walk ParamLines) (stage items : List Series) → stage ≡ items → items ≡ params_stage table → IsStage params_format HasHeard contents folder stage (before old) (Ok w) → IsStage params_format HasHeard contents folder (params_stage table) (before old) (Ok w)
@@ -124,14 +127,14 @@ module _ (contents : Option Files) (folder : List ℕ) (table : FrequencyTable) 
   files : (more : List Source) × ((after_walk params_format (before old) (stage_looks answer.0 (params_stage table))).past ≡ more) × AreTold answer.0 (asked table) more
   files = walk_told answer.0 (asked table) (before old) answer.2.clean
 
-  said : FilesSay params_format files.0 w.taker.done
+  said : FilesSay params_format files.0 w.file_sink.done
   said = let k = answer.2 in subst (λ (z : List Source × List (List Query)). FilesSay params_format z.0 z.1) (λ i. (files.1 i, sym k.fresh.0 i)) k.said
 
   -- each list has queries of its kind
-  pub kinds_done : AreOfEach (asked table) w.taker.done
-  kinds_done = of_each answer.0 (asked table) files.0 w.taker.done files.2 said
+  pub kinds_done : AreOfEach (asked table) w.file_sink.done
+  kinds_done = of_each answer.0 (asked table) files.0 w.file_sink.done files.2 said
 
-  module _ (lists : QueryLists) (are : map (list_of lists) (asked table) ≡ w.taker.done) where
+  module _ (lists : QueryLists) (are : map (list_of lists) (asked table) ≡ w.file_sink.done) where
     each : Each (λ q. IsListSaid answer.0 q (list_of lists q) × (0 < length (list_of lists q))) (asked table)
     each = said_each answer.0 (list_of lists) (asked table) files.0 files.2 (subst (λ (xss : List (List Query)). FilesSay params_format files.0 xss) (sym are) said)
 

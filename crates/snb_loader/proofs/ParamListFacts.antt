@@ -5,7 +5,7 @@ use Rattle.std.proofs.Math.Seq.{drop-cons}
 use Rattle.snb_schema.specs.declared.query.Query.{Query}
 use Rattle.snb_schema.specs.Frequencies.{FrequencyTable, frequency_at}
 use Rattle.snb_schema.specs.QueryLists.{AreOf, QueryLists, list_of}
-use Rattle.snb_loader.specs.declared.params.TheConstants.{COMPLEX_QUERIES}
+use Rattle.snb_loader.specs.Order.{complex_queries}
 use Rattle.snb_loader.specs.Params.{AreOfEach, asked}
 
 -- the lists with these appended to that of this query
@@ -20,7 +20,7 @@ gain f (q ∷ qs) (xs ∷ xss) = gain (with_list f q xs) qs xss
 
 -- the queries with a frequency that are left after so many of the seven
 unfoldable pub left_of : FrequencyTable → ℕ → List ℕ
-left_of table i = filter (λ q. ltb 0 (frequency_at table q)) (drop i COMPLEX_QUERIES)
+left_of table i = filter (λ q. ltb 0 (frequency_at table q)) (drop i complex_queries)
 
 -- it holds of each
 abbrev pub Each : (ℕ → Type 0) → List ℕ → Type 0
@@ -70,11 +70,11 @@ apart_kept : (p : ℕ → Bool) (qs : List ℕ) → AreApart qs → AreApart (fi
 apart_kept p [] h = tt
 apart_kept p (q ∷ qs) h = apart_one (p q) q (filter p qs) (each_kept (λ x. x ≢ q) p qs (each_from (λ x. x ≢ q) (λ x. p x ≡ true → x ≢ q) qs (λ x n _. n) h.0)) (apart_kept p qs h.1)
 
-seven_apart : AreApart COMPLEX_QUERIES
+seven_apart : AreApart complex_queries
 seven_apart = search rules
 
 asked_apart : (table : FrequencyTable) → AreApart (asked table)
-asked_apart table = apart_kept (λ q. ltb 0 (frequency_at table q)) COMPLEX_QUERIES seven_apart
+asked_apart table = apart_kept (λ q. ltb 0 (frequency_at table q)) complex_queries seven_apart
 
 here : (f : ℕ → List Query) (q : ℕ) (xs : List Query) → with_list f q xs q ≡ f q ++ xs
 here f q xs = search rules
@@ -112,8 +112,8 @@ not_above n l = search rules
 pub others_empty : (table : FrequencyTable) (xss : List (List Query)) (q : ℕ) → frequency_at table q ≡ 0 → gain (λ q. []) (asked table) xss q ≡ []
 others_empty table xss q e =
     outside (λ q. []) (asked table) xss q
-    (each_kept (λ p. p ≢ q) (λ p. ltb 0 (frequency_at table p)) COMPLEX_QUERIES
-    (each_any (λ p. ltb 0 (frequency_at table p) ≡ true → p ≢ q) COMPLEX_QUERIES
+    (each_kept (λ p. p ≢ q) (λ p. ltb 0 (frequency_at table p)) complex_queries
+    (each_any (λ p. ltb 0 (frequency_at table p) ≡ true → p ≢ q) complex_queries
     (λ p t same. let l = above (frequency_at table p) t in let z = ap (λ (x : ℕ). frequency_at table x) same in omega (arith, l, z, e))))
 
 -- a list without a length has no items
@@ -140,14 +140,14 @@ falls : (p : ℕ → Bool) (q : ℕ) (qs : List ℕ) → p q ≡ false → filte
 falls p q qs e = ap (λ (b : Bool). cond b (q ∷ filter p qs) (filter p qs)) e
 
 -- a query with a frequency is the next that is left
-pub left_in : (table : FrequencyTable) (i : ℕ) → i < 7 → 0 < frequency_at table (slice_index_or COMPLEX_QUERIES i 0) → left_of table i ≡ slice_index_or COMPLEX_QUERIES i 0 ∷ left_of table (i + 1)
+pub left_in : (table : FrequencyTable) (i : ℕ) → i < 7 → 0 < frequency_at table (slice_index_or complex_queries i 0) → left_of table i ≡ slice_index_or complex_queries i 0 ∷ left_of table (i + 1)
 unfolding left_of
-left_in table i l h = ap (λ (qs : List ℕ). filter (λ q. ltb 0 (frequency_at table q)) qs) (drop-cons COMPLEX_QUERIES i 0 l ∙ ap (λ (n : ℕ). slice_index_or COMPLEX_QUERIES i 0 ∷ drop n COMPLEX_QUERIES) (after i)) ∙ passes (λ q. ltb 0 (frequency_at table q)) (slice_index_or COMPLEX_QUERIES i 0) (drop (i + 1) COMPLEX_QUERIES) (not_above _ h)
+left_in table i l h = ap (λ (qs : List ℕ). filter (λ q. ltb 0 (frequency_at table q)) qs) (drop-cons complex_queries i 0 l ∙ ap (λ (n : ℕ). slice_index_or complex_queries i 0 ∷ drop n complex_queries) (after i)) ∙ passes (λ q. ltb 0 (frequency_at table q)) (slice_index_or complex_queries i 0) (drop (i + 1) complex_queries) (not_above _ h)
 
 -- one without is passed by
-pub left_out : (table : FrequencyTable) (i : ℕ) → i < 7 → frequency_at table (slice_index_or COMPLEX_QUERIES i 0) ≡ 0 → left_of table i ≡ left_of table (i + 1)
+pub left_out : (table : FrequencyTable) (i : ℕ) → i < 7 → frequency_at table (slice_index_or complex_queries i 0) ≡ 0 → left_of table i ≡ left_of table (i + 1)
 unfolding left_of
-left_out table i l h = ap (λ (qs : List ℕ). filter (λ q. ltb 0 (frequency_at table q)) qs) (drop-cons COMPLEX_QUERIES i 0 l ∙ ap (λ (n : ℕ). slice_index_or COMPLEX_QUERIES i 0 ∷ drop n COMPLEX_QUERIES) (after i)) ∙ falls (λ q. ltb 0 (frequency_at table q)) (slice_index_or COMPLEX_QUERIES i 0) (drop (i + 1) COMPLEX_QUERIES) (ap (λ (n : ℕ). ltb 0 n) h)
+left_out table i l h = ap (λ (qs : List ℕ). filter (λ q. ltb 0 (frequency_at table q)) qs) (drop-cons complex_queries i 0 l ∙ ap (λ (n : ℕ). slice_index_or complex_queries i 0 ∷ drop n complex_queries) (after i)) ∙ falls (λ q. ltb 0 (frequency_at table q)) (slice_index_or complex_queries i 0) (drop (i + 1) complex_queries) (ap (λ (n : ℕ). ltb 0 n) h)
 
 -- so many of the seven are passed by, and with the lists that are left these lists are complete
 abbrev pub AreSoFar : FrequencyTable → List (List Query) → ℕ → (ℕ → List Query) → List (List Query) → Type 0
@@ -161,29 +161,29 @@ module _ (table : FrequencyTable) (done : List (List Query)) where
       subst (λ (z : (ℕ → List Query) × List ℕ). AreOfEach z.1 done × (gain z.0 z.1 done ≡ gain (λ q. []) (asked table) done)) (λ i. (sym same i, sym (left_first table) i)) (h, refl)
 
   -- a query without a frequency is passed by
-  pub so_far_out : (i : ℕ) (f : ℕ → List Query) (xss : List (List Query)) → i < 7 → frequency_at table (slice_index_or COMPLEX_QUERIES i 0) ≡ 0 → AreSoFar table done i f xss → AreSoFar table done (i + 1) f xss
+  pub so_far_out : (i : ℕ) (f : ℕ → List Query) (xss : List (List Query)) → i < 7 → frequency_at table (slice_index_or complex_queries i 0) ≡ 0 → AreSoFar table done i f xss → AreSoFar table done (i + 1) f xss
   so_far_out i f xss l e h = subst (λ (qs : List ℕ). AreOfEach qs xss × (gain f qs xss ≡ gain (λ q. []) (asked table) done)) (left_out table i l e) h
 
-  module _ (i : ℕ) (l : i < 7) (some : 0 < frequency_at table (slice_index_or COMPLEX_QUERIES i 0)) (f : ℕ → List Query) (xss : List (List Query)) (h : AreSoFar table done i f xss) where
-    begun : AreOfEach (slice_index_or COMPLEX_QUERIES i 0 ∷ left_of table (i + 1)) xss × (gain f (slice_index_or COMPLEX_QUERIES i 0 ∷ left_of table (i + 1)) xss ≡ gain (λ q. []) (asked table) done)
+  module _ (i : ℕ) (l : i < 7) (some : 0 < frequency_at table (slice_index_or complex_queries i 0)) (f : ℕ → List Query) (xss : List (List Query)) (h : AreSoFar table done i f xss) where
+    begun : AreOfEach (slice_index_or complex_queries i 0 ∷ left_of table (i + 1)) xss × (gain f (slice_index_or complex_queries i 0 ∷ left_of table (i + 1)) xss ≡ gain (λ q. []) (asked table) done)
     begun = subst (λ (qs : List ℕ). AreOfEach qs xss × (gain f qs xss ≡ gain (λ q. []) (asked table) done)) (left_in table i l some) h
 
     -- there is a list for it
     pub list_left : xss ≢ []
-    list_left e = subst (λ (yss : List (List Query)). AreOfEach (slice_index_or COMPLEX_QUERIES i 0 ∷ left_of table (i + 1)) yss) e begun.0
+    list_left e = subst (λ (yss : List (List Query)). AreOfEach (slice_index_or complex_queries i 0 ∷ left_of table (i + 1)) yss) e begun.0
 
     module _ (xs : List Query) (yss : List (List Query)) (e : xss ≡ xs ∷ yss) where
-      next : AreOfEach (slice_index_or COMPLEX_QUERIES i 0 ∷ left_of table (i + 1)) (xs ∷ yss) × (gain f (slice_index_or COMPLEX_QUERIES i 0 ∷ left_of table (i + 1)) (xs ∷ yss) ≡ gain (λ q. []) (asked table) done)
-      next = subst (λ (zss : List (List Query)). AreOfEach (slice_index_or COMPLEX_QUERIES i 0 ∷ left_of table (i + 1)) zss × (gain f (slice_index_or COMPLEX_QUERIES i 0 ∷ left_of table (i + 1)) zss ≡ gain (λ q. []) (asked table) done)) e begun
+      next : AreOfEach (slice_index_or complex_queries i 0 ∷ left_of table (i + 1)) (xs ∷ yss) × (gain f (slice_index_or complex_queries i 0 ∷ left_of table (i + 1)) (xs ∷ yss) ≡ gain (λ q. []) (asked table) done)
+      next = subst (λ (zss : List (List Query)). AreOfEach (slice_index_or complex_queries i 0 ∷ left_of table (i + 1)) zss × (gain f (slice_index_or complex_queries i 0 ∷ left_of table (i + 1)) zss ≡ gain (λ q. []) (asked table) done)) e begun
 
       -- the list is of its kind
-      pub next_kind : AreOf (slice_index_or COMPLEX_QUERIES i 0) xs
+      pub next_kind : AreOf (slice_index_or complex_queries i 0) xs
       next_kind = next.0.0
 
       -- the list is appended
-      pub so_far_in : (g : ℕ → List Query) → g (slice_index_or COMPLEX_QUERIES i 0) ≡ f (slice_index_or COMPLEX_QUERIES i 0) ++ xs → ((p : ℕ) → p ≢ slice_index_or COMPLEX_QUERIES i 0 → g p ≡ f p) → AreSoFar table done (i + 1) g yss
+      pub so_far_in : (g : ℕ → List Query) → g (slice_index_or complex_queries i 0) ≡ f (slice_index_or complex_queries i 0) ++ xs → ((p : ℕ) → p ≢ slice_index_or complex_queries i 0 → g p ≡ f p) → AreSoFar table done (i + 1) g yss
       so_far_in g at others =
-          let q = slice_index_or COMPLEX_QUERIES i 0 in
+          let q = slice_index_or complex_queries i 0 in
           let each : (p : ℕ) → with_list f q xs p ≡ g p = (λ p. elim (cases_eq p q) [ inl same ↦ subst (λ (z : ℕ). with_list f q xs z ≡ g z) (sym same) (here f q xs ∙ sym at) | inr not ↦ elsewhere f q p xs not ∙ sym (others p not) ]) in
           (next.0.1, subst (λ (k : ℕ → List Query). gain k (left_of table (i + 1)) yss ≡ gain (λ q. []) (asked table) done) (λ j p. each p j) next.1)
 
@@ -192,8 +192,8 @@ module _ (table : FrequencyTable) (done : List (List Query)) where
   so_far_last f xss h = subst (λ (qs : List ℕ). gain f qs xss ≡ gain (λ q. []) (asked table) done) (left_last table) h.1
 
   -- over the lists as they are held, where the next query has a frequency, and where it has none
-  pub held_in : (i : ℕ) → i < 7 → 0 < frequency_at table (slice_index_or COMPLEX_QUERIES i 0) → (old new : QueryLists) (left rest : List (Vec Query Global)) (one : Vec Query Global) → AreSoFar table done i (λ q. list_of old q) (map (λ v. v.items) left) → left ≡ one ∷ rest → list_of new (slice_index_or COMPLEX_QUERIES i 0) ≡ list_of old (slice_index_or COMPLEX_QUERIES i 0) ++ one.items → ((p : ℕ) → p ≢ slice_index_or COMPLEX_QUERIES i 0 → list_of new p ≡ list_of old p) → AreSoFar table done (i + 1) (λ q. list_of new q) (map (λ v. v.items) rest)
+  pub held_in : (i : ℕ) → i < 7 → 0 < frequency_at table (slice_index_or complex_queries i 0) → (old new : QueryLists) (left rest : List (Vec Query Global)) (one : Vec Query Global) → AreSoFar table done i (λ q. list_of old q) (map (λ v. v.items) left) → left ≡ one ∷ rest → list_of new (slice_index_or complex_queries i 0) ≡ list_of old (slice_index_or complex_queries i 0) ++ one.items → ((p : ℕ) → p ≢ slice_index_or complex_queries i 0 → list_of new p ≡ list_of old p) → AreSoFar table done (i + 1) (λ q. list_of new q) (map (λ v. v.items) rest)
   held_in i l some old new left rest one h e at others = so_far_in i l some (λ q. list_of old q) (map (λ v. v.items) left) h one.items (map (λ v. v.items) rest) (ap (λ (vs : List (Vec Query Global)). map (λ v. v.items) vs) e) (λ q. list_of new q) at others
 
-  pub held_out : (i : ℕ) → i < 7 → frequency_at table (slice_index_or COMPLEX_QUERIES i 0) ≡ 0 → (old new : QueryLists) (left rest : List (Vec Query Global)) → AreSoFar table done i (λ q. list_of old q) (map (λ v. v.items) left) → new ≡ old → rest ≡ left → AreSoFar table done (i + 1) (λ q. list_of new q) (map (λ v. v.items) rest)
+  pub held_out : (i : ℕ) → i < 7 → frequency_at table (slice_index_or complex_queries i 0) ≡ 0 → (old new : QueryLists) (left rest : List (Vec Query Global)) → AreSoFar table done i (λ q. list_of old q) (map (λ v. v.items) left) → new ≡ old → rest ≡ left → AreSoFar table done (i + 1) (λ q. list_of new q) (map (λ v. v.items) rest)
   held_out i l none old new left rest h e f = subst (λ (z : QueryLists × List (Vec Query Global)). AreSoFar table done (i + 1) (λ q. list_of z.0 q) (map (λ v. v.items) z.1)) (λ j. (sym e j, sym f j)) (so_far_out i (λ q. list_of old q) (map (λ v. v.items) left) l none h)

@@ -3,12 +3,12 @@ use Rattle.std.proofs.Common.{◌≡◌, ◌∙◌, ◌+◌, ◌≤◌, ℕ, zer
 use Rattle.snb_schema.specs.declared.file.FileId.{FileId}
 use Rattle.snb_schema.specs.declared.file.FileKind.{FileKind}
 use Rattle.snb_schema.specs.declared.refusal.Counted.{Counted}
-use Rattle.snb_input.specs.declared.series.Series.{Series}
-use Rattle.snb_input.specs.Format.{Format}
+use Rattle.snb_input_files.specs.declared.series.Series.{Series}
+use Rattle.snb_input_files.specs.Format.{Format}
 use Rattle.snb_schema.specs.Lines.{lines}
-use Rattle.snb_input.specs.Places.{FilesSay, Source, rows_in}
-use Rattle.snb_input.specs.Walk.{Before, Held, Look, Role, after_look, after_walk, file_at, first_role, look_beyond, looks_from, series_looks, stage_looks, with_file}
-use Rattle.snb_input.specs.Walk.Role.{Needed, Further, Beyond}
+use Rattle.snb_input_files.specs.Places.{FilesSay, Source, rows_in}
+use Rattle.snb_input_files.specs.Walk.{Before, Held, Look, Role, after_look, after_walk, file_at, first_role, look_beyond, looks_from, series_looks, stage_looks, with_file}
+use Rattle.snb_input_files.specs.Walk.Role.{Needed, Further, Beyond}
 
 -- the files are of this kind
 abbrev pub AreOfKind : FileKind → List Source → Type 0

@@ -12,11 +12,11 @@ use Rattle.snb_schema.specs.TableRows.{IsFieldText}
 use Rattle.snb_schema.specs.UpdateLines.{canonical_line, kind_of, line_columns, line_values}
 use Rattle.snb_columns.specs.Laws.{OwnLineOfValues}
 use Rattle.snb_streams.specs.Laws.{InsertsAreRight, OneFault, OneInsertOfFields}
-use Rattle.snb_lines.proofs.Laws.{fields_plain}
-use Rattle.snb_lines.specs.Language.{Fits}
+use Rattle.snb_input_lines.proofs.Laws.{fields_plain}
+use Rattle.snb_input_lines.specs.Language.{Fits}
 use Rattle.snb_streams.specs.Lines.{SpellsLine, stream_language}
 use Rattle.snb_streams.specs.Updates.{allowed_in}
-use Rattle.snb_input.specs.Format.{Lawful}
+use Rattle.snb_input_files.specs.Format.{Lawful}
 use Rattle.snb_loader.specs.Lanes.{InsertsOfFieldsFit, stream_format}
 
 one_line : OneInsertOfFields → (k : FileKind) (n : ℕ) (fs : List (List ℕ)) (x y : Line) → SpellsLine k n fs x → SpellsLine k n fs y → x ≡ y

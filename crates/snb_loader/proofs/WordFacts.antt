@@ -12,7 +12,7 @@ use Rattle.snb_schema.specs.declared.table.Table.TheVariants as table
 use Rattle.snb_schema.specs.Layouts.{key_columns, shape}
 use Rattle.snb_schema.specs.RowKeys.{RowKey, edge_key, sharing, slot_of}
 use Rattle.snb_schema.specs.TableRows.{IsTableRow}
-use Rattle.snb_tables.specs.Graphs.{HasSlot, IsGraph}
+use Rattle.snb_graph_model.specs.Graphs.{HasSlot, IsGraph}
 
 -- a word has a byte
 some_text : (t : Table) (p : ℕ) (s : List ℕ) → shapes.Word ≡ shape t → IsTableRow (row.Word t p s) → s ≡ [] → ⊥

@@ -5,22 +5,22 @@ use Rattle.snb_schema.specs.declared.refusal.Refusal.{Refusal}
 use Rattle.snb_schema.specs.declared.refusal.Refusal.TheVariants.{Lacks, Cycle}
 use Rattle.snb_schema.specs.declared.row.Placed.{Placed}
 use Rattle.snb_schema.specs.declared.row.Row.{Row}
-use Rattle.snb_input.specs.declared.load.Load.{Load}
-use Rattle.snb_input.specs.declared.load.Load.TheVariants.{Refused, ReadFault, Memory}
-use Rattle.snb_input.specs.declared.load.Used.{Used}
-use Rattle.snb_input.specs.FirstOf.{FirstOf, NoneOf}
-use Rattle.snb_input.specs.Places.{FilesSay, Source}
-use Rattle.snb_input.specs.Stages.{before}
-use Rattle.snb_input.specs.Walk.{Before, Held, IsHeldTold, after_walk, stage_checks, stage_looks}
-use Rattle.snb_soundness.specs.declared.unsound.Unsound.{Unsound}
-use Rattle.snb_soundness.specs.declared.unsound.Unsound.TheVariants as unsound
-use Rattle.snb_loader.specs.declared.order.TheConstants.{TABLES}
+use Rattle.snb_input_files.specs.declared.load.Load.{Load}
+use Rattle.snb_input_files.specs.declared.load.Load.TheVariants.{Refused, ReadFault, Memory}
+use Rattle.snb_input_files.specs.declared.load.Used.{Used}
+use Rattle.snb_base.specs.FirstOf.{FirstOf, NoneOf}
+use Rattle.snb_input_files.specs.Places.{FilesSay, Source}
+use Rattle.snb_input_files.specs.Stages.{before}
+use Rattle.snb_input_files.specs.Walk.{Before, Held, IsHeldTold, after_walk, stage_checks, stage_looks}
+use Rattle.snb_graph_integrity.specs.declared.unsound.Unsound.{Unsound}
+use Rattle.snb_graph_integrity.specs.declared.unsound.Unsound.TheVariants as unsound
+use Rattle.snb_loader.specs.Order.{table_series}
 use Rattle.snb_loader.specs.Tables.{IsHeard, table_format}
-use Rattle.snb_tables.specs.Soundness.{Cycle as IsFirstCycle, IsComplete, Lacks as IsFirstLack, Sound}
+use Rattle.snb_graph_model.specs.Soundness.{Cycle as IsFirstCycle, IsComplete, Lacks as IsFirstLack, Sound}
 
 -- what was read after the tables of a folder
 abbrev pub after_tables : Before → Held → Before
-after_tables at held = after_walk table_format at (stage_looks held TABLES)
+after_tables at held = after_walk table_format at (stage_looks held table_series)
 
 -- a graph is refused so: it lacks an edge, or lacks none and a comment's chain of parents doesn't end at a post
 pub data IsRefusedGraph (g : List Row) : Refusal → Type 0 where
@@ -43,7 +43,7 @@ pub record IsUnsound (sources : List Source) (r : Refusal) : Type 0 where
 
 -- what is tried of a dataset, in order: its files, then whether its graph is sound
 abbrev pub dataset_checks : Before → Held → List {1} (Refusal → Type 0)
-dataset_checks at held = stage_checks table_format at held TABLES ++ IsUnsound (after_tables at held).past ∷ []
+dataset_checks at held = stage_checks table_format at held table_series ++ IsUnsound (after_tables at held).past ∷ []
 
 -- nothing is wrong with a dataset, and this is its graph
 pub record IsDataset (at : Before) (held : Held) (g : List Row) : Type 0 where

@@ -11,17 +11,17 @@ use Rattle.snb_schema.specs.LineLanes.{LineLanes}
 use Rattle.snb_schema.specs.StreamLines.{IsOfLine, NeverFalls}
 use Rattle.snb_schema.specs.TableRows.{IsFieldText}
 use Rattle.snb_streams.specs.Spelled.{SpellsInsert}
-use Rattle.snb_lines.specs.Sinks.{Refuses, Takes}
+use Rattle.snb_input_lines.specs.Sinks.{Refuses, Takes}
 use Rattle.snb_streams.specs.Lines.{stream_language}
-use Rattle.snb_input.specs.declared.load.Load.{Load}
-use Rattle.snb_input.specs.declared.load.Load.TheVariants.{Refused, ReadFault, Memory}
-use Rattle.snb_input.specs.declared.load.Used.{Used}
-use Rattle.snb_input.specs.FirstOf.{FirstOf, NoneOf}
-use Rattle.snb_input.specs.Format.{Format, IsTaker, Rules}
-use Rattle.snb_input.specs.Places.{FilesSay}
-use Rattle.snb_input.specs.Stages.{before}
-use Rattle.snb_input.specs.Walk.{Before, Held, IsHeldTold, after_walk, stage_checks, stage_looks}
-use Rattle.snb_loader.specs.declared.order.TheConstants.{FORUM_STREAMS, PERSON_STREAMS}
+use Rattle.snb_input_files.specs.declared.load.Load.{Load}
+use Rattle.snb_input_files.specs.declared.load.Load.TheVariants.{Refused, ReadFault, Memory}
+use Rattle.snb_input_files.specs.declared.load.Used.{Used}
+use Rattle.snb_base.specs.FirstOf.{FirstOf, NoneOf}
+use Rattle.snb_input_files.specs.Format.{Format, IsFileSink, Rules}
+use Rattle.snb_input_files.specs.Places.{FilesSay}
+use Rattle.snb_input_files.specs.Stages.{before}
+use Rattle.snb_input_files.specs.Walk.{Before, Held, IsHeldTold, after_walk, stage_checks, stage_looks}
+use Rattle.snb_loader.specs.Order.{forum_series, person_series}
 
 -- the line before has a greater t
 abbrev pub Falls : FileId → List (List Line) → List Line → Line → Refusal → Type 0
@@ -67,9 +67,9 @@ RefusesLine old file x r = Falls file old.done old.mine x r
 abbrev pub EndsStream : StreamLines → StreamLines → Type 0
 EndsStream old new = (new.done ≡ old.done ++ old.mine ∷ []) × (new.mine ≡ [])
 
--- what takes streams is a taker of their files
-abbrev pub IsStreamTaker : Type 0
-IsStreamTaker = IsTaker stream_format IsHeard IsOfLine TakesLine RefusesLine (λ s file. None) EndsStream
+-- what takes streams is a file_sink of their files
+abbrev pub IsStreamFileSink : Type 0
+IsStreamFileSink = IsFileSink stream_format IsHeard IsOfLine TakesLine RefusesLine (λ s file. None) EndsStream
 
 -- this is the t of the last of the lines, or 0
 pub record IsLastOf (lines : List Line) (last : ℕ) : Type 0 where
@@ -78,18 +78,18 @@ pub record IsLastOf (lines : List Line) (last : ℕ) : Type 0 where
 
 -- what was read after the person streams, where the forum streams begin; and after these
 abbrev pub after_persons : Before → Held → Before
-after_persons at held = after_walk stream_format at (stage_looks held PERSON_STREAMS)
+after_persons at held = after_walk stream_format at (stage_looks held person_series)
 
 -- bytes and data lines are counted on, and the files of a stage begin anew
 abbrev pub next_stage : Before → Before
 next_stage at = record { bytes = at.bytes; rows = at.rows; past = [] }
 
 abbrev pub after_lanes : Before → Held → Before
-after_lanes at held = after_walk stream_format (next_stage (after_persons at held)) (stage_looks held FORUM_STREAMS)
+after_lanes at held = after_walk stream_format (next_stage (after_persons at held)) (stage_looks held forum_series)
 
 -- what is tried of the streams, in order: the person streams, then the forum streams
 abbrev pub lane_checks : Before → Held → List {1} (Refusal → Type 0)
-lane_checks at held = stage_checks stream_format at held PERSON_STREAMS ++ stage_checks stream_format (next_stage (after_persons at held)) held FORUM_STREAMS
+lane_checks at held = stage_checks stream_format at held person_series ++ stage_checks stream_format (next_stage (after_persons at held)) held forum_series
 
 -- nothing is wrong with the streams, and these are their lanes
 pub record AreLanes (at : Before) (held : Held) (lanes : LineLanes) : Type 0 where

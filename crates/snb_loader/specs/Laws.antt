@@ -5,8 +5,8 @@ use Rattle.snb_schema.specs.declared.row.Row.{Row}
 use Rattle.snb_schema.specs.Frequencies.{FrequencyTable}
 use Rattle.snb_schema.specs.LineLanes.{LineLanes}
 use Rattle.snb_schema.specs.QueryLists.{QueryLists}
-use Rattle.snb_input.specs.FirstOf.{FirstOf, NoneOf}
-use Rattle.snb_input.specs.Walk.{Before, Held}
+use Rattle.snb_base.specs.FirstOf.{FirstOf, NoneOf}
+use Rattle.snb_input_files.specs.Walk.{Before, Held}
 use Rattle.snb_loader.specs.Dataset.{IsDataset, dataset_checks}
 use Rattle.snb_loader.specs.Lanes.{AreLanes, lane_checks}
 use Rattle.snb_loader.specs.Params.{AreParams, params_checks}

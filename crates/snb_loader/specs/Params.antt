@@ -3,33 +3,29 @@ use Rattle.std.specs.Prelude.{◌≡◌, ℕ, ◌<◌, ltb, true, List, [], ◌�
 use Rattle.snb_base.specs.Shelf.{Files}
 use Rattle.snb_schema.specs.declared.file.FileId.{FileId}
 use Rattle.snb_schema.specs.declared.file.FileKind.{FileKind}
-use Rattle.snb_schema.specs.declared.file.FileKind.TheVariants.{Table, PersonStream, ForumStream, Params, Log, Cases}
+use Rattle.snb_schema.specs.declared.file.FileKind.TheVariants.{Params}
 use Rattle.snb_schema.specs.declared.limits.TheConstants.{MAX_ROWS}
 use Rattle.snb_schema.specs.declared.query.Query.{Query}
 use Rattle.snb_schema.specs.declared.refusal.Refusal.{Refusal}
 use Rattle.snb_schema.specs.declared.refusal.Refusal.TheVariants.{NoParameters}
 use Rattle.snb_schema.specs.Frequencies.{FrequencyTable, frequency_at}
 use Rattle.snb_schema.specs.QueryLists.{AreOf, QueryLists, list_of}
-use Rattle.snb_lines.specs.Sinks.{Takes}
+use Rattle.snb_input_lines.specs.Sinks.{Takes}
 use Rattle.snb_streams.specs.Parameters.{params_file, params_language}
-use Rattle.snb_input.specs.declared.load.Load.{Load}
-use Rattle.snb_input.specs.declared.load.Load.TheVariants.{Refused, ReadFault, Memory}
-use Rattle.snb_input.specs.declared.load.Used.{Used}
-use Rattle.snb_input.specs.declared.series.Series.{Series}
-use Rattle.snb_input.specs.FirstOf.{FirstOf, NoneOf}
-use Rattle.snb_input.specs.Format.{Format, IsTaker, Rules}
-use Rattle.snb_input.specs.Places.{FileSays}
-use Rattle.snb_input.specs.Stages.{before}
-use Rattle.snb_input.specs.Walk.{Before, Held, IsHeldTold, after_walk, stage_checks, stage_looks}
-use Rattle.snb_loader.specs.declared.params.TheConstants.{COMPLEX_QUERIES}
+use Rattle.snb_input_files.specs.declared.load.Load.{Load}
+use Rattle.snb_input_files.specs.declared.load.Load.TheVariants.{Refused, ReadFault, Memory}
+use Rattle.snb_input_files.specs.declared.load.Used.{Used}
+use Rattle.snb_input_files.specs.declared.series.Series.{Series}
+use Rattle.snb_base.specs.FirstOf.{FirstOf, NoneOf}
+use Rattle.snb_input_files.specs.Format.{Format, IsFileSink, Rules}
+use Rattle.snb_input_files.specs.Places.{FileSays}
+use Rattle.snb_input_files.specs.Stages.{before}
+use Rattle.snb_input_files.specs.Walk.{Before, Held, IsHeldTold, after_walk, stage_checks, stage_looks}
+use Rattle.snb_loader.specs.Order.{complex_queries, params_series}
 
 -- the queries with a frequency, by rising number
 abbrev pub asked : FrequencyTable → List ℕ
-asked table = filter (λ q. ltb 0 (frequency_at table q)) COMPLEX_QUERIES
-
--- the parameter file of a query, which must be there
-abbrev pub params_series : ℕ → Series
-params_series q = record { kind = Params q; needed = true; most = 1; what = None }
+asked table = filter (λ q. ltb 0 (frequency_at table q)) complex_queries
 
 -- the parameter files of the queries with a frequency
 abbrev pub params_stage : FrequencyTable → List Series
@@ -37,12 +33,8 @@ params_stage table = map params_series (asked table)
 
 -- the number of the query whose parameters a file of this kind has; any other file gives 0
 abbrev pub query_in : FileKind → ℕ
-query_in (Table t) = 0
-query_in PersonStream = 0
-query_in ForumStream = 0
 query_in (Params q) = q
-query_in Log = 0
-query_in Cases = 0
+query_in _ = 0
 
 -- what is wrong with a file that has these parameters: there must be one
 abbrev pub no_parameters : FileId → List Query → Option Refusal
@@ -74,9 +66,9 @@ TakesQuery old file x new = (new.done ≡ old.done) × (new.mine ≡ old.mine ++
 abbrev pub EndsParams : ParamLines → ParamLines → Type 0
 EndsParams old new = (new.done ≡ old.done ++ old.mine ∷ []) × (new.mine ≡ [])
 
--- what takes parameters is a taker of their files
-abbrev pub IsParamTaker : Type 0
-IsParamTaker = IsTaker params_format HasHeard (λ x. Unit {0}) TakesQuery (λ old file x r. ⊥) (λ s file. no_parameters file s.mine) EndsParams
+-- what takes parameters is a file_sink of their files
+abbrev pub IsParamFileSink : Type 0
+IsParamFileSink = IsFileSink params_format HasHeard (λ x. Unit {0}) TakesQuery (λ old file x r. ⊥) (λ s file. no_parameters file s.mine) EndsParams
 
 -- there is a list for each of these queries, with queries of its kind alone
 abbrev pub AreOfEach : List ℕ → List (List Query) → Type 0

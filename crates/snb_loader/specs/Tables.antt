@@ -1,6 +1,7 @@
 -- What the files of tables say, and what is wrong with a row beside those before it.
 use Rattle.std.specs.Prelude.{◌≡◌, ◌⊎◌, ◌↔◌, ◌++◌, ◌∷◌, ℕ, Bool, true, false, List, [], map, All, Contains, Option, Some, None}
 use Rattle.std.specs.List.{flat_map}
+use Rattle.snb_base.specs.FirstOf.{FirstOf}
 use Rattle.snb_schema.specs.declared.file.FileId.{FileId}
 use Rattle.snb_schema.specs.declared.limits.TheConstants.{MAX_ROWS}
 use Rattle.snb_schema.specs.declared.refusal.Missing.{Missing}
@@ -13,9 +14,9 @@ use Rattle.snb_schema.specs.References.{refs_of_row}
 use Rattle.snb_schema.specs.RowKeys.{node_key, slot_of}
 use Rattle.snb_schema.specs.TableRows.{IsTableRow}
 use Rattle.snb_csv.specs.Rows.{table_language}
-use Rattle.snb_input.specs.Format.{Format, IsTaker, Rules}
-use Rattle.snb_tables.specs.Graphs.{HasGained, HasKey, HasSlot, IsGraph}
-use Rattle.snb_tables.specs.Soundness.{Held}
+use Rattle.snb_input_files.specs.Format.{Format, IsFileSink, Rules}
+use Rattle.snb_graph_model.specs.Graphs.{HasGained, HasKey, HasSlot, IsGraph}
+use Rattle.snb_graph_model.specs.Soundness.{Held}
 
 -- the rows of all lines of the files before, and of those of this file so far; a line may repeat one before it
 abbrev pub said_rows : List (List Placed) → List Placed → List Row
@@ -41,18 +42,11 @@ FindsLacking rows refs (Some column) = IsFirstLacking rows refs column
 
 -- a line may repeat an edge or a word, and not a node
 abbrev pub may_repeat : Row → Bool
-may_repeat (row.Place x) = false
-may_repeat (row.TagClass x) = false
-may_repeat (row.Tag x) = false
-may_repeat (row.Organisation x) = false
-may_repeat (row.Person x) = false
-may_repeat (row.Forum x) = false
-may_repeat (row.Post x) = false
-may_repeat (row.Comment x) = false
 may_repeat (row.Link t from to) = true
 may_repeat (row.Dated t from to date) = true
 may_repeat (row.Yeared t from to year) = true
 may_repeat (row.Word t person text) = true
+may_repeat _ = false
 
 -- the row repeats an edge or a word that is among the rows
 abbrev pub IsRepeat : List Row → Row → Type 0
@@ -62,12 +56,15 @@ IsRepeat rows r = (may_repeat r ≡ true) × Contains rows r
 abbrev pub IsSecond : List Row → Row → Type 0
 IsSecond rows r = HasSlot rows (slot_of r) × (¬ IsRepeat rows r)
 
--- what is wrong with a line beside the rows before it: a node that it refers to isn't among them; or all are, and one of the rows has its
--- slot, which it doesn't repeat
+-- what is wrong with a line beside the rows before it: a node that it refers to isn't among them, or else one of the rows has its slot, which
+-- it doesn't repeat
 abbrev pub IsAmissBeside : List Row → FileId → Placed → Refusal → Type 0
 IsAmissBeside rows file p r =
-    ((column : ℕ) × IsFirstLacking rows (refs_of_row p.row p.turned) column × (r ≡ Dangling file p.line column))
-    ⊎ (All (IsThere rows) (refs_of_row p.row p.turned) × IsSecond rows p.row × (r ≡ Duplicate file p.line))
+    FirstOf
+    ((λ q. (column : ℕ) × IsFirstLacking rows (refs_of_row p.row p.turned) column × (q ≡ Dangling file p.line column))
+    ∷ (λ q. IsSecond rows p.row × (q ≡ Duplicate file p.line))
+    ∷ [])
+    r
 
 -- what is wrong with a line beside those of the files before it (`done`) and those before it in its file (`mine`)
 abbrev pub IsAmiss : FileId → List (List Placed) → List Placed → Placed → Refusal → Type 0
@@ -95,6 +92,6 @@ HasTaken old r new = (IsRepeat old r × (new ≡ old)) ⊎ (HasGained old (r ∷
 abbrev pub TakesPlaced : List Row → Placed → List Row → Type 0
 TakesPlaced old p new = All (IsThere old) (refs_of_row p.row p.turned) × HasTaken old p.row new
 
--- the graph is a taker of the files of tables
-abbrev pub IsTableTaker : Type 0
-IsTableTaker = IsTaker {P = List Row} table_format IsHeard (λ p. IsTableRow p.row) (λ old file p new. TakesPlaced old p new) IsAmissBeside (λ s file. None) (λ old new. new ≡ old)
+-- the graph is a file_sink of the files of tables
+abbrev pub IsTableFileSink : Type 0
+IsTableFileSink = IsFileSink {P = List Row} table_format IsHeard (λ p. IsTableRow p.row) (λ old file p new. TakesPlaced old p new) IsAmissBeside (λ s file. None) (λ old new. new ≡ old)

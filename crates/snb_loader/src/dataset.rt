@@ -1,21 +1,21 @@
 //! The dataset of a folder.
 
 ghost use Rattle.std.specs.Prelude.{◌≡◌, ◌≤◌, ℕ, IfOk, OnOk, OnErr};
-ghost use Rattle.snb_base.specs.Shelf.{Rose};
-ghost use Rattle.snb_input.specs.Loading.{OnReadFault, UnlessReadFault};
+ghost use Rattle.snb_base.specs.Shelf.{IsRead};
+ghost use Rattle.snb_input_files.specs.Loading.{is_read_fault};
 ghost use Rattle.snb_schema.specs.declared.limits.TheConstants.{MAX_BYTES, MAX_ROWS};
 ghost use Rattle.snb_loader.specs.Dataset.{IsDatasetAnswer, refusal_for};
-ghost use Rattle.snb_tables.specs.Soundness.{Sound};
+ghost use Rattle.snb_graph_model.specs.Soundness.{Sound};
 
 use crate::tables::{TableGraph, load_tables, tables_are_lawful};
-use snb_base::shelf::Shelf;
-use snb_csv::rows::TableLines;
-use snb_graph::graph::Graph;
-use snb_input::law::one_saying;
-use snb_input::load::{Load, Used};
-use snb_schema::refusal::Refusal;
-use snb_soundness::unsound::Unsound;
-use snb_tables::law::graphs_are_their_rows;
+use snb_base::Shelf;
+use snb_csv::TableLines;
+use snb_graph::Graph;
+use snb_graph_integrity::Unsound;
+use snb_graph_model::law::graphs_are_their_rows;
+use snb_input_files::law::one_saying;
+use snb_input_files::{Load, Used};
+use snb_schema::Refusal;
 use std::alloc::Global;
 
 // Why a graph that isn't sound isn't taken.
@@ -52,10 +52,7 @@ pub fn load_dataset<S: Shelf>(
     ensures sound { IfOk result Sound }
     ensures within { OnOk result ((used.new.bytes ≤ MAX_BYTES) × (used.new.rows ≤ MAX_ROWS)) }
     ensures err { OnErr result (used.new ≡ used.old) }
-    ensures fault { OnReadFault result (Rose (S.faults shelf.old) (S.faults shelf.new)) }
-    ensures later { S.faults shelf.old ≤ S.faults shelf.new }
-    ensures calm { UnlessReadFault result (S.faults shelf.new ≡ S.faults shelf.old) }
-    ensures same { S.contents shelf.new ≡ S.contents shelf.old }
+    ensures read { IsRead (is_read_fault result) (S.contents shelf.old) (S.faults shelf.old) (S.contents shelf.new) (S.faults shelf.new) }
 {
     tables_are_lawful();
     one_saying::<TableLines, TableGraph>();
@@ -65,7 +62,7 @@ pub fn load_dataset<S: Shelf>(
         Err(load) => return Err(load),
     };
     let now = walk.used;
-    let mut graph = walk.taker.into_graph();
+    let mut graph = walk.file_sink.into_graph();
     match graph.sound() {
         Ok(()) => match graph.freeze() {
             Ok(()) => {

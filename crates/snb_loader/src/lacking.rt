@@ -4,90 +4,22 @@ ghost use Rattle.std.specs.Prelude.{◌≡◌, ◌++◌, ◌↔◌, true, IsTrue
 ghost use Rattle.snb_schema.specs.References.{edge_refs, end_ref, from_kind, refs_of_row, to_kind};
 ghost use Rattle.snb_loader.specs.Tables.{FindsLacking, may_repeat};
 
-use snb_graph::graph::Graph;
-use snb_schema::key::{Held, Key};
-use snb_schema::row::Row;
-use snb_schema::table::{Kind, Table};
+use snb_graph::Graph;
+use snb_schema::layout::layout_of;
+use snb_schema::{Held, Key, Kind, Row, Table};
 
 // The kind of node that the first id of a table's rows refers to.
 fn from_kind(table: Table) -> Option<Kind>
     ensures { result ≡ from_kind table }
 {
-    match table {
-        Table::Place
-        | Table::TagClass
-        | Table::Tag
-        | Table::Organisation
-        | Table::Person
-        | Table::Forum
-        | Table::Post
-        | Table::Comment => None,
-        Table::PlaceIsPartOfPlace => Some(Kind::Place),
-        Table::TagClassIsSubclassOfTagClass => Some(Kind::TagClass),
-        Table::TagHasTypeTagClass => Some(Kind::Tag),
-        Table::OrganisationIsLocatedInPlace => Some(Kind::Organisation),
-        Table::PersonEmailEmailAddress
-        | Table::PersonSpeaksLanguage
-        | Table::PersonHasInterestTag
-        | Table::PersonIsLocatedInPlace
-        | Table::PersonKnowsPerson
-        | Table::PersonLikesPost
-        | Table::PersonLikesComment
-        | Table::PersonStudyAtOrganisation
-        | Table::PersonWorkAtOrganisation => Some(Kind::Person),
-        Table::ForumContainerOfPost
-        | Table::ForumHasMemberPerson
-        | Table::ForumHasModeratorPerson
-        | Table::ForumHasTagTag => Some(Kind::Forum),
-        Table::PostHasCreatorPerson | Table::PostHasTagTag | Table::PostIsLocatedInPlace => Some(
-            Kind::Post,
-        ),
-        Table::CommentHasCreatorPerson
-        | Table::CommentHasTagTag
-        | Table::CommentIsLocatedInPlace
-        | Table::CommentReplyOfPost
-        | Table::CommentReplyOfComment => Some(Kind::Comment),
-    }
+    layout_of(table).from_kind
 }
 
 // The kind of node that the second column of a table refers to.
 fn to_kind(table: Table) -> Option<Kind>
     ensures { result ≡ to_kind table }
 {
-    match table {
-        Table::Place
-        | Table::TagClass
-        | Table::Tag
-        | Table::Organisation
-        | Table::Person
-        | Table::Forum
-        | Table::Post
-        | Table::Comment
-        | Table::PersonEmailEmailAddress
-        | Table::PersonSpeaksLanguage => None,
-        Table::PlaceIsPartOfPlace
-        | Table::OrganisationIsLocatedInPlace
-        | Table::PersonIsLocatedInPlace
-        | Table::PostIsLocatedInPlace
-        | Table::CommentIsLocatedInPlace => Some(Kind::Place),
-        Table::TagClassIsSubclassOfTagClass | Table::TagHasTypeTagClass => Some(Kind::TagClass),
-        Table::PersonHasInterestTag
-        | Table::ForumHasTagTag
-        | Table::PostHasTagTag
-        | Table::CommentHasTagTag => Some(Kind::Tag),
-        Table::PersonKnowsPerson
-        | Table::ForumHasMemberPerson
-        | Table::ForumHasModeratorPerson
-        | Table::PostHasCreatorPerson
-        | Table::CommentHasCreatorPerson => Some(Kind::Person),
-        Table::PersonLikesPost | Table::ForumContainerOfPost | Table::CommentReplyOfPost => Some(
-            Kind::Post,
-        ),
-        Table::PersonLikesComment | Table::CommentReplyOfComment => Some(Kind::Comment),
-        Table::PersonStudyAtOrganisation | Table::PersonWorkAtOrganisation => Some(
-            Kind::Organisation,
-        ),
-    }
+    layout_of(table).to_kind
 }
 
 // The column, where the node to which it refers isn't held.

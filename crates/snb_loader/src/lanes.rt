@@ -1,23 +1,27 @@
 //! The update streams of a folder, read into lanes.
 
 ghost use Rattle.std.specs.Prelude.{◌≡◌, ◌≤◌, ◌+◌, All, IfOk, OnErr, OnOk, length};
-ghost use Rattle.snb_base.specs.Shelf.{Rose};
+ghost use Rattle.snb_base.specs.Shelf.{IsRead};
 ghost use Rattle.snb_schema.specs.declared.limits.TheConstants.{MAX_BYTES, MAX_LANES, MAX_ROWS};
 ghost use Rattle.snb_schema.specs.LineLanes.{update_count};
 ghost use Rattle.snb_schema.specs.StreamLines.{AreOfStreams};
-ghost use Rattle.snb_input.specs.Loading.{OnReadFault, UnlessReadFault};
+ghost use Rattle.snb_input_files.specs.Loading.{is_read_fault};
 ghost use Rattle.snb_loader.specs.Lanes.{AreTaken, IsLanesAnswer};
 
 use crate::order::{FORUM_STREAMS, PERSON_STREAMS};
-use crate::streams::{StreamTaker, load_stage};
-use snb_base::shelf::Shelf;
-use snb_input::law::stages_join;
-use snb_input::load::{Load, Used};
-use snb_schema::lanes::Lanes;
+use crate::streams::{StreamFileSink, load_stage};
+use snb_base::Shelf;
+use snb_input_files::law::stages_join;
+use snb_input_files::{Load, Used};
+use snb_schema::Lanes;
 use std::alloc::{AllocError, Global};
 
-// The lanes of what these takers of person streams and of forum streams took.
-fn lanes_of(alloc: Global, persons: StreamTaker, forums: StreamTaker) -> Result<Lanes, AllocError>
+// The lanes of what these file_sinks of person streams and of forum streams took.
+fn lanes_of(
+    alloc: Global,
+    persons: StreamFileSink,
+    forums: StreamFileSink,
+) -> Result<Lanes, AllocError>
     requires persons { length persons.done ≤ MAX_LANES }
     requires forums { length forums.done ≤ MAX_LANES }
     ensures value { IfOk result (λ lanes. lanes ≡ record { persons = persons.done; forums = forums.done }) }
@@ -63,10 +67,7 @@ pub fn load_lanes<S: Shelf>(
     ensures counted { IfOk result (λ lanes. used.new.rows ≡ used.old.rows + update_count lanes) }
     ensures within { OnOk result ((used.new.bytes ≤ MAX_BYTES) × (used.new.rows ≤ MAX_ROWS)) }
     ensures err { OnErr result (used.new ≡ used.old) }
-    ensures fault { OnReadFault result (Rose (S.faults shelf.old) (S.faults shelf.new)) }
-    ensures later { S.faults shelf.old ≤ S.faults shelf.new }
-    ensures calm { UnlessReadFault result (S.faults shelf.new ≡ S.faults shelf.old) }
-    ensures same { S.contents shelf.new ≡ S.contents shelf.old }
+    ensures read { IsRead (is_read_fault result) (S.contents shelf.old) (S.faults shelf.old) (S.contents shelf.new) (S.faults shelf.new) }
 {
     stages_join();
     let persons = match load_stage(alloc, shelf, folder, &PERSON_STREAMS, *used) {
@@ -77,7 +78,7 @@ pub fn load_lanes<S: Shelf>(
         Ok(walk) => walk,
         Err(load) => return Err(load),
     };
-    let lanes = lanes_of(alloc, persons.taker, forums.taker)?;
+    let lanes = lanes_of(alloc, persons.file_sink, forums.file_sink)?;
     *used = forums.used;
     Ok(lanes)
 }

@@ -2,14 +2,13 @@
 
 ghost use Rattle.snb_loader.specs.Laws.{DatasetIsOne, DatasetRefusesOnce, LanesAreOne, LanesRefuseOnce, ParamsAreOne, ParamsRefuseOnce};
 
-use crate::params::{ParamTaker, params_are_lawful};
-use crate::streams::{StreamTaker, streams_are_lawful};
+use crate::params::{ParamFileSink, params_are_lawful};
+use crate::streams::{StreamFileSink, streams_are_lawful};
 use crate::tables::{TableGraph, tables_are_lawful};
-use snb_csv::rows::TableLines;
-use snb_input::law::{one_refusal, one_saying};
-use snb_streams::lines::StreamLines;
-use snb_streams::params::QueryLines;
-use snb_tables::law::graphs_are_their_rows;
+use snb_csv::TableLines;
+use snb_graph_model::law::graphs_are_their_rows;
+use snb_input_files::law::{one_refusal, one_saying};
+use snb_streams::{QueryLines, StreamLines};
 
 /// Something is wrong with the tables of a folder in one first way, or nothing is, and they have one
 /// graph.
@@ -30,8 +29,8 @@ pub fn one_lanes()
     ensures refusal { LanesRefuseOnce }
 {
     streams_are_lawful();
-    one_refusal::<StreamLines, StreamTaker>();
-    one_saying::<StreamLines, StreamTaker>();
+    one_refusal::<StreamLines, StreamFileSink>();
+    one_saying::<StreamLines, StreamFileSink>();
 }
 
 /// Something is wrong with the parameter files of a folder in one first way, or nothing is, and they
@@ -41,6 +40,6 @@ pub fn one_params()
     ensures refusal { ParamsRefuseOnce }
 {
     params_are_lawful();
-    one_refusal::<QueryLines, ParamTaker>();
-    one_saying::<QueryLines, ParamTaker>();
+    one_refusal::<QueryLines, ParamFileSink>();
+    one_saying::<QueryLines, ParamFileSink>();
 }

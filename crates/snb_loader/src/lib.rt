@@ -10,3 +10,7 @@ pub mod order;
 pub mod params;
 mod streams;
 pub mod tables;
+
+pub use dataset::load_dataset;
+pub use lanes::load_lanes;
+pub use params::load_params;

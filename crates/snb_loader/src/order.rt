@@ -1,274 +1,36 @@
-//! The stages of an input in their order.
+//! The files of each stage of an input, in their order.
 
-use snb_input::series::Series;
-use snb_schema::file::FileKind;
+ghost use Rattle.std.specs.Prelude.{◌≡◌, IfOk};
+ghost use Rattle.snb_loader.specs.Order.{parts_of, table_series};
+
+use snb_graph_model::order::tables_in_order;
+use snb_input_files::Series;
+use snb_schema::layout::layout_of;
 use snb_schema::limits::{MAX_LANES, MAX_PARTS};
-use snb_schema::refusal::Counted;
-use snb_schema::table::Table;
+use snb_schema::{Counted, FileKind, Table};
+use std::alloc::{AllocError, Global};
 
-/// The tables of a dataset, of each of which part 0 must be there.
-pub const TABLES: [Series; 33] = [
+// The parts of a table.
+fn parts_of(table: Table) -> Series
+    ensures { result ≡ parts_of table }
+{
     Series {
-        kind: FileKind::Table {
-            table: Table::Place,
-        },
-        needed: true,
+        kind: FileKind::Table { table },
+        needed: layout_of(table).is_needed,
         most: MAX_PARTS,
         what: Some(Counted::Parts),
-    },
-    Series {
-        kind: FileKind::Table {
-            table: Table::TagClass,
-        },
-        needed: true,
-        most: MAX_PARTS,
-        what: Some(Counted::Parts),
-    },
-    Series {
-        kind: FileKind::Table { table: Table::Tag },
-        needed: true,
-        most: MAX_PARTS,
-        what: Some(Counted::Parts),
-    },
-    Series {
-        kind: FileKind::Table {
-            table: Table::Organisation,
-        },
-        needed: true,
-        most: MAX_PARTS,
-        what: Some(Counted::Parts),
-    },
-    Series {
-        kind: FileKind::Table {
-            table: Table::Person,
-        },
-        needed: true,
-        most: MAX_PARTS,
-        what: Some(Counted::Parts),
-    },
-    Series {
-        kind: FileKind::Table {
-            table: Table::Forum,
-        },
-        needed: true,
-        most: MAX_PARTS,
-        what: Some(Counted::Parts),
-    },
-    Series {
-        kind: FileKind::Table { table: Table::Post },
-        needed: true,
-        most: MAX_PARTS,
-        what: Some(Counted::Parts),
-    },
-    Series {
-        kind: FileKind::Table {
-            table: Table::Comment,
-        },
-        needed: true,
-        most: MAX_PARTS,
-        what: Some(Counted::Parts),
-    },
-    Series {
-        kind: FileKind::Table {
-            table: Table::PlaceIsPartOfPlace,
-        },
-        needed: true,
-        most: MAX_PARTS,
-        what: Some(Counted::Parts),
-    },
-    Series {
-        kind: FileKind::Table {
-            table: Table::TagClassIsSubclassOfTagClass,
-        },
-        needed: true,
-        most: MAX_PARTS,
-        what: Some(Counted::Parts),
-    },
-    Series {
-        kind: FileKind::Table {
-            table: Table::TagHasTypeTagClass,
-        },
-        needed: true,
-        most: MAX_PARTS,
-        what: Some(Counted::Parts),
-    },
-    Series {
-        kind: FileKind::Table {
-            table: Table::OrganisationIsLocatedInPlace,
-        },
-        needed: true,
-        most: MAX_PARTS,
-        what: Some(Counted::Parts),
-    },
-    Series {
-        kind: FileKind::Table {
-            table: Table::PersonEmailEmailAddress,
-        },
-        needed: true,
-        most: MAX_PARTS,
-        what: Some(Counted::Parts),
-    },
-    Series {
-        kind: FileKind::Table {
-            table: Table::PersonSpeaksLanguage,
-        },
-        needed: true,
-        most: MAX_PARTS,
-        what: Some(Counted::Parts),
-    },
-    Series {
-        kind: FileKind::Table {
-            table: Table::PersonHasInterestTag,
-        },
-        needed: true,
-        most: MAX_PARTS,
-        what: Some(Counted::Parts),
-    },
-    Series {
-        kind: FileKind::Table {
-            table: Table::PersonIsLocatedInPlace,
-        },
-        needed: true,
-        most: MAX_PARTS,
-        what: Some(Counted::Parts),
-    },
-    Series {
-        kind: FileKind::Table {
-            table: Table::PersonKnowsPerson,
-        },
-        needed: true,
-        most: MAX_PARTS,
-        what: Some(Counted::Parts),
-    },
-    Series {
-        kind: FileKind::Table {
-            table: Table::PersonLikesPost,
-        },
-        needed: true,
-        most: MAX_PARTS,
-        what: Some(Counted::Parts),
-    },
-    Series {
-        kind: FileKind::Table {
-            table: Table::PersonLikesComment,
-        },
-        needed: true,
-        most: MAX_PARTS,
-        what: Some(Counted::Parts),
-    },
-    Series {
-        kind: FileKind::Table {
-            table: Table::PersonStudyAtOrganisation,
-        },
-        needed: true,
-        most: MAX_PARTS,
-        what: Some(Counted::Parts),
-    },
-    Series {
-        kind: FileKind::Table {
-            table: Table::PersonWorkAtOrganisation,
-        },
-        needed: true,
-        most: MAX_PARTS,
-        what: Some(Counted::Parts),
-    },
-    Series {
-        kind: FileKind::Table {
-            table: Table::ForumContainerOfPost,
-        },
-        needed: true,
-        most: MAX_PARTS,
-        what: Some(Counted::Parts),
-    },
-    Series {
-        kind: FileKind::Table {
-            table: Table::ForumHasMemberPerson,
-        },
-        needed: true,
-        most: MAX_PARTS,
-        what: Some(Counted::Parts),
-    },
-    Series {
-        kind: FileKind::Table {
-            table: Table::ForumHasModeratorPerson,
-        },
-        needed: true,
-        most: MAX_PARTS,
-        what: Some(Counted::Parts),
-    },
-    Series {
-        kind: FileKind::Table {
-            table: Table::ForumHasTagTag,
-        },
-        needed: true,
-        most: MAX_PARTS,
-        what: Some(Counted::Parts),
-    },
-    Series {
-        kind: FileKind::Table {
-            table: Table::PostHasCreatorPerson,
-        },
-        needed: true,
-        most: MAX_PARTS,
-        what: Some(Counted::Parts),
-    },
-    Series {
-        kind: FileKind::Table {
-            table: Table::PostHasTagTag,
-        },
-        needed: true,
-        most: MAX_PARTS,
-        what: Some(Counted::Parts),
-    },
-    Series {
-        kind: FileKind::Table {
-            table: Table::PostIsLocatedInPlace,
-        },
-        needed: true,
-        most: MAX_PARTS,
-        what: Some(Counted::Parts),
-    },
-    Series {
-        kind: FileKind::Table {
-            table: Table::CommentHasCreatorPerson,
-        },
-        needed: true,
-        most: MAX_PARTS,
-        what: Some(Counted::Parts),
-    },
-    Series {
-        kind: FileKind::Table {
-            table: Table::CommentHasTagTag,
-        },
-        needed: true,
-        most: MAX_PARTS,
-        what: Some(Counted::Parts),
-    },
-    Series {
-        kind: FileKind::Table {
-            table: Table::CommentIsLocatedInPlace,
-        },
-        needed: true,
-        most: MAX_PARTS,
-        what: Some(Counted::Parts),
-    },
-    Series {
-        kind: FileKind::Table {
-            table: Table::CommentReplyOfPost,
-        },
-        needed: true,
-        most: MAX_PARTS,
-        what: Some(Counted::Parts),
-    },
-    Series {
-        kind: FileKind::Table {
-            table: Table::CommentReplyOfComment,
-        },
-        needed: true,
-        most: MAX_PARTS,
-        what: Some(Counted::Parts),
-    },
-];
+    }
+}
+
+/// The parts of all tables.
+pub fn table_series(alloc: Global) -> Result<Vec<Series>, AllocError>
+    ensures { IfOk result (λ series. series.items ≡ table_series) }
+{
+    tables_in_order()
+        .iter()
+        .map(|table| parts_of(*table))
+        .collect(alloc)
+}
 
 /// The person streams, of which there may be none.
 pub const PERSON_STREAMS: [Series; 1] = [Series {

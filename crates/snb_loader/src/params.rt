@@ -1,31 +1,23 @@
 //! The parameter files of a folder, read into lists.
 
 ghost use Rattle.std.specs.Prelude.{◌≡◌, ◌≢◌, ◌≤◌, ◌++◌, ℕ, [], IfOk, OnErr, OnOk, map};
-ghost use Rattle.snb_base.specs.Shelf.{Rose};
+ghost use Rattle.snb_base.specs.Shelf.{IsRead};
 ghost use Rattle.snb_schema.specs.declared.limits.TheConstants.{MAX_BYTES, MAX_ROWS};
 ghost use Rattle.snb_schema.specs.Frequencies.{frequency_at};
 ghost use Rattle.snb_schema.specs.Queries.{IsComplex};
 ghost use Rattle.snb_schema.specs.QueryLists.{AreOf, HaveParameters, list_of};
-ghost use Rattle.snb_input.specs.Format.{Lawful};
-ghost use Rattle.snb_input.specs.Loading.{OnReadFault, UnlessReadFault};
-ghost use Rattle.snb_input.specs.Stages.{AreRising, IsStage, IsWalkWithin, before};
-ghost use Rattle.snb_loader.specs.Params.{AreOfEach, HasHeard, IsParamTaker, IsParamsAnswer, asked, params_format, params_stage, query_in as query_within};
+ghost use Rattle.snb_input_files.specs.Format.{Lawful};
+ghost use Rattle.snb_input_files.specs.Loading.{is_read_fault};
+ghost use Rattle.snb_input_files.specs.Stages.{AreRising, IsStage, IsWalkWithin, before};
+ghost use Rattle.snb_loader.specs.Params.{AreOfEach, HasHeard, IsParamFileSink, IsParamsAnswer, asked, params_format, params_stage, query_in as query_within};
 
-use snb_base::shelf::Shelf;
-use snb_input::load::{Load, Used};
-use snb_input::series::Series;
-use snb_input::taker::Taker;
-use snb_input::walk::{Walk, walk_stage};
-use snb_lines::sink::Sink;
-use snb_schema::fault::Fault;
-use snb_schema::file::{FileId, FileKind};
-use snb_schema::frequencies::Frequencies;
+use snb_base::Shelf;
+use snb_input_files::{FileSink, Load, Series, Used, Walk, walk_stage};
+use snb_input_lines::Sink;
 use snb_schema::limits::MAX_ROWS;
-use snb_schema::lists::Lists;
-use snb_schema::query::Query;
-use snb_schema::refusal::Refusal;
+use snb_schema::{Fault, FileId, FileKind, Frequencies, Lists, Query, Refusal};
+use snb_streams::QueryLines;
 use snb_streams::law::one_query;
-use snb_streams::params::QueryLines;
 use std::alloc::{AllocError, Global};
 use std::marker::Model;
 use std::mem;
@@ -49,13 +41,13 @@ fn query_in(kind: FileKind) -> u32
 
 /// Takes the parameters of files, file by file.
 #[derive(Drop)]
-pub(crate) struct ParamTaker {
+pub(crate) struct ParamFileSink {
     alloc: Global,
     done: Vec<Vec<Query>>,
     mine: Vec<Query>,
 }
 
-impl Model for ParamTaker {
+impl Model for ParamFileSink {
     ghost use Rattle.std.specs.Prelude.{map};
     ghost use Rattle.snb_loader.specs.Params.{ParamLines};
 
@@ -64,12 +56,12 @@ impl Model for ParamTaker {
     ghost view = { λ s. record { done = map (λ v. v.items) s.done.items; mine = s.mine.items } };
 }
 
-impl ParamTaker {
+impl ParamFileSink {
     // No parameters. Takes no memory.
-    fn new(alloc: Global) -> ParamTaker
+    fn new(alloc: Global) -> ParamFileSink
         ensures { result ≡ record { done = []; mine = [] } }
     {
-        ParamTaker {
+        ParamFileSink {
             alloc,
             done: Vec::new(alloc),
             mine: Vec::new(alloc),
@@ -77,7 +69,7 @@ impl ParamTaker {
     }
 }
 
-impl Sink<Query> for ParamTaker {
+impl Sink<Query> for ParamFileSink {
     ghost use Rattle.std.specs.Prelude.{◌≡◌, refl};
     ghost use Rattle.snb_loader.specs.Params.{EndsParams, TakesQuery, no_parameters};
 
@@ -115,7 +107,7 @@ impl Sink<Query> for ParamTaker {
     ghost same_self = { λ _. refl };
 }
 
-impl Taker<QueryLines> for ParamTaker {
+impl FileSink<QueryLines> for ParamFileSink {
     ghost use Rattle.snb_loader.specs.Params.{HasHeard, params_rules, query_in};
 
     ghost grammar_of = { λ file. query_in file.kind };
@@ -137,10 +129,10 @@ impl Taker<QueryLines> for ParamTaker {
     }
 }
 
-/// The taker is one of parameter files. A line says one query at most, and is refused in one way at most.
+/// The file_sink is one of parameter files. A line says one query at most, and is refused in one way at most.
 pub(crate) fn params_are_lawful()
     ensures lawful { Lawful params_format }
-    ensures right { IsParamTaker }
+    ensures right { IsParamFileSink }
 {
     one_query();
 }
@@ -175,19 +167,19 @@ fn add_list(lists: &mut Lists, query: u32, list: Vec<Query>) -> Result<(), Alloc
     Ok(())
 }
 
-// The lists of the queries with a frequency, which are in turn what this taker took; the others are
+// The lists of the queries with a frequency, which are in turn what this file_sink took; the others are
 // empty.
 fn lists_of(
     alloc: Global,
     frequencies: &Frequencies,
-    taker: ParamTaker,
+    file_sink: ParamFileSink,
 ) -> Result<Lists, AllocError>
-    requires kinds { AreOfEach (asked frequencies.now) taker.done }
-    ensures lists { IfOk result (λ lists. map (list_of lists) (asked frequencies.now) ≡ taker.done) }
+    requires kinds { AreOfEach (asked frequencies.now) file_sink.done }
+    ensures lists { IfOk result (λ lists. map (list_of lists) (asked frequencies.now) ≡ file_sink.done) }
     ensures others { IfOk result (λ lists. (query : ℕ) → frequency_at frequencies.now query ≡ 0 → list_of lists query ≡ []) }
 {
     let mut lists = Lists::new(alloc);
-    let mut left = taker.done.into_iter();
+    let mut left = file_sink.done.into_iter();
     for query in COMPLEX_QUERIES {
         if frequencies.of(query) > 0 {
             match left.next() {
@@ -228,25 +220,22 @@ pub fn load_params<S: Shelf>(
     ensures full { IfOk result (λ lists. HaveParameters lists frequencies.now) }
     ensures within { OnOk result ((used.new.bytes ≤ MAX_BYTES) × (used.new.rows ≤ MAX_ROWS)) }
     ensures err { OnErr result (used.new ≡ used.old) }
-    ensures fault { OnReadFault result (Rose (S.faults shelf.old) (S.faults shelf.new)) }
-    ensures later { S.faults shelf.old ≤ S.faults shelf.new }
-    ensures calm { UnlessReadFault result (S.faults shelf.new ≡ S.faults shelf.old) }
-    ensures same { S.contents shelf.new ≡ S.contents shelf.old }
+    ensures read { IsRead (is_read_fault result) (S.contents shelf.old) (S.faults shelf.old) (S.contents shelf.new) (S.faults shelf.new) }
 {
     params_are_lawful();
     let stage = stage_of(alloc, frequencies)?;
-    let walk = match walk_stage::<S, QueryLines, ParamTaker>(
+    let walk = match walk_stage::<S, QueryLines, ParamFileSink>(
         alloc,
         shelf,
         folder,
         &stage,
         *used,
-        ParamTaker::new(alloc),
+        ParamFileSink::new(alloc),
     ) {
         Ok(walk) => walk,
         Err(load) => return Err(load),
     };
-    let lists = lists_of(alloc, frequencies, walk.taker)?;
+    let lists = lists_of(alloc, frequencies, walk.file_sink)?;
     *used = walk.used;
     Ok(lists)
 }

@@ -1,28 +1,21 @@
 //! What takes the lines of the update streams of a folder.
 
 ghost use Rattle.std.specs.Prelude.{◌≡◌, ◌≤◌, [], All, IfOk, Some, map};
-ghost use Rattle.snb_base.specs.Shelf.{Rose};
+ghost use Rattle.snb_base.specs.Shelf.{IsRead};
 ghost use Rattle.snb_schema.specs.declared.limits.TheConstants.{MAX_BYTES, MAX_ROWS};
-ghost use Rattle.snb_input.specs.Format.{Lawful};
-ghost use Rattle.snb_input.specs.Loading.{OnReadFault, UnlessReadFault};
-ghost use Rattle.snb_input.specs.Stages.{AreRising, IsStage, IsWalkWithin, before};
-ghost use Rattle.snb_loader.specs.Lanes.{AreTaken, InsertsOfFieldsFit, IsHeard, IsStreamTaker, stream_format};
+ghost use Rattle.snb_input_files.specs.Format.{Lawful};
+ghost use Rattle.snb_input_files.specs.Loading.{is_read_fault};
+ghost use Rattle.snb_input_files.specs.Stages.{AreRising, IsStage, IsWalkWithin, before};
+ghost use Rattle.snb_loader.specs.Lanes.{AreTaken, InsertsOfFieldsFit, IsHeard, IsStreamFileSink, stream_format};
 
-use snb_base::shelf::Shelf;
+use snb_base::Shelf;
 use snb_columns::law::own_line;
-use snb_input::load::{Load, Used};
-use snb_input::series::Series;
-use snb_input::taker::Taker;
-use snb_input::walk::{Walk, walk_stage};
-use snb_lines::sink::Sink;
-use snb_schema::fault::Fault;
-use snb_schema::file::FileId;
+use snb_input_files::{FileSink, Load, Series, Used, Walk, walk_stage};
+use snb_input_lines::Sink;
 use snb_schema::limits::MAX_ROWS;
-use snb_schema::op::Line;
-use snb_schema::refusal::Refusal;
+use snb_schema::{Fault, FileId, Line, Refusal};
 use snb_streams::law::{one_fault, one_insert_of_fields};
-use snb_streams::lines::StreamLines;
-use snb_streams::order::InOrder;
+use snb_streams::{InOrder, StreamLines};
 use std::alloc::{AllocError, Global};
 use std::marker::Model;
 use std::mem;
@@ -40,15 +33,15 @@ fn no_lines(alloc: Global) -> InOrder<Vec<Line>>
 
 /// Takes the inserts of streams, stream by stream. Some text is each line, and in a stream t never
 /// falls.
-pub(crate) struct StreamTaker {
+pub(crate) struct StreamFileSink {
     alloc: Global,
     done: Vec<Vec<Line>>,
     mine: InOrder<Vec<Line>>,
 }
 
-impl Drop for StreamTaker {
+impl Drop for StreamFileSink {
     fn drop(self) {
-        let StreamTaker {
+        let StreamFileSink {
             alloc: _,
             done: _,
             mine: _,
@@ -56,7 +49,7 @@ impl Drop for StreamTaker {
     }
 }
 
-impl Model for StreamTaker {
+impl Model for StreamFileSink {
     ghost use Rattle.std.specs.Prelude.{All, map};
     ghost use Rattle.snb_loader.specs.Lanes.{AreTaken, IsLastOf, StreamLines};
 
@@ -70,12 +63,12 @@ impl Model for StreamTaker {
         × IsLastOf s.mine.sink.items s.mine.last };
 }
 
-impl StreamTaker {
+impl StreamFileSink {
     /// No inserts. Takes no memory.
-    pub(crate) fn new(alloc: Global) -> StreamTaker
+    pub(crate) fn new(alloc: Global) -> StreamFileSink
         ensures { result ≡ record { done = []; mine = [] } }
     {
-        StreamTaker {
+        StreamFileSink {
             alloc,
             done: Vec::new(alloc),
             mine: no_lines(alloc),
@@ -87,7 +80,7 @@ impl StreamTaker {
         ensures value { map (λ v. v.items) result.items ≡ self.done }
         ensures taken { All AreTaken self.done }
     {
-        let StreamTaker {
+        let StreamFileSink {
             alloc: _,
             done,
             mine: _,
@@ -103,18 +96,18 @@ fn inserts_of_fields_fit()
     own_line();
 }
 
-/// The taker is one of the files of streams. A line says one insert at most, which is that of some line,
+/// The file_sink is one of the files of streams. A line says one insert at most, which is that of some line,
 /// and is refused in one way at most.
 pub(crate) fn streams_are_lawful()
     ensures lawful { Lawful stream_format }
-    ensures right { IsStreamTaker }
+    ensures right { IsStreamFileSink }
 {
     one_insert_of_fields();
     one_fault();
     inserts_of_fields_fit();
 }
 
-impl Sink<Line> for StreamTaker {
+impl Sink<Line> for StreamFileSink {
     ghost use Rattle.std.specs.Prelude.{◌≡◌, None, refl};
     ghost use Rattle.snb_schema.specs.StreamLines.{IsOfLine};
     ghost use Rattle.snb_loader.specs.Lanes.{EndsStream, RefusesLine, TakesLine};
@@ -148,7 +141,7 @@ impl Sink<Line> for StreamTaker {
     ghost same_self = { λ _. refl };
 }
 
-impl Taker<StreamLines> for StreamTaker {
+impl FileSink<StreamLines> for StreamFileSink {
     ghost use Rattle.snb_loader.specs.Lanes.{IsHeard, stream_rules};
 
     ghost grammar_of = { λ file. file.kind };
@@ -182,24 +175,21 @@ pub(crate) fn load_stage<S: Shelf>(
     folder: &str,
     stage: &[Series],
     used: Used,
-) -> Result<Walk<StreamTaker>, Load>
+) -> Result<Walk<StreamFileSink>, Load>
     requires bytes { used.bytes ≤ MAX_BYTES }
     requires rows { used.rows ≤ MAX_ROWS }
     requires rising { AreRising 0 stage.now }
     ensures answer { IsStage stream_format IsHeard (S.contents shelf.old) folder.now stage.now (before used) result }
     ensures within { IfOk result (IsWalkWithin (Some MAX_ROWS)) }
-    ensures fault { OnReadFault result (Rose (S.faults shelf.old) (S.faults shelf.new)) }
-    ensures later { S.faults shelf.old ≤ S.faults shelf.new }
-    ensures calm { UnlessReadFault result (S.faults shelf.new ≡ S.faults shelf.old) }
-    ensures same { S.contents shelf.new ≡ S.contents shelf.old }
+    ensures read { IsRead (is_read_fault result) (S.contents shelf.old) (S.faults shelf.old) (S.contents shelf.new) (S.faults shelf.new) }
 {
     streams_are_lawful();
-    walk_stage::<S, StreamLines, StreamTaker>(
+    walk_stage::<S, StreamLines, StreamFileSink>(
         alloc,
         shelf,
         folder,
         stage,
         used,
-        StreamTaker::new(alloc),
+        StreamFileSink::new(alloc),
     )
 }

@@ -1,34 +1,28 @@
 //! The tables of a dataset, read into a graph.
 
 ghost use Rattle.std.specs.Prelude.{◌≡◌, ◌≤◌, [], OnErr, OnOk, IfOk, Some};
-ghost use Rattle.snb_base.specs.Shelf.{Rose};
-ghost use Rattle.snb_input.specs.Format.{Lawful};
-ghost use Rattle.snb_input.specs.Loading.{OnReadFault, UnlessReadFault};
-ghost use Rattle.snb_input.specs.Stages.{IsStage, IsWalkWithin, before};
+ghost use Rattle.snb_base.specs.Shelf.{IsRead};
+ghost use Rattle.snb_input_files.specs.Format.{Lawful};
+ghost use Rattle.snb_input_files.specs.Loading.{is_read_fault};
+ghost use Rattle.snb_input_files.specs.Stages.{IsStage, IsWalkWithin, before};
 ghost use Rattle.snb_schema.specs.declared.limits.TheConstants.{MAX_BYTES, MAX_ROWS};
 ghost use Rattle.snb_schema.specs.Faults.{OnBad};
 ghost use Rattle.snb_schema.specs.declared.row.Row.TheVariants as row;
 ghost use Rattle.snb_schema.specs.TableRows.{IsTableRow};
-ghost use Rattle.snb_loader.specs.Tables.{HasTaken, IsHeard, IsSecond, IsTableTaker, table_format};
+ghost use Rattle.snb_loader.specs.Order.{table_series};
+ghost use Rattle.snb_loader.specs.Tables.{HasTaken, IsHeard, IsSecond, IsTableFileSink, table_format};
 
 use crate::lacking::{first_lacking, may_repeat};
-use crate::order::TABLES;
-use snb_base::shelf::Shelf;
-use snb_base::text::Text;
+use crate::order::table_series;
+use snb_base::{Shelf, Text};
+use snb_csv::TableLines;
 use snb_csv::law::{one_column, one_row, rows_of_fields_fit};
-use snb_csv::rows::TableLines;
-use snb_graph::graph::Graph;
-use snb_input::load::{Load, Used};
-use snb_input::taker::Taker;
-use snb_input::walk::{Walk, walk_stage};
-use snb_lines::sink::Sink;
-use snb_schema::fault::Fault;
-use snb_schema::file::FileId;
+use snb_graph::Graph;
+use snb_graph_tables::Insert;
+use snb_input_files::{FileSink, Load, Used, Walk, walk_stage};
+use snb_input_lines::Sink;
 use snb_schema::limits::MAX_ROWS;
-use snb_schema::refusal::Refusal;
-use snb_schema::row::{Placed, Row};
-use snb_schema::table::Table;
-use snb_store::insert::Insert;
+use snb_schema::{Fault, FileId, Placed, Refusal, Row, Table};
 use std::alloc::{AllocError, Global};
 use std::marker::Model;
 
@@ -171,7 +165,7 @@ impl Sink<Placed> for TableGraph {
     ghost same_self = { λ _. refl };
 }
 
-impl Taker<TableLines> for TableGraph {
+impl FileSink<TableLines> for TableGraph {
     ghost use Rattle.snb_loader.specs.Tables.{IsHeard, table_rules};
 
     ghost grammar_of = { λ file. file.kind };
@@ -193,11 +187,11 @@ impl Taker<TableLines> for TableGraph {
     }
 }
 
-/// The graph is a taker of the files of tables. A line says one row at most, which is one that tables can
+/// The graph is a file_sink of the files of tables. A line says one row at most, which is one that tables can
 /// have, and is refused in one way at most.
 pub(crate) fn tables_are_lawful()
     ensures lawful { Lawful table_format }
-    ensures right { IsTableTaker }
+    ensures right { IsTableFileSink }
 {
     one_row();
     one_column();
@@ -217,19 +211,17 @@ pub fn load_tables<S: Shelf>(
 ) -> Result<Walk<TableGraph>, Load>
     requires bytes { used.bytes ≤ MAX_BYTES }
     requires rows { used.rows ≤ MAX_ROWS }
-    ensures answer { IsStage table_format IsHeard (S.contents shelf.old) folder.now TABLES (before used) result }
+    ensures answer { IsStage table_format IsHeard (S.contents shelf.old) folder.now table_series (before used) result }
     ensures within { IfOk result (IsWalkWithin (Some MAX_ROWS)) }
-    ensures fault { OnReadFault result (Rose (S.faults shelf.old) (S.faults shelf.new)) }
-    ensures later { S.faults shelf.old ≤ S.faults shelf.new }
-    ensures calm { UnlessReadFault result (S.faults shelf.new ≡ S.faults shelf.old) }
-    ensures same { S.contents shelf.new ≡ S.contents shelf.old }
+    ensures read { IsRead (is_read_fault result) (S.contents shelf.old) (S.faults shelf.old) (S.contents shelf.new) (S.faults shelf.new) }
 {
     tables_are_lawful();
+    let series = table_series(alloc)?;
     walk_stage::<S, TableLines, TableGraph>(
         alloc,
         shelf,
         folder,
-        &TABLES,
+        &series,
         used,
         TableGraph::new(alloc),
     )

@@ -2,14 +2,10 @@
 //! clock.
 #![tactic(auto)]
 
-use snb_base::gate::OpenGate;
-use snb_ending::ending;
-use snb_ending::fault::Fault;
-use snb_host::folder_outbox::FolderOutbox;
-use snb_host::folder_shelf::FolderShelf;
-use snb_host::host_clock::HostClock;
-use snb_host::standard_streams::StandardStreams;
-use snb_tool::tool::snb;
+use snb_base::OpenGate;
+use snb_base_host::{FolderOutbox, FolderShelf, HostClock, StandardStreams};
+use snb_main_exit::{Fault, ending};
+use snb_tool::snb;
 use std::alloc::AllocError;
 use std::env;
 use std::env::Env;

@@ -23,6 +23,7 @@ use Rattle.snb_plan.specs.declared.added.Added.{Added}
 use Rattle.snb_plan.specs.declared.added.Mark.{Mark}
 use Rattle.snb_plan.specs.Closed.{Update, IsClosed, IsClosedAt, IsFirstUnmet, IsFirstWrong, IsLate, IsMet, IsTaken, IsWrong, IsWrongBy}
 use Rattle.snb_plan.specs.Added.{mark_at, mark_of, HasMore, IsFine, IsMetBy, IsTakenBy}
+use Rattle.snb_plan.proofs.CaseFacts.{IsWrongCase, from_case, to_case}
 use Rattle.snb_plan.proofs.Slots.{among}
 
 -- the updates are in order of t
@@ -220,12 +221,15 @@ between [] x rest = contains_here x rest
 between (y ∷ front) x rest = contains_there y (front ++ x ∷ rest) x (between front x rest)
 
 -- with an update that is closed nothing is wrong
-pub not_wrong : (holds : Key → Type 0) (all before : List Update) (u : Update) (r : Refusal) → IsClosedAt holds all before u → IsWrong holds all before u r → ⊥
-not_wrong holds all before u r closed (inl late) = (let lt = closed.timely late.0.0 in let ge = late.0.1 in omega arith)
-not_wrong holds all before u r closed (inr (inl taken)) = closed.new taken.1
-not_wrong holds all before u r closed (inr (inr unmet)) =
+not_so : (holds : Key → Type 0) (all before : List Update) (u : Update) (r : Refusal) → IsClosedAt holds all before u → IsWrongCase (IsTaken holds before) (IsMet holds all before) u r → ⊥
+not_so holds all before u r closed (inl late) = (let lt = closed.timely late.0.0 in let ge = late.0.1 in omega arith)
+not_so holds all before u r closed (inr (inl taken)) = closed.new taken.1
+not_so holds all before u r closed (inr (inr unmet)) =
     let first : IsFirstUnmet (IsMet holds all before u) (refs_of u.line.op) unmet.2.0 = unmet.2.1 in
     first.unmet (all_at (IsMet holds all before u) first.front unmet.2.0 first.rest (subst (All (IsMet holds all before u)) (sym first.splits) closed.met))
+
+pub not_wrong : (holds : Key → Type 0) (all before : List Update) (u : Update) (r : Refusal) → IsClosedAt holds all before u → IsWrong holds all before u r → ⊥
+not_wrong holds all before u r closed wrong = not_so holds all before u r closed (to_case (IsTaken holds before) (IsMet holds all before) u r wrong)
 
 -- what is wrong with an update by what is kept is wrong with it
 pub first_wrong : (holds : Key → Type 0) (all : List Update) (i : ℕ) (u : Update) (added : Added) (r : Refusal) → Rises all → i < length all → u ≡ get_or all i u
@@ -235,11 +239,11 @@ first_wrong holds all i u added r rises lt is s wrong = record {
   update = u;
   after = drop (i + 1) all;
   splits = split_here all i u lt is;
-  wrong = by_cause wrong;
+  wrong = from_case (IsTaken holds (take i all)) (IsMet holds all (take i all)) u r (by_cause (to_case (IsTakenBy holds added) (IsMetBy holds added) u r wrong));
   none_before = λ front v rest q splits w. not_wrong holds all front v q (s.closed front v rest splits) w;
 }
   where
-    by_cause : IsWrongBy (IsTakenBy holds added) (IsMetBy holds added) u r → IsWrong holds all (take i all) u r
+    by_cause : IsWrongCase (IsTakenBy holds added) (IsMetBy holds added) u r → IsWrongCase (IsTaken holds (take i all)) (IsMet holds all (take i all)) u r
     by_cause (inl late) = inl late
     by_cause (inr (inl taken)) = inr (inl (taken.0, by_taken holds all (take i all) added u s taken.1, taken.2))
     by_cause (inr (inr unmet)) =

@@ -1,4 +1,5 @@
 pub mod Assembly
+pub mod CaseFacts
 pub mod ClosedLemmas
 pub mod Laws
 pub mod Making
@@ -7,7 +8,7 @@ pub mod OneRefusal
 pub mod Ordered
 pub mod Planned
 pub mod Slots
-pub mod Spotting
+pub mod Positioning
 pub mod Streams
 pub mod Timely
 pub mod Turns

@@ -5,10 +5,10 @@ use Rattle.std.specs.List.{AllPairs, Contains}
 use Rattle.std.proofs.lemmas.Option.{slice_get_within, get_or_from_slice_get}
 use Rattle.std.proofs.lemmas.List.Elements.{All-contains}
 use Rattle.snb_base.proofs.Laws.{contains_cases, contains_here}
-use Rattle.snb_schema.specs.declared.step.Step.{Step}
+use Rattle.snb_history.specs.declared.step.Step.{Step}
 use Rattle.snb_schema.specs.LineLanes.{LineLanes}
 use Rattle.snb_schema.specs.QueryLists.{QueryLists}
-use Rattle.snb_schema.specs.Schedule.{ComesBefore}
+use Rattle.snb_history.specs.Schedule.{ComesBefore}
 use Rattle.snb_plan.specs.declared.instances.Instance.{Instance}
 use Rattle.snb_plan.specs.PlanLaws.{PlanIsOne}
 use Rattle.snb_plan.specs.Plans.{AreInOrder, AreUpdates, IsEarlier, IsInstance, IsLineOf, IsRead, IsSooner, IsUpdate, Operation, Placed, first_t, update_operation}

@@ -7,8 +7,9 @@ use Rattle.snb_schema.specs.declared.refusal.Missing.{Missing}
 use Rattle.snb_schema.specs.declared.refusal.Refusal.{Refusal}
 use Rattle.snb_schema.specs.declared.refusal.Refusal.TheVariants.{Unmet}
 use Rattle.snb_schema.specs.References.{refs_of}
-use Rattle.snb_plan.specs.Closed.{Update, IsFirstUnmet, IsFirstWrong, IsMet, IsWrong}
+use Rattle.snb_plan.specs.Closed.{Update, IsFirstUnmet, IsFirstWrong, IsMet, IsTaken, IsWrong}
 use Rattle.snb_plan.specs.PlanLaws.{ClosedIsOne}
+use Rattle.snb_plan.proofs.CaseFacts.{IsWrongCase, to_case}
 use Rattle.snb_plan.proofs.ClosedLemmas.{not_wrong}
 
 -- where two elements split a list, they stand at one place, or one of them before the other
@@ -45,17 +46,22 @@ one_unmet P refs m n a b =
     ]
 
 -- what is wrong with an update is one thing
-one_wrong : (holds : Key → Type 0) (all before : List Update) (u : Update) (q r : Refusal) → IsWrong holds all before u q → IsWrong holds all before u r → q ≡ r
-one_wrong holds all before u q r (inl a) (inl b) = a.1 ∙ sym b.1
-one_wrong holds all before u q r (inl a) (inr (inl b)) = absurd (b.0 a.0)
-one_wrong holds all before u q r (inl a) (inr (inr b)) = absurd (b.0 a.0)
-one_wrong holds all before u q r (inr (inl a)) (inl b) = absurd (a.0 b.0)
-one_wrong holds all before u q r (inr (inl a)) (inr (inl b)) = a.2 ∙ sym b.2
-one_wrong holds all before u q r (inr (inl a)) (inr (inr b)) = absurd (b.1 a.1)
-one_wrong holds all before u q r (inr (inr a)) (inl b) = absurd (a.0 b.0)
-one_wrong holds all before u q r (inr (inr a)) (inr (inl b)) = absurd (a.1 b.1)
-one_wrong holds all before u q r (inr (inr a)) (inr (inr b)) =
+one_case : (holds : Key → Type 0) (all before : List Update) (u : Update) (q r : Refusal) → IsWrongCase (IsTaken holds before) (IsMet holds all before) u q
+    → IsWrongCase (IsTaken holds before) (IsMet holds all before) u r → q ≡ r
+one_case holds all before u q r (inl a) (inl b) = a.1 ∙ sym b.1
+one_case holds all before u q r (inl a) (inr (inl b)) = absurd (b.0 a.0)
+one_case holds all before u q r (inl a) (inr (inr b)) = absurd (b.0 a.0)
+one_case holds all before u q r (inr (inl a)) (inl b) = absurd (a.0 b.0)
+one_case holds all before u q r (inr (inl a)) (inr (inl b)) = a.2 ∙ sym b.2
+one_case holds all before u q r (inr (inl a)) (inr (inr b)) = absurd (b.1 a.1)
+one_case holds all before u q r (inr (inr a)) (inl b) = absurd (a.0 b.0)
+one_case holds all before u q r (inr (inr a)) (inr (inl b)) = absurd (a.1 b.1)
+one_case holds all before u q r (inr (inr a)) (inr (inr b)) =
     a.2.2 ∙ ap (λ (n : Missing). Unmet u.file u.line.number n) (one_unmet (IsMet holds all before u) (refs_of u.line.op) a.2.0 b.2.0 a.2.1 b.2.1) ∙ sym b.2.2
+
+one_wrong : (holds : Key → Type 0) (all before : List Update) (u : Update) (q r : Refusal) → IsWrong holds all before u q → IsWrong holds all before u r → q ≡ r
+one_wrong holds all before u q r a b =
+    one_case holds all before u q r (to_case (IsTaken holds before) (IsMet holds all before) u q a) (to_case (IsTaken holds before) (IsMet holds all before) u r b)
 
 -- and not closed where they are refused
 pub closed_is_one : (holds : Key → Type 0) → ClosedIsOne holds

@@ -9,13 +9,13 @@ use Rattle.std.proofs.lemmas.Option.{get_or_from_slice_get, slice_get_within}
 use Rattle.snb_base.proofs.Laws.{split_here}
 use Rattle.snb_ratio.specs.Ratios.{due_of}
 use Rattle.snb_schema.specs.declared.key.Key.{Key}
-use Rattle.snb_schema.specs.declared.step.Step.{Step}
+use Rattle.snb_history.specs.declared.step.Step.{Step}
 use Rattle.snb_schema.specs.Awaiting.{waits}
 use Rattle.snb_schema.specs.Frequencies.{FrequencyTable}
 use Rattle.snb_schema.specs.LineLanes.{LineLanes}
 use Rattle.snb_schema.specs.QueryLists.{QueryLists}
-use Rattle.snb_schema.specs.Schedule.{ComesBefore, no_step, step_of}
-use Rattle.snb_schema.proofs.Laws.{never_stuck}
+use Rattle.snb_history.specs.Schedule.{ComesBefore, no_step, step_of}
+use Rattle.snb_history.proofs.Laws.{never_stuck}
 use Rattle.snb_plan.specs.Closed.{IsClosed, Update}
 use Rattle.snb_plan.specs.PlanLaws.{ClosedPlanIsNotStuck, ClosedPlanIsTimely}
 use Rattle.snb_plan.specs.Plans.{IsPlan, IsRead, IsUpdate, Operation, Placed, Plan, file_of, first_t, schedule_of, update_from, updates_in}

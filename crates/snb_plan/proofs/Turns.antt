@@ -13,9 +13,9 @@ use Rattle.snb_schema.specs.Frequencies.{FrequencyTable, frequency_at}
 use Rattle.snb_schema.specs.Queries.{IsComplex}
 use Rattle.snb_plan.specs.declared.instances.Instance.{Instance}
 use Rattle.snb_plan.specs.Plans.{AreReads, IsInstance, IsSooner, read_count, share}
-use Rattle.snb_plan.specs.Spots.{all_instances, instance_of, instances_of}
+use Rattle.snb_plan.specs.Positions.{all_instances, instance_of, instances_of}
 use Rattle.snb_plan.proofs.Ordered.{Distinct, by_three, distinct_from_pairs, distinct_permutation, pairs_from_sorted, same_elements}
-use Rattle.snb_plan.proofs.Spotting.{pairs_append}
+use Rattle.snb_plan.proofs.Positioning.{pairs_append}
 
 -- ---- how many
 

@@ -9,15 +9,15 @@ use Rattle.snb_schema.specs.declared.op.Line.{Line}
 use Rattle.snb_schema.specs.declared.query.Query.{Query}
 use Rattle.snb_schema.specs.declared.query.Query.TheVariants.{Is1}
 use Rattle.snb_schema.specs.declared.file.FileId.{FileId}
-use Rattle.snb_schema.specs.declared.step.Step.{Step}
+use Rattle.snb_history.specs.declared.step.Step.{Step}
 use Rattle.snb_schema.specs.LineLanes.{LineLanes}
 use Rattle.snb_schema.specs.QueryLists.{QueryLists, list_of}
-use Rattle.snb_schema.specs.Schedule.{Schedule, ComesBefore, IsPlanned, no_step}
+use Rattle.snb_history.specs.Schedule.{Schedule, ComesBefore, IsPlanned, no_step}
 use Rattle.snb_plan.specs.declared.instances.Instance.{Instance}
 use Rattle.snb_plan.specs.declared.plan.Source.{Source}
 use Rattle.snb_plan.specs.Closed.{Update}
 use Rattle.snb_plan.specs.Plans.{Ask, Insert, IsSource, Operation, Plan, file_of, lane_of, queries_in, query_from, schedule_of, update_from, updates_in}
-use Rattle.snb_plan.specs.Spots.{AreKept, AreLines, IsKept, StepsRise, instance_at, line_at, no_instance, no_line, operation_of, query_at, update_at, updates_at}
+use Rattle.snb_plan.specs.Positions.{AreKept, AreLines, IsKept, StepsRise, instance_at, line_at, no_instance, no_line, operation_of, query_at, update_at, updates_at}
 
 -- the steps of the operations are the steps
 pub steps_again : (lanes : LineLanes) (lists : QueryLists) (reads : List Instance) (steps : List Step) → map (λ (o : Operation). o.step) (map (operation_of lanes lists reads) steps) ≡ steps

@@ -11,16 +11,16 @@ use Rattle.snb_base.proofs.Laws.{split_here}
 use Rattle.snb_schema.specs.declared.key.Key.{Key}
 use Rattle.snb_schema.specs.declared.op.Line.{Line}
 use Rattle.snb_schema.specs.declared.refusal.Refusal.{Refusal}
-use Rattle.snb_schema.specs.declared.step.Step.{Step}
+use Rattle.snb_history.specs.declared.step.Step.{Step}
 use Rattle.snb_schema.specs.Inserts.{keys_of}
 use Rattle.snb_schema.specs.LineLanes.{LineLanes}
-use Rattle.snb_schema.specs.Schedule.{no_step}
+use Rattle.snb_history.specs.Schedule.{no_step}
 use Rattle.snb_plan.specs.declared.added.Added.{Added}
 use Rattle.snb_plan.specs.Added.{mark_of, HasMore, IsFine, IsMetBy, IsTakenBy}
 use Rattle.snb_plan.specs.Closed.{Update, IsClosed, IsFirstWrong, IsWrongBy}
 use Rattle.snb_schema.specs.declared.file.FileId.{FileId}
 use Rattle.snb_plan.specs.Plans.{file_of, lane_of}
-use Rattle.snb_plan.specs.Spots.{line_at, no_line, update_at, updates_at, AreLines, StepsRise}
+use Rattle.snb_plan.specs.Positions.{line_at, no_line, update_at, updates_at, AreLines, StepsRise}
 use Rattle.snb_plan.proofs.ClosedLemmas.{Rises, Stands, first_wrong, stands_next}
 use Rattle.snb_plan.proofs.Ordered.{pairs_head, pairs_tail}
 

@@ -1,5 +1,6 @@
 -- Which updates a run may be given: each has a new key, and each finds the nodes that it refers to in time.
-use Rattle.std.specs.Prelude.{◌≡◌, ℕ, ◌<◌, ◌≤◌, ◌⊎◌, Bool, true, false, List, ◌∷◌, ◌++◌, Contains, All, Some}
+use Rattle.std.specs.Prelude.{◌≡◌, ℕ, ◌<◌, ◌≤◌, ◌⊎◌, Bool, true, false, List, [], ◌∷◌, ◌++◌, Contains, All, Some}
+use Rattle.snb_base.specs.FirstOf.{FirstOf}
 use Rattle.snb_schema.specs.declared.file.FileId.{FileId}
 use Rattle.snb_schema.specs.declared.key.Key.{Key}
 use Rattle.snb_schema.specs.declared.key.Key.TheVariants.{Node}
@@ -65,9 +66,12 @@ pub record IsFirstUnmet (P : Missing → Type 0) (refs : List Missing) (node : M
 -- what is wrong with an update, by a test of keys that are taken and one of nodes that are met: the first of three causes
 abbrev pub IsWrongBy : (Update → Type 0) → (Update → Missing → Type 0) → Update → Refusal → Type 0
 IsWrongBy taken met u r =
-    (IsLate u × (r ≡ LateDependency u.file u.line.number))
-    ⊎ (¬ IsLate u × taken u × (r ≡ Duplicate u.file u.line.number))
-    ⊎ (¬ IsLate u × ¬ taken u × ((node : Missing) × IsFirstUnmet (met u) (refs_of u.line.op) node × (r ≡ Unmet u.file u.line.number node)))
+    FirstOf
+    ((λ q. IsLate u × (q ≡ LateDependency u.file u.line.number))
+    ∷ (λ q. taken u × (q ≡ Duplicate u.file u.line.number))
+    ∷ (λ q. (node : Missing) × IsFirstUnmet (met u) (refs_of u.line.op) node × (q ≡ Unmet u.file u.line.number node))
+    ∷ [])
+    r
 
 -- what is wrong with an update, after those before it
 abbrev pub IsWrong : (Key → Type 0) → List Update → List Update → Update → Refusal → Type 0

@@ -2,4 +2,4 @@ pub mod Added
 pub mod Closed
 pub mod PlanLaws
 pub mod Plans
-pub mod Spots
+pub mod Positions

@@ -1,15 +1,15 @@
 -- Laws of plans and of closed updates.
 use Rattle.std.specs.Prelude.{◌≡◌, ℕ, ◌<◌, ◌≤◌, List, None, false}
-use Rattle.snb_schema.specs.declared.event.Event.{Event}
-use Rattle.snb_schema.specs.declared.event.Event.TheVariants.{Start}
+use Rattle.snb_history.specs.declared.event.Event.{Event}
+use Rattle.snb_history.specs.declared.event.Event.TheVariants.{Start}
 use Rattle.snb_schema.specs.declared.key.Key.{Key}
 use Rattle.snb_schema.specs.declared.refusal.Refusal.{Refusal}
 use Rattle.snb_schema.specs.Frequencies.{FrequencyTable}
-use Rattle.snb_schema.specs.History.{hand, halted, last, started}
+use Rattle.snb_history.specs.History.{hand, halted, last, started}
 use Rattle.snb_schema.specs.LineLanes.{LineLanes}
 use Rattle.snb_schema.specs.QueryLists.{QueryLists}
-use Rattle.snb_schema.specs.Rules.{Fits, IsLegal}
-use Rattle.snb_schema.specs.Schedule.{Schedule, IsOperation, IsTimely, step_of}
+use Rattle.snb_history.specs.Rules.{Fits, IsLegal}
+use Rattle.snb_history.specs.Schedule.{Schedule, IsOperation, IsTimely, step_of}
 use Rattle.snb_plan.specs.Closed.{Update, IsClosed, IsFirstWrong}
 use Rattle.snb_plan.specs.Plans.{IsOfStreams, IsPlan, Plan, schedule_of, updates_in}
 

@@ -6,14 +6,14 @@ use Rattle.snb_schema.specs.declared.file.FileKind.TheVariants as files
 use Rattle.snb_schema.specs.declared.op.Line.{Line}
 use Rattle.snb_schema.specs.declared.query.Query.{Query}
 use Rattle.snb_schema.specs.declared.refusal.Refusal.{Refusal}
-use Rattle.snb_schema.specs.declared.step.LaneKind.{LaneKind}
-use Rattle.snb_schema.specs.declared.step.LaneKind.TheVariants as lane_kinds
-use Rattle.snb_schema.specs.declared.step.Step.{Step}
+use Rattle.snb_history.specs.declared.step.LaneKind.{LaneKind}
+use Rattle.snb_history.specs.declared.step.LaneKind.TheVariants as lane_kinds
+use Rattle.snb_history.specs.declared.step.Step.{Step}
 use Rattle.snb_schema.specs.Awaiting.{adds_awaited, waits}
 use Rattle.snb_schema.specs.Frequencies.{FrequencyTable, frequency_at}
 use Rattle.snb_schema.specs.LineLanes.{LineLanes}
 use Rattle.snb_schema.specs.QueryLists.{QueryLists, list_of}
-use Rattle.snb_schema.specs.Schedule.{Schedule, ComesBefore}
+use Rattle.snb_history.specs.Schedule.{Schedule, ComesBefore}
 use Rattle.snb_schema.specs.StreamLines.{AreOfStreams}
 use Rattle.snb_plan.specs.declared.instances.Instance.{Instance}
 use Rattle.snb_plan.specs.declared.plan.PlanFault.{PlanFault}

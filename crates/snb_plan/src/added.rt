@@ -6,11 +6,8 @@ ghost use Rattle.snb_schema.specs.RowKeys.{kind_table};
 ghost use Rattle.snb_schema.specs.Inserts.{listed};
 ghost use Rattle.snb_plan.specs.Added.{mark_at, slot_of, HasAdded, HasMore, HasPut};
 
-use snb_schema::key::Key;
-use snb_schema::op::Line;
-use snb_schema::references::{Keys, added_node, keys_of};
-use snb_schema::refusal::Missing;
-use snb_schema::table::{Kind, Table};
+use snb_schema::references::{added_node, keys_of};
+use snb_schema::{Key, Keys, Kind, Line, Missing, Table};
 use std::alloc::{AllocError, Global};
 use std::collections::BTreeMap;
 

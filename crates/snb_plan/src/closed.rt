@@ -9,13 +9,8 @@ ghost use Rattle.snb_plan.specs.Added.{update_of, HasAdded, IsFine, IsKeyTaken, 
 
 use crate::added::{Added, Mark};
 use crate::plan::waits;
-use snb_schema::fault::Fault;
-use snb_schema::file::FileId;
-use snb_schema::key::{Held, Key};
-use snb_schema::op::Line;
 use snb_schema::references::{keys_of, refs_of};
-use snb_schema::refusal::{Missing, Refusal};
-use snb_schema::table::Kind;
+use snb_schema::{Fault, FileId, Held, Key, Kind, Line, Missing, Refusal};
 
 // Whether inserts wait for nodes of this kind.
 fn is_awaited(kind: Kind) -> bool

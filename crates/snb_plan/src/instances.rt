@@ -2,9 +2,9 @@
 
 ghost use Rattle.std.specs.Prelude.{◌≡◌, ◌≤◌, ◌++◌, length, IfOk, OnOk};
 ghost use Rattle.snb_plan.specs.Plans.{read_count, share, AreReads};
-ghost use Rattle.snb_plan.specs.Spots.{all_instances, instances_of};
+ghost use Rattle.snb_plan.specs.Positions.{all_instances, instances_of};
 
-use snb_schema::frequencies::Frequencies;
+use snb_schema::Frequencies;
 use std::alloc::{AllocError, Global};
 
 /// An instance of a complex query.

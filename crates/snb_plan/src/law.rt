@@ -2,7 +2,7 @@
 
 ghost use Rattle.snb_plan.specs.PlanLaws.{ClosedIsOne, ClosedPlanIsNotStuck, ClosedPlanIsTimely, PlanIsOne};
 
-use snb_schema::key::Held;
+use snb_schema::Held;
 
 /// Updates are refused in one way at most, whatever keys the dataset has, and aren't closed where they
 /// are.

@@ -6,4 +6,6 @@ mod closed;
 mod instances;
 pub mod law;
 pub mod plan;
-mod spots;
+mod positions;
+
+pub use plan::{Plan, PlanFault, Task};

@@ -12,25 +12,20 @@ ghost use Rattle.snb_schema.specs.QueryLists.{HaveParameters};
 ghost use Rattle.snb_schema.specs.StreamLines.{AreOfStreams};
 ghost use Rattle.snb_plan.specs.Closed.{IsClosed, IsFirstWrong};
 ghost use Rattle.snb_plan.specs.Plans.{kinds_of, queries_in, read_count, schedule_of, updates_in, IsOfStreams, IsPlan, IsSource, IsTask, OnRefused};
-ghost use Rattle.snb_plan.specs.Spots.{read_step, spot_step, spot_t, update_step, updates_at, AreLines, IsScheduled, IsThere, StepsRise};
+ghost use Rattle.snb_plan.specs.Positions.{read_step, position_step, position_t, update_step, updates_at, AreLines, IsScheduled, IsThere, StepsRise};
 
 use crate::added::Added;
 use crate::closed::check_update;
 use crate::instances::{Instance, read_count, reads_of};
-use crate::spots::{Spot, file_of, kinds_of, lane_of, operation_spots, read_lane, update_spots};
-use snb_ratio::ratio::Ratio;
-use snb_schema::fault::Fault;
-use snb_schema::file::FileId;
-use snb_schema::frequencies::Frequencies;
-use snb_schema::key::Held;
-use snb_schema::lanes::Lanes;
+use crate::positions::{
+    Position, file_of, kinds_of, lane_of, operation_positions, read_lane, update_positions,
+};
+use snb_history::{LaneKind, Schedule, Step};
+use snb_ratio::Ratio;
 use snb_schema::limits::MAX_READS;
-use snb_schema::lists::Lists;
-use snb_schema::op::{Line, Op};
-use snb_schema::query::Query;
-use snb_schema::refusal::{Counted, Refusal};
-use snb_schema::schedule::Schedule;
-use snb_schema::step::{LaneKind, Step};
+use snb_schema::{
+    Counted, Fault, FileId, Frequencies, Held, Lanes, Line, Lists, Op, Query, Refusal,
+};
 use std::alloc::{AllocError, AllocFailed, Global};
 use std::marker::Model;
 
@@ -101,15 +96,15 @@ pub struct Source {
 }
 
 // The step of a line.
-fn update_step(ratio: Ratio, t0: u64, spot: Spot, line: &Line) -> Step
+fn update_step(ratio: Ratio, t0: u64, position: Position, line: &Line) -> Step
     requires order { t0 ≤ line.now.t }
     requires last { line.now.t ≤ MAX_TIME }
-    ensures step { result ≡ update_step ratio t0 spot line.now }
+    ensures step { result ≡ update_step ratio t0 position line.now }
     ensures due { result.due ≤ MAX_AT }
 {
     Step {
-        lane: spot.lane,
-        place: spot.place,
+        lane: position.lane,
+        place: position.place,
         t: line.t,
         t_d: line.t_d,
         due: ratio.due(t0, line.t),
@@ -120,63 +115,67 @@ fn update_step(ratio: Ratio, t0: u64, spot: Spot, line: &Line) -> Step
 }
 
 // The step of a read.
-fn read_step(ratio: Ratio, t0: u64, spot: Spot) -> Step
-    requires order { t0 ≤ spot.t }
-    requires last { spot.t ≤ MAX_TIME }
-    ensures step { result ≡ read_step ratio t0 spot }
+fn read_step(ratio: Ratio, t0: u64, position: Position) -> Step
+    requires order { t0 ≤ position.t }
+    requires last { position.t ≤ MAX_TIME }
+    ensures step { result ≡ read_step ratio t0 position }
     ensures due { result.due ≤ MAX_AT }
 {
     Step {
-        lane: spot.lane,
-        place: spot.place,
-        t: spot.t,
+        lane: position.lane,
+        place: position.place,
+        t: position.t,
         t_d: 0,
-        due: ratio.due(t0, spot.t),
+        due: ratio.due(t0, position.t),
         dependency: false,
         dependent: false,
         query: true,
     }
 }
 
-// The step at a spot.
-fn spot_step(lanes: &Lanes, ratio: Ratio, t0: u64, spot: Spot) -> Step
-    requires there { IsThere lanes.now spot }
-    requires order { t0 ≤ spot.t }
-    requires last { spot.t ≤ MAX_TIME }
-    ensures step { result ≡ spot_step lanes.now ratio t0 spot }
+// The step at a position.
+fn position_step(lanes: &Lanes, ratio: Ratio, t0: u64, position: Position) -> Step
+    requires there { IsThere lanes.now position }
+    requires order { t0 ≤ position.t }
+    requires last { position.t ≤ MAX_TIME }
+    ensures step { result ≡ position_step lanes.now ratio t0 position }
     ensures due { result.due ≤ MAX_AT }
 {
-    if spot.lane == read_lane(lanes) {
-        return read_step(ratio, t0, spot);
+    if position.lane == read_lane(lanes) {
+        return read_step(ratio, t0, position);
     }
-    let line = &lane_of(lanes, spot.lane)[spot.place as usize];
-    update_step(ratio, t0, spot, line)
+    let line = &lane_of(lanes, position.lane)[position.place as usize];
+    update_step(ratio, t0, position, line)
 }
 
-// The t of the first spot, or 0 where there is none.
-fn spot_t(spots: &[Spot]) -> u64
-    ensures { result ≡ spot_t spots.now }
+// The t of the first position, or 0 where there is none.
+fn position_t(positions: &[Position]) -> u64
+    ensures { result ≡ position_t positions.now }
 {
-    if spots.is_empty() { 0 } else { spots[0].t }
+    if positions.is_empty() {
+        0
+    } else {
+        positions[0].t
+    }
 }
 
-// The steps at the spots.
-fn spot_steps(
+// The steps at the positions.
+fn position_steps(
     alloc: Global,
     lanes: &Lanes,
     ratio: Ratio,
-    spots: &[Spot],
+    positions: &[Position],
 ) -> Result<Vec<Step>, AllocError>
-    requires there { All (IsThere lanes.now) spots.now }
-    requires order { All (λ s. spot_t spots.now ≤ s.t) spots.now }
-    requires last { All (λ s. s.t ≤ MAX_TIME) spots.now }
-    ensures steps { IfOk result (λ steps. steps.items ≡ map (spot_step lanes.now ratio (spot_t spots.now)) spots.now) }
+    requires there { All (IsThere lanes.now) positions.now }
+    requires order { All (λ s. position_t positions.now ≤ s.t) positions.now }
+    requires last { All (λ s. s.t ≤ MAX_TIME) positions.now }
+    ensures steps { IfOk result (λ steps. steps.items ≡ map (position_step lanes.now ratio (position_t positions.now)) positions.now) }
     ensures due { IfOk result (λ steps. All (λ step. step.due ≤ MAX_AT) steps.items) }
 {
-    let t0 = spot_t(spots);
-    let mut steps = Vec::with_capacity(alloc, spots.len())?;
-    for spot in spots {
-        steps.push(spot_step(lanes, ratio, t0, *spot))?;
+    let t0 = position_t(positions);
+    let mut steps = Vec::with_capacity(alloc, positions.len())?;
+    for position in positions {
+        steps.push(position_step(lanes, ratio, t0, *position))?;
     }
     Ok(steps)
 }
@@ -194,7 +193,7 @@ fn schedule_of(
     ensures reads { OnOk result (read_count frequencies.now (update_count lanes.now) ≤ MAX_READS) }
     ensures refused { OnRefused result (λ r. (r ≡ TooMany Reads) × (MAX_READS < read_count frequencies.now (update_count lanes.now))) }
 {
-    let updates = update_spots(alloc, lanes)?;
+    let updates = update_positions(alloc, lanes)?;
     let count = updates.len() as u32;
     if read_count(frequencies, count) > u64::from(MAX_READS) {
         let refusal = Refusal::TooMany {
@@ -203,8 +202,8 @@ fn schedule_of(
         return Err(PlanFault::Refused { refusal });
     }
     let reads = reads_of(alloc, frequencies, count)?;
-    let spots = operation_spots(alloc, lanes, &updates, &reads)?;
-    let steps = spot_steps(alloc, lanes, ratio, &spots)?;
+    let positions = operation_positions(alloc, lanes, &updates, &reads)?;
+    let steps = position_steps(alloc, lanes, ratio, &positions)?;
     let kinds = kinds_of(alloc, lanes)?;
     let schedule = Schedule::make(alloc, &kinds, steps)?;
     Ok((reads, schedule))
@@ -248,7 +247,7 @@ impl Drop for Plan {
 impl Model for Plan {
     ghost use Rattle.std.specs.Prelude.{map};
     ghost use Rattle.snb_plan.specs.Plans.{Plan as AnyPlan, IsOfStreams};
-    ghost use Rattle.snb_plan.specs.Spots.{operation_of, AreKept};
+    ghost use Rattle.snb_plan.specs.Positions.{operation_of, AreKept};
 
     ghost Value = { AnyPlan };
 

@@ -3,3 +3,5 @@
 
 pub mod law;
 pub mod ratio;
+
+pub use ratio::Ratio;

@@ -2,9 +2,9 @@
 use Rattle.std.proofs.Common.{◌≡◌, ◌∙◌, ◌↔◌, ℕ, suc, ◌<◌, List, [], ◌∷◌, ap, arith, inl, inr, refl, subst, sym}
 use Rattle.std.specs.List.{AllPairs, Contains}
 use Rattle.snb_schema.specs.declared.row.Row.{Row}
-use Rattle.snb_shelf.proofs.Laws.{contains_cases, contains_here, contains_there}
-use Rattle.snb_tables.proofs.Laws.{contains_none}
-use Rattle.snb_reads.specs.Distance.{IsWithin}
+use Rattle.snb_graph_rows.proofs.Laws.{contains_cases, contains_here, contains_there}
+use Rattle.snb_graph_model.proofs.Laws.{contains_none}
+use Rattle.snb_read_model.specs.Distance.{IsWithin}
 pub use Rattle.snb_reach.proofs.WalkLemmas.{friend_turned, last_step, one_distance}
 
 -- pairs by rising id

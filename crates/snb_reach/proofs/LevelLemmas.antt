@@ -13,8 +13,8 @@ use Rattle.std.specs.List.{All, AllPairs, Contains, IsDistinct, filter}
 use Rattle.std.specs.List.Sorted.{IsNonDecreasingBy, IsPermutation}
 use Rattle.std.specs.Map.{keys_of, lookup}
 use Rattle.snb_schema.specs.declared.row.Row.{Row}
-use Rattle.snb_tables.specs.Around.{is_friend}
-use Rattle.snb_reads.specs.Distance.{IsDistance, IsPerson, IsWithin, Walk}
+use Rattle.snb_graph_model.specs.Around.{is_friend}
+use Rattle.snb_read_model.specs.Distance.{IsDistance, IsPerson, IsWithin, Walk}
 use Rattle.snb_reach.proofs.WalkLemmas.{last_step, no_step, one_distance, walk_end, walk_start}
 use Rattle.snb_reach.specs.Distances.{AreDistances}
 use Rattle.snb_reach.specs.Levels.{HasMet, IsGrowing, IsGrown, StaysMet}

@@ -7,8 +7,8 @@ use Rattle.std.specs.List.{All, Contains}
 use Rattle.std.specs.Map.{lookup}
 use Rattle.std.specs.Option.{is_some}
 use Rattle.snb_schema.specs.declared.row.Row.{Row}
-use Rattle.snb_tables.specs.Around.{is_friend}
-use Rattle.snb_reads.specs.Distance.{IsDistance, IsPerson, Walk}
+use Rattle.snb_graph_model.specs.Around.{is_friend}
+use Rattle.snb_read_model.specs.Distance.{IsDistance, IsPerson, Walk}
 use Rattle.snb_reach.proofs.LevelLemmas.{one_key}
 use Rattle.snb_reach.proofs.WalkLemmas.{last_step, no_step, walk_cut, walk_end, walk_joined, walk_turned}
 use Rattle.snb_reach.specs.declared.sides.End.{End}

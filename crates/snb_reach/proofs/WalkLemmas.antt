@@ -2,9 +2,9 @@
 use Rattle.std.proofs.Common.{◌≡◌, ℕ, zero, suc, ◌+◌, ◌-◌, ◌≤◌, List, true, inl, inr, refl, arith}
 use Rattle.std.proofs.lemmas.Bool.{cases_lt}
 use Rattle.snb_schema.specs.declared.row.Row.{Row}
-use Rattle.snb_tables.specs.Around.{is_friend}
-use Rattle.snb_reads.specs.Distance.{IsDistance, IsPerson, Walk}
-use Rattle.snb_tables.proofs.Laws.{Friendship, friend_tells, friend_told}
+use Rattle.snb_graph_model.specs.Around.{is_friend}
+use Rattle.snb_read_model.specs.Distance.{IsDistance, IsPerson, Walk}
+use Rattle.snb_graph_model.proofs.Laws.{Friendship, friend_tells, friend_told}
 
 module _ (g : List Row) where
   -- friends know each other

@@ -1,7 +1,7 @@
 -- The persons who are met within a number of steps, with their distances.
 use Rattle.std.specs.Prelude.{◌≡◌, ℕ, ◌≤◌, List, Option, Some, IsSome}
 use Rattle.snb_schema.specs.declared.row.Row.{Row}
-use Rattle.snb_reads.specs.Distance.{IsDistance, Walk}
+use Rattle.snb_read_model.specs.Distance.{IsDistance, Walk}
 
 -- those met have their distances, none above `steps`, and whoever can be reached in so many steps is met
 pub record AreDistances (g : List Row) (start steps : ℕ) (met : ℕ → Option ℕ) : Type 0 where

@@ -2,7 +2,7 @@
 use Rattle.std.specs.Prelude.{◌≡◌, ◌⊎◌, ℕ, ◌<◌, ◌≤◌, ◌==◌, List, [], ◌∷◌, ◌++◌, Option, Some, None, IsSome, if◌then◌else◌}
 use Rattle.std.specs.List.{All, Contains}
 use Rattle.snb_schema.specs.declared.row.Row.{Row}
-use Rattle.snb_reads.specs.Distance.{IsDistance, Walk}
+use Rattle.snb_read_model.specs.Distance.{IsDistance, Walk}
 
 module _ (g : List Row) (start : ℕ) where
   -- the persons met have their distances, up to the level, and of the level are those of `next`; all nearer ones are met

@@ -3,8 +3,8 @@
 use Rattle.std.specs.Prelude.{◌≡◌, ◌↔◌, ◌⊎◌, ℕ, ◌+◌, ◌<◌, ◌==◌, Bool, true, not, List, [], ◌∷◌, ◌++◌, Option, Some, None, MatchBool, if◌then◌else◌}
 use Rattle.std.specs.List.{All, Contains}
 use Rattle.snb_schema.specs.declared.row.Row.{Row}
-use Rattle.snb_tables.specs.Around.{is_friend}
-use Rattle.snb_reads.specs.Distance.{Walk}
+use Rattle.snb_graph_model.specs.Around.{is_friend}
+use Rattle.snb_read_model.specs.Distance.{Walk}
 
 -- whoever has the mark keeps it
 abbrev pub KeepsMark : Bool → (ℕ → Option Bool) → (ℕ → Option Bool) → Type 0

@@ -3,13 +3,13 @@
 ghost use Rattle.std.specs.Prelude.{◌≡◌, ◌<◌, ◌-◌, ℕ, IsSome, OnOk, IfOk, nat_eq, nat_lt, true};
 ghost use Rattle.std.specs.HashMap.{IsUnique, get};
 ghost use Rattle.std.specs.List.{filter};
-ghost use Rattle.snb_tables.specs.Around.{is_friend};
-ghost use Rattle.snb_reads.specs.Distance.{IsDistance};
+ghost use Rattle.snb_graph_model.specs.Around.{is_friend};
+ghost use Rattle.snb_read_model.specs.Distance.{IsDistance};
 ghost use Rattle.snb_reach.specs.Levels.{HasMet, IsGrowing, IsGrown, StaysMet};
-ghost use Rattle.snb_tables.specs.Soundness.{Held};
+ghost use Rattle.snb_graph_model.specs.Soundness.{Held};
 
 use crate::near::Near;
-use snb_graph::graph::Graph;
+use snb_graph::Graph;
 use std::alloc::{AllocError, Global};
 use std::collections::HashMap;
 

@@ -5,3 +5,5 @@ mod levels;
 pub mod near;
 pub mod reach;
 mod sides;
+
+pub use near::Near;

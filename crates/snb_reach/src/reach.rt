@@ -3,18 +3,16 @@
 ghost use Rattle.std.specs.Prelude.{ℕ, List, IfOk, nat_eq};
 ghost use Rattle.std.specs.HashMap.{get};
 ghost use Rattle.snb_schema.specs.declared.row.Row.{Row};
-ghost use Rattle.snb_reads.specs.ComplexReads.{Ic13};
-ghost use Rattle.snb_reads.specs.Distance.{IsLength, IsWithin};
+ghost use Rattle.snb_read_model.specs.ComplexReads.{Ic13};
+ghost use Rattle.snb_read_model.specs.Distance.{IsLength, IsWithin};
 ghost use Rattle.snb_reach.specs.Distances.{AreDistances};
-ghost use Rattle.snb_tables.specs.Soundness.{Held};
+ghost use Rattle.snb_graph_model.specs.Soundness.{Held};
 
 use crate::levels::{grow, others};
 use crate::near::Near;
 use crate::sides::between;
-use snb_graph::graph::Graph;
-use snb_reads::answer::Answer;
-use snb_reads::answer_row::AnswerRow;
-use snb_reads::cell::Cell;
+use snb_graph::Graph;
+use snb_read_model::{Answer, AnswerRow, Cell};
 use std::alloc::{AllocError, Global};
 use std::collections::HashMap;
 

@@ -3,11 +3,11 @@
 
 ghost use Rattle.std.specs.Prelude.{◌≡◌, ◌≢◌, ◌⊎◌, ◌∷◌, ◌+◌, ◌-◌, ◌<◌, [], MatchBool, MatchOption, OnOk, IfOk, IfSome, ℕ, length, nat_eq, not, vec_len};
 ghost use Rattle.std.specs.HashMap.{get, hash_map_len};
-ghost use Rattle.snb_reads.specs.Distance.{IsLength, IsPerson, Walk};
+ghost use Rattle.snb_read_model.specs.Distance.{IsLength, IsPerson, Walk};
 ghost use Rattle.snb_reach.specs.Sides.{HasGrown, HasMarked, HasMetFriends, IsMeeting, IsSide};
-ghost use Rattle.snb_tables.specs.Soundness.{Held};
+ghost use Rattle.snb_graph_model.specs.Soundness.{Held};
 
-use snb_graph::graph::Graph;
+use snb_graph::Graph;
 use std::alloc::{AllocError, Global};
 use std::collections::HashMap;
 use std::mem::swap;

@@ -2,14 +2,14 @@
 use Rattle.std.proofs.Common.{◌≡◌, ◌≢◌, ◌∙◌, ◌+◌, ◌≤◌, ℕ, List, [], ◌∷◌, ◌++◌, All, Option, None, Some, codes, refl, sym, ap, subst, arith, append_assoc}
 use Rattle.std.proofs.lemmas.List.Elements.{All-head, All-tail}
 use Rattle.std.specs.List.{flat_map}
-use Rattle.snb_schema.specs.declared.event.Event.{Event}
-use Rattle.snb_schema.specs.declared.event.Event.TheVariants.{Start, Finish, Halt}
+use Rattle.snb_history.specs.declared.event.Event.{Event}
+use Rattle.snb_history.specs.declared.event.Event.TheVariants.{Start, Finish, Halt}
 use Rattle.snb_schema.specs.Lines.{HasNoEnd, fields, lines}
-use Rattle.snb_schema.specs.RunTexts.{event_line, log_text}
-use Rattle.snb_lines.specs.Cut.{last_lines}
-use Rattle.snb_lines.specs.Language.{IsText}
-use Rattle.snb_lines.specs.Reading.{LineSays, ReadsLine, Says}
-use Rattle.snb_lines.proofs.Laws.{are_under, first_whole, lines_no_end, lines_whole, one_reading, says_each}
+use Rattle.snb_history.specs.RunTexts.{event_line, log_text}
+use Rattle.snb_input_lines.specs.Cut.{last_lines}
+use Rattle.snb_input_lines.specs.Language.{IsText}
+use Rattle.snb_input_lines.specs.Reading.{LineSays, ReadsLine, Says}
+use Rattle.snb_input_lines.proofs.Laws.{are_under, first_whole, lines_no_end, lines_whole, one_reading, says_each}
 use Rattle.snb_runlog.specs.declared.head.LogHead.{LogHead}
 use Rattle.snb_runlog.specs.Columns.{IsLogged, head_columns, kind_of, numbers_of}
 use Rattle.snb_runlog.specs.Laws.{LogIsWrittenAgain, LogReadsBack, head_line, head_of, line_of}

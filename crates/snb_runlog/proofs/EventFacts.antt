@@ -1,10 +1,10 @@
 -- Fields that spell an event or a header, and others.
 use Rattle.std.proofs.Common.{◌≡◌, ◌≢◌, ◌∙◌, ◌+◌, ◌≤◌, ◌⊎◌, ℕ, List, [], ◌∷◌, length, take, drop, codes, refl, sym, ap, subst, inl, inr, arith}
-use Rattle.snb_schema.specs.declared.event.Event.{Event}
-use Rattle.snb_schema.specs.declared.event.Event.TheVariants.{Start, Finish, Halt}
+use Rattle.snb_history.specs.declared.event.Event.{Event}
+use Rattle.snb_history.specs.declared.event.Event.TheVariants.{Start, Finish, Halt}
 use Rattle.snb_schema.specs.Lines.{fields}
 use Rattle.snb_schema.specs.UpdateLines.{field}
-use Rattle.snb_lines.specs.Laws.{IsExact}
+use Rattle.snb_input_lines.specs.Laws.{IsExact}
 use Rattle.snb_runlog.specs.declared.columns.EventKind.{EventKind}
 use Rattle.snb_runlog.specs.declared.columns.EventKind.TheVariants as kinds
 use Rattle.snb_runlog.specs.declared.head.LogHead.{LogHead}
@@ -147,43 +147,77 @@ read_event version fs kind cs numbers e letter is s same ns =
     let long : columns 1 kind ≡ columns version kind = sym (same_columns version kind) in
     is_event version fs kind (take (length (columns version kind)) numbers) e letter (subst (λ (ds : List ℕ). AreNumbers 0 ds (drop 1 fs) (take (length ds) numbers)) is s) same (ns ∙ ap (λ (ds : List ℕ). take (length ds) numbers) long)
 
+-- fields that spell no event, by cases each of which is said with what isn't so before it
+abbrev IsNoEventCase : ℕ → List (List ℕ) → ℕ → Type 0
+IsNoEventCase version fs column =
+    (((kind : EventKind) → ¬ HasLetter fs kind) × (column ≡ 1))
+    ⊎ ((kind : EventKind) × HasLetter fs kind × (¬ IsWide (columns version kind) fs) × (column ≡ 0))
+    ⊎ ((kind : EventKind) × HasLetter fs kind × IsWide (columns version kind) fs
+    × (n : ℕ) × StopsAfter 0 (columns version kind) (drop 1 fs) n × (column ≡ n + 2))
+
+event_from_case : (version : ℕ) (fs : List (List ℕ)) (column : ℕ) → IsNoEventCase version fs column → IsNoEvent version fs column
+event_from_case version fs column (inl p) = inl p
+event_from_case version fs column (inr (inl p)) = inr (λ c q. q.0 p.0 p.1, inl p)
+event_from_case version fs column (inr (inr p)) =
+    inr (
+      λ c q. q.0 p.0 p.1,
+      inr (λ c q. q.2 (subst (λ (k : EventKind). IsWide (columns version k) fs) (one_kind p.0 q.0 (sym p.1 ∙ q.1)) p.2), inl (p.0, p.1, p.3, p.4, p.5)),
+    )
+
+event_to_case : (version : ℕ) (fs : List (List ℕ)) (column : ℕ) → IsNoEvent version fs column → IsNoEventCase version fs column
+event_to_case version fs column (inl p) = inl p
+event_to_case version fs column (inr (letter, inl p)) = inr (inl p)
+event_to_case version fs column (inr (letter, inr (size, inl p))) =
+    let wide : IsWide (columns version p.0) fs = elim (cases_eq (length fs) (length (columns version p.0) + 1)) [
+      | inl is ↦ is
+      | inr other ↦ absurd (size 0 (p.0, p.1, other, refl))
+    ] in
+    inr (inr (p.0, p.1, wide, p.2, p.3, p.4))
+event_to_case version fs column (inr (letter, inr (size, inr p))) = absurd p.1
+
 event_found : (version : ℕ) (fs : List (List ℕ)) → ((e : Event) × IsEvent version fs e) ⊎ ((column : ℕ) × IsNoEvent version fs column)
 event_found version fs = elim (letter_found fs) [
   | inr never ↦ inr (1, inl (never, refl))
   | inl k ↦ elim (cases_eq (length fs) (length (columns version k.0) + 1)) [
-    | inr other ↦ inr (0, inr (inl (k.0, k.1, other, refl)))
+    | inr other ↦ inr (0, event_from_case version fs 0 (inr (inl (k.0, k.1, other, refl))))
     | inl wide ↦ elim (numbers_or_stop 0 (columns version k.0) (drop 1 fs) (others_long fs (length (columns version k.0)) wide)) [
       | inl n ↦
           let e = made k.0 n.0 (first_within version k.0 (drop 1 fs) n.0 n.1) in
           inl (e.0, is_event version fs k.0 n.0 e.0 k.1 n.1 e.1 e.2)
-      | inr stop ↦ inr (stop.0 + 2, inr (inr (k.0, k.1, wide, stop.0, stop.1, refl)))
+      | inr stop ↦ inr (stop.0 + 2, event_from_case version fs (stop.0 + 2) (inr (inr (k.0, k.1, wide, stop.0, stop.1, refl))))
     ]
   ]
 ]
 
 -- fields that spell an event have no bad column
-pub event_right : (version : ℕ) (fs : List (List ℕ)) (e : Event) (column : ℕ) → IsEvent version fs e → ¬ IsNoEvent version fs column
-event_right version fs e column s (inl bad) = bad.0 (kind_of e) s.letter
-event_right version fs e column s (inr (inl bad)) =
+event_right_case : (version : ℕ) (fs : List (List ℕ)) (e : Event) (column : ℕ) → IsEvent version fs e → ¬ IsNoEventCase version fs column
+event_right_case version fs e column s (inl bad) = bad.0 (kind_of e) s.letter
+event_right_case version fs e column s (inr (inl bad)) =
     let kind = one_kind (kind_of e) bad.0 (sym s.letter ∙ bad.1) in
     bad.2 (subst (λ (k : EventKind). IsWide (columns version k) fs) kind (event_wide version fs e s))
-event_right version fs e column s (inr (inr bad)) =
+event_right_case version fs e column s (inr (inr bad)) =
     let kind = one_kind (kind_of e) bad.0 (sym s.letter ∙ bad.1) in
     no_stop 0 (columns version bad.0) (drop 1 fs) (numbers_of e) (subst (λ (k : EventKind). AreNumbers 0 (columns version k) (drop 1 fs) (numbers_of e)) kind s.numbers) bad.3 bad.4
 
-one_bad : (version : ℕ) (fs : List (List ℕ)) (a b : ℕ) → IsNoEvent version fs a → IsNoEvent version fs b → a ≡ b
-one_bad version fs a b (inl p) (inl q) = p.1 ∙ sym q.1
-one_bad version fs a b (inl p) (inr (inl q)) = absurd (p.0 q.0 q.1)
-one_bad version fs a b (inl p) (inr (inr q)) = absurd (p.0 q.0 q.1)
-one_bad version fs a b (inr (inl p)) (inl q) = absurd (q.0 p.0 p.1)
-one_bad version fs a b (inr (inl p)) (inr (inl q)) = p.3 ∙ sym q.3
-one_bad version fs a b (inr (inl p)) (inr (inr q)) = absurd (p.2 (subst (λ (k : EventKind). IsWide (columns version k) fs) (one_kind q.0 p.0 (sym q.1 ∙ p.1)) q.2))
-one_bad version fs a b (inr (inr p)) (inl q) = absurd (q.0 p.0 p.1)
-one_bad version fs a b (inr (inr p)) (inr (inl q)) = absurd (q.2 (subst (λ (k : EventKind). IsWide (columns version k) fs) (one_kind p.0 q.0 (sym p.1 ∙ q.1)) p.2))
-one_bad version fs a b (inr (inr p)) (inr (inr q)) =
+pub event_right : (version : ℕ) (fs : List (List ℕ)) (e : Event) (column : ℕ) → IsEvent version fs e → ¬ IsNoEvent version fs column
+event_right version fs e column s bad = event_right_case version fs e column s (event_to_case version fs column bad)
+
+one_case : (version : ℕ) (fs : List (List ℕ)) (a b : ℕ) → IsNoEventCase version fs a → IsNoEventCase version fs b → a ≡ b
+one_case version fs a b (inl p) (inl q) = p.1 ∙ sym q.1
+one_case version fs a b (inl p) (inr (inl q)) = absurd (p.0 q.0 q.1)
+one_case version fs a b (inl p) (inr (inr q)) = absurd (p.0 q.0 q.1)
+one_case version fs a b (inr (inl p)) (inl q) = absurd (q.0 p.0 p.1)
+one_case version fs a b (inr (inl p)) (inr (inl q)) = p.3 ∙ sym q.3
+one_case version fs a b (inr (inl p)) (inr (inr q)) = absurd (p.2 (subst (λ (k : EventKind). IsWide (columns version k) fs) (one_kind q.0 p.0 (sym q.1 ∙ p.1)) q.2))
+one_case version fs a b (inr (inr p)) (inl q) = absurd (q.0 p.0 p.1)
+one_case version fs a b (inr (inr p)) (inr (inl q)) = absurd (q.2 (subst (λ (k : EventKind). IsWide (columns version k) fs) (one_kind p.0 q.0 (sym p.1 ∙ q.1)) p.2))
+one_case version fs a b (inr (inr p)) (inr (inr q)) =
     let kind = one_kind q.0 p.0 (sym q.1 ∙ p.1) in
     let stop = subst (λ (k : EventKind). StopsAfter 0 (columns version k) (drop 1 fs) q.3) kind q.4 in
     p.5 ∙ ap (λ n. n + 2) (one_stop 0 (columns version p.0) (drop 1 fs) p.3 q.3 p.4 stop) ∙ sym q.5
+
+one_bad : (version : ℕ) (fs : List (List ℕ)) (a b : ℕ) → IsNoEvent version fs a → IsNoEvent version fs b → a ≡ b
+one_bad version fs a b p q = one_case version fs a b (event_to_case version fs a p) (event_to_case version fs b q)
 
 pub event_or_column : (version : ℕ) (fs : List (List ℕ)) → EventOrColumn version fs
 event_or_column version fs = record { some = event_found version fs; right = event_right version fs; one = one_bad version fs }
@@ -201,33 +235,62 @@ head_made fs ns name s = go (drop 1 fs) ns s (λ v w e. (record { version = v; w
     go (x ∷ y ∷ []) (v ∷ w ∷ u ∷ ms) t then = absurd t.1.1
     go (x ∷ y ∷ z ∷ xs) (v ∷ w ∷ ms) t then = absurd t.1.1
 
+-- fields that are no header, by such cases
+abbrev IsNoHeadCase : List (List ℕ) → ℕ → Type 0
+IsNoHeadCase fs column =
+    ((¬ IsWide head_columns fs) × (column ≡ 0))
+    ⊎ (IsWide head_columns fs × (field 0 fs ≢ log_name) × (column ≡ 1))
+    ⊎ (IsWide head_columns fs × (field 0 fs ≡ log_name) × (n : ℕ) × StopsAfter 1 head_columns (drop 1 fs) n × (column ≡ n + 2))
+
+head_from_case : (fs : List (List ℕ)) (column : ℕ) → IsNoHeadCase fs column → IsNoHead fs column
+head_from_case fs column (inl p) = inl p
+head_from_case fs column (inr (inl p)) = inr (λ c q. q.0 p.0, inl (p.1, p.2))
+head_from_case fs column (inr (inr p)) = inr (λ c q. q.0 p.0, inr (λ c q. q.0 p.1, inl (p.2, p.3, p.4)))
+
+of_three : (fs : List (List ℕ)) → ((c : ℕ) → ¬ ((¬ IsWide head_columns fs) × (c ≡ 0))) → IsWide head_columns fs
+of_three fs size = elim (cases_eq (length fs) 3) [ inl is ↦ is | inr other ↦ absurd (size 0 (other, refl)) ]
+
+head_to_case : (fs : List (List ℕ)) (column : ℕ) → IsNoHead fs column → IsNoHeadCase fs column
+head_to_case fs column (inl p) = inl p
+head_to_case fs column (inr (size, inl p)) = inr (inl (of_three fs size, p.0, p.1))
+head_to_case fs column (inr (size, inr (name, inl p))) =
+    let named : field 0 fs ≡ log_name = elim (is_text (field 0 fs) log_name) [ inl is ↦ is | inr other ↦ absurd (name 1 (other, refl)) ] in
+    inr (inr (of_three fs size, named, p.0, p.1, p.2))
+head_to_case fs column (inr (size, inr (name, inr p))) = absurd p.1
+
 head_found : (fs : List (List ℕ)) → ((head : LogHead) × IsHead fs head) ⊎ ((column : ℕ) × IsNoHead fs column)
 head_found fs = elim (cases_eq (length fs) 3) [
   | inr other ↦ inr (0, inl (other, refl))
   | inl wide ↦ elim (is_text (field 0 fs) log_name) [
-    | inr name ↦ inr (1, inr (inl (wide, name, refl)))
+    | inr name ↦ inr (1, head_from_case fs 1 (inr (inl (wide, name, refl))))
     | inl name ↦ elim (numbers_or_stop 1 head_columns (drop 1 fs) (others_long fs 2 wide)) [
       | inl n ↦ inl (head_made fs n.0 name n.1)
-      | inr stop ↦ inr (stop.0 + 2, inr (inr (wide, name, stop.0, stop.1, refl)))
+      | inr stop ↦ inr (stop.0 + 2, head_from_case fs (stop.0 + 2) (inr (inr (wide, name, stop.0, stop.1, refl))))
     ]
   ]
 ]
 
+head_right_case : (fs : List (List ℕ)) (head : LogHead) (column : ℕ) → IsHead fs head → ¬ IsNoHeadCase fs column
+head_right_case fs head column s (inl bad) = bad.0 (head_wide fs head s)
+head_right_case fs head column s (inr (inl bad)) = bad.1 s.name
+head_right_case fs head column s (inr (inr bad)) = no_stop 1 head_columns (drop 1 fs) (head.version ∷ head.workers ∷ []) s.numbers bad.2 bad.3
+
 pub head_right : (fs : List (List ℕ)) (head : LogHead) (column : ℕ) → IsHead fs head → ¬ IsNoHead fs column
-head_right fs head column s (inl bad) = bad.0 (head_wide fs head s)
-head_right fs head column s (inr (inl bad)) = bad.1 s.name
-head_right fs head column s (inr (inr bad)) = no_stop 1 head_columns (drop 1 fs) (head.version ∷ head.workers ∷ []) s.numbers bad.2 bad.3
+head_right fs head column s bad = head_right_case fs head column s (head_to_case fs column bad)
+
+one_head_case : (fs : List (List ℕ)) (a b : ℕ) → IsNoHeadCase fs a → IsNoHeadCase fs b → a ≡ b
+one_head_case fs a b (inl p) (inl q) = p.1 ∙ sym q.1
+one_head_case fs a b (inl p) (inr (inl q)) = absurd (p.0 q.0)
+one_head_case fs a b (inl p) (inr (inr q)) = absurd (p.0 q.0)
+one_head_case fs a b (inr (inl p)) (inl q) = absurd (q.0 p.0)
+one_head_case fs a b (inr (inl p)) (inr (inl q)) = p.2 ∙ sym q.2
+one_head_case fs a b (inr (inl p)) (inr (inr q)) = absurd (p.1 q.1)
+one_head_case fs a b (inr (inr p)) (inl q) = absurd (q.0 p.0)
+one_head_case fs a b (inr (inr p)) (inr (inl q)) = absurd (q.1 p.1)
+one_head_case fs a b (inr (inr p)) (inr (inr q)) = p.4 ∙ ap (λ n. n + 2) (one_stop 1 head_columns (drop 1 fs) p.2 q.2 p.3 q.3) ∙ sym q.4
 
 one_bad_head : (fs : List (List ℕ)) (a b : ℕ) → IsNoHead fs a → IsNoHead fs b → a ≡ b
-one_bad_head fs a b (inl p) (inl q) = p.1 ∙ sym q.1
-one_bad_head fs a b (inl p) (inr (inl q)) = absurd (p.0 q.0)
-one_bad_head fs a b (inl p) (inr (inr q)) = absurd (p.0 q.0)
-one_bad_head fs a b (inr (inl p)) (inl q) = absurd (q.0 p.0)
-one_bad_head fs a b (inr (inl p)) (inr (inl q)) = p.2 ∙ sym q.2
-one_bad_head fs a b (inr (inl p)) (inr (inr q)) = absurd (p.1 q.1)
-one_bad_head fs a b (inr (inr p)) (inl q) = absurd (q.0 p.0)
-one_bad_head fs a b (inr (inr p)) (inr (inl q)) = absurd (q.1 p.1)
-one_bad_head fs a b (inr (inr p)) (inr (inr q)) = p.4 ∙ ap (λ n. n + 2) (one_stop 1 head_columns (drop 1 fs) p.2 q.2 p.3 q.3) ∙ sym q.4
+one_bad_head fs a b p q = one_head_case fs a b (head_to_case fs a p) (head_to_case fs b q)
 
 pub head_or_column : (fs : List (List ℕ)) → HeadOrColumn fs
 head_or_column fs = record { some = head_found fs; right = head_right fs; one = one_bad_head fs }

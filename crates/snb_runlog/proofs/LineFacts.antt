@@ -3,7 +3,7 @@ use Rattle.std.proofs.Common.{◌≡◌, ◌∙◌, ◌+◌, ◌<◌, ◌⊎◌,
 use Rattle.std.specs.Borrow.{Bor}
 use Rattle.std.specs.Option.{option_map}
 use Rattle.snb_schema.specs.UpdateLines.{field}
-use Rattle.snb_lines.specs.Records.{field_at}
+use Rattle.snb_input_lines.specs.Records.{field_at}
 use Rattle.snb_runlog.specs.Columns.{AreWithin}
 use Rattle.snb_runlog.specs.Lines.{AreNumbers, IsNumber, StopsAfter}
 use Rattle.snb_runlog.proofs.NumberFacts.{column_found, one_number}

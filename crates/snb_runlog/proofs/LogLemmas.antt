@@ -8,9 +8,9 @@ use Rattle.std.proofs.lemmas.Fmt.{decimal_is_IsNumeral, decimal_injective}
 use Rattle.std.proofs.lemmas.List.{append_assoc, append_cancel_left}
 use Rattle.std.proofs.lemmas.List.Elements.{All-head, All-tail}
 use Rattle.std.proofs.lemmas.Str.Parse.{tells_digits}
-use Rattle.snb_schema.specs.declared.event.Event.{Event}
-use Rattle.snb_schema.specs.declared.event.Event.TheVariants.{Start, Finish, Halt}
-use Rattle.snb_schema.specs.RunTexts.{event_line, log_text}
+use Rattle.snb_history.specs.declared.event.Event.{Event}
+use Rattle.snb_history.specs.declared.event.Event.TheVariants.{Start, Finish, Halt}
+use Rattle.snb_history.specs.RunTexts.{event_line, log_text}
 use Rattle.snb_runlog.specs.Laws.{IsWritten, LogIsOfOneHistory}
 
 -- digits end before the first byte that is no digit

@@ -10,11 +10,11 @@ use Rattle.std.specs.Fmt.{decimal}
 use Rattle.std.specs.List.{AllByRecursion}
 use Rattle.snb_base.specs.Calendar.{IsDigit}
 use Rattle.snb_base.specs.Spellings.{Num}
-use Rattle.snb_schema.specs.declared.event.Event.{Event}
-use Rattle.snb_schema.specs.declared.event.Event.TheVariants.{Start, Finish, Halt}
+use Rattle.snb_history.specs.declared.event.Event.{Event}
+use Rattle.snb_history.specs.declared.event.Event.TheVariants.{Start, Finish, Halt}
 use Rattle.snb_schema.specs.Lines.{HasNoBar, HasNoEnd, begins_with_mark, fields}
-use Rattle.snb_schema.specs.RunTexts.{event_line}
-use Rattle.snb_lines.specs.Language.{IsText}
+use Rattle.snb_history.specs.RunTexts.{event_line}
+use Rattle.snb_input_lines.specs.Language.{IsText}
 use Rattle.snb_runlog.specs.declared.columns.EventKind.{EventKind}
 use Rattle.snb_runlog.specs.declared.columns.EventKind.TheVariants as kinds
 use Rattle.snb_runlog.specs.Columns.{AreWithin, columns, head_columns, kind_of, letter_of, log_name, numbers_of}

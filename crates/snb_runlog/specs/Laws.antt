@@ -1,14 +1,14 @@
 -- Laws of the log.
 use Rattle.std.specs.Prelude.{◌≡◌, ◌⊎◌, ◌<◌, ◌≤◌, ◌^◌, ◌++◌, ℕ, List, All, Option, None, Some, codes}
 use Rattle.std.specs.Fmt.{decimal}
-use Rattle.snb_schema.specs.declared.event.Event.{Event}
-use Rattle.snb_schema.specs.declared.event.Event.TheVariants.{Start, Finish, Halt}
+use Rattle.snb_history.specs.declared.event.Event.{Event}
+use Rattle.snb_history.specs.declared.event.Event.TheVariants.{Start, Finish, Halt}
 use Rattle.snb_schema.specs.declared.limits.TheConstants.{MAX_WORKERS}
 use Rattle.snb_schema.specs.Lines.{HasNoEnd, fields, lines}
-use Rattle.snb_schema.specs.RunTexts.{event_line, log_text}
-use Rattle.snb_lines.specs.Language.{IsText}
-use Rattle.snb_lines.specs.Laws.{IsExact}
-use Rattle.snb_lines.specs.Reading.{Says}
+use Rattle.snb_history.specs.RunTexts.{event_line, log_text}
+use Rattle.snb_input_lines.specs.Language.{IsText}
+use Rattle.snb_input_lines.specs.Laws.{IsExact}
+use Rattle.snb_input_lines.specs.Reading.{Says}
 use Rattle.snb_runlog.specs.declared.head.LogHead.{LogHead}
 use Rattle.snb_runlog.specs.Columns.{IsLogged, kind_of, letter_of, numbers_of}
 use Rattle.snb_runlog.specs.Lines.{IsEvent, IsHead, IsNoEvent, IsNoHead, log_language}

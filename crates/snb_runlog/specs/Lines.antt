@@ -1,12 +1,13 @@
 -- What the lines of a log say.
-use Rattle.std.specs.Prelude.{◌≡◌, ◌≢◌, ◌⊎◌, ◌+◌, ◌≤◌, ℕ, zero, suc, true, List, [], ◌∷◌, length, drop, None}
+use Rattle.std.specs.Prelude.{◌≡◌, ◌≢◌, ◌+◌, ◌≤◌, ℕ, zero, suc, true, List, [], ◌∷◌, length, drop, None}
+use Rattle.snb_base.specs.FirstOf.{FirstOf}
 use Rattle.snb_base.specs.Spellings.{Num}
-use Rattle.snb_schema.specs.declared.event.Event.{Event}
+use Rattle.snb_history.specs.declared.event.Event.{Event}
 use Rattle.snb_schema.specs.declared.file.FileId.{FileId}
 use Rattle.snb_schema.specs.declared.file.FileKind.TheVariants.{Log}
 use Rattle.snb_schema.specs.Lines.{fields}
 use Rattle.snb_schema.specs.UpdateLines.{field}
-use Rattle.snb_lines.specs.Language.{Language}
+use Rattle.snb_input_lines.specs.Language.{Language}
 use Rattle.snb_runlog.specs.declared.columns.EventKind.{EventKind}
 use Rattle.snb_runlog.specs.declared.head.LogHead.{LogHead}
 use Rattle.snb_runlog.specs.Columns.{columns, head_columns, kind_of, letter_of, log_name, numbers_of}
@@ -39,9 +40,12 @@ pub record IsHead (fs : List (List ℕ)) (head : LogHead) : Type 0 where
 -- the fields are no header, in this column: 0 where they aren't three, 1 for another name, else the first that spells no number of its own
 abbrev pub IsNoHead : List (List ℕ) → ℕ → Type 0
 IsNoHead fs column =
-    ((¬ IsWide head_columns fs) × (column ≡ 0))
-    ⊎ (IsWide head_columns fs × (field 0 fs ≢ log_name) × (column ≡ 1))
-    ⊎ (IsWide head_columns fs × (field 0 fs ≡ log_name) × (n : ℕ) × StopsAfter 1 head_columns (drop 1 fs) n × (column ≡ n + 2))
+    FirstOf
+    ((λ c. ¬ IsWide head_columns fs × (c ≡ 0))
+    ∷ (λ c. (field 0 fs ≢ log_name) × (c ≡ 1))
+    ∷ (λ c. (n : ℕ) × StopsAfter 1 head_columns (drop 1 fs) n × (c ≡ n + 2))
+    ∷ [])
+    column
 
 -- the fields spell the event in a log of this version: its letter, and a number in each of its columns
 pub record IsEvent (version : ℕ) (fs : List (List ℕ)) (event : Event) : Type 0 where
@@ -56,10 +60,12 @@ HasLetter fs kind = field 0 fs ≡ letter_of kind
 -- that spells no number of its own
 abbrev pub IsNoEvent : ℕ → List (List ℕ) → ℕ → Type 0
 IsNoEvent version fs column =
-    (((kind : EventKind) → ¬ HasLetter fs kind) × (column ≡ 1))
-    ⊎ ((kind : EventKind) × HasLetter fs kind × (¬ IsWide (columns version kind) fs) × (column ≡ 0))
-    ⊎ ((kind : EventKind) × HasLetter fs kind × IsWide (columns version kind) fs
-    × (n : ℕ) × StopsAfter 0 (columns version kind) (drop 1 fs) n × (column ≡ n + 2))
+    FirstOf
+    ((λ c. ((kind : EventKind) → ¬ HasLetter fs kind) × (c ≡ 1))
+    ∷ (λ c. (kind : EventKind) × HasLetter fs kind × ¬ IsWide (columns version kind) fs × (c ≡ 0))
+    ∷ (λ c. (kind : EventKind) × HasLetter fs kind × (n : ℕ) × StopsAfter 0 (columns version kind) (drop 1 fs) n × (c ≡ n + 2))
+    ∷ [])
+    column
 
 -- the first line with a byte is a header, and each later one spells an event in the header's version
 abbrev pub log_language : Language LogHead Event

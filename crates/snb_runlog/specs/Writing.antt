@@ -2,10 +2,10 @@
 use Rattle.std.specs.Prelude.{◌≡◌, ◌≤◌, ◌++◌, ◌∷◌, ℕ, List, All, codes}
 use Rattle.std.specs.Fmt.{decimal}
 use Rattle.std.specs.List.{flat_map}
-use Rattle.snb_schema.specs.declared.event.Event.{Event}
+use Rattle.snb_history.specs.declared.event.Event.{Event}
 use Rattle.snb_schema.specs.declared.limits.TheConstants.{MAX_AT}
-use Rattle.snb_schema.specs.History.{moment}
-use Rattle.snb_schema.specs.RunTexts.{event_line}
+use Rattle.snb_history.specs.History.{moment}
+use Rattle.snb_history.specs.RunTexts.{event_line}
 
 -- each number with a bar before it
 abbrev pub cells_text : List ℕ → List ℕ

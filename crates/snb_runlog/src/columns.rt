@@ -3,7 +3,7 @@
 ghost use Rattle.std.specs.Prelude.{◌≡◌, ◌∷◌, []};
 ghost use Rattle.snb_runlog.specs.Columns.{columns, head_columns, kind_of, letter_of as letter_text, numbers_of as numbers};
 
-use snb_schema::event::Event;
+use snb_history::Event;
 use snb_schema::limits::{MAX_AT, MAX_WORKERS};
 
 /// What a line after the header tells of.

@@ -6,3 +6,6 @@ pub mod head;
 pub mod law;
 pub mod reader;
 pub mod write;
+
+pub use reader::LogLines;
+pub use write::write_log;

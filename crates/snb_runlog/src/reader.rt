@@ -3,20 +3,17 @@
 ghost use Rattle.std.specs.Prelude.{◌≡◌, ◌+◌, ◌≤◌, ℕ, length, take, drop, IfErr, IfOk, MatchOption, None};
 ghost use Rattle.snb_base.specs.Spellings.{Num};
 ghost use Rattle.snb_schema.specs.UpdateLines.{field};
-ghost use Rattle.snb_lines.specs.Feeding.{at_begin};
+ghost use Rattle.snb_input_lines.specs.Feeding.{at_begin};
 ghost use Rattle.snb_runlog.specs.declared.columns.EventKind.{EventKind as Kind};
 ghost use Rattle.snb_runlog.specs.Columns.{AreWithin, columns, kind_of, letter_of, numbers_of};
 ghost use Rattle.snb_runlog.specs.Lines.{AreNumbers, IsEvent, IsHead, IsNoEvent, IsNoHead, IsNumber, IsWide, StopsAfter, log_file};
 
 use crate::columns::{EventKind, columns_of, head_columns_of};
 use crate::head::LogHead;
-use snb_base::number::read_number;
-use snb_lines::grammar::Grammar;
-use snb_lines::lines::Lines;
-use snb_lines::record::Record;
-use snb_schema::event::Event;
-use snb_schema::fault::LineFault;
-use snb_schema::file::{FileId, FileKind};
+use snb_base::read_number;
+use snb_history::Event;
+use snb_input_lines::{Grammar, LineReader, Record};
+use snb_schema::{FileId, FileKind, LineFault};
 use std::alloc::Global;
 
 // The field at a place, or an empty one.
@@ -191,9 +188,9 @@ impl Grammar for LogLines {
     }
 }
 
-/// Turns the pieces of a log into events: it is the reader of lines of `snb_lines`, whose `feed` takes a
+/// Turns the pieces of a log into events: it is the reader of lines of `snb_input_lines`, whose `feed` takes a
 /// piece, `end` ends the file, and `known` tells the header with the count of workers, once it is read.
-pub type LogReader = Lines<LogLines>;
+pub type LogReader = LineReader<LogLines>;
 
 /// A reader of a log, from its first byte on. Takes no memory.
 pub fn log_reader(alloc: Global) -> LogReader
@@ -203,5 +200,5 @@ pub fn log_reader(alloc: Global) -> LogReader
         kind: FileKind::Log,
         part: 0,
     };
-    Lines::of_file(alloc, file, LogLines {})
+    LineReader::of_file(alloc, file, LogLines {})
 }

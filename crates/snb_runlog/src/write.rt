@@ -4,13 +4,13 @@ ghost use Rattle.std.specs.Prelude.{◌≡◌, ◌++◌, ◌∷◌, ◌≤◌, c
 ghost use Rattle.std.specs.Fmt.{decimal};
 ghost use Rattle.std.specs.List.{flat_map};
 ghost use Rattle.snb_schema.specs.declared.limits.TheConstants.{MAX_WORKERS};
-ghost use Rattle.snb_schema.specs.RunTexts.{event_line as line_text, log_text};
+ghost use Rattle.snb_history.specs.RunTexts.{event_line as line_text, log_text};
 ghost use Rattle.snb_runlog.specs.Columns.{columns, kind_of, letter_of, numbers_of};
 ghost use Rattle.snb_runlog.specs.Writing.{AppendsSome, AreTimed, cells_text, events_text, head_text, line_with};
 
 use crate::columns::{EventKind, columns_of};
-use snb_base::number::put_number;
-use snb_schema::event::Event;
+use snb_base::put_number;
+use snb_history::Event;
 use std::alloc::AllocError;
 
 // Which of the three the event is.

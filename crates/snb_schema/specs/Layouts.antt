@@ -1,50 +1,122 @@
--- The table of columns: the shape of each table's rows, the columns of each shape, and each table's key.
-use Rattle.std.specs.Prelude.{Bool, true, false, List, [], ◌∷◌}
+-- The table of tables: what each of the 33 tables is called, what its rows hold, what they refer to, and what tells them apart.
+use Prim.Native.String.{String}
+use Rattle.std.specs.Prelude.{◌≡◌, Bool, true, false, Option, Some, None, List, [], ◌∷◌, codes}
 use Rattle.snb_schema.specs.declared.column.Column.{Column}
-use Rattle.snb_schema.specs.declared.column.Column.TheVariants.{Number, Small, Date, Day, Words, Word}
+use Rattle.snb_schema.specs.declared.column.Column.TheVariants.{Number, Small, Date, Day, Words}
+use Rattle.snb_schema.specs.declared.column.Column.TheVariants as column
 use Rattle.snb_schema.specs.declared.layout.KeyColumns.{KeyColumns}
 use Rattle.snb_schema.specs.declared.layout.KeyColumns.TheVariants.{First, Second, FirstTwo}
+use Rattle.snb_schema.specs.declared.layout.Layout.{Layout as CodeLayout}
 use Rattle.snb_schema.specs.declared.layout.Shape.{Shape}
+use Rattle.snb_schema.specs.declared.layout.Shape.TheVariants.{Link, Dated, Yeared, Word}
 use Rattle.snb_schema.specs.declared.layout.Shape.TheVariants as shapes
 use Rattle.snb_schema.specs.declared.limits.TheConstants.{MAX_ID, MAX_LENGTH, MAX_YEAR}
+use Rattle.snb_schema.specs.declared.table.Kind.{Kind}
+use Rattle.snb_schema.specs.declared.table.Kind.TheVariants.{Place, TagClass, Tag, Organisation, Person, Forum, Post, Comment}
 use Rattle.snb_schema.specs.declared.table.Table.{Table}
 use Rattle.snb_schema.specs.declared.table.Table.TheVariants as table
 
+-- what is fixed of a table
+pub record Layout : Type 0 where
+  pub name : String  -- by which its files are named
+  pub shape : Shape  -- what its rows are like
+  pub key_columns : KeyColumns  -- the columns that are its key; of an edge without direction it is the pair, in whichever order
+  pub from_kind : Option Kind  -- the kind of node that the first id of its rows refers to; a node's own id refers to nothing
+  pub to_kind : Option Kind  -- the kind of node that the second column refers to; an email or a language is no node
+  pub required_of : Option Kind  -- the kind of node of which each must have a row of it; the row's key is the node's id
+  pub has_no_direction : Bool  -- its edges have no direction, so a row has the lower id first
+  pub is_needed : Bool  -- part 0 of its file must be there
+  pub shares : Option Table  -- the other table with which it shares its keys
+
+-- a table of nodes: name, shape, is needed, shares
+abbrev pub node : String → Shape → Bool → Option Table → Layout
+node name shape needed shares = record {
+  name = name;
+  shape = shape;
+  key_columns = First;
+  from_kind = None;
+  to_kind = None;
+  required_of = None;
+  has_no_direction = false;
+  is_needed = needed;
+  shares = shares;
+}
+
+-- a table of edges: name, shape, key columns, from, to, required of, has no direction, is needed, shares
+abbrev pub edge : String → Shape → KeyColumns → Kind → Kind → Option Kind → Bool → Bool → Option Table → Layout
+edge name shape key from to required undirected needed shares = record {
+  name = name;
+  shape = shape;
+  key_columns = key;
+  from_kind = Some from;
+  to_kind = Some to;
+  required_of = required;
+  has_no_direction = undirected;
+  is_needed = needed;
+  shares = shares;
+}
+
+-- a table of words: name, key columns, from, is needed
+abbrev pub word : String → KeyColumns → Kind → Bool → Layout
+word name key from needed = record {
+  name = name;
+  shape = Word;
+  key_columns = key;
+  from_kind = Some from;
+  to_kind = None;
+  required_of = None;
+  has_no_direction = false;
+  is_needed = needed;
+  shares = None;
+}
+
+-- the 33 tables, nodes and then edges. Posts and comments have one id space, and a comment has one parent, be it a post or a comment
+abbrev pub layout : Table → Layout
+layout table.Place = node "place" shapes.Place true None
+layout table.TagClass = node "tagclass" shapes.TagClass true None
+layout table.Tag = node "tag" shapes.Tag true None
+layout table.Organisation = node "organisation" shapes.Organisation true None
+layout table.Person = node "person" shapes.Person true None
+layout table.Forum = node "forum" shapes.Forum true None
+layout table.Post = node "post" shapes.Post true None
+layout table.Comment = node "comment" shapes.Comment true (Some table.Post)
+layout table.PlaceIsPartOfPlace = edge "place_isPartOf_place" Link First Place Place None false true None
+layout table.TagClassIsSubclassOfTagClass = edge "tagclass_isSubclassOf_tagclass" Link First TagClass TagClass None false true None
+layout table.TagHasTypeTagClass = edge "tag_hasType_tagclass" Link First Tag TagClass (Some Tag) false true None
+layout table.OrganisationIsLocatedInPlace = edge "organisation_isLocatedIn_place" Link First Organisation Place (Some Organisation) false true None
+layout table.PersonEmailEmailAddress = word "person_email_emailaddress" FirstTwo Person true
+layout table.PersonSpeaksLanguage = word "person_speaks_language" FirstTwo Person true
+layout table.PersonHasInterestTag = edge "person_hasInterest_tag" Link FirstTwo Person Tag None false true None
+layout table.PersonIsLocatedInPlace = edge "person_isLocatedIn_place" Link First Person Place (Some Person) false true None
+layout table.PersonKnowsPerson = edge "person_knows_person" Dated FirstTwo Person Person None true true None
+layout table.PersonLikesPost = edge "person_likes_post" Dated FirstTwo Person Post None false true None
+layout table.PersonLikesComment = edge "person_likes_comment" Dated FirstTwo Person Comment None false true None
+layout table.PersonStudyAtOrganisation = edge "person_studyAt_organisation" Yeared FirstTwo Person Organisation None false true None
+layout table.PersonWorkAtOrganisation = edge "person_workAt_organisation" Yeared FirstTwo Person Organisation None false true None
+layout table.ForumContainerOfPost = edge "forum_containerOf_post" Link Second Forum Post (Some Post) false true None
+layout table.ForumHasMemberPerson = edge "forum_hasMember_person" Dated FirstTwo Forum Person None false true None
+layout table.ForumHasModeratorPerson = edge "forum_hasModerator_person" Link First Forum Person (Some Forum) false true None
+layout table.ForumHasTagTag = edge "forum_hasTag_tag" Link FirstTwo Forum Tag None false true None
+layout table.PostHasCreatorPerson = edge "post_hasCreator_person" Link First Post Person (Some Post) false true None
+layout table.PostHasTagTag = edge "post_hasTag_tag" Link FirstTwo Post Tag None false true None
+layout table.PostIsLocatedInPlace = edge "post_isLocatedIn_place" Link First Post Place (Some Post) false true None
+layout table.CommentHasCreatorPerson = edge "comment_hasCreator_person" Link First Comment Person (Some Comment) false true None
+layout table.CommentHasTagTag = edge "comment_hasTag_tag" Link FirstTwo Comment Tag None false true None
+layout table.CommentIsLocatedInPlace = edge "comment_isLocatedIn_place" Link First Comment Place (Some Comment) false true None
+layout table.CommentReplyOfPost = edge "comment_replyOf_post" Link First Comment Post (Some Comment) false true None
+layout table.CommentReplyOfComment = edge "comment_replyOf_comment" Link First Comment Comment None false true (Some table.CommentReplyOfPost)
+
 -- what the rows of a table are like
 abbrev pub shape : Table → Shape
-shape table.Place = shapes.Place
-shape table.TagClass = shapes.TagClass
-shape table.Tag = shapes.Tag
-shape table.Organisation = shapes.Organisation
-shape table.Person = shapes.Person
-shape table.Forum = shapes.Forum
-shape table.Post = shapes.Post
-shape table.Comment = shapes.Comment
-shape table.PlaceIsPartOfPlace = shapes.Link
-shape table.TagClassIsSubclassOfTagClass = shapes.Link
-shape table.TagHasTypeTagClass = shapes.Link
-shape table.OrganisationIsLocatedInPlace = shapes.Link
-shape table.PersonEmailEmailAddress = shapes.Word
-shape table.PersonSpeaksLanguage = shapes.Word
-shape table.PersonHasInterestTag = shapes.Link
-shape table.PersonIsLocatedInPlace = shapes.Link
-shape table.PersonKnowsPerson = shapes.Dated
-shape table.PersonLikesPost = shapes.Dated
-shape table.PersonLikesComment = shapes.Dated
-shape table.PersonStudyAtOrganisation = shapes.Yeared
-shape table.PersonWorkAtOrganisation = shapes.Yeared
-shape table.ForumContainerOfPost = shapes.Link
-shape table.ForumHasMemberPerson = shapes.Dated
-shape table.ForumHasModeratorPerson = shapes.Link
-shape table.ForumHasTagTag = shapes.Link
-shape table.PostHasCreatorPerson = shapes.Link
-shape table.PostHasTagTag = shapes.Link
-shape table.PostIsLocatedInPlace = shapes.Link
-shape table.CommentHasCreatorPerson = shapes.Link
-shape table.CommentHasTagTag = shapes.Link
-shape table.CommentIsLocatedInPlace = shapes.Link
-shape table.CommentReplyOfPost = shapes.Link
-shape table.CommentReplyOfComment = shapes.Link
+shape t = (layout t).shape
+
+-- the columns that are a table's key; of a friendship it is the pair, in whichever order
+abbrev pub key_columns : Table → KeyColumns
+key_columns t = (layout t).key_columns
+
+-- an edge of the table has no direction, so its row has the lower id first
+abbrev pub has_no_direction : Table → Bool
+has_no_direction t = (layout t).has_no_direction
 
 -- a column of ids
 abbrev pub id_column : Column
@@ -63,80 +135,20 @@ shape_columns shapes.Comment = id_column ∷ Date ∷ Words ∷ Words ∷ Words 
 shape_columns shapes.Link = id_column ∷ id_column ∷ []
 shape_columns shapes.Dated = id_column ∷ id_column ∷ Date ∷ []
 shape_columns shapes.Yeared = id_column ∷ id_column ∷ Small MAX_YEAR ∷ []
-shape_columns shapes.Word = id_column ∷ Word ∷ []
+shape_columns shapes.Word = id_column ∷ column.Word ∷ []
 
 -- the columns of a table, in the order of its lines
 abbrev pub columns : Table → List Column
 columns t = shape_columns (shape t)
 
--- an edge of the table has no direction, so its row has the lower id first
-abbrev pub has_no_direction : Table → Bool
-has_no_direction table.Place = false
-has_no_direction table.TagClass = false
-has_no_direction table.Tag = false
-has_no_direction table.Organisation = false
-has_no_direction table.Person = false
-has_no_direction table.Forum = false
-has_no_direction table.Post = false
-has_no_direction table.Comment = false
-has_no_direction table.PlaceIsPartOfPlace = false
-has_no_direction table.TagClassIsSubclassOfTagClass = false
-has_no_direction table.TagHasTypeTagClass = false
-has_no_direction table.OrganisationIsLocatedInPlace = false
-has_no_direction table.PersonEmailEmailAddress = false
-has_no_direction table.PersonSpeaksLanguage = false
-has_no_direction table.PersonHasInterestTag = false
-has_no_direction table.PersonIsLocatedInPlace = false
-has_no_direction table.PersonKnowsPerson = true
-has_no_direction table.PersonLikesPost = false
-has_no_direction table.PersonLikesComment = false
-has_no_direction table.PersonStudyAtOrganisation = false
-has_no_direction table.PersonWorkAtOrganisation = false
-has_no_direction table.ForumContainerOfPost = false
-has_no_direction table.ForumHasMemberPerson = false
-has_no_direction table.ForumHasModeratorPerson = false
-has_no_direction table.ForumHasTagTag = false
-has_no_direction table.PostHasCreatorPerson = false
-has_no_direction table.PostHasTagTag = false
-has_no_direction table.PostIsLocatedInPlace = false
-has_no_direction table.CommentHasCreatorPerson = false
-has_no_direction table.CommentHasTagTag = false
-has_no_direction table.CommentIsLocatedInPlace = false
-has_no_direction table.CommentReplyOfPost = false
-has_no_direction table.CommentReplyOfComment = false
-
--- the columns that are a table's key; of a friendship it is the pair, in whichever order
-abbrev pub key_columns : Table → KeyColumns
-key_columns table.Place = First
-key_columns table.TagClass = First
-key_columns table.Tag = First
-key_columns table.Organisation = First
-key_columns table.Person = First
-key_columns table.Forum = First
-key_columns table.Post = First
-key_columns table.Comment = First
-key_columns table.PlaceIsPartOfPlace = First
-key_columns table.TagClassIsSubclassOfTagClass = First
-key_columns table.TagHasTypeTagClass = First
-key_columns table.OrganisationIsLocatedInPlace = First
-key_columns table.PersonEmailEmailAddress = FirstTwo
-key_columns table.PersonSpeaksLanguage = FirstTwo
-key_columns table.PersonHasInterestTag = FirstTwo
-key_columns table.PersonIsLocatedInPlace = First
-key_columns table.PersonKnowsPerson = FirstTwo
-key_columns table.PersonLikesPost = FirstTwo
-key_columns table.PersonLikesComment = FirstTwo
-key_columns table.PersonStudyAtOrganisation = FirstTwo
-key_columns table.PersonWorkAtOrganisation = FirstTwo
-key_columns table.ForumContainerOfPost = Second
-key_columns table.ForumHasMemberPerson = FirstTwo
-key_columns table.ForumHasModeratorPerson = First
-key_columns table.ForumHasTagTag = FirstTwo
-key_columns table.PostHasCreatorPerson = First
-key_columns table.PostHasTagTag = FirstTwo
-key_columns table.PostIsLocatedInPlace = First
-key_columns table.CommentHasCreatorPerson = First
-key_columns table.CommentHasTagTag = FirstTwo
-key_columns table.CommentIsLocatedInPlace = First
-key_columns table.CommentReplyOfPost = First
-key_columns table.CommentReplyOfComment = First
+-- what the code keeps of a table is its layout
+pub record IsLayoutOf (t : Table) (kept : CodeLayout) : Type 0 where
+  pub name : kept.name.now ≡ codes (layout t).name
+  pub shape : kept.shape ≡ (layout t).shape
+  pub key_columns : kept.key_columns ≡ (layout t).key_columns
+  pub from_kind : kept.from_kind ≡ (layout t).from_kind
+  pub to_kind : kept.to_kind ≡ (layout t).to_kind
+  pub required_of : kept.required_of ≡ (layout t).required_of
+  pub has_no_direction : kept.has_no_direction ≡ (layout t).has_no_direction
+  pub is_needed : kept.is_needed ≡ (layout t).is_needed
+  pub shares : kept.shares ≡ (layout t).shares

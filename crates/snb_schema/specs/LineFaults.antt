@@ -1,5 +1,6 @@
 -- What is wrong with the bytes of a line of a file.
-use Rattle.std.specs.Prelude.{◌≡◌, ◌⊎◌, ℕ, true, false, List, IsUtf8}
+use Rattle.std.specs.Prelude.{◌≡◌, ℕ, true, List, [], ◌∷◌, IsUtf8}
+use Rattle.snb_base.specs.FirstOf.{FirstOf}
 use Rattle.snb_schema.specs.declared.file.FileId.{FileId}
 use Rattle.snb_schema.specs.declared.refusal.Refusal.{Refusal}
 use Rattle.snb_schema.specs.declared.refusal.Refusal.TheVariants.{BadLine, NotUtf8}
@@ -8,5 +9,8 @@ use Rattle.snb_schema.specs.Lines.{begins_with_mark}
 -- the line of this number is refused for its bytes: it begins with a byte order mark, or it isn't UTF-8
 abbrev pub RefusesText : FileId → ℕ → List ℕ → Refusal → Type 0
 RefusesText file number line r =
-    (begins_with_mark line ≡ true) × (r ≡ BadLine file number 1)
-    ⊎ (begins_with_mark line ≡ false) × (¬ IsUtf8 line) × (r ≡ NotUtf8 file number)
+    FirstOf
+    ((λ q. (begins_with_mark line ≡ true) × (q ≡ BadLine file number 1))
+    ∷ (λ q. ¬ IsUtf8 line × (q ≡ NotUtf8 file number))
+    ∷ [])
+    r

@@ -1,5 +1,6 @@
 -- The lines of the parameter files: a relation between one line and its query, and what is wrong with a line that has none.
-use Rattle.std.specs.Prelude.{◌≡◌, ◌≢◌, ◌+◌, ◌⊎◌, ◌==◌, ℕ, false, List, [], ◌∷◌, length, if◌then◌else◌, IsUtf8}
+use Rattle.std.specs.Prelude.{◌≡◌, ◌≢◌, ◌+◌, ◌==◌, ℕ, false, List, [], ◌∷◌, length, if◌then◌else◌, IsUtf8}
+use Rattle.snb_base.specs.FirstOf.{FirstOf}
 use Rattle.snb_schema.specs.declared.column.Column.{Column}
 use Rattle.snb_schema.specs.declared.column.Column.TheVariants.{Small, Date, Words}
 use Rattle.snb_schema.specs.declared.column.Value.{Value}
@@ -55,5 +56,8 @@ pub record IsParams (q : ℕ) (line : List ℕ) (one : Query) : Type 0 where
 -- spells no value of its column
 abbrev pub IsBadQuery : ℕ → List (List ℕ) → ℕ → Type 0
 IsBadQuery q fs column =
-    ((length fs ≢ length (query_columns q)) × (column ≡ 0))
-    ⊎ ((length fs ≡ length (query_columns q)) × ((n : ℕ) × StopsAfter (query_columns q) fs n × (column ≡ n + 1)))
+    FirstOf
+    ((λ c. (length fs ≢ length (query_columns q)) × (c ≡ 0))
+    ∷ (λ c. (n : ℕ) × StopsAfter (query_columns q) fs n × (c ≡ n + 1))
+    ∷ [])
+    column

@@ -1,5 +1,5 @@
 -- The key of each row, and the slot that it fills.
-use Rattle.std.specs.Prelude.{ℕ, List, [], ◌∷◌}
+use Rattle.std.specs.Prelude.{ℕ, List, [], ◌∷◌, unwrap_or}
 use Rattle.snb_schema.specs.declared.column.Value.{Value}
 use Rattle.snb_schema.specs.declared.column.Value.TheVariants.{Digits, Letters}
 use Rattle.snb_schema.specs.declared.key.Key.{Key}
@@ -12,7 +12,7 @@ use Rattle.snb_schema.specs.declared.table.Kind.{Kind}
 use Rattle.snb_schema.specs.declared.table.Kind.TheVariants as kinds
 use Rattle.snb_schema.specs.declared.table.Table.{Table}
 use Rattle.snb_schema.specs.declared.table.Table.TheVariants as table
-use Rattle.snb_schema.specs.Layouts.{key_columns}
+use Rattle.snb_schema.specs.Layouts.{key_columns, layout}
 
 -- what tells the rows of a graph apart: a table, the ids of its key columns, where 0 stands for no second one, and a word's text
 abbrev pub RowKey : Type 0
@@ -52,39 +52,7 @@ column_key FirstTwo t values = (t, 0, 0, [])
 
 -- the table with which a table shares its keys: posts and comments have one id space, and a comment has one parent, be it a post or a comment
 abbrev pub sharing : Table → Table
-sharing table.Place = table.Place
-sharing table.TagClass = table.TagClass
-sharing table.Tag = table.Tag
-sharing table.Organisation = table.Organisation
-sharing table.Person = table.Person
-sharing table.Forum = table.Forum
-sharing table.Post = table.Post
-sharing table.Comment = table.Post
-sharing table.PlaceIsPartOfPlace = table.PlaceIsPartOfPlace
-sharing table.TagClassIsSubclassOfTagClass = table.TagClassIsSubclassOfTagClass
-sharing table.TagHasTypeTagClass = table.TagHasTypeTagClass
-sharing table.OrganisationIsLocatedInPlace = table.OrganisationIsLocatedInPlace
-sharing table.PersonEmailEmailAddress = table.PersonEmailEmailAddress
-sharing table.PersonSpeaksLanguage = table.PersonSpeaksLanguage
-sharing table.PersonHasInterestTag = table.PersonHasInterestTag
-sharing table.PersonIsLocatedInPlace = table.PersonIsLocatedInPlace
-sharing table.PersonKnowsPerson = table.PersonKnowsPerson
-sharing table.PersonLikesPost = table.PersonLikesPost
-sharing table.PersonLikesComment = table.PersonLikesComment
-sharing table.PersonStudyAtOrganisation = table.PersonStudyAtOrganisation
-sharing table.PersonWorkAtOrganisation = table.PersonWorkAtOrganisation
-sharing table.ForumContainerOfPost = table.ForumContainerOfPost
-sharing table.ForumHasMemberPerson = table.ForumHasMemberPerson
-sharing table.ForumHasModeratorPerson = table.ForumHasModeratorPerson
-sharing table.ForumHasTagTag = table.ForumHasTagTag
-sharing table.PostHasCreatorPerson = table.PostHasCreatorPerson
-sharing table.PostHasTagTag = table.PostHasTagTag
-sharing table.PostIsLocatedInPlace = table.PostIsLocatedInPlace
-sharing table.CommentHasCreatorPerson = table.CommentHasCreatorPerson
-sharing table.CommentHasTagTag = table.CommentHasTagTag
-sharing table.CommentIsLocatedInPlace = table.CommentIsLocatedInPlace
-sharing table.CommentReplyOfPost = table.CommentReplyOfPost
-sharing table.CommentReplyOfComment = table.CommentReplyOfPost
+sharing t = unwrap_or (layout t).shares t
 
 -- the slot of a key: the key, where tables that share their keys are one
 abbrev pub slot : RowKey → RowKey

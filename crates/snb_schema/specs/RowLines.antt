@@ -1,6 +1,7 @@
 -- The lines of the tables: a relation between one line and its row, and what is wrong with a line that has none.
-use Rattle.std.specs.Prelude.{◌≡◌, ◌≢◌, ◌+◌, ◌⊎◌, ℕ, min, max, nat_lt, Bool, true, false, List, [], ◌∷◌, ◌++◌, length, map, IsUtf8}
+use Rattle.std.specs.Prelude.{◌≡◌, ◌≢◌, ◌+◌, ℕ, min, max, nat_lt, Bool, true, false, List, [], ◌∷◌, ◌++◌, length, map, IsUtf8}
 use Rattle.std.specs.List.{join_with_byte}
+use Rattle.snb_base.specs.FirstOf.{FirstOf}
 use Rattle.snb_base.specs.Spellings.{SpellsId}
 use Rattle.snb_schema.specs.declared.column.Value.{Value}
 use Rattle.snb_schema.specs.declared.column.Value.TheVariants.{Digits, SmallDigits, Letters}
@@ -128,12 +129,15 @@ IsLoop true (x ∷ y ∷ rest) = (id : ℕ) × SpellsId x id × SpellsId y id
 IsLoop _ fs = ⊥
 
 -- these fields are no row of the table, in this column first: 0 where their number is wrong, 2 where an edge without direction leads back to its
--- begin, else that of -- the first field that spells no value of its column
+-- begin, else that of the first field that spells no value of its column
 abbrev pub IsBadColumn : Table → List (List ℕ) → ℕ → Type 0
 IsBadColumn t fs column =
-    (¬ IsWide (length (columns t)) fs × (column ≡ 0))
-    ⊎ (IsWide (length (columns t)) fs × IsLoop (has_no_direction t) fs × (column ≡ 2))
-    ⊎ (IsWide (length (columns t)) fs × ¬ IsLoop (has_no_direction t) fs × ((n : ℕ) × StopsAfter (columns t) fs n × (column ≡ n + 1)))
+    FirstOf
+    ((λ c. ¬ IsWide (length (columns t)) fs × (c ≡ 0))
+    ∷ (λ c. IsLoop (has_no_direction t) fs × (c ≡ 2))
+    ∷ (λ c. (n : ℕ) × StopsAfter (columns t) fs n × (c ≡ n + 1))
+    ∷ [])
+    column
 
 -- the row's line with numbers and dates as digits and without a field that is extra, without a line end
 abbrev pub canonical : Row → List ℕ

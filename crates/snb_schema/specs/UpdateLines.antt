@@ -1,6 +1,7 @@
 -- The lines of the update streams: a relation between one line and its insert, and what is wrong with a line that has none.
 use Rattle.std.specs.Prelude.{◌≡◌, ◌≢◌, ◌+◌, ◌<◌, ◌≤◌, ◌⊎◌, ℕ, true, false, Contains, List, [], ◌∷◌, map, length, slice_index_or, IsUtf8}
 use Rattle.std.specs.List.{join_with_byte}
+use Rattle.snb_base.specs.FirstOf.{FirstOf}
 use Rattle.snb_base.specs.Spellings.{Num, SpellsId}
 use Rattle.snb_schema.specs.declared.column.Column.{Column}
 use Rattle.snb_schema.specs.declared.column.Column.TheVariants.{Number, Small, OptionalId, Date, Day, Words, TextList, IdList, PairList}
@@ -93,14 +94,8 @@ line_values t t_d op = Digits t ∷ Digits t_d ∷ Digits (op_number op) ∷ op_
 
 -- the two persons of a friendship differ
 abbrev pub IsOfTwo : Op → Type 0
-IsOfTwo (AddPerson id first last gender birthday created ip browser city languages emails tags study work) = Unit {0}
-IsOfTwo (LikePost person post date) = Unit {0}
-IsOfTwo (LikeComment person comment date) = Unit {0}
-IsOfTwo (AddForum id title date moderator tags) = Unit {0}
-IsOfTwo (AddMember person forum date) = Unit {0}
-IsOfTwo (AddPost id image date ip browser language content size author forum country tags) = Unit {0}
-IsOfTwo (AddComment id date ip browser content size author country parent tags) = Unit {0}
 IsOfTwo (AddFriend one other date) = one ≢ other
+IsOfTwo _ = Unit {0}
 
 -- the line is `t|t_d|opId|` and the fields of the insert, and a friendship isn't with oneself
 pub record IsLine (line : List ℕ) (t t_d : ℕ) (op : Op) : Type 0 where
@@ -126,37 +121,36 @@ field k fs = slice_index_or fs k []
 -- two fields of an insert of this kind don't go together, and the second is in this column: a friendship with oneself, or a comment
 -- with no parent or two
 abbrev pub Clashes : OpKind → List (List ℕ) → ℕ → Type 0
-Clashes kinds.AddPerson fs column = ⊥
-Clashes kinds.LikePost fs column = ⊥
-Clashes kinds.LikeComment fs column = ⊥
-Clashes kinds.AddForum fs column = ⊥
-Clashes kinds.AddMember fs column = ⊥
-Clashes kinds.AddPost fs column = ⊥
 Clashes kinds.AddFriend fs column = (column ≡ 5) × ((id : ℕ) × SpellsId (field 3 fs) id × SpellsId (field 4 fs) id)
 Clashes kinds.AddComment fs column =
     (column ≡ 13)
     × (((field 11 fs ≡ no_id) × (field 12 fs ≡ no_id)) ⊎ ((post : ℕ) × (comment : ℕ) × SpellsId (field 11 fs) post × SpellsId (field 12 fs) comment))
+Clashes _ fs column = ⊥
 
--- the first of the first three fields that isn't in its grammar, where the third names no insert
+-- the column of the first of a line's two times that isn't in its grammar, else the third
 abbrev pub IsFirstOfThree : List (List ℕ) → ℕ → Type 0
 IsFirstOfThree fs column =
-    ((n : ℕ) × StopsAfter (Number MAX_TIME ∷ Number MAX_TIME ∷ []) fs n × (column ≡ n + 1))
-    ⊎ (((n : ℕ) → ¬ StopsAfter (Number MAX_TIME ∷ Number MAX_TIME ∷ []) fs n) × (column ≡ 3))
+    FirstOf ((λ c. (n : ℕ) × StopsAfter (Number MAX_TIME ∷ Number MAX_TIME ∷ []) fs n × (c ≡ n + 1)) ∷ (λ c. c ≡ 3) ∷ []) column
 
--- the first column of a line with an insert of this kind that isn't in its grammar, or doesn't go with one before it
+-- a column of a line with an insert of this kind is the first that isn't in its grammar, or doesn't go with one before it
+abbrev pub IsBadField : OpKind → List (List ℕ) → ℕ → Type 0
+IsBadField kind fs column = ((n : ℕ) × StopsAfter (line_columns kind) fs n × (column ≡ n + 1)) ⊎ Clashes kind fs column
+
+-- the least of these columns
 abbrev pub IsFirstBad : OpKind → List (List ℕ) → ℕ → Type 0
-IsFirstBad kind fs column =
-    ((n : ℕ) × StopsAfter (line_columns kind) fs n × (column ≡ n + 1) × ((other : ℕ) → Clashes kind fs other → column < other))
-    ⊎ (Clashes kind fs column × ((n : ℕ) → StopsAfter (line_columns kind) fs n → column ≤ n))
+IsFirstBad kind fs column = IsBadField kind fs column × ((other : ℕ) → IsBadField kind fs other → column ≤ other)
 
 -- these fields are no insert of one of these kinds, in this column first: 0 where there are fewer than three, then the first bad one of
 -- three where the third names none of these inserts, then 0 where the insert has another number of fields, else the first bad one
 abbrev pub IsBadInsert : List OpKind → List (List ℕ) → ℕ → Type 0
 IsBadInsert allowed fs column =
-    ((length fs < 3) × (column ≡ 0))
-    ⊎ ((3 ≤ length fs) × ((kind : OpKind) → ¬ Names allowed fs kind) × IsFirstOfThree fs column)
-    ⊎ ((kind : OpKind) × Names allowed fs kind × (length fs ≢ length (line_columns kind)) × (column ≡ 0))
-    ⊎ ((kind : OpKind) × Names allowed fs kind × (length fs ≡ length (line_columns kind)) × IsFirstBad kind fs column)
+    FirstOf
+    ((λ c. (length fs < 3) × (c ≡ 0))
+    ∷ (λ c. ((kind : OpKind) → ¬ Names allowed fs kind) × IsFirstOfThree fs c)
+    ∷ (λ c. (kind : OpKind) × Names allowed fs kind × (length fs ≢ length (line_columns kind)) × (c ≡ 0))
+    ∷ (λ c. (kind : OpKind) × Names allowed fs kind × IsFirstBad kind fs c)
+    ∷ [])
+    column
 
 -- the inserts of each kind of stream, and all of them
 abbrev pub person_inserts : List OpKind
@@ -172,6 +166,9 @@ all_inserts = kinds.AddPerson ∷ kinds.LikePost ∷ kinds.LikeComment ∷ kinds
 -- line, else that of its fields
 abbrev pub IsBadLine : List ℕ → ℕ → Type 0
 IsBadLine text column =
-    ((begins_with_mark text ≡ true) × (column ≡ 1))
-    ⊎ ((begins_with_mark text ≡ false) × (IsUtf8 text → ¬ HasNoEnd text) × (column ≡ 0))
-    ⊎ ((begins_with_mark text ≡ false) × IsUtf8 text × HasNoEnd text × IsBadInsert all_inserts (fields text) column)
+    FirstOf
+    ((λ c. (begins_with_mark text ≡ true) × (c ≡ 1))
+    ∷ (λ c. ¬ (IsUtf8 text × HasNoEnd text) × (c ≡ 0))
+    ∷ IsBadInsert all_inserts (fields text)
+    ∷ [])
+    column

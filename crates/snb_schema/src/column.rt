@@ -1,9 +1,6 @@
 //! What the columns of tables and streams hold.
 
-use snb_base::numbers::Numbers;
-use snb_base::pairs::Pairs;
-use snb_base::text::Text;
-use snb_base::texts::Texts;
+use snb_base::{Numbers, Pairs, Text, Texts};
 
 /// What a column holds, and so how its fields are spelled.
 #[derive(Clone, Copy)]

@@ -3,6 +3,7 @@
 ghost use Rattle.std.specs.Prelude.{◌≡◌, ◌++◌, IfOk, OnOk, OnErr, string_bytes};
 ghost use Rattle.snb_schema.specs.FileNames.{name_of, table_text};
 
+use crate::layout::layout_of;
 use crate::table::Table;
 use std::alloc::{AllocError, Global};
 
@@ -34,41 +35,7 @@ pub struct FileId {
 pub fn table_name(table: Table) -> &'static str
     ensures { result.now ≡ table_text table }
 {
-    match table {
-        Table::Place => "place",
-        Table::TagClass => "tagclass",
-        Table::Tag => "tag",
-        Table::Organisation => "organisation",
-        Table::Person => "person",
-        Table::Forum => "forum",
-        Table::Post => "post",
-        Table::Comment => "comment",
-        Table::PlaceIsPartOfPlace => "place_isPartOf_place",
-        Table::TagClassIsSubclassOfTagClass => "tagclass_isSubclassOf_tagclass",
-        Table::TagHasTypeTagClass => "tag_hasType_tagclass",
-        Table::OrganisationIsLocatedInPlace => "organisation_isLocatedIn_place",
-        Table::PersonEmailEmailAddress => "person_email_emailaddress",
-        Table::PersonSpeaksLanguage => "person_speaks_language",
-        Table::PersonHasInterestTag => "person_hasInterest_tag",
-        Table::PersonIsLocatedInPlace => "person_isLocatedIn_place",
-        Table::PersonKnowsPerson => "person_knows_person",
-        Table::PersonLikesPost => "person_likes_post",
-        Table::PersonLikesComment => "person_likes_comment",
-        Table::PersonStudyAtOrganisation => "person_studyAt_organisation",
-        Table::PersonWorkAtOrganisation => "person_workAt_organisation",
-        Table::ForumContainerOfPost => "forum_containerOf_post",
-        Table::ForumHasMemberPerson => "forum_hasMember_person",
-        Table::ForumHasModeratorPerson => "forum_hasModerator_person",
-        Table::ForumHasTagTag => "forum_hasTag_tag",
-        Table::PostHasCreatorPerson => "post_hasCreator_person",
-        Table::PostHasTagTag => "post_hasTag_tag",
-        Table::PostIsLocatedInPlace => "post_isLocatedIn_place",
-        Table::CommentHasCreatorPerson => "comment_hasCreator_person",
-        Table::CommentHasTagTag => "comment_hasTag_tag",
-        Table::CommentIsLocatedInPlace => "comment_isLocatedIn_place",
-        Table::CommentReplyOfPost => "comment_replyOf_post",
-        Table::CommentReplyOfComment => "comment_replyOf_comment",
-    }
+    layout_of(table).name
 }
 
 /// The name of the file, without its folder, as a text of its own.

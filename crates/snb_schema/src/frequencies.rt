@@ -8,7 +8,7 @@ ghost use Rattle.snb_schema.specs.Lines.{HasNo};
 
 use crate::limits::MAX_FREQUENCY;
 use crate::query::is_complex;
-use snb_base::number::read_number;
+use snb_base::read_number;
 use std::marker::Model;
 
 /// How often each of the complex queries 1, 2, 7, 8, 9, 11 and 13 is asked, where it is: the k-th

@@ -3,7 +3,6 @@
 #![tactic(auto)]
 
 pub mod column;
-pub mod event;
 pub mod fault;
 pub mod file;
 pub mod frequencies;
@@ -21,8 +20,23 @@ pub mod read_kind;
 pub mod references;
 pub mod refusal;
 pub mod row;
-pub mod schedule;
-pub mod step;
 pub mod table;
-pub mod worked;
 pub mod worked_inserts;
+
+pub use column::{Column, Value};
+pub use fault::{Fault, LineFault};
+pub use file::{FileId, FileKind};
+pub use frequencies::Frequencies;
+pub use key::{Held, Key};
+pub use lanes::Lanes;
+pub use layout::{KeyColumns, Shape};
+pub use lists::Lists;
+pub use nodes::{Comment, Forum, Named, Organisation, Place, Post};
+pub use op::{Line, Op, OpKind, Parent};
+pub use person::Person;
+pub use query::Query;
+pub use read_kind::ReadKind;
+pub use references::Keys;
+pub use refusal::{Counted, Missing, Refusal};
+pub use row::{Placed, Row};
+pub use table::{Kind, Table};

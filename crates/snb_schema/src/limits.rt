@@ -24,16 +24,19 @@ pub const MAX_BYTES: u64 = 268435456;
 pub const MAX_ROWS: u64 = 2000000;
 
 /// The most streams of persons, and likewise of the other inserts.
-pub const MAX_LANES: u32 = 64;
+pub const MAX_LANES: u32 = 256;
 
 /// The most parts of a table's file.
 pub const MAX_PARTS: u32 = 1000;
 
 /// The most reads of a plan.
-pub const MAX_READS: u32 = 100000;
+pub const MAX_READS: u32 = 200000;
 
 /// The greatest frequency of a complex query.
 pub const MAX_FREQUENCY: u32 = 1000000;
 
 /// The most workers of a run.
 pub const MAX_WORKERS: u32 = 8;
+
+/// The greatest size of a trial.
+pub const MAX_TRIAL: u32 = 5000;

@@ -1,9 +1,9 @@
 //! The nodes of the social network other than persons.
 
-use snb_base::text::Text;
+use snb_base::Text;
 
 /// A row of the table place: a city, a country or a continent, as its kind says.
-#[derive(Clone)]
+#[derive(Clone, PartialEq, Eq)]
 pub struct Place {
     /// Its key.
     pub id: u64,
@@ -24,7 +24,7 @@ impl Drop for Place {
 }
 
 /// A row of the table tagclass or of the table tag.
-#[derive(Clone)]
+#[derive(Clone, PartialEq, Eq)]
 pub struct Named {
     /// Its key.
     pub id: u64,
@@ -43,7 +43,7 @@ impl Drop for Named {
 }
 
 /// A row of the table organisation: a company or a university, as its kind says.
-#[derive(Clone)]
+#[derive(Clone, PartialEq, Eq)]
 pub struct Organisation {
     /// Its key.
     pub id: u64,
@@ -64,7 +64,7 @@ impl Drop for Organisation {
 }
 
 /// A row of the table forum.
-#[derive(Clone)]
+#[derive(Clone, PartialEq, Eq)]
 pub struct Forum {
     /// Its key.
     pub id: u64,
@@ -84,7 +84,7 @@ impl Drop for Forum {
 }
 
 /// A row of the table post. No comment has the same id.
-#[derive(Clone)]
+#[derive(Clone, PartialEq, Eq)]
 pub struct Post {
     /// Its key.
     pub id: u64,
@@ -117,7 +117,7 @@ impl Drop for Post {
 }
 
 /// A row of the table comment. No post has the same id.
-#[derive(Clone)]
+#[derive(Clone, PartialEq, Eq)]
 pub struct Comment {
     /// Its key.
     pub id: u64,

@@ -1,9 +1,6 @@
 //! The inserts of the update streams.
 
-use snb_base::numbers::Numbers;
-use snb_base::pairs::Pairs;
-use snb_base::text::Text;
-use snb_base::texts::Texts;
+use snb_base::{Numbers, Pairs, Text, Texts};
 
 /// The message that a comment replies to.
 #[derive(Clone, Copy)]

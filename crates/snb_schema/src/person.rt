@@ -1,9 +1,9 @@
 //! A person of the social network.
 
-use snb_base::text::Text;
+use snb_base::Text;
 
 /// A row of the table person.
-#[derive(Clone)]
+#[derive(Clone, PartialEq, Eq)]
 pub struct Person {
     /// Its key.
     pub id: u64,

@@ -3,7 +3,7 @@
 ghost use Rattle.std.specs.Prelude.{◌↔◌, IsTrue};
 ghost use Rattle.snb_schema.specs.Queries.{IsComplex};
 
-use snb_base::text::Text;
+use snb_base::Text;
 
 /// A read of the Interactive workload of LDBC's Social Network Benchmark: the short reads are IS1 to
 /// IS7, and the complex ones are named IC. Dates are in milliseconds since 1970-01-01 UTC.

@@ -3,7 +3,7 @@
 use crate::nodes::{Comment, Forum, Named, Organisation, Place, Post};
 use crate::person::Person;
 use crate::table::Table;
-use snb_base::text::Text;
+use snb_base::Text;
 
 /// A row of one of the tables. An edge tells its table, and its two ends in the order of the
 /// table's name.

@@ -20,14 +20,14 @@ use Rattle.snb_schema.specs.Layouts.{shape}
 use Rattle.snb_schema.specs.RowKeys.{RowKey, node_key, row_key, sharing}
 use Rattle.snb_schema.specs.RowLines.{row_shape, table_of}
 use Rattle.snb_schema.specs.TableRows.{IsTableRow}
-use Rattle.snb_shelf.specs.Keyed.{key_table}
-use Rattle.snb_soundness.specs.SoundLaws.{HasOneEdge, MessagesAreOfOneKind, NumbersFit}
-use Rattle.snb_tables.specs.Graphs.{HasKey, IsGraph}
-use Rattle.snb_tables.specs.Messages.{Wrote, HasMessage, RepliesTo}
-use Rattle.snb_tables.specs.Soundness.{Held}
-use Rattle.snb_tables.proofs.Laws.{comment_author, comment_only, container_only, end_only, forum_only, friend_tells, friend_told, Friendship, friendship_rises, HasComment, person_only, post_author, post_only, Replied, replied_there, Sent}
-use Rattle.snb_tables.specs.Around.{Message, authors, containers, is_friend, or_else, persons, replies, with_id}
-use Rattle.snb_reads.specs.Distance.{IsPerson}
+use Rattle.snb_graph_rows.specs.Keyed.{key_table}
+use Rattle.snb_graph_integrity.specs.SoundLaws.{HasOneEdge, MessagesAreOfOneKind, NumbersFit}
+use Rattle.snb_graph_model.specs.Graphs.{HasKey, IsGraph}
+use Rattle.snb_graph_model.specs.Messages.{Wrote, HasMessage, RepliesTo}
+use Rattle.snb_graph_model.specs.Soundness.{Held}
+use Rattle.snb_graph_model.proofs.Laws.{comment_author, comment_only, container_only, end_only, forum_only, friend_tells, friend_told, Friendship, friendship_rises, HasComment, person_only, post_author, post_only, Replied, replied_there, Sent}
+use Rattle.snb_graph_model.specs.Around.{Message, authors, containers, is_friend, or_else, persons, replies, with_id}
+use Rattle.snb_read_model.specs.Distance.{IsPerson}
 use Rattle.snb_short_reads.specs.Lookups.{IsCellNumber, IsOnlyAuthor, IsOnlyCity, IsOnlyForum, IsOnlyMessage, IsOnlyModerator, IsOnlyPerson}
 use Rattle.std.proofs.lemmas.List.{append-nil, map_push}
 use Rattle.std.specs.List.Sorted.{IsPermutation}

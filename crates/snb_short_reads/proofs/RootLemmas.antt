@@ -9,10 +9,10 @@ use Rattle.snb_schema.specs.declared.table.Kind.TheVariants as kinds
 use Rattle.snb_schema.specs.declared.table.Table.TheVariants as table
 use Rattle.snb_schema.specs.RowKeys.{node_key}
 use Rattle.snb_schema.specs.RowLines.{table_of}
-use Rattle.snb_tables.specs.Graphs.{HasKey, IsGraph}
-use Rattle.snb_tables.specs.Messages.{IsRoot}
-use Rattle.snb_tables.specs.Soundness.{EndsAfter, Held, Sound}
-use Rattle.snb_soundness.specs.SoundLaws.{NumbersFit, RootsAreOfParents}
+use Rattle.snb_graph_model.specs.Graphs.{HasKey, IsGraph}
+use Rattle.snb_graph_model.specs.Messages.{IsRoot}
+use Rattle.snb_graph_model.specs.Soundness.{EndsAfter, Held, Sound}
+use Rattle.snb_graph_integrity.specs.SoundLaws.{NumbersFit, RootsAreOfParents}
 use Rattle.snb_short_reads.proofs.Laws.{any}
 use Rattle.snb_short_reads.specs.Lookups.{IsCellNumber, IsOnlyRoot}
 

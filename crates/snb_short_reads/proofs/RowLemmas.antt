@@ -9,15 +9,15 @@ use Rattle.std.specs.List.Sorted.{IsPermutation}
 use Rattle.std.specs.Ordering.{flip_args, is_lt, nat_cmp, on, then_cmp}
 use Rattle.std.specs.declared.cmp.Ordering.{Ordering}
 use Rattle.snb_schema.specs.declared.row.Row.{Row}
-use Rattle.snb_soundness.specs.SoundLaws.{MessagesAreOfOneKind, MessagesHaveOneAuthor, MessagesHaveOneRoot, NumbersFit}
-use Rattle.snb_tables.specs.Graphs.{IsGraph}
-use Rattle.snb_tables.specs.Soundness.{Sound}
-use Rattle.snb_order.proofs.Laws.{answers_from, answers_mapped, answers_whole, chosen, then_assoc, three_columns, two_columns, zip_with}
-use Rattle.snb_tables.proofs.Laws.{person_named}
-use Rattle.snb_reads.specs.declared.cell.Cell.{Cell}
-use Rattle.snb_tables.specs.Around.{authors, friends, messages, replies}
-use Rattle.snb_reads.specs.Order.{Falling, First, FirstOf, Rising, Whole, by}
-use Rattle.snb_reads.specs.ShortReads.{Is2, Is3, Is7, IsFriend, IsRecent, IsReplyTo}
+use Rattle.snb_graph_integrity.specs.SoundLaws.{MessagesAreOfOneKind, MessagesHaveOneAuthor, MessagesHaveOneRoot, NumbersFit}
+use Rattle.snb_graph_model.specs.Graphs.{IsGraph}
+use Rattle.snb_graph_model.specs.Soundness.{Sound}
+use Rattle.snb_read_order.proofs.Laws.{answers_from, answers_mapped, answers_whole, chosen, then_assoc, three_columns, two_columns, zip_with}
+use Rattle.snb_graph_model.proofs.Laws.{person_named}
+use Rattle.snb_read_model.specs.declared.cell.Cell.{Cell}
+use Rattle.snb_graph_model.specs.Around.{authors, friends, messages, replies}
+use Rattle.snb_read_model.specs.Order.{Falling, First, FirstOf, Rising, Whole, by}
+use Rattle.snb_read_model.specs.ShortReads.{Is2, Is3, Is7, IsFriend, IsRecent, IsReplyTo}
 use Rattle.snb_short_reads.proofs.Laws.{found_person, person_at, shows, written}
 use Rattle.snb_short_reads.specs.Found.{AreReplies, IsMessageFound, IsReplyFound, without_author}
 

@@ -5,10 +5,10 @@ use Rattle.std.specs.List.Sorted.{IsPermutation}
 use Rattle.snb_schema.specs.declared.row.Row.{Row}
 use Rattle.snb_schema.specs.declared.table.Kind.TheVariants as kinds
 use Rattle.snb_schema.specs.RowKeys.{node_key}
-use Rattle.snb_tables.specs.Graphs.{HasKey}
-use Rattle.snb_tables.specs.Messages.{HasMessage}
-use Rattle.snb_tables.specs.Around.{authors, replies}
-use Rattle.snb_reads.specs.Distance.{IsPerson}
+use Rattle.snb_graph_model.specs.Graphs.{HasKey}
+use Rattle.snb_graph_model.specs.Messages.{HasMessage}
+use Rattle.snb_graph_model.specs.Around.{authors, replies}
+use Rattle.snb_read_model.specs.Distance.{IsPerson}
 use Rattle.snb_short_reads.specs.Lookups.{IsCellNumber}
 
 -- a reply with its author, as (id, date, author), without the author

@@ -6,10 +6,10 @@ use Rattle.snb_schema.specs.declared.row.Row.{Row}
 use Rattle.snb_schema.specs.declared.table.Kind.TheVariants as kinds
 use Rattle.snb_schema.specs.declared.table.Table.TheVariants as table
 use Rattle.snb_schema.specs.RowKeys.{node_key}
-use Rattle.snb_tables.specs.Graphs.{HasKey}
-use Rattle.snb_tables.specs.Messages.{HasMessage, IsRoot}
-use Rattle.snb_tables.specs.Around.{authors, containers, ends, forums, persons, with_id}
-use Rattle.snb_reads.specs.Distance.{IsPerson}
+use Rattle.snb_graph_model.specs.Graphs.{HasKey}
+use Rattle.snb_graph_model.specs.Messages.{HasMessage, IsRoot}
+use Rattle.snb_graph_model.specs.Around.{authors, containers, ends, forums, persons, with_id}
+use Rattle.snb_read_model.specs.Distance.{IsPerson}
 
 -- a number that a cell can hold
 abbrev pub IsCellNumber : ℕ → Type 0

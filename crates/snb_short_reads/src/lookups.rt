@@ -3,25 +3,20 @@
 ghost use Rattle.std.specs.Prelude.{◌≡◌, ◌∷◌, [], IfOk, MatchOption};
 ghost use Rattle.snb_schema.specs.declared.table.Kind.TheVariants as kinds;
 ghost use Rattle.snb_schema.specs.RowKeys.{node_key};
-ghost use Rattle.snb_parts.specs.Pairs.{rest};
-ghost use Rattle.snb_reads.specs.declared.cell.Cell.TheVariants.{Words};
-ghost use Rattle.snb_tables.specs.Around.{containers, is_friend, or_else, with_id};
-ghost use Rattle.snb_reads.specs.Distance.{IsPerson};
+ghost use Rattle.snb_graph_maps.specs.Pairs.{rest};
+ghost use Rattle.snb_read_model.specs.declared.cell.Cell.TheVariants.{Words};
+ghost use Rattle.snb_graph_model.specs.Around.{containers, is_friend, or_else, with_id};
+ghost use Rattle.snb_read_model.specs.Distance.{IsPerson};
 ghost use Rattle.snb_short_reads.specs.Lookups.{IsOnlyAuthor, IsOnlyCity, IsOnlyForum, IsOnlyMessage, IsOnlyModerator, IsOnlyPerson};
-ghost use Rattle.snb_tables.specs.Graphs.{HasKey};
-ghost use Rattle.snb_tables.specs.Messages.{HasMessage};
-ghost use Rattle.snb_tables.specs.Soundness.{Sound};
+ghost use Rattle.snb_graph_model.specs.Graphs.{HasKey};
+ghost use Rattle.snb_graph_model.specs.Messages.{HasMessage};
+ghost use Rattle.snb_graph_model.specs.Soundness.{Sound};
 
-use snb_base::text::Text;
-use snb_graph::graph::Graph;
-use snb_graph::walk::Links;
-use snb_reads::cell::Cell;
-use snb_reads::wording::Wording;
-use snb_schema::key::{Held, Key};
-use snb_schema::nodes::{Forum, Post};
-use snb_schema::person::Person;
-use snb_schema::table::Table;
-use snb_soundness::law::sound_graphs;
+use snb_base::Text;
+use snb_graph::{Graph, Links};
+use snb_graph_integrity::law::sound_graphs;
+use snb_read_model::{Cell, CowText};
+use snb_schema::{Forum, Held, Key, Person, Post, Table};
 use std::alloc::{AllocError, Global};
 
 /// The cell of a text, which lends it. Takes no memory.
@@ -29,7 +24,7 @@ pub fn words(text: &Text) -> Cell<'_>
     ensures { result ≡ Words text.now }
 {
     Cell::Words {
-        text: Wording::lent(text),
+        text: CowText::lent(text),
     }
 }
 

@@ -2,20 +2,18 @@
 
 ghost use Rattle.std.specs.Prelude.{◌≡◌, ◌∷◌, [], IfOk};
 ghost use Rattle.std.specs.List.{All, AllZip};
-ghost use Rattle.snb_reads.specs.ShortReads.{Is4, Is5, Is6, Is7, IsCreator, IsForum, IsReplyTo};
+ghost use Rattle.snb_read_model.specs.ShortReads.{Is4, Is5, Is6, Is7, IsCreator, IsForum, IsReplyTo};
 ghost use Rattle.snb_short_reads.specs.Found.{AreReplies, IsReplyFound, without_author};
-ghost use Rattle.snb_tables.specs.Messages.{HasMessage};
-ghost use Rattle.snb_tables.specs.Soundness.{Sound};
+ghost use Rattle.snb_graph_model.specs.Messages.{HasMessage};
+ghost use Rattle.snb_graph_model.specs.Soundness.{Sound};
 
 use crate::lookups::{are_friends, author_id, forum, known, moderator, shown, words};
 use crate::persons::only;
 use crate::roots::root;
-use snb_graph::graph::Graph;
-use snb_order::first::in_order;
-use snb_reads::answer::Answer;
-use snb_reads::answer_row::AnswerRow;
-use snb_reads::cell::Cell;
-use snb_soundness::law::sound_graphs;
+use snb_graph::Graph;
+use snb_graph_integrity::law::sound_graphs;
+use snb_read_model::{Answer, AnswerRow, Cell};
+use snb_read_order::in_order;
 use std::alloc::{AllocError, Global};
 
 /// Short read 4: the message. One that isn't held gives no rows.

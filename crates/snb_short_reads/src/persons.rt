@@ -3,19 +3,17 @@
 ghost use Rattle.std.specs.Prelude.{◌≡◌, ◌∷◌, [], IfOk, Contains};
 ghost use Rattle.std.specs.List.{All, AllZip};
 ghost use Rattle.snb_schema.specs.declared.row.Row.TheVariants as row;
-ghost use Rattle.snb_reads.specs.ShortReads.{Is1, Is2, Is3, IsFriend, IsProfile, IsRecent};
+ghost use Rattle.snb_read_model.specs.ShortReads.{Is1, Is2, Is3, IsFriend, IsProfile, IsRecent};
 ghost use Rattle.snb_short_reads.specs.Found.{IsFriendFound, IsMessageFound};
-ghost use Rattle.snb_tables.specs.Soundness.{Sound};
+ghost use Rattle.snb_graph_model.specs.Soundness.{Sound};
 
 use crate::lookups::{author_id, city, collected, known, shown, words};
 use crate::roots::root;
-use snb_graph::graph::Graph;
-use snb_order::first::{first_of, in_order};
-use snb_reads::answer::Answer;
-use snb_reads::answer_row::AnswerRow;
-use snb_reads::cell::Cell;
-use snb_schema::person::Person;
-use snb_soundness::law::sound_graphs;
+use snb_graph::Graph;
+use snb_graph_integrity::law::sound_graphs;
+use snb_read_model::{Answer, AnswerRow, Cell};
+use snb_read_order::{first_of, in_order};
+use snb_schema::Person;
 use std::alloc::{AllocError, Global};
 
 // The answer of one row.

@@ -5,14 +5,13 @@ ghost use Rattle.snb_schema.specs.declared.table.Kind.TheVariants as kinds;
 ghost use Rattle.snb_schema.specs.Inserts.{parent_row};
 ghost use Rattle.snb_schema.specs.RowKeys.{node_key};
 ghost use Rattle.snb_short_reads.specs.Lookups.{IsOnlyRoot};
-ghost use Rattle.snb_tables.specs.Graphs.{HasKey};
-ghost use Rattle.snb_tables.specs.Messages.{HasMessage};
-ghost use Rattle.snb_tables.specs.Soundness.{Sound};
+ghost use Rattle.snb_graph_model.specs.Graphs.{HasKey};
+ghost use Rattle.snb_graph_model.specs.Messages.{HasMessage};
+ghost use Rattle.snb_graph_model.specs.Soundness.{Sound};
 
-use snb_graph::graph::Graph;
-use snb_schema::op::Parent;
-use snb_schema::table::Table;
-use snb_soundness::law::sound_graphs;
+use snb_graph::Graph;
+use snb_graph_integrity::law::sound_graphs;
+use snb_schema::{Parent, Table};
 
 // The message to which a comment replies.
 fn parent(graph: &Graph, comment: u64) -> Parent

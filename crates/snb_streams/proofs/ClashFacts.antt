@@ -12,10 +12,10 @@ use Rattle.snb_schema.specs.declared.op.OpKind.TheVariants as kinds
 use Rattle.snb_schema.specs.Columns.{Spells, SpellsAll, StopsAfter, no_id}
 use Rattle.snb_schema.specs.Layouts.{id_column}
 use Rattle.snb_schema.specs.UpdateLines.{Clashes, field, line_columns, parent_comment, parent_post}
-use Rattle.snb_fields.specs.Values.{first_number, first_optional, optional_value}
-use Rattle.snb_fields.specs.Values.{starts_twice}
+use Rattle.snb_input_fields.specs.Values.{first_number, first_optional, optional_value}
+use Rattle.snb_input_fields.specs.Values.{starts_twice}
 use Rattle.snb_columns.proofs.Laws.{number_some}
-use Rattle.snb_fields.proofs.Laws.{starts_alone}
+use Rattle.snb_input_fields.proofs.Laws.{starts_alone}
 use Rattle.snb_streams.specs.Make.{are_no_parent, clash_at, parent_by}
 use Rattle.snb_streams.proofs.PlaceFacts.{no_values, none_first, none_second, prefix_from, stop_from}
 
@@ -156,7 +156,7 @@ clash_off kinds.AddComment fs vs n column s e h l =
 clash_off kind fs vs n column s e h l = h
 
 -- the second of two fields that clash is in its grammar
-clash_spelled : (kind : OpKind) (fs : List (List ℕ)) (n column : ℕ) → StopsAfter (line_columns kind) fs n → Clashes kind fs column → column ≢ n + 1
+pub clash_spelled : (kind : OpKind) (fs : List (List ℕ)) (n column : ℕ) → StopsAfter (line_columns kind) fs n → Clashes kind fs column → column ≢ n + 1
 clash_spelled kinds.AddFriend fs n column s h e =
     let five = h.0 in
     let bad = second_bad id_column id_column (Date ∷ []) (drop 3 fs) (stop_from 3 1 n (line_columns kinds.AddFriend) fs (omega arith) s) in

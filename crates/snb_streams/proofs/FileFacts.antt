@@ -6,9 +6,9 @@ use Rattle.snb_schema.specs.declared.query.Query.{Query}
 use Rattle.snb_schema.specs.Lines.{HasNoEnd, fields, lines}
 use Rattle.snb_schema.specs.ParameterLines.{IsParams}
 use Rattle.snb_columns.specs.Laws.{OneList}
-use Rattle.snb_lines.specs.Language.{IsText}
-use Rattle.snb_lines.specs.Laws.{IsExact}
-use Rattle.snb_lines.proofs.Laws.{are_under, each_line, lines_no_end, one_reading, reads_on, under}
+use Rattle.snb_input_lines.specs.Language.{IsText}
+use Rattle.snb_input_lines.specs.Laws.{IsExact}
+use Rattle.snb_input_lines.proofs.Laws.{are_under, each_line, lines_no_end, one_reading, reads_on, under}
 use Rattle.snb_streams.specs.FileLaws.{IsParamsHeader, IsStreamLine, OneParamsReading, OneStreamReading, ParamsFiles, StreamFiles}
 use Rattle.snb_streams.specs.Laws.{InsertsAreRight, NoBadQuery, OneQuery}
 use Rattle.snb_streams.specs.Lines.{stream_language}
@@ -17,6 +17,7 @@ use Rattle.snb_streams.specs.Parameters.{params_language}
 use Rattle.snb_streams.specs.Updates.{allowed_in}
 use Rattle.snb_streams.proofs.LineFacts.{one_spelled}
 use Rattle.snb_streams.proofs.UpdateFacts.{follows_once}
+use Rattle.snb_streams.proofs.CaseFacts.{params_to_case}
 
 -- each line of a stream is that of its insert
 one_each : (kind : FileKind) (number : ℕ) (line : List ℕ) (x : Line) → HasNoEnd line → IsText line → (stream_language kind).spells tt number line x → IsStreamLine kind number line x
@@ -65,7 +66,7 @@ exact_params one right q = record {
   one_header = λ line k j h g. refl;
   good_header = λ line k column h b. b.0 h;
   one_item = λ k number line x y g h. one q (fields line) x y g.0 g.1 h.1;
-  good_item = λ k number line x column g b. elim b [ inl bad ↦ right q (fields line) x column g.1 bad.1 | inr other ↦ other.0 g.0 ];
+  good_item = λ k number line x column g b. elim (params_to_case q (fields line) column b) [ inl bad ↦ right q (fields line) x column g.1 bad.1 | inr other ↦ other.0 g.0 ];
 }
 
 pub one_params_reading : OneQuery → NoBadQuery → OneParamsReading

@@ -14,8 +14,8 @@ use Rattle.snb_schema.specs.declared.op.OpKind.TheVariants as kinds
 use Rattle.snb_schema.specs.declared.op.Parent.TheVariants as parents
 use Rattle.snb_schema.specs.Columns.{SpellsAll}
 use Rattle.snb_schema.specs.UpdateLines.{IsOfTwo, Names, insert_columns, kind_number, kind_of, line_columns, line_values, op_number, op_values}
-use Rattle.snb_fields.specs.Laws.{TakenAgain}
-use Rattle.snb_fields.specs.Values.{first_number, starts_twice, taken}
+use Rattle.snb_input_fields.specs.Laws.{TakenAgain}
+use Rattle.snb_input_fields.specs.Values.{first_number, starts_twice, taken}
 use Rattle.snb_streams.specs.Make.{are_no_parent, clash_at, op_by}
 use Rattle.snb_streams.specs.Spelled.{SpellsInsert}
 use Rattle.snb_streams.proofs.ClashFacts.{parents_kept, twice_differ, untold}

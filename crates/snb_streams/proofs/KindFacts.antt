@@ -3,7 +3,7 @@ use Rattle.std.proofs.Common.{◌≡◌, ◌≢◌, ◌<◌, ◌≤◌, ◌∙�
 use Rattle.std.specs.Prelude.{Contains, Option, Some, None}
 use Rattle.std.specs.Borrow.{Bor}
 use Rattle.std.specs.Option.{MatchOption, option_map}
-use Rattle.snb_lines.specs.Records.{field_at}
+use Rattle.snb_input_lines.specs.Records.{field_at}
 use Rattle.snb_base.specs.Spellings.{Num}
 use Rattle.snb_schema.specs.declared.column.Value.{Value}
 use Rattle.snb_schema.specs.declared.column.Value.TheVariants.{Digits}
@@ -11,7 +11,7 @@ use Rattle.snb_schema.specs.declared.op.Op.{Op}
 use Rattle.snb_schema.specs.declared.op.OpKind.{OpKind}
 use Rattle.snb_schema.specs.declared.op.OpKind.TheVariants as kinds
 use Rattle.snb_schema.specs.Columns.{SpellsAll}
-use Rattle.snb_fields.specs.Values.{first_number}
+use Rattle.snb_input_fields.specs.Values.{first_number}
 use Rattle.snb_schema.specs.UpdateLines.{Names, kind_number, kind_of, line_columns, line_values}
 
 -- the kind of a number, counted from 0

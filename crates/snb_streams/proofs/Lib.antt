@@ -1,3 +1,4 @@
+pub mod CaseFacts
 pub mod ClashFacts
 pub mod FaultFacts
 pub mod FileFacts
@@ -6,6 +7,7 @@ pub mod KindFacts
 pub mod LineFacts
 pub mod ParameterFacts
 pub mod PlaceFacts
+pub mod PlainFacts
 pub mod UpdateFacts
 pub mod SomeFacts
 pub mod TextFacts

@@ -10,13 +10,14 @@ use Rattle.snb_schema.specs.declared.op.OpKind.{OpKind}
 use Rattle.snb_schema.specs.Columns.{SpellsAll}
 use Rattle.snb_schema.specs.Lines.{HasNoEnd, begins_with_mark, fields}
 use Rattle.snb_schema.specs.UpdateLines.{IsBadInsert, IsBadLine, IsLine, all_inserts, kind_of, line_columns, line_values, op_values}
-use Rattle.snb_lines.specs.Cut.{IsCutAtEnd}
+use Rattle.snb_input_lines.specs.Cut.{IsCutAtEnd}
 use Rattle.snb_columns.specs.Laws.{HasPlainFields, OneList, OwnLineOfValues}
 use Rattle.snb_streams.specs.Laws.{OneInsert}
 use Rattle.snb_streams.specs.Laws as laws
 use Rattle.snb_streams.specs.Make.{op_by}
 use Rattle.snb_streams.specs.Spelled.{SpellsInsert}
 use Rattle.snb_streams.specs.Split.{IsSplit}
+use Rattle.snb_streams.proofs.CaseFacts.{text_from_case}
 use Rattle.snb_streams.proofs.InsertFacts.{made_again}
 use Rattle.snb_streams.proofs.KindFacts.{one_name, third_field}
 
@@ -62,15 +63,16 @@ own_line plain own line t t_d op p =
 
 -- a text that isn't one line of UTF-8
 pub broken_bad : (line : List ℕ) → begins_with_mark line ≡ false → (IsUtf8 line → ¬ HasNoEnd line) → IsBadLine line 0
-broken_bad line e none = inr (inl (e, none, refl))
+broken_bad line e none = text_from_case line 0 (inr (inl (e, none, refl)))
 
 -- the empty text has one field
 pub empty_bad : (line : List ℕ) → line ≡ [] → IsBadLine line 0
-empty_bad line e = subst (λ (t : List ℕ). IsBadLine t 0) (sym e) (inr (inr (refl, IsUtf8-nil, All-nil _, inl (omega arith, refl))))
+empty_bad line e = subst (λ (t : List ℕ). IsBadLine t 0) (sym e) (text_from_case [] 0 (inr (inr (refl, IsUtf8-nil, All-nil _, inl (omega arith, refl)))))
 
 -- a line with fields that spell no insert
 pub split_bad : (line : List ℕ) (fs : List (List ℕ)) (column : ℕ) → IsSplit line fs → IsBadInsert all_inserts fs column → IsBadLine line column
-split_bad line fs column is bad = inr (inr (is.unmarked, is.utf8, is.one_line, subst (λ (xs : List (List ℕ)). IsBadInsert all_inserts xs column) is.split bad))
+split_bad line fs column is bad =
+    text_from_case line column (inr (inr (is.unmarked, is.utf8, is.one_line, subst (λ (xs : List (List ℕ)). IsBadInsert all_inserts xs column) is.split bad)))
 
 -- a text whose length is nothing
 pub tested_empty : (line : List ℕ) (empty : Bool) → empty ≡ length line == 0 → empty ≡ true → line ≡ []

@@ -9,11 +9,12 @@ use Rattle.snb_schema.specs.Columns.{SpellsAll, StopsAfter}
 use Rattle.snb_schema.specs.ParameterLines.{IsBadQuery, SpellsQuery, query_columns, query_values}
 use Rattle.snb_schema.specs.Queries.{IsComplex, number_of_query}
 use Rattle.snb_columns.specs.Laws.{OneList}
-use Rattle.snb_fields.specs.Laws.{TakenAgain}
-use Rattle.snb_fields.specs.Values.{taken}
+use Rattle.snb_input_fields.specs.Laws.{TakenAgain}
+use Rattle.snb_input_fields.specs.Values.{taken}
 use Rattle.snb_streams.specs.Laws.{NoBadQuery, OneBadQuery, OneQuery}
 use Rattle.snb_streams.specs.Parameters.{query_by}
-use Rattle.snb_fields.proofs.Laws.{no_stop, one_stop, spelled_long}
+use Rattle.snb_streams.proofs.CaseFacts.{IsQueryCase, query_from_case, query_to_case}
+use Rattle.snb_input_fields.proofs.Laws.{no_stop, one_stop, spelled_long}
 
 -- what is so of the seven numbers is so of a number that is one of them
 of_seven : (P : ℕ → Type 0) → P 1 → P 2 → P 7 → P 8 → P 9 → P 11 → P 13 → (q : ℕ) → IsComplex q → P q
@@ -45,7 +46,7 @@ told_query again q cs fs vs one complex e long s made =
 -- a stop, as the reading of the values tells it
 pub told_stop : (q : ℕ) (cs : List Column) (fs : List (List ℕ)) (n column : ℕ) → cs ≡ query_columns q → length fs ≡ length cs → StopsAfter cs fs n → column ≡ n + 1 → IsBadQuery q fs column
 told_stop q cs fs n column e long stop at =
-    inr (long ∙ ap (λ (ds : List Column). length ds) e, (n, subst (λ (ds : List Column). StopsAfter ds fs n) e stop, at))
+    query_from_case q fs column (inr (long ∙ ap (λ (ds : List Column). length ds) e, (n, subst (λ (ds : List Column). StopsAfter ds fs n) e stop, at)))
 
 -- no complex query has the number 0
 no_zero : (q : ℕ) → IsComplex q → 0 ≢ q
@@ -74,16 +75,22 @@ one_query one q fs a b complex s t =
     sym (made_again q a complex s.0) ∙ ap (query_by q) (one (query_columns q) fs (query_values a) (query_values b) s.1 t.1) ∙ made_again q b complex t.0
 
 -- and have no bad column
-pub no_bad_query : NoBadQuery
-no_bad_query q fs one c s (inl bad) = bad.0 (spelled_long (query_columns q) fs (query_values one) s.1)
-no_bad_query q fs one c s (inr bad) =
+right_case : (q : ℕ) (fs : List (List ℕ)) (one : Query) (c : ℕ) → SpellsQuery q fs one → ¬ IsQueryCase q fs c
+right_case q fs one c s (inl bad) = bad.0 (spelled_long (query_columns q) fs (query_values one) s.1)
+right_case q fs one c s (inr bad) =
     let long = bad.0 in
     let few : length fs ≤ length (query_columns q) = omega (arith, long) in
     no_stop (query_columns q) fs (query_values one) (subst (λ (xs : List (List ℕ)). SpellsAll (query_columns q) xs (query_values one)) (sym (take_all (length (query_columns q)) fs few)) s.1) bad.1.0 bad.1.1
 
+pub no_bad_query : NoBadQuery
+no_bad_query q fs one c s bad = right_case q fs one c s (query_to_case q fs c bad)
+
 -- and others have one at most
+one_case : (q : ℕ) (fs : List (List ℕ)) (a b : ℕ) → IsQueryCase q fs a → IsQueryCase q fs b → a ≡ b
+one_case q fs a b (inl p) (inl r) = p.1 ∙ sym r.1
+one_case q fs a b (inl p) (inr r) = absurd (p.0 r.0)
+one_case q fs a b (inr p) (inl r) = absurd (r.0 p.0)
+one_case q fs a b (inr p) (inr r) = p.1.2 ∙ ap (λ n. n + 1) (one_stop (query_columns q) fs p.1.0 r.1.0 p.1.1 r.1.1) ∙ sym r.1.2
+
 pub one_bad_query : OneBadQuery
-one_bad_query q fs a b (inl p) (inl r) = p.1 ∙ sym r.1
-one_bad_query q fs a b (inl p) (inr r) = absurd (p.0 r.0)
-one_bad_query q fs a b (inr p) (inl r) = absurd (r.0 p.0)
-one_bad_query q fs a b (inr p) (inr r) = p.1.2 ∙ ap (λ n. n + 1) (one_stop (query_columns q) fs p.1.0 r.1.0 p.1.1 r.1.1) ∙ sym r.1.2
+one_bad_query q fs a b p r = one_case q fs a b (query_to_case q fs a p) (query_to_case q fs b r)

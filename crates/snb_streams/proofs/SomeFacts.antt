@@ -10,13 +10,14 @@ use Rattle.snb_schema.specs.declared.op.OpKind.{OpKind}
 use Rattle.snb_schema.specs.Columns.{SpellsAll}
 use Rattle.snb_schema.specs.ParameterLines.{query_columns}
 use Rattle.snb_schema.specs.UpdateLines.{IsBadInsert, Names, kind_number, line_columns}
-use Rattle.snb_fields.specs.Laws.{EachLineIsRead, TakenAgain}
-use Rattle.snb_fields.specs.Values.{first_number}
-use Rattle.snb_fields.proofs.Laws.{number_or_not}
+use Rattle.snb_input_fields.specs.Laws.{EachLineIsRead, TakenAgain}
+use Rattle.snb_input_fields.specs.Values.{first_number}
+use Rattle.snb_input_fields.proofs.Laws.{number_or_not}
 use Rattle.snb_streams.specs.Laws.{InsertOrColumn, QueryOrColumn}
 use Rattle.snb_streams.specs.Make.{clash_at, op_by}
 use Rattle.snb_streams.specs.Parameters.{query_by}
 use Rattle.snb_streams.specs.Spelled.{SpellsInsert}
+use Rattle.snb_streams.proofs.CaseFacts.{insert_from_case}
 use Rattle.snb_streams.proofs.FaultFacts.{clash_bad, stop_bad, third_bad, time_bad, times}
 use Rattle.snb_streams.proofs.InsertFacts.{spells_insert}
 use Rattle.snb_streams.proofs.ParameterFacts.{told_query, told_stop}
@@ -87,7 +88,7 @@ insert_or_column again read allowed fs = elim (cases_lt (length fs) 3) [
       | inr stop ↦ inr (stop.0 + 1, time_bad allowed fs stop.0 (stop.0 + 1) many none stop.2 refl)
     ]
     | inl named ↦ elim (cases_eq (length fs) (length (line_columns named.0))) [
-      | inr other ↦ inr (0, inr (inr (inl (named.0, named.1, other, refl))))
+      | inr other ↦ inr (0, insert_from_case allowed fs 0 (inr (inr (inl (named.0, named.1, other, refl)))))
       | inl long ↦ elim (read (line_columns named.0) fs (omega (arith, long))) [
         | inl s ↦ whole again allowed named.0 fs s.0 named.1 long s.1
         | inr stop ↦ inr (unwrap_or (clash_at named.0 stop.1) (stop.0 + 1), stop_bad allowed named.0 fs stop.1 stop.0 (stop.0 + 1) named.1 long stop.2 stop.3 refl)

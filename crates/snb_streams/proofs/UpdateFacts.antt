@@ -4,10 +4,10 @@ use Rattle.snb_schema.specs.declared.file.FileId.{FileId}
 use Rattle.snb_schema.specs.declared.file.FileKind.{FileKind}
 use Rattle.snb_schema.specs.declared.op.Line.{Line}
 use Rattle.snb_schema.specs.declared.refusal.Refusal.{Refusal}
-use Rattle.snb_lines.specs.Feeding.{HasRead, HasRunOut, HasStopped, HasStoppedAtEnd, Reader}
-use Rattle.snb_lines.specs.Laws.{TakesOnce}
-use Rattle.snb_lines.specs.Sinks.{Refuses, Takes}
-use Rattle.snb_lines.proofs.Laws.{Seen, has_read_seen, has_run_out_seen, has_stopped_at_end_seen, has_stopped_seen}
+use Rattle.snb_input_lines.specs.Feeding.{HasRead, HasRunOut, HasStopped, HasStoppedAtEnd, Reader}
+use Rattle.snb_input_lines.specs.Laws.{TakesOnce}
+use Rattle.snb_input_lines.specs.Sinks.{Refuses, Takes}
+use Rattle.snb_input_lines.proofs.Laws.{Seen, has_read_seen, has_run_out_seen, has_stopped_at_end_seen, has_stopped_seen}
 use Rattle.snb_streams.specs.Lines.{stream_language}
 use Rattle.snb_streams.specs.Order.{FallsBehind, Follows, IsUnmoved, OrderRefuses, OrderTakes, Ordered, never_ends, ordered}
 
@@ -18,7 +18,7 @@ module _ {S : Type 0} (last_of : S → ℕ) (items_of : S → List Line) where
 
   -- and refuses one whose t is lower, and no other
   abbrev pub RefusesFalls : Refuses S Line
-  RefusesFalls old file x r = OrderRefuses (last_of old) file x r ⊥
+  RefusesFalls old file x r = OrderRefuses (last_of old) file x (λ q. ⊥) r
 
   -- these states of it were told the same
   abbrev pub IsSameList : S → S → Type 0
@@ -36,7 +36,7 @@ module _ {S : Type 0} (last_of : S → ℕ) (items_of : S → List Line) where
   pub seen_in_order : Seen seen Appends RefusesFalls IsSameList ends_well Follows FallsBehind IsUnmoved never_ends
   seen_in_order = record {
     step = λ old new file x h. (h.0.0, h.0.1, h.1);
-    bad = λ old file x r h. elim h [ inl fall ↦ fall | inr inner ↦ absurd inner.1 ];
+    bad = λ old file x r h. elim h [ inl fall ↦ fall | inr inner ↦ elim inner.1 [ inl none ↦ absurd none | inr none ↦ absurd none.1 ] ];
     left = λ old new h. λ i. ordered (h.1 i) (h.0 i);
     over = λ s file. refl;
   }

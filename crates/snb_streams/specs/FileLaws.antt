@@ -6,9 +6,9 @@ use Rattle.snb_schema.specs.declared.query.Query.{Query}
 use Rattle.snb_schema.specs.Lines.{HasNoEnd, begins_with_mark, fields, lines}
 use Rattle.snb_schema.specs.ParameterLines.{IsParams, query_columns}
 use Rattle.snb_schema.specs.UpdateLines.{IsLine, kind_of}
-use Rattle.snb_lines.specs.Files.{AreEach, AreUnder}
-use Rattle.snb_lines.specs.Laws.{ReadsOn, ReadsOnce}
-use Rattle.snb_lines.specs.Reading.{Says}
+use Rattle.snb_input_lines.specs.Files.{AreEach, AreUnder}
+use Rattle.snb_input_lines.specs.Laws.{ReadsOn, ReadsOnce}
+use Rattle.snb_input_lines.specs.Reading.{Says}
 use Rattle.snb_streams.specs.Lines.{stream_language}
 use Rattle.snb_streams.specs.Order.{FallsBehind, Follows}
 use Rattle.snb_streams.specs.Parameters.{params_language}

@@ -4,7 +4,7 @@ use Rattle.snb_schema.specs.declared.file.FileKind.{FileKind}
 use Rattle.snb_schema.specs.declared.op.Line.{Line}
 use Rattle.snb_schema.specs.Lines.{fields}
 use Rattle.snb_schema.specs.UpdateLines.{IsBadInsert}
-use Rattle.snb_lines.specs.Language.{Language}
+use Rattle.snb_input_lines.specs.Language.{Language}
 use Rattle.snb_streams.specs.Spelled.{SpellsInsert}
 use Rattle.snb_streams.specs.Updates.{allowed_in}
 

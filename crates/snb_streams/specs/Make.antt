@@ -8,7 +8,7 @@ use Rattle.snb_schema.specs.declared.op.OpKind.{OpKind}
 use Rattle.snb_schema.specs.declared.op.OpKind.TheVariants as kinds
 use Rattle.snb_schema.specs.declared.op.Parent.{Parent}
 use Rattle.snb_schema.specs.declared.op.Parent.TheVariants as parents
-use Rattle.snb_fields.specs.Values.{first_ids, first_number, first_optional, first_pairs, first_small, first_text, first_texts, starts_twice}
+use Rattle.snb_input_fields.specs.Values.{first_ids, first_number, first_optional, first_pairs, first_small, first_text, first_texts, starts_twice}
 
 -- the parent that a post and a comment are, of which there is one
 abbrev pub parent_by : Option ℕ → Option ℕ → Parent

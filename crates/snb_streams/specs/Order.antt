@@ -1,18 +1,19 @@
 -- The order of the inserts of a stream.
-use Rattle.std.specs.Prelude.{◌≡◌, ◌<◌, ◌≤◌, ◌⊎◌, ◌++◌, ◌∷◌, ℕ, List, [], Option, None}
+use Rattle.std.specs.Prelude.{◌≡◌, ◌<◌, ◌≤◌, ◌++◌, ◌∷◌, ℕ, List, [], Option, None}
+use Rattle.snb_base.specs.FirstOf.{FirstOf}
 use Rattle.snb_schema.specs.declared.file.FileId.{FileId}
 use Rattle.snb_schema.specs.declared.op.Line.{Line}
 use Rattle.snb_schema.specs.declared.refusal.Refusal.{Refusal}
 use Rattle.snb_schema.specs.declared.refusal.Refusal.TheVariants.{OutOfOrder}
-use Rattle.snb_lines.specs.Sinks.{Refuses, Takes}
+use Rattle.snb_input_lines.specs.Sinks.{Refuses, Takes}
 
 -- an insert whose t is no lower than the last leads to its t
 abbrev pub OrderTakes : ℕ → Line → ℕ → Type 0
 OrderTakes last x new = (last ≤ x.t) × (new ≡ x.t)
 
--- one whose t is lower is refused so; the others as the sink refuses them
-abbrev pub OrderRefuses : ℕ → FileId → Line → Refusal → Type 0 → Type 0
-OrderRefuses last file x r inner = ((x.t < last) × (r ≡ OutOfOrder file x.number)) ⊎ ((last ≤ x.t) × inner)
+-- an insert is refused since its t is lower, or else as the sink refuses it
+abbrev pub OrderRefuses : ℕ → FileId → Line → (Refusal → Type 0) → Refusal → Type 0
+OrderRefuses last file x inner r = FirstOf ((λ q. (x.t < last) × (q ≡ OutOfOrder file x.number)) ∷ inner ∷ []) r
 
 -- the inserts that were appended to a list, and the t of the last insert of the stream, or 0
 pub record Ordered : Type 0 where

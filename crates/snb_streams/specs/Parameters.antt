@@ -1,5 +1,6 @@
 -- What the lines of a parameter file say.
-use Rattle.std.specs.Prelude.{◌≡◌, ◌≢◌, ◌==◌, ◌⊎◌, ℕ, List, length, drop, true, None, if◌then◌else◌}
+use Rattle.std.specs.Prelude.{◌≡◌, ◌≢◌, ◌==◌, ℕ, List, [], ◌∷◌, length, drop, true, None, if◌then◌else◌}
+use Rattle.snb_base.specs.FirstOf.{FirstOf}
 use Rattle.snb_schema.specs.declared.column.Value.{Value}
 use Rattle.snb_schema.specs.declared.file.FileId.{FileId}
 use Rattle.snb_schema.specs.declared.file.FileKind.TheVariants.{Params}
@@ -8,8 +9,8 @@ use Rattle.snb_schema.specs.declared.query.Query.TheVariants.{Is1, Ic1, Ic2, Ic7
 use Rattle.snb_schema.specs.Lines.{fields}
 use Rattle.snb_schema.specs.ParameterLines.{IsBadQuery, SpellsQuery, query_columns}
 use Rattle.snb_schema.specs.Queries.{IsComplex}
-use Rattle.snb_fields.specs.Values.{first_number, first_small, first_text}
-use Rattle.snb_lines.specs.Language.{Language}
+use Rattle.snb_input_fields.specs.Values.{first_number, first_small, first_text}
+use Rattle.snb_input_lines.specs.Language.{Language}
 
 -- the query of this number that has these values, for each of the seven complex queries; any other number gives a short read
 abbrev pub query_by : ℕ → List Value → Query
@@ -27,9 +28,9 @@ query_by q vs =
 abbrev pub params_file : ℕ → FileId
 params_file q = record { kind = Params q; part = 0 }
 
--- these fields are no parameters of the query, in this column first; where the number isn't one of the seven, none are
+-- these fields are no parameters of the query, in this column first: 0 where its number isn't one of the seven, else that of its fields
 abbrev pub IsBadParams : ℕ → List (List ℕ) → ℕ → Type 0
-IsBadParams q fs column = (IsComplex q × IsBadQuery q fs column) ⊎ ((¬ IsComplex q) × (column ≡ 0))
+IsBadParams q fs column = FirstOf ((λ c. ¬ IsComplex q × (c ≡ 0)) ∷ IsBadQuery q fs ∷ []) column
 
 -- of the header only the number of fields counts, and the fields of each later line spell a query of the number, which is one of the seven
 abbrev pub params_language : ℕ → Language (Unit {0}) Query

@@ -5,7 +5,7 @@ use Rattle.snb_schema.specs.declared.file.FileKind.{FileKind}
 use Rattle.snb_schema.specs.declared.file.FileKind.TheVariants as files
 use Rattle.snb_schema.specs.declared.op.OpKind.{OpKind}
 use Rattle.snb_schema.specs.UpdateLines.{forum_inserts, person_inserts}
-use Rattle.snb_lines.specs.Feeding.{Reader, at_begin}
+use Rattle.snb_input_lines.specs.Feeding.{Reader, at_begin}
 
 -- the inserts of a kind of file; one that is no stream has none
 abbrev pub allowed_in : FileKind → List OpKind

@@ -4,9 +4,8 @@ ghost use Rattle.std.specs.Prelude.{◌≡◌, ◌≢◌, Contains, MatchOption}
 ghost use Rattle.snb_schema.specs.declared.op.OpKind.{OpKind as Kind};
 ghost use Rattle.snb_schema.specs.UpdateLines.{kind_number, line_columns};
 
-use snb_schema::column::Column;
 use snb_schema::limits::{MAX_ID, MAX_LENGTH, MAX_TIME};
-use snb_schema::op::OpKind;
+use snb_schema::{Column, OpKind};
 
 const TIME: Column = Column::Number { most: MAX_TIME };
 

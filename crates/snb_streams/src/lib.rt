@@ -12,3 +12,9 @@ pub mod params;
 pub mod text;
 pub mod updates;
 pub mod write;
+
+pub use line::read_line;
+pub use lines::StreamLines;
+pub use order::InOrder;
+pub use params::QueryLines;
+pub use write::write_line;

@@ -12,14 +12,11 @@ ghost use Rattle.snb_streams.specs.Spelled.{SpellsInsert};
 use crate::kinds::{TIMES, columns_of, kind_of_number};
 use crate::make::{clash_at, make_op};
 use crate::text::fields_in;
-use snb_base::number::read_number;
-use snb_fields::law::taken_again;
-use snb_fields::read::read_values;
-use snb_fields::values::Values;
-use snb_lines::record::Record;
-use snb_schema::column::Value;
-use snb_schema::fault::LineFault;
-use snb_schema::op::{Line, Op, OpKind};
+use snb_base::read_number;
+use snb_input_fields::law::taken_again;
+use snb_input_fields::{Values, read_values};
+use snb_input_lines::Record;
+use snb_schema::{Line, LineFault, Op, OpKind, Value};
 use std::alloc::Global;
 
 /// The inserts of a person stream.

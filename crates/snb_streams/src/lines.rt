@@ -4,11 +4,8 @@ ghost use Rattle.std.specs.Prelude.{◌≡◌};
 
 use crate::line::read_insert;
 use crate::updates::inserts_of;
-use snb_lines::grammar::Grammar;
-use snb_lines::record::Record;
-use snb_schema::fault::LineFault;
-use snb_schema::file::FileKind;
-use snb_schema::op::Line;
+use snb_input_lines::{Grammar, Record};
+use snb_schema::{FileKind, Line, LineFault};
 use std::alloc::Global;
 use std::marker::Model;
 

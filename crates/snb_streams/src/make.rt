@@ -2,11 +2,11 @@
 
 ghost use Rattle.std.specs.Prelude.{◌≡◌, drop};
 ghost use Rattle.snb_streams.specs.Make.{are_no_parent, clash_at, op_by, parent_by};
-ghost use Rattle.snb_fields.specs.Values.{first_optional};
+ghost use Rattle.snb_input_fields.specs.Values.{first_optional};
 
-use snb_fields::values::{Values, starts_twice};
-use snb_schema::column::Value;
-use snb_schema::op::{Op, OpKind, Parent};
+use snb_input_fields::Values;
+use snb_input_fields::values::starts_twice;
+use snb_schema::{Op, OpKind, Parent, Value};
 
 // How many values stand before the two parents of a comment.
 const BEFORE_PARENTS: usize = 11;

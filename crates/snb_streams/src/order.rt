@@ -3,11 +3,8 @@
 ghost use Rattle.std.specs.Prelude.{◌≡◌, refl};
 ghost use Rattle.snb_streams.specs.Order.{OrderRefuses, OrderTakes};
 
-use snb_lines::sink::Sink;
-use snb_schema::fault::Fault;
-use snb_schema::file::FileId;
-use snb_schema::op::Line;
-use snb_schema::refusal::Refusal;
+use snb_input_lines::Sink;
+use snb_schema::{Fault, FileId, Line, Refusal};
 use std::alloc::AllocError;
 
 /// Refuses an insert as `OutOfOrder` where its t is below that of the insert before it in the same
@@ -25,7 +22,7 @@ impl<S: Sink<Line>> Sink<Line> for InOrder<S> {
 
     ghost takes = { λ old file x new. OrderTakes old.last x new.last × S.takes old.sink file x new.sink };
 
-    ghost refuses = { λ old file x r. OrderRefuses old.last file x r (S.refuses old.sink file x r) };
+    ghost refuses = { λ old file x r. OrderRefuses old.last file x (S.refuses old.sink file x) r };
 
     ghost same = { λ old new. S.same old.sink new.sink × (new.last ≡ old.last) };
 

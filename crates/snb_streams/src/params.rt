@@ -6,18 +6,11 @@ ghost use Rattle.snb_schema.specs.ParameterLines.{IsBadQuery, SpellsQuery, query
 ghost use Rattle.snb_schema.specs.Queries.{IsComplex};
 ghost use Rattle.snb_streams.specs.Parameters.{query_by};
 
-use snb_fields::law::taken_again;
-use snb_fields::read::read_values;
-use snb_fields::values::Values;
-use snb_lines::grammar::Grammar;
-use snb_lines::lines::Lines;
-use snb_lines::open::Open;
-use snb_lines::record::Record;
-use snb_schema::column::Column;
-use snb_schema::fault::LineFault;
-use snb_schema::file::{FileId, FileKind};
-use snb_schema::query::{Query, is_complex};
-use snb_schema::read_kind::ReadKind;
+use snb_input_fields::law::taken_again;
+use snb_input_fields::{Values, read_values};
+use snb_input_lines::{Grammar, LineReader, Open, Record};
+use snb_schema::query::is_complex;
+use snb_schema::{Column, FileId, FileKind, LineFault, Query, ReadKind};
 use std::alloc::Global;
 use std::marker::Model;
 
@@ -192,11 +185,11 @@ impl Grammar for QueryLines {
 }
 
 /// Turns the pieces of a parameter file into queries: `Params::new(alloc, query)`, where the number of
-/// the query is 1, 2, 7, 8, 9, 11 or 13. It is the reader of lines of `snb_lines`, so a line is refused
+/// the query is 1, 2, 7, 8, 9, 11 or 13. It is the reader of lines of `snb_input_lines`, so a line is refused
 /// for its bytes first; then the first line with a byte is refused where it hasn't a field for each
 /// parameter, and a later one in its first bad column. No extra field is passed over.
 ///
 /// The parameters of the complex queries are those of LDBC SNB Interactive v1: a person and a first
 /// name for 1, a person and a greatest date for 2 and 9, a person for 7 and 8, a person, a country
 /// and a year for 11, and two persons for 13.
-pub type Params = Lines<QueryLines>;
+pub type Params = LineReader<QueryLines>;

@@ -7,9 +7,9 @@ ghost use Rattle.snb_schema.specs.UpdateLines.{IsBadLine};
 ghost use Rattle.snb_streams.specs.Split.{IsSplit};
 
 use snb_columns::law::plain_fields;
-use snb_lines::record::Record;
-use snb_lines::split::{cut_at_end, is_marked, split_line};
-use snb_schema::fault::LineFault;
+use snb_input_lines::split::{cut_at_end, is_marked};
+use snb_input_lines::{Record, split_line};
+use snb_schema::LineFault;
 use std::alloc::Global;
 use std::str;
 

@@ -3,7 +3,7 @@
 ghost use Rattle.std.specs.Prelude.{◌≡◌, ◌+◌, ◌≤◌, length, OnOk, OnErr, None, false};
 ghost use Rattle.snb_schema.specs.declared.limits.TheConstants.{MAX_BYTES};
 ghost use Rattle.snb_schema.specs.Faults.{OnBad};
-ghost use Rattle.snb_lines.specs.Feeding.{HasRead, HasRunOut, HasStopped, HasStoppedAtEnd, IsSameFile, KeepsFault, OnMemory, at_file_end, fed_more, left_lines, new_lines};
+ghost use Rattle.snb_input_lines.specs.Feeding.{HasRead, HasRunOut, HasStopped, HasStoppedAtEnd, IsSameFile, KeepsFault, OnMemory, at_file_end, fed_more, left_lines, new_lines};
 ghost use Rattle.snb_streams.specs.Lines.{stream_language};
 ghost use Rattle.snb_streams.specs.Order.{FallsBehind, Follows, IsUnmoved, never_ends, ordered};
 ghost use Rattle.snb_streams.specs.Updates.{IsStream, allowed_in, before_stream};
@@ -11,10 +11,8 @@ ghost use Rattle.snb_streams.specs.Updates.{IsStream, allowed_in, before_stream}
 use crate::line::{FORUM_INSERTS, PERSON_INSERTS};
 use crate::lines::StreamLines;
 use crate::order::InOrder;
-use snb_lines::lines::Lines;
-use snb_schema::fault::Fault;
-use snb_schema::file::{FileId, FileKind};
-use snb_schema::op::{Line, OpKind};
+use snb_input_lines::LineReader;
+use snb_schema::{Fault, FileId, FileKind, Line, OpKind};
 use std::alloc::Global;
 use std::marker::Model;
 use std::mem;
@@ -31,13 +29,13 @@ pub fn inserts_of(kind: FileKind) -> &'static [OpKind]
     }
 }
 
-/// Turns the pieces of an update stream into inserts. It is the reader of lines of `snb_lines`, so a
+/// Turns the pieces of an update stream into inserts. It is the reader of lines of `snb_input_lines`, so a
 /// line is refused for its bytes first, then in its first bad column as `read_insert` has it, with the
 /// inserts of its kind of stream, and as `OutOfOrder` exactly where its t is below that of the line
 /// before. A stream has no header.
 pub struct Updates {
     alloc: Global,
-    lines: Lines<StreamLines>,
+    lines: LineReader<StreamLines>,
     last: u64,
 }
 
@@ -67,7 +65,7 @@ impl Updates {
     {
         Updates {
             alloc,
-            lines: Lines::of_file(alloc, file, StreamLines::new(alloc, file.kind)),
+            lines: LineReader::of_file(alloc, file, StreamLines::new(alloc, file.kind)),
             last: 0,
         }
     }

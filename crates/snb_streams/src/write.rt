@@ -6,10 +6,10 @@ ghost use Rattle.snb_schema.specs.declared.column.Value.TheVariants.{Digits};
 ghost use Rattle.snb_schema.specs.declared.op.OpKind.TheVariants as kinds;
 ghost use Rattle.snb_schema.specs.Columns.{canonical_field};
 ghost use Rattle.snb_schema.specs.UpdateLines.{canonical_line, kind_of, parent_comment, parent_post};
-ghost use Rattle.snb_fields.specs.Cells.{value_of};
+ghost use Rattle.snb_input_fields.specs.Cells.{value_of};
 
-use snb_fields::write::{Cell, line_of};
-use snb_schema::op::{Line, Op, Parent};
+use snb_input_fields::{Cell, line_of};
+use snb_schema::{Line, Op, Parent};
 use std::alloc::{AllocError, Global};
 
 // The cell of the post that is replied to, where it is one.

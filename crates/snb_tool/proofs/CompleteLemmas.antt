@@ -1,39 +1,40 @@
 -- Facts on what a call answers, by its words and by what its command finds.
 use Rattle.std.specs.Prelude.{◌↔◌}
-use Rattle.std.proofs.Common.{arith, ◌≡◌, ℕ, ◌≤◌, ◌⊎◌, ◌++◌, List, Option, Some, None, refl, sym, subst, ap, ◌∙◌, inl, inr}
+use Rattle.std.proofs.Common.{arith, ◌≡◌, ◌≢◌, ℕ, ◌≤◌, ◌⊎◌, ◌++◌, Bool, true, false, nat_eq, List, Option, Some, None, refl, sym, subst, ap, ◌∙◌, inl, inr}
+use Rattle.std.proofs.lemmas.Bool.{eq-eqb, eqb-true}
 use Rattle.snb_base.specs.Outbox.{Written, joined}
-use Rattle.snb_base.specs.Shelf.{Files, Rose}
-use Rattle.snb_input.specs.Files.{held_in}
-use Rattle.snb_input.specs.Walk.{Held, IsHeldTold}
+use Rattle.snb_base.specs.Shelf.{Counts, Files, HasCounted, IsRead, Rose}
+use Rattle.snb_input_files.specs.Files.{held_in}
+use Rattle.snb_input_files.specs.Walk.{Held, IsHeldTold}
 use Rattle.snb_schema.specs.declared.refusal.Refusal.{Refusal}
 use Rattle.snb_schema.specs.Frequencies.{FrequencyTable}
-use Rattle.snb_words.specs.declared.command.Command.{Command}
-use Rattle.snb_words.specs.declared.command.Command.TheVariants.{Audit, Check, Expect, Run, Read, Trial, Validate}
-use Rattle.snb_words.specs.Commands.{IsLineOf}
-use Rattle.snb_words.specs.Laws.{WordsAreOne}
+use Rattle.snb_tool_words.specs.declared.command.Command.{Command}
+use Rattle.snb_tool_words.specs.declared.command.Command.TheVariants.{Audit, Check, Expect, Run, Read, Trial, Validate}
+use Rattle.snb_tool_words.specs.Commands.{IsLineOf}
+use Rattle.snb_tool_words.specs.Laws.{WordsAreOne}
 use Rattle.snb_tool.specs.Inputs.{at_first, Found, IsFine, IsFoundTold, IsWrong}
-use Rattle.snb_audit.specs.LogFiles.{IsLogOf}
-use Rattle.snb_case_lines.specs.declared.case.CaseAt.{CaseAt}
-use Rattle.snb_checker.specs.declared.difference.Difference.{Difference}
-use Rattle.snb_checker.specs.CasesFile.{IsTally}
-use Rattle.snb_checker.specs.Checks.{AreRight, Finds}
-use Rattle.snb_checker.specs.CheckTexts.{outcome_status, tally_status}
-use Rattle.snb_checker.specs.Laws.{FindingIsOne}
+use Rattle.snb_auditor_log.specs.LogFiles.{IsLogOf}
+use Rattle.snb_validation_cases.specs.declared.case.CaseAt.{CaseAt}
+use Rattle.snb_validation_check.specs.declared.difference.Difference.{Difference}
+use Rattle.snb_validation_check.specs.CasesFile.{IsTally}
+use Rattle.snb_validation_check.specs.Checks.{AreRight, Finds}
+use Rattle.snb_validation_check.specs.CheckTexts.{outcome_status, tally_status}
+use Rattle.snb_validation_check.specs.Laws.{FindingIsOne}
 use Rattle.snb_loader.specs.Dataset.{IsDataset}
-use Rattle.snb_audit.specs.VerdictTexts.{verdict_status}
+use Rattle.snb_auditor_log.specs.VerdictTexts.{verdict_status}
 use Rattle.snb_auditor.specs.declared.verdict.Verdict.{Verdict}
 use Rattle.snb_auditor.specs.declared.verdict.Verdict.TheVariants.{Violated, Halted, Incomplete, TooLate, Accepted}
 use Rattle.snb_auditor.specs.VerdictLaws.{AcceptedExactly, VerdictIsOne}
 use Rattle.snb_auditor.specs.Verdicts.{IsTimelyRun, IsVerdict}
 use Rattle.snb_plan.specs.Plans.{schedule_of}
-use Rattle.snb_schema.specs.declared.event.Event.{Event}
+use Rattle.snb_history.specs.declared.event.Event.{Event}
 use Rattle.snb_schema.specs.declared.row.Row.{Row}
-use Rattle.snb_schema.specs.Schedule.{Schedule}
-use Rattle.snb_schema.specs.Rules.{IsComplete, IsLegal}
+use Rattle.snb_history.specs.Schedule.{Schedule}
+use Rattle.snb_history.specs.Rules.{IsComplete, IsLegal}
 use Rattle.snb_tool.specs.Laws.{AnswersHaveStatus, AuditInShort, IsAuditInShort, IsRunInShort, IsValidateInShort, RefusalIsOne, RefusedOrNot, RunInShort, ValidateInShort}
 use Rattle.snb_tool.specs.Outcome.{IsAnswer, TellsVerdict, IsDone, IsDoneAnswer, IsJudged, IsRefused, IsRun, IsValidated}
 use Rattle.snb_tool.specs.Output.{HasBegun, HasWritten, Wrote}
-use Rattle.snb_tool.specs.Outside.{Ends, OutOfMemory, Outside, ReadFault, Whole, WriteFault}
+use Rattle.snb_tool.specs.Outside.{Ends, IsReadOnly, OutOfMemory, Outside, ReadFault, Whole, WriteFault}
 
 -- ---- statuses
 
@@ -78,6 +79,17 @@ known_low s n (inr (inl a)) b c = omega (arith, a, b, c)
 known_low s n (inr (inr (inl a))) b c = omega (arith, a, b, c)
 known_low s n (inr (inr (inr a))) b c = omega (arith, a, b, c)
 
+-- what is counted where a status is this one, and not else
+counts_at : (result status old new : ℕ) → (result ≡ status → Rose old new) → (result ≢ status → new ≡ old) → Counts (nat_eq result status) old new
+counts_at result status old new rose calm = by_test (nat_eq result status) refl
+  where
+    differ : true ≡ false → ⊥
+    differ e = cc
+
+    by_test : (b : Bool) → nat_eq result status ≡ b → Counts b old new
+    by_test true e = rose (eqb-true result status e)
+    by_test false e = calm (λ h. differ (sym (eq-eqb result status h) ∙ e))
+
 module _ (status : AnswersHaveStatus) (words : List (List ℕ)) (old new : Outside) (result : ℕ) where
   no_texts : {A : Type 0} (n : ℕ) → 4 ≤ n → HasWritten old.written new.written (IsAnswer words old.contents old.fixed result) → result ≡ n → A
   no_texts n l h e = absurd (known_low result n (status words old.contents old.fixed result h.0 h.1) e l)
@@ -89,7 +101,7 @@ module _ (status : AnswersHaveStatus) (words : List (List ℕ)) (old new : Outsi
   ends_answered (WriteFault s e r h) = inr (inr (inl e))
   ends_answered (OutOfMemory e n) = inr (inr (inr e))
 
-  pub ends_read_fault : Ends (IsAnswer words) old new result → result ≡ 4 → Rose old.read_faults new.read_faults × (new.written ≡ old.written)
+  ends_read_fault : Ends (IsAnswer words) old new result → result ≡ 4 → Rose old.read_faults new.read_faults × (new.written ≡ old.written)
   ends_read_fault (Whole h) e = no_texts 4 (omega arith) h e
   ends_read_fault (ReadFault f r n) e = (r, n)
   ends_read_fault (WriteFault s f r h) e = absurd (omega (arith, e, f))
@@ -102,11 +114,29 @@ module _ (status : AnswersHaveStatus) (words : List (List ℕ)) (old new : Outsi
   ends_cut (WriteFault s f r h) e = (r, (s, h))
   ends_cut (OutOfMemory f n) e = absurd (omega (arith, e, f))
 
-  pub ends_short : Ends (IsAnswer words) old new result → result ≡ 6 → new.written ≡ old.written
+  ends_short : Ends (IsAnswer words) old new result → result ≡ 6 → new.written ≡ old.written
   ends_short (Whole h) e = no_texts 6 (omega arith) h e
   ends_short (ReadFault f r n) e = absurd (omega (arith, e, f))
   ends_short (WriteFault s f r h) e = absurd (omega (arith, e, f))
   ends_short (OutOfMemory f n) e = n
+
+  -- after a failed read and for want of memory nothing is added to the channels
+  pub ends_unwritten : Ends (IsAnswer words) old new result → (result ≡ 4) ⊎ (result ≡ 6) → new.written ≡ old.written
+  ends_unwritten ends (inl e) = (ends_read_fault ends e).1
+  ends_unwritten ends (inr e) = ends_short ends e
+
+  -- what the call does to the shelf, and what it counts of the outbox
+  pub ends_read : Ends (IsAnswer words) old new result → IsReadOnly old.contents old.read_faults new.contents new.read_faults → (result ≢ 4 → new.read_faults ≡ old.read_faults)
+      → IsRead (nat_eq result 4) old.contents old.read_faults new.contents new.read_faults
+  ends_read ends only calm = record {
+    same = only.0;
+    later = only.1;
+    told = counts_at result 4 old.read_faults new.read_faults (λ e. (ends_read_fault ends e).0) calm;
+  }
+
+  pub ends_counted : Ends (IsAnswer words) old new result → old.write_faults ≤ new.write_faults → (result ≢ 5 → new.write_faults ≡ old.write_faults)
+      → HasCounted (nat_eq result 5) old.write_faults new.write_faults
+  ends_counted ends later calm = record { later = later; told = counts_at result 5 old.write_faults new.write_faults (λ e. (ends_cut ends e).0) calm }
 
 -- ---- completeness
 

@@ -16,16 +16,16 @@ use Rattle.snb_schema.specs.ParameterLines.{IsParams, query_columns, query_value
 use Rattle.snb_schema.specs.Queries.{number_of_query}
 use Rattle.snb_schema.specs.QueryLists.{QueryLists, list_of}
 use Rattle.snb_schema.specs.ScreenTexts.{refusal_text}
-use Rattle.snb_lines.specs.Files.{AreEach}
+use Rattle.snb_input_lines.specs.Files.{AreEach}
 use Rattle.snb_streams.specs.FileLaws.{ParamsFiles}
-use Rattle.snb_input.specs.declared.load.Load.TheVariants.{Refused}
-use Rattle.snb_input.specs.Walk.{Before, Held}
+use Rattle.snb_input_files.specs.declared.load.Load.TheVariants.{Refused}
+use Rattle.snb_input_files.specs.Walk.{Before, Held}
 use Rattle.snb_loader.specs.Params.{AreParams}
 use Rattle.snb_plan.specs.Plans.{IsOfStreams, IsRead, IsUpdate, Operation, Plan, first_t, queries_in, query_from}
-use Rattle.snb_tables.proofs.Laws.{chosen_from}
-use Rattle.snb_words.specs.declared.command.Command.TheVariants.{Expect}
-use Rattle.snb_expect.specs.CaseTexts.{count_text}
-use Rattle.snb_expect.specs.Expected.{HasExpected, HasWords, HaveWords}
+use Rattle.snb_graph_model.proofs.Laws.{chosen_from}
+use Rattle.snb_tool_words.specs.declared.command.Command.TheVariants.{Expect}
+use Rattle.snb_validation_expect.specs.CaseTexts.{count_text}
+use Rattle.snb_validation_expect.specs.Expected.{HasExpected, HasWords, HaveWords}
 use Rattle.snb_tool.specs.declared.input.Input.{Input}
 use Rattle.snb_tool.specs.Endings.{AreCasesOf, IsInputAnswer}
 use Rattle.snb_tool.specs.Inputs.{ArePlanned, after_streams}

@@ -1,17 +1,17 @@
 -- Facts on what a folder is refused for, and on what is read of it.
-use Rattle.std.proofs.Common.{◌≡◌, ℕ, ◌<◌, ◌≤◌, List, [], ◌∷◌, ◌++◌, Option, None, Some, Result, Ok, Err, Vec, refl, inl, inr, sym, subst, ap, ◌∙◌, arith}
+use Rattle.std.proofs.Common.{◌≡◌, ℕ, false, ◌<◌, ◌≤◌, List, [], ◌∷◌, ◌++◌, Option, None, Some, Result, Ok, Err, Vec, refl, inl, inr, sym, subst, ap, ◌∙◌, arith}
 use Rattle.std.specs.declared.alloc.Global.{Global}
 use Rattle.std.specs.Result.{IfOk}
 use Rattle.snb_base.specs.Shelf.{Files}
-use Rattle.snb_input.specs.declared.load.Load.{Load}
-use Rattle.snb_input.specs.declared.load.Load.TheVariants.{Refused, ReadFault, Memory}
-use Rattle.snb_input.specs.declared.load.Used.{Used}
-use Rattle.snb_input.specs.FirstOf.{FirstOf, NoneOf}
-use Rattle.snb_input.specs.Laws.{StagesJoin}
-use Rattle.snb_input.specs.Loading.{IsTold, OnReadFault}
-use Rattle.snb_input.specs.Stages.{before}
-use Rattle.snb_input.specs.Walk.{Before, Held, IsHeldTold}
-use Rattle.snb_input.proofs.Laws.{first_anyway, first_later, none_append}
+use Rattle.snb_input_files.specs.declared.load.Load.{Load}
+use Rattle.snb_input_files.specs.declared.load.Load.TheVariants.{Refused, ReadFault, Memory}
+use Rattle.snb_input_files.specs.declared.load.Used.{Used}
+use Rattle.snb_base.specs.FirstOf.{FirstOf, NoneOf}
+use Rattle.snb_input_files.specs.Laws.{StagesJoin}
+use Rattle.snb_input_files.specs.Loading.{IsTold, is_read_fault}
+use Rattle.snb_input_files.specs.Stages.{before}
+use Rattle.snb_input_files.specs.Walk.{Before, Held, IsHeldTold}
+use Rattle.snb_input_files.proofs.Laws.{first_anyway, first_later, none_append}
 use Rattle.snb_loader.specs.Dataset.{IsDataset, IsDatasetAnswer, after_tables, dataset_checks}
 use Rattle.snb_loader.specs.Lanes.{AreLanes, IsLanesAnswer, after_lanes, lane_checks, next_stage}
 use Rattle.snb_loader.specs.Laws.{DatasetIsOne, DatasetRefusesOnce, LanesAreOne, LanesRefuseOnce, ParamsAreOne, ParamsRefuseOnce, RefuseOnce}
@@ -30,20 +30,20 @@ use Rattle.snb_schema.specs.declared.row.Row.{Row}
 use Rattle.snb_schema.specs.Frequencies.{FrequencyTable}
 use Rattle.snb_schema.specs.LineLanes.{LineLanes, update_count}
 use Rattle.snb_schema.specs.QueryLists.{QueryLists}
-use Rattle.snb_tables.specs.Graphs.{HoldsKey}
-use Rattle.snb_tables.specs.Soundness.{Sound}
-use Rattle.snb_words.specs.declared.command.Command.{Command}
-use Rattle.snb_words.specs.declared.command.Command.TheVariants.{Audit, Check, Expect, Run, Read, Trial, Validate}
+use Rattle.snb_graph_model.specs.Graphs.{HoldsKey}
+use Rattle.snb_graph_model.specs.Soundness.{Sound}
+use Rattle.snb_tool_words.specs.declared.command.Command.{Command}
+use Rattle.snb_tool_words.specs.declared.command.Command.TheVariants.{Audit, Check, Expect, Run, Read, Trial, Validate}
 use Rattle.snb_tool.specs.declared.input.Input.{Input}
-use Rattle.snb_audit.specs.Audited.{IsAuditAnswer}
-use Rattle.snb_audit.specs.LogFiles.{log_checks}
+use Rattle.snb_auditor_log.specs.Audited.{IsAuditAnswer}
+use Rattle.snb_auditor_log.specs.LogFiles.{log_checks}
 use Rattle.snb_auditor.specs.declared.verdict.Verdict.{Verdict}
 use Rattle.snb_auditor.specs.Verdicts.{IsVerdict}
 use Rattle.snb_plan.specs.Plans.{schedule_of}
-use Rattle.snb_schema.specs.Schedule.{Schedule}
-use Rattle.snb_checker.specs.declared.text.Tally.{Tally}
-use Rattle.snb_checker.specs.CasesFile.{IsCasesAnswer, cases_checks}
-use Rattle.snb_checker.specs.Laws.{CasesRefuseOnce, CasesRefusedOrNot}
+use Rattle.snb_history.specs.Schedule.{Schedule}
+use Rattle.snb_validation_check.specs.declared.text.Tally.{Tally}
+use Rattle.snb_validation_check.specs.CasesFile.{IsCasesAnswer, cases_checks}
+use Rattle.snb_validation_check.specs.Laws.{CasesRefuseOnce, CasesRefusedOrNot}
 use Rattle.snb_tool.specs.Endings.{IsTallyAnswer, IsInputAnswer, IsJudgedAnswer, IsMade, IsMadeAnswer, IsOpen, IsReplyAnswer, IsReplyLine}
 use Rattle.snb_tool.specs.Inputs.{AreBadCases, ArePlanned, AreTooMany, Found, IsNotClosed, after_dataset, after_streams, at_first, checks_of, plan_checks}
 
@@ -341,11 +341,11 @@ module _ (graph : List Row) (lanes : LineLanes) (lists : QueryLists) (table : Fr
   made_sound (Ok input) h sound = subst Sound (sym h.same) sound
   made_sound (Err load) h sound = tt
 
-  pub made_fault : (result : Result Input Load) (F : Type 0) → IsMadeAnswer graph lanes lists table ratio result → OnReadFault result F
-  made_fault (Ok input) F h = tt
-  made_fault (Err (Refused r)) F h = tt
-  made_fault (Err ReadFault) F h = absurd h
-  made_fault (Err Memory) F h = tt
+  pub made_well : (result : Result Input Load) → IsMadeAnswer graph lanes lists table ratio result → is_read_fault result ≡ false
+  made_well (Ok input) h = refl
+  made_well (Err (Refused r)) h = refl
+  made_well (Err ReadFault) h = absurd h
+  made_well (Err Memory) h = refl
 
 -- ---- of `read`
 

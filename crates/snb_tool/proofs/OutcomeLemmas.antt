@@ -6,32 +6,32 @@ use Rattle.std.specs.declared.alloc.Global.{Global}
 use Rattle.snb_base.specs.Outbox.{Rooms, Written}
 use Rattle.snb_base.specs.Shelf.{Files, Rose}
 use Rattle.snb_runlog.specs.Writing.{AreTimed}
-use Rattle.snb_schema.specs.declared.event.Event.{Event}
+use Rattle.snb_history.specs.declared.event.Event.{Event}
 use Rattle.snb_schema.specs.declared.limits.TheConstants.{MAX_AT}
 use Rattle.snb_schema.specs.declared.query.Query.{Query}
 use Rattle.snb_schema.specs.declared.refusal.Refusal.{Refusal}
-use Rattle.snb_input.specs.declared.load.Load.TheVariants.{Refused}
-use Rattle.snb_input.specs.Loading.{IsTold}
+use Rattle.snb_input_files.specs.declared.load.Load.TheVariants.{Refused}
+use Rattle.snb_input_files.specs.Loading.{IsTold}
 use Rattle.std.specs.Prelude.{IfSome}
 use Rattle.snb_schema.specs.declared.row.Row.{Row}
 use Rattle.snb_schema.specs.Frequencies.{FrequencyTable}
-use Rattle.snb_schema.specs.History.{moment}
-use Rattle.snb_schema.specs.RunTexts.{log_text}
+use Rattle.snb_history.specs.History.{moment}
+use Rattle.snb_history.specs.RunTexts.{log_text}
 use Rattle.snb_schema.specs.ScreenTexts.{refusal_text, summary_text}
-use Rattle.snb_tables.specs.FinalText.{final_text}
-use Rattle.snb_tables.specs.Graphs.{HasGained}
+use Rattle.snb_graph_model.specs.FinalText.{final_text}
+use Rattle.snb_graph_model.specs.Graphs.{HasGained}
 use Rattle.snb_plan.specs.Plans.{Plan, queries_in, updates_in}
-use Rattle.snb_replay.specs.Replay.{all_rows}
-use Rattle.snb_texts.specs.Answers.{answers_text}
-use Rattle.snb_words.specs.declared.command.Command.TheVariants.{Audit, Check, Run, Read, Trial, Validate}
+use Rattle.snb_workers_replay.specs.Replay.{all_rows}
+use Rattle.snb_tool_texts.specs.Answers.{answers_text}
+use Rattle.snb_tool_words.specs.declared.command.Command.TheVariants.{Audit, Check, Run, Read, Trial, Validate}
 use Rattle.snb_workers.specs.declared.done.Answered.{Answered}
 use Rattle.snb_workers.specs.declared.run.Outcome.{Outcome}
 use Rattle.snb_workers.specs.Runs.{HasRun}
 use Rattle.snb_tool.specs.declared.input.Input.{Input}
 use Rattle.snb_auditor.specs.declared.verdict.Verdict.{Verdict}
-use Rattle.snb_audit.specs.VerdictTexts.{verdict_status, verdict_text}
-use Rattle.snb_checker.specs.declared.text.Tally.{Tally}
-use Rattle.snb_checker.specs.CheckTexts.{tally_status, tally_text}
+use Rattle.snb_auditor_log.specs.VerdictTexts.{verdict_status, verdict_text}
+use Rattle.snb_validation_check.specs.declared.text.Tally.{Tally}
+use Rattle.snb_validation_check.specs.CheckTexts.{tally_status, tally_text}
 use Rattle.snb_tool.specs.Endings.{AreTexts, IsInputAnswer, IsJudgedAnswer, IsReplyAnswer, IsTallyAnswer, IsTrialInput, Shows}
 use Rattle.snb_tool.specs.Outcome.{IsCommandAnswer, IsLeft, check_of}
 use Rattle.snb_tool.specs.Output.{Fit, HasBegun, IsWrittenSoFar, Wrote, on_screen}

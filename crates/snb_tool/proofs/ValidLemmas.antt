@@ -5,22 +5,22 @@ use Rattle.snb_base.specs.Shelf.{Files}
 use Rattle.snb_schema.specs.declared.limits.TheConstants.{MAX_BYTES}
 use Rattle.snb_schema.specs.declared.row.Row.{Row}
 use Rattle.snb_schema.specs.Frequencies.{FrequencyTable}
-use Rattle.snb_input.specs.Files.{held_in}
-use Rattle.snb_input.specs.FirstOf.{NoneOf}
-use Rattle.snb_input.specs.Walk.{Held}
-use Rattle.snb_input.proofs.Laws.{none_append}
+use Rattle.snb_input_files.specs.Files.{held_in}
+use Rattle.snb_base.specs.FirstOf.{NoneOf}
+use Rattle.snb_input_files.specs.Walk.{Held}
+use Rattle.snb_input_files.proofs.Laws.{none_append}
 use Rattle.snb_loader.specs.Dataset.{IsDataset, dataset_checks}
 use Rattle.snb_loader.specs.Laws.{DatasetIsOne}
-use Rattle.snb_checker.specs.CasesFile.{IsTally}
-use Rattle.snb_checker.specs.CheckTexts.{tally_status}
-use Rattle.snb_checker.specs.Laws.{CasesRefusedOrNot, TallyIsOne}
-use Rattle.snb_expect.specs.CaseTexts.{cases_text}
-use Rattle.snb_expect_laws.specs.Laws.{ExpectedAreRight}
+use Rattle.snb_validation_check.specs.CasesFile.{IsTally}
+use Rattle.snb_validation_check.specs.CheckTexts.{tally_status}
+use Rattle.snb_validation_check.specs.Laws.{CasesRefusedOrNot, TallyIsOne}
+use Rattle.snb_validation_expect.specs.CaseTexts.{cases_text}
+use Rattle.snb_validation_expect.specs.Laws.{ExpectedAreRight}
 use Rattle.snb_plan.specs.Plans.{queries_in}
-use Rattle.snb_words.specs.declared.command.Command.{Command}
-use Rattle.snb_words.specs.declared.command.Command.TheVariants.{Expect, Validate}
-use Rattle.snb_words.specs.Commands.{IsLineOf}
-use Rattle.snb_words.specs.Laws.{WordsAreOne}
+use Rattle.snb_tool_words.specs.declared.command.Command.{Command}
+use Rattle.snb_tool_words.specs.declared.command.Command.TheVariants.{Expect, Validate}
+use Rattle.snb_tool_words.specs.Commands.{IsLineOf}
+use Rattle.snb_tool_words.specs.Laws.{WordsAreOne}
 use Rattle.snb_tool.specs.Inputs.{AreBadCases, Found, IsFine, IsFoundTold, at_first, checks_of}
 use Rattle.snb_tool.specs.Laws.{ExpectInShort, ExpectedIsValid, RefusedOrNot}
 use Rattle.snb_tool.specs.Outcome.{IsAnswer, IsDone, IsExpected, IsValidated}

@@ -8,7 +8,7 @@ use Rattle.std.proofs.lemmas.List.Concat.{flat_map-append}
 use Rattle.snb_base.specs.declared.outbox.Channel.{Channel}
 use Rattle.snb_base.specs.declared.outbox.Channel.TheVariants.{Screen, Log, Answers, Final, Cases}
 use Rattle.snb_base.specs.Outbox.{Rooms, Written, nothing, appended, joined, room_of, with_room}
-use Rattle.snb_texts.specs.Answers.{bytes_in}
+use Rattle.snb_tool_texts.specs.Answers.{bytes_in}
 use Rattle.snb_tool.specs.Output.{IsPrefix, IsWrittenSoFar, on_screen}
 
 -- another number for one channel is that of the channel

@@ -1,18 +1,18 @@
 -- How the parts of a call end. Cited by contracts of private functions alone.
 use Rattle.std.specs.Prelude.{◌≡◌, ℕ, ◌<◌, ◌≤◌, ◌⊎◌, List, [], ◌∷◌, ◌++◌, length, Option, Result, Ok, Err, Vec}
 use Rattle.std.specs.declared.alloc.Global.{Global}
-use Rattle.snb_audit.specs.LogFiles.{log_checks}
+use Rattle.snb_auditor_log.specs.LogFiles.{log_checks}
 use Rattle.snb_auditor.specs.declared.verdict.Verdict.{Verdict}
 use Rattle.snb_base.specs.Outbox.{Rooms, Written}
 use Rattle.snb_base.specs.Shelf.{Files}
-use Rattle.snb_input.specs.FirstOf.{FirstOf, NoneOf}
-use Rattle.snb_input.specs.Loading.{IsTold}
-use Rattle.snb_input.specs.Walk.{Held, IsHeldTold}
-use Rattle.snb_input.specs.declared.load.Load.{Load}
-use Rattle.snb_input.specs.declared.load.Load.TheVariants.{Refused, ReadFault, Memory}
+use Rattle.snb_base.specs.FirstOf.{FirstOf, NoneOf}
+use Rattle.snb_input_files.specs.Loading.{IsTold}
+use Rattle.snb_input_files.specs.Walk.{Held, IsHeldTold}
+use Rattle.snb_input_files.specs.declared.load.Load.{Load}
+use Rattle.snb_input_files.specs.declared.load.Load.TheVariants.{Refused, ReadFault, Memory}
 use Rattle.snb_loader.specs.Dataset.{IsDataset, dataset_checks}
-use Rattle.snb_reads.specs.declared.cell.Cell.{Cell}
-use Rattle.snb_reads.specs.Replies.{IsReply}
+use Rattle.snb_read_model.specs.declared.cell.Cell.{Cell}
+use Rattle.snb_read_model.specs.Replies.{IsReply}
 use Rattle.snb_schema.specs.declared.limits.TheConstants.{MAX_READS}
 use Rattle.snb_schema.specs.declared.query.Query.{Query}
 use Rattle.snb_schema.specs.declared.refusal.Counted.TheVariants.{Reads}
@@ -22,11 +22,11 @@ use Rattle.snb_schema.specs.declared.row.Row.{Row}
 use Rattle.snb_schema.specs.Frequencies.{FrequencyTable}
 use Rattle.snb_schema.specs.LineLanes.{LineLanes, update_count}
 use Rattle.snb_schema.specs.QueryLists.{QueryLists}
-use Rattle.snb_schema.specs.RunTexts.{log_text}
+use Rattle.snb_history.specs.RunTexts.{log_text}
 use Rattle.snb_schema.specs.ScreenTexts.{summary_text}
-use Rattle.snb_tables.specs.FinalText.{final_text}
-use Rattle.snb_tables.specs.Graphs.{HoldsKey}
-use Rattle.snb_texts.specs.Answers.{answers_text, bytes_in}
+use Rattle.snb_graph_model.specs.FinalText.{final_text}
+use Rattle.snb_graph_model.specs.Graphs.{HoldsKey}
+use Rattle.snb_tool_texts.specs.Answers.{answers_text, bytes_in}
 use Rattle.snb_plan.specs.declared.plan.PlanFault.{PlanFault}
 use Rattle.snb_plan.specs.declared.plan.PlanFault.TheVariants as plan_faults
 use Rattle.snb_plan.specs.Closed.{IsClosed, IsFirstWrong}
@@ -34,11 +34,11 @@ use Rattle.snb_plan.specs.Plans.{IsOfStreams, IsPlan, Plan, queries_in, read_cou
 use Rattle.snb_workers.specs.declared.run.Outcome.{Outcome as RunOutcome}
 use Rattle.snb_tool.specs.declared.deliver.Output.{Output}
 use Rattle.snb_tool.specs.declared.input.Input.{Input}
-use Rattle.snb_case_lines.specs.declared.case.Case.{Case}
-use Rattle.snb_checker.specs.declared.text.Tally.{Tally}
-use Rattle.snb_expect.specs.Expected.{AreExpected, AreReadBack, HaveWords}
-use Rattle.snb_checker.specs.CasesFile.{IsTally}
-use Rattle.snb_tables.specs.Soundness.{Sound}
+use Rattle.snb_validation_cases.specs.declared.case.Case.{Case}
+use Rattle.snb_validation_check.specs.declared.text.Tally.{Tally}
+use Rattle.snb_validation_expect.specs.Expected.{AreExpected, AreReadBack, HaveWords}
+use Rattle.snb_validation_check.specs.CasesFile.{IsTally}
+use Rattle.snb_graph_model.specs.Soundness.{Sound}
 use Rattle.snb_trial.specs.Trial.{dataset, lanes, least_ratio, lists, read_frequencies}
 use Rattle.snb_tool.specs.Inputs.{AreBadCases, IsInput, at_first, plan_checks}
 use Rattle.snb_tool.specs.Outcome.{IsJudged, expected_texts, reply_line}

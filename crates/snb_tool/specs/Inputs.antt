@@ -1,10 +1,10 @@
 -- What each command tries of its files, in order.
 use Rattle.std.specs.Prelude.{◌≡◌, ℕ, ◌<◌, List, [], ◌∷◌, ◌++◌, Option, IfSome}
 use Rattle.snb_base.specs.Shelf.{Files}
-use Rattle.snb_audit.specs.LogFiles.{log_checks}
-use Rattle.snb_checker.specs.CasesFile.{cases_checks}
-use Rattle.snb_input.specs.FirstOf.{FirstOf, NoneOf}
-use Rattle.snb_input.specs.Walk.{Before, Held, IsHeldTold}
+use Rattle.snb_auditor_log.specs.LogFiles.{log_checks}
+use Rattle.snb_validation_check.specs.CasesFile.{cases_checks}
+use Rattle.snb_base.specs.FirstOf.{FirstOf, NoneOf}
+use Rattle.snb_input_files.specs.Walk.{Before, Held, IsHeldTold}
 use Rattle.snb_loader.specs.Dataset.{IsDataset, after_tables, dataset_checks}
 use Rattle.snb_loader.specs.Lanes.{AreLanes, after_lanes, lane_checks, next_stage}
 use Rattle.snb_loader.specs.Params.{AreParams, params_checks}
@@ -18,10 +18,10 @@ use Rattle.snb_schema.specs.declared.row.Row.{Row}
 use Rattle.snb_schema.specs.Frequencies.{FrequencyTable}
 use Rattle.snb_schema.specs.LineLanes.{LineLanes, update_count}
 use Rattle.snb_schema.specs.QueryLists.{QueryLists}
-use Rattle.snb_tables.specs.Graphs.{HoldsKey}
-use Rattle.snb_words.specs.declared.command.Command.{Command}
-use Rattle.snb_words.specs.declared.command.Command.TheVariants.{Audit, Check, Expect, Run, Read, Trial, Validate}
-use Rattle.snb_words.specs.Commands.{beside_of, folder_of}
+use Rattle.snb_graph_model.specs.Graphs.{HoldsKey}
+use Rattle.snb_tool_words.specs.declared.command.Command.{Command}
+use Rattle.snb_tool_words.specs.declared.command.Command.TheVariants.{Audit, Check, Expect, Run, Read, Trial, Validate}
+use Rattle.snb_tool_words.specs.Commands.{beside_of, folder_of}
 
 -- before the first file nothing is read
 abbrev pub at_first : Before

@@ -1,38 +1,38 @@
 -- Laws of what the commands answer.
 use Rattle.std.specs.Prelude.{◌≡◌, ◌≤◌, ℕ, ◌⊎◌, ◌↔◌, ◌++◌, List, length, Option, Some}
-use Rattle.snb_audit.specs.LogFiles.{IsLogOf}
-use Rattle.snb_audit.specs.VerdictTexts.{verdict_text}
+use Rattle.snb_auditor_log.specs.LogFiles.{IsLogOf}
+use Rattle.snb_auditor_log.specs.VerdictTexts.{verdict_text}
 use Rattle.snb_auditor.specs.declared.verdict.Verdict.{Verdict}
 use Rattle.snb_auditor.specs.Verdicts.{IsTimelyRun, IsVerdict}
 use Rattle.snb_base.specs.Outbox.{Written}
-use Rattle.snb_case_lines.specs.declared.case.Case.{Case}
-use Rattle.snb_case_lines.specs.declared.case.CaseAt.{CaseAt}
-use Rattle.snb_checker.specs.declared.text.Tally.{Tally}
-use Rattle.snb_checker.specs.CasesFile.{AreCases, IsTally}
-use Rattle.snb_checker.specs.CheckTexts.{tally_text}
-use Rattle.snb_checker.specs.Checks.{AreRight}
-use Rattle.snb_expect.specs.CaseTexts.{cases_text, count_text}
-use Rattle.snb_expect.specs.Expected.{AreExpected, AreReadBack}
+use Rattle.snb_validation_cases.specs.declared.case.Case.{Case}
+use Rattle.snb_validation_cases.specs.declared.case.CaseAt.{CaseAt}
+use Rattle.snb_validation_check.specs.declared.text.Tally.{Tally}
+use Rattle.snb_validation_check.specs.CasesFile.{AreCases, IsTally}
+use Rattle.snb_validation_check.specs.CheckTexts.{tally_text}
+use Rattle.snb_validation_check.specs.Checks.{AreRight}
+use Rattle.snb_validation_expect.specs.CaseTexts.{cases_text, count_text}
+use Rattle.snb_validation_expect.specs.Expected.{AreExpected, AreReadBack}
 use Rattle.snb_loader.specs.Dataset.{IsDataset}
 use Rattle.snb_base.specs.Shelf.{Files}
-use Rattle.snb_input.specs.Files.{held_in}
-use Rattle.snb_input.specs.FirstOf.{FirstOf, NoneOf}
+use Rattle.snb_input_files.specs.Files.{held_in}
+use Rattle.snb_base.specs.FirstOf.{FirstOf, NoneOf}
 use Rattle.snb_plan.specs.Plans.{Plan, schedule_of}
-use Rattle.snb_replay.specs.Replay.{IsFinal}
-use Rattle.snb_replay.specs.Waiting.{StaysBelow, WaitsForAll}
-use Rattle.snb_schema.specs.declared.event.Event.{Event}
+use Rattle.snb_workers_replay.specs.Replay.{IsFinal}
+use Rattle.snb_workers_replay.specs.Waiting.{StaysBelow, WaitsForAll}
+use Rattle.snb_history.specs.declared.event.Event.{Event}
 use Rattle.snb_schema.specs.declared.file.FileId.{FileId}
 use Rattle.snb_schema.specs.declared.limits.TheConstants.{MAX_BYTES}
 use Rattle.snb_schema.specs.declared.refusal.Refusal.{Refusal}
 use Rattle.snb_schema.specs.declared.row.Row.{Row}
 use Rattle.snb_schema.specs.Frequencies.{FrequencyTable}
-use Rattle.snb_schema.specs.Rules.{IsComplete, IsLegal}
-use Rattle.snb_schema.specs.RunTexts.{log_text}
-use Rattle.snb_tables.specs.FinalText.{final_text}
-use Rattle.snb_texts.specs.Answers.{answers_text}
-use Rattle.snb_words.specs.declared.command.Command.{Command}
-use Rattle.snb_words.specs.declared.command.Command.TheVariants.{Audit, Expect, Run, Validate}
-use Rattle.snb_words.specs.Commands.{IsLineOf}
+use Rattle.snb_history.specs.Rules.{IsComplete, IsLegal}
+use Rattle.snb_history.specs.RunTexts.{log_text}
+use Rattle.snb_graph_model.specs.FinalText.{final_text}
+use Rattle.snb_tool_texts.specs.Answers.{answers_text}
+use Rattle.snb_tool_words.specs.declared.command.Command.{Command}
+use Rattle.snb_tool_words.specs.declared.command.Command.TheVariants.{Audit, Expect, Run, Validate}
+use Rattle.snb_tool_words.specs.Commands.{IsLineOf}
 use Rattle.snb_workers.specs.declared.done.Answered.{Answered}
 use Rattle.snb_workers.specs.Runs.{AreReplies}
 use Rattle.snb_tool.specs.Inputs.{Found, IsFine, IsInput, at_first, checks_of}

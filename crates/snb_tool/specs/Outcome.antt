@@ -1,42 +1,42 @@
 -- What a call of the program answers and writes.
 use Rattle.std.specs.Prelude.{◌≡◌, ℕ, ◌+◌, List, [], ◌∷◌, ◌++◌, length, Option, ◌⊎◌}
 use Rattle.serde_json.specs.Written.{compact_text}
-use Rattle.snb_audit.specs.LogFiles.{IsLogOf}
-use Rattle.snb_audit.specs.VerdictTexts.{verdict_status, verdict_text}
+use Rattle.snb_auditor_log.specs.LogFiles.{IsLogOf}
+use Rattle.snb_auditor_log.specs.VerdictTexts.{verdict_status, verdict_text}
 use Rattle.snb_auditor.specs.declared.verdict.Verdict.{Verdict}
 use Rattle.snb_auditor.specs.Verdicts.{IsVerdict}
 use Rattle.snb_base.specs.Outbox.{Written}
-use Rattle.snb_case_lines.specs.declared.case.Case.{Case}
-use Rattle.snb_checker.specs.declared.text.Tally.{Tally}
-use Rattle.snb_checker.specs.CasesFile.{IsTally}
-use Rattle.snb_checker.specs.CheckTexts.{tally_status, tally_text}
+use Rattle.snb_validation_cases.specs.declared.case.Case.{Case}
+use Rattle.snb_validation_check.specs.declared.text.Tally.{Tally}
+use Rattle.snb_validation_check.specs.CasesFile.{IsTally}
+use Rattle.snb_validation_check.specs.CheckTexts.{tally_status, tally_text}
 use Rattle.snb_base.specs.Shelf.{Files}
-use Rattle.snb_input.specs.FirstOf.{FirstOf, NoneOf}
-use Rattle.snb_input.specs.Walk.{Held}
+use Rattle.snb_base.specs.FirstOf.{FirstOf, NoneOf}
+use Rattle.snb_input_files.specs.Walk.{Held}
 use Rattle.snb_loader.specs.Dataset.{IsDataset}
-use Rattle.snb_expect.specs.CaseTexts.{cases_text, count_text}
-use Rattle.snb_expect.specs.Expected.{AreExpected, AreReadBack}
+use Rattle.snb_validation_expect.specs.CaseTexts.{cases_text, count_text}
+use Rattle.snb_validation_expect.specs.Expected.{AreExpected, AreReadBack}
 use Rattle.snb_plan.specs.Plans.{IsOfStreams, IsPlan, Plan, queries_in, schedule_of, updates_in}
-use Rattle.snb_reads.specs.declared.cell.Cell.{Cell}
-use Rattle.snb_reads.specs.Replies.{IsReply}
-use Rattle.snb_replay.specs.Replay.{all_rows}
-use Rattle.snb_schema.specs.declared.event.Event.{Event}
+use Rattle.snb_read_model.specs.declared.cell.Cell.{Cell}
+use Rattle.snb_read_model.specs.Replies.{IsReply}
+use Rattle.snb_workers_replay.specs.Replay.{all_rows}
+use Rattle.snb_history.specs.declared.event.Event.{Event}
 use Rattle.snb_schema.specs.declared.query.Query.{Query}
 use Rattle.snb_schema.specs.declared.refusal.Refusal.{Refusal}
 use Rattle.snb_schema.specs.declared.row.Row.{Row}
 use Rattle.snb_schema.specs.Frequencies.{FrequencyTable}
-use Rattle.snb_schema.specs.RunTexts.{log_text}
+use Rattle.snb_history.specs.RunTexts.{log_text}
 use Rattle.snb_schema.specs.ScreenTexts.{refusal_text, summary_text, usage_text}
-use Rattle.snb_tables.specs.FinalText.{final_text}
-use Rattle.snb_texts.specs.Answers.{answers_text}
-use Rattle.snb_texts.specs.Counts.{check_text}
+use Rattle.snb_graph_model.specs.FinalText.{final_text}
+use Rattle.snb_tool_texts.specs.Answers.{answers_text}
+use Rattle.snb_tool_texts.specs.Counts.{check_text}
 use Rattle.snb_trial.specs.Trial.{dataset, lanes, least_ratio, lists, read_frequencies}
 use Rattle.snb_validation.specs.ReplyData.{reply_data}
 use Rattle.snb_workers.specs.declared.done.Answered.{Answered}
 use Rattle.snb_workers.specs.Runs.{HasRun}
-use Rattle.snb_words.specs.declared.command.Command.{Command}
-use Rattle.snb_words.specs.declared.command.Command.TheVariants.{Audit, Check, Expect, Run, Read, Trial, Validate}
-use Rattle.snb_words.specs.Commands.{IsLineOf, IsOtherLine}
+use Rattle.snb_tool_words.specs.declared.command.Command.{Command}
+use Rattle.snb_tool_words.specs.declared.command.Command.TheVariants.{Audit, Check, Expect, Run, Read, Trial, Validate}
+use Rattle.snb_tool_words.specs.Commands.{IsLineOf, IsOtherLine}
 use Rattle.snb_tool.specs.Inputs.{Found, IsFoundTold, IsInput, at_first, checks_of}
 use Rattle.snb_tool.specs.Output.{on_screen}
 

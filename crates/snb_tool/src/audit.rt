@@ -1,23 +1,22 @@
 //! The command `audit`.
 
 ghost use Rattle.std.specs.Prelude.{◌≡◌, ℕ, ◌≤◌, Option, ◌≢◌};
-ghost use Rattle.snb_base.specs.Shelf.{Rose};
-ghost use Rattle.snb_input.specs.Loading.{OnReadFault, UnlessReadFault};
-ghost use Rattle.snb_words.specs.declared.command.Command.TheVariants.{Audit};
+ghost use Rattle.snb_base.specs.Shelf.{IsRead};
+ghost use Rattle.snb_input_files.specs.Loading.{is_read_fault};
+ghost use Rattle.snb_tool_words.specs.declared.command.Command.TheVariants.{Audit};
 ghost use Rattle.snb_tool.specs.Endings.{IsJudgedAnswer};
 ghost use Rattle.snb_tool.specs.Outcome.{IsCommandAnswer};
 ghost use Rattle.snb_tool.specs.Outside.{Ends, IsReadOnly, seen};
 
 use crate::input::load_input;
 use crate::show::{refuse, show_as};
-use snb_audit::audit::audit_log;
-use snb_audit::verdict_text::{status_of, verdict_line};
-use snb_auditor::verdict::Verdict;
-use snb_base::outbox::Outbox;
-use snb_base::shelf::Shelf;
-use snb_input::load::Load;
-use snb_ratio::ratio::Ratio;
-use snb_schema::frequencies::Frequencies;
+use snb_auditor::Verdict;
+use snb_auditor_log::audit_log;
+use snb_auditor_log::verdict_text::{status_of, verdict_line};
+use snb_base::{Outbox, Shelf};
+use snb_input_files::Load;
+use snb_ratio::Ratio;
+use snb_schema::Frequencies;
 use std::alloc::Global;
 
 // Reads the tables, the streams and the parameter files of a folder, and a log, and judges the log's
@@ -31,10 +30,7 @@ fn verdict_of<S: Shelf>(
     frequencies: Frequencies,
 ) -> Result<Verdict, Load>
     ensures answer { IsJudgedAnswer (S.contents shelf.old) folder.now log.now ratio frequencies result }
-    ensures fault { OnReadFault result (Rose (S.faults shelf.old) (S.faults shelf.new)) }
-    ensures later { S.faults shelf.old ≤ S.faults shelf.new }
-    ensures calm { UnlessReadFault result (S.faults shelf.new ≡ S.faults shelf.old) }
-    ensures same { S.contents shelf.new ≡ S.contents shelf.old }
+    ensures read { IsRead (is_read_fault result) (S.contents shelf.old) (S.faults shelf.old) (S.contents shelf.new) (S.faults shelf.new) }
 {
     let input = match load_input(alloc, shelf, folder, ratio, frequencies) {
         Ok(input) => input,

@@ -1,18 +1,17 @@
 //! The command `check`.
 
 ghost use Rattle.std.specs.Prelude.{◌≡◌, ℕ, ◌≤◌, IfOk, Option, ◌≢◌};
-ghost use Rattle.snb_words.specs.declared.command.Command.TheVariants.{Check};
+ghost use Rattle.snb_tool_words.specs.declared.command.Command.TheVariants.{Check};
 ghost use Rattle.snb_tool.specs.Outcome.{IsCommandAnswer, check_of};
 ghost use Rattle.snb_tool.specs.Outside.{Ends, IsReadOnly, seen};
 
 use crate::input::{Input, load_input};
 use crate::show::{refuse, show_as};
-use snb_base::outbox::Outbox;
-use snb_base::shelf::Shelf;
-use snb_input::load::Load;
-use snb_ratio::ratio::Ratio;
-use snb_schema::frequencies::Frequencies;
-use snb_texts::counts::check_lines;
+use snb_base::{Outbox, Shelf};
+use snb_input_files::Load;
+use snb_ratio::Ratio;
+use snb_schema::Frequencies;
+use snb_tool_texts::counts::check_lines;
 use std::alloc::{AllocError, Global};
 
 // What is shown of an input, which is let go.

@@ -2,13 +2,14 @@
 
 ghost use Rattle.std.specs.Prelude.{◌≡◌, ℕ, ◌-◌, ◌<◌, ◌≤◌, length, take, OnOk, OnErr};
 ghost use Rattle.std.specs.Option.{option_map};
+ghost use Rattle.std.specs.Result.{is_err};
 ghost use Rattle.snb_base.specs.Outbox.{Rooms, Written as Bytes, appended, joined, room_of, with_room};
-ghost use Rattle.snb_base.specs.Shelf.{Rose};
-ghost use Rattle.snb_texts.specs.Answers.{bytes_in};
+ghost use Rattle.snb_base.specs.Shelf.{HasCounted};
+ghost use Rattle.snb_tool_texts.specs.Answers.{bytes_in};
 ghost use Rattle.snb_tool.specs.Output.{Fit, IsWrittenSoFar, on_screen};
 ghost use Rattle.snb_tool.specs.Endings.{bytes_of};
 
-use snb_base::outbox::{Channel, Outbox, Put};
+use snb_base::{Channel, Outbox, Put};
 
 /// The texts that a call writes.
 pub struct Output {
@@ -39,9 +40,7 @@ pub struct WriteFault;
 fn write_all<O: Outbox>(out: &mut O, channel: Channel, bytes: &[u8]) -> Result<(), WriteFault>
     ensures ok { OnOk result (O.written out.new ≡ option_map (λ w. appended w channel bytes.now) (O.written out.old)) }
     ensures err { OnErr result ((n : ℕ) × (n < length bytes.now) × (O.written out.new ≡ option_map (λ w. appended w channel (take n bytes.now)) (O.written out.old))) }
-    ensures failed { OnErr result (Rose (O.faults out.old) (O.faults out.new)) }
-    ensures later { O.faults out.old ≤ O.faults out.new }
-    ensures calm { OnOk result (O.faults out.new ≡ O.faults out.old) }
+    ensures counted { HasCounted (is_err result) (O.faults out.old) (O.faults out.new) }
     ensures sure { (rooms : Rooms) → O.ready out.old rooms → length bytes.now ≤ room_of rooms channel → OnErr result ⊥ }
     ensures left { OnOk result ((rooms : Rooms) → O.ready out.old rooms → length bytes.now ≤ room_of rooms channel
         → O.ready out.new (with_room rooms channel (room_of rooms channel - length bytes.now))) }
@@ -64,9 +63,7 @@ fn write_each<O: Outbox>(
 ) -> Result<(), WriteFault>
     ensures ok { OnOk result (O.written out.new ≡ option_map (λ w. appended w channel (bytes_in pieces.now)) (O.written out.old)) }
     ensures err { OnErr result ((n : ℕ) × (n < length (bytes_in pieces.now)) × (O.written out.new ≡ option_map (λ w. appended w channel (take n (bytes_in pieces.now))) (O.written out.old))) }
-    ensures failed { OnErr result (Rose (O.faults out.old) (O.faults out.new)) }
-    ensures later { O.faults out.old ≤ O.faults out.new }
-    ensures calm { OnOk result (O.faults out.new ≡ O.faults out.old) }
+    ensures counted { HasCounted (is_err result) (O.faults out.old) (O.faults out.new) }
     ensures sure { (rooms : Rooms) → O.ready out.old rooms → length (bytes_in pieces.now) ≤ room_of rooms channel → OnErr result ⊥ }
     ensures left { OnOk result ((rooms : Rooms) → O.ready out.old rooms → length (bytes_in pieces.now) ≤ room_of rooms channel
         → O.ready out.new (with_room rooms channel (room_of rooms channel - length (bytes_in pieces.now)))) }
@@ -84,9 +81,7 @@ fn write_each<O: Outbox>(
 pub fn deliver<O: Outbox>(out: &mut O, output: &Output) -> Result<(), WriteFault>
     ensures ok { OnOk result (O.written out.new ≡ option_map (λ w. joined w (bytes_of output.now)) (O.written out.old)) }
     ensures err { OnErr result ((part : Bytes) × IsWrittenSoFar part (bytes_of output.now) × (O.written out.new ≡ option_map (λ w. joined w part) (O.written out.old))) }
-    ensures failed { OnErr result (Rose (O.faults out.old) (O.faults out.new)) }
-    ensures later { O.faults out.old ≤ O.faults out.new }
-    ensures calm { OnOk result (O.faults out.new ≡ O.faults out.old) }
+    ensures counted { HasCounted (is_err result) (O.faults out.old) (O.faults out.new) }
     ensures sure { (rooms : Rooms) → O.ready out.old rooms → Fit (bytes_of output.now) rooms → OnErr result ⊥ }
 {
     if let Err(fault) = write_all(out, Channel::Log, &output.log) {
@@ -108,9 +103,7 @@ pub fn deliver<O: Outbox>(out: &mut O, output: &Output) -> Result<(), WriteFault
 pub fn show<O: Outbox>(out: &mut O, text: &[u8]) -> Result<(), WriteFault>
     ensures ok { OnOk result (O.written out.new ≡ option_map (λ w. joined w (on_screen text.now)) (O.written out.old)) }
     ensures err { OnErr result ((part : Bytes) × IsWrittenSoFar part (on_screen text.now) × (O.written out.new ≡ option_map (λ w. joined w part) (O.written out.old))) }
-    ensures failed { OnErr result (Rose (O.faults out.old) (O.faults out.new)) }
-    ensures later { O.faults out.old ≤ O.faults out.new }
-    ensures calm { OnOk result (O.faults out.new ≡ O.faults out.old) }
+    ensures counted { HasCounted (is_err result) (O.faults out.old) (O.faults out.new) }
     ensures sure { (rooms : Rooms) → O.ready out.old rooms → Fit (on_screen text.now) rooms → OnErr result ⊥ }
 {
     write_all(out, Channel::Screen, text)

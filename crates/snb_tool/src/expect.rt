@@ -3,9 +3,9 @@
 ghost use Rattle.std.specs.Prelude.{◌≡◌, ℕ, ◌≤◌, IfOk, Option, ◌≢◌};
 ghost use Rattle.snb_plan.specs.Closed.{IsClosed};
 ghost use Rattle.snb_plan.specs.Plans.{updates_in};
-ghost use Rattle.snb_tables.specs.Graphs.{HoldsKey};
-ghost use Rattle.snb_tables.specs.Soundness.{Sound};
-ghost use Rattle.snb_words.specs.declared.command.Command.TheVariants.{Expect};
+ghost use Rattle.snb_graph_model.specs.Graphs.{HoldsKey};
+ghost use Rattle.snb_graph_model.specs.Soundness.{Sound};
+ghost use Rattle.snb_tool_words.specs.declared.command.Command.TheVariants.{Expect};
 ghost use Rattle.snb_tool.specs.Endings.{AreCasesOf, bytes_of};
 ghost use Rattle.snb_tool.specs.Outcome.{IsCommandAnswer};
 ghost use Rattle.snb_tool.specs.Outside.{Ends, IsReadOnly, seen};
@@ -13,14 +13,13 @@ ghost use Rattle.snb_tool.specs.Outside.{Ends, IsReadOnly, seen};
 use crate::deliver::{Output, deliver};
 use crate::input::{Input, load_input};
 use crate::show::refuse;
-use snb_base::outbox::Outbox;
-use snb_base::shelf::Shelf;
-use snb_expect::counts::count_line;
-use snb_expect::expect::expect as put_cases;
-use snb_input::load::Load;
-use snb_ratio::ratio::Ratio;
-use snb_schema::frequencies::Frequencies;
+use snb_base::{Outbox, Shelf};
+use snb_input_files::Load;
+use snb_ratio::Ratio;
+use snb_schema::Frequencies;
 use snb_streams::files_law::params_files;
+use snb_validation_expect::counts::count_line;
+use snb_validation_expect::expect::expect as put_cases;
 use std::alloc::{AllocError, Global};
 
 // The texts of the cases of an input's plan over its dataset.

@@ -1,32 +1,28 @@
 //! The dataset of a folder, and the plan of its streams and parameter files.
 
 ghost use Rattle.std.specs.Prelude.{◌≡◌, ◌≤◌, IfOk};
-ghost use Rattle.snb_base.specs.Shelf.{Rose};
-ghost use Rattle.snb_input.specs.Loading.{OnReadFault, UnlessReadFault};
+ghost use Rattle.snb_base.specs.Shelf.{IsRead};
+ghost use Rattle.snb_input_files.specs.Loading.{is_read_fault};
 ghost use Rattle.snb_plan.specs.Closed.{IsClosed, IsFirstWrong};
 ghost use Rattle.snb_plan.specs.Plans.{OnRefused, updates_in};
 ghost use Rattle.snb_schema.specs.declared.limits.TheConstants.{MAX_ROWS};
 ghost use Rattle.snb_schema.specs.LineLanes.{update_count};
 ghost use Rattle.snb_schema.specs.QueryLists.{HaveParameters};
 ghost use Rattle.snb_schema.specs.StreamLines.{AreOfStreams};
-ghost use Rattle.snb_tables.specs.Graphs.{HoldsKey};
-ghost use Rattle.snb_tables.specs.Soundness.{Sound};
+ghost use Rattle.snb_graph_model.specs.Graphs.{HoldsKey};
+ghost use Rattle.snb_graph_model.specs.Soundness.{Sound};
 ghost use Rattle.snb_tool.specs.Endings.{IsInputAnswer, IsMadeAnswer, load_for};
 
-use snb_base::shelf::Shelf;
-use snb_graph::graph::Graph;
-use snb_input::law::stages_join;
-use snb_input::load::{Load, Used};
-use snb_loader::dataset::load_dataset;
-use snb_loader::lanes::load_lanes;
+use snb_base::Shelf;
+use snb_graph::Graph;
+use snb_input_files::law::stages_join;
+use snb_input_files::{Load, Used};
 use snb_loader::law::{one_dataset, one_lanes, one_params};
-use snb_loader::params::load_params;
+use snb_loader::{load_dataset, load_lanes, load_params};
 use snb_plan::law::plan_is_one;
-use snb_plan::plan::{Plan, PlanFault};
-use snb_ratio::ratio::Ratio;
-use snb_schema::frequencies::Frequencies;
-use snb_schema::lanes::Lanes;
-use snb_schema::lists::Lists;
+use snb_plan::{Plan, PlanFault};
+use snb_ratio::Ratio;
+use snb_schema::{Frequencies, Lanes, Lists};
 use std::alloc::Global;
 
 /// A dataset, and a plan that is closed over it.
@@ -108,10 +104,7 @@ pub fn load_input<S: Shelf>(
     ensures answer { IsInputAnswer (S.contents shelf.old) folder.now ratio frequencies result }
     ensures closed { IfOk result (λ i. IsClosed (HoldsKey i.graph) (updates_in i.plan)) }
     ensures sound { IfOk result (λ i. Sound i.graph) }
-    ensures fault { OnReadFault result (Rose (S.faults shelf.old) (S.faults shelf.new)) }
-    ensures later { S.faults shelf.old ≤ S.faults shelf.new }
-    ensures calm { UnlessReadFault result (S.faults shelf.new ≡ S.faults shelf.old) }
-    ensures same { S.contents shelf.new ≡ S.contents shelf.old }
+    ensures read { IsRead (is_read_fault result) (S.contents shelf.old) (S.faults shelf.old) (S.contents shelf.new) (S.faults shelf.new) }
 {
     stages_join();
     one_dataset();

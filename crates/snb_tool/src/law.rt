@@ -2,13 +2,13 @@
 
 ghost use Rattle.snb_tool.specs.Laws.{AnswersHaveStatus, AuditInShort, ExpectInShort, ExpectedIsValid, RefusalIsOne, RefusedOrNot, RunInShort, ValidateInShort};
 
-use snb_audit::law::one_log_refusal;
 use snb_auditor::law::{accepted_exactly, verdict_is_one};
-use snb_checker::law::one_cases_refusal;
-use snb_expect_laws::law::expected_cases_are_right;
+use snb_auditor_log::law::one_log_refusal;
 use snb_loader::law::{one_dataset, one_lanes, one_params};
 use snb_plan::law::plan_is_one;
-use snb_words::law::one_command;
+use snb_tool_words::law::one_command;
+use snb_validation_check::law::one_cases_refusal;
+use snb_validation_expect::law::expected_cases_are_right;
 
 /// What a command finds is refused for one thing at most, and then something is wrong with it.
 pub fn refusal_is_one()

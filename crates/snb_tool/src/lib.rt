@@ -13,3 +13,5 @@ mod show;
 pub mod tool;
 mod trial;
 mod validate;
+
+pub use tool::snb;

@@ -1,23 +1,22 @@
 //! The command `read`.
 
 ghost use Rattle.std.specs.Prelude.{◌≡◌, ℕ, ◌≤◌, IfOk, Option, ◌≢◌};
-ghost use Rattle.snb_base.specs.Shelf.{Rose};
-ghost use Rattle.snb_input.specs.Loading.{OnReadFault, UnlessReadFault};
-ghost use Rattle.snb_tables.specs.Soundness.{Sound};
-ghost use Rattle.snb_words.specs.declared.command.Command.TheVariants.{Read};
+ghost use Rattle.snb_base.specs.Shelf.{IsRead};
+ghost use Rattle.snb_input_files.specs.Loading.{is_read_fault};
+ghost use Rattle.snb_graph_model.specs.Soundness.{Sound};
+ghost use Rattle.snb_tool_words.specs.declared.command.Command.TheVariants.{Read};
 ghost use Rattle.snb_tool.specs.Endings.{IsReplyAnswer, IsReplyLine};
 ghost use Rattle.snb_tool.specs.Outcome.{IsCommandAnswer};
 ghost use Rattle.snb_tool.specs.Outside.{Ends, IsReadOnly, seen};
 
 use crate::show::{refuse, show_as};
-use snb_base::outbox::Outbox;
-use snb_base::shelf::Shelf;
-use snb_graph::graph::Graph;
-use snb_input::load::{Load, Used};
-use snb_loader::dataset::load_dataset;
-use snb_replies::reply::answer;
-use snb_schema::query::Query;
-use snb_validation::reply::reply_text;
+use snb_base::{Outbox, Shelf};
+use snb_graph::Graph;
+use snb_input_files::{Load, Used};
+use snb_loader::load_dataset;
+use snb_read_replies::reply::answer;
+use snb_schema::Query;
+use snb_validation::reply_text;
 use std::alloc::{AllocError, Global};
 
 // The line of the reply to a read.
@@ -40,10 +39,7 @@ fn read_line<S: Shelf>(
     query: &Query,
 ) -> Result<Vec<u8>, Load>
     ensures answer { IsReplyAnswer (S.contents shelf.old) folder.now query.now result }
-    ensures fault { OnReadFault result (Rose (S.faults shelf.old) (S.faults shelf.new)) }
-    ensures later { S.faults shelf.old ≤ S.faults shelf.new }
-    ensures calm { UnlessReadFault result (S.faults shelf.new ≡ S.faults shelf.old) }
-    ensures same { S.contents shelf.new ≡ S.contents shelf.old }
+    ensures read { IsRead (is_read_fault result) (S.contents shelf.old) (S.faults shelf.old) (S.contents shelf.new) (S.faults shelf.new) }
 {
     let mut used = Used { bytes: 0, rows: 0 };
     let graph = match load_dataset(alloc, shelf, folder, &mut used) {

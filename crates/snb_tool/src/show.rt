@@ -6,9 +6,9 @@ ghost use Rattle.snb_schema.specs.ScreenTexts.{refusal_text};
 ghost use Rattle.snb_tool.specs.Endings.{Shows};
 
 use crate::deliver::show;
-use snb_base::outbox::Outbox;
-use snb_schema::refusal::Refusal;
-use snb_texts::refusal_text::refusal_line;
+use snb_base::Outbox;
+use snb_schema::Refusal;
+use snb_tool_texts::refusal_text::refusal_line;
 use std::alloc::Global;
 
 /// Shows a text on the screen, and gives the status, or 5 where the outbox fails.

@@ -1,11 +1,11 @@
 //! The one call that does all that the program does.
 
-ghost use Rattle.std.specs.Prelude.{◌≡◌, ℕ, ◌≤◌, ◌⊎◌, None, ◌≢◌};
-ghost use Rattle.snb_base.specs.Shelf.{Rose};
+ghost use Rattle.std.specs.Prelude.{◌≡◌, ℕ, ◌≤◌, ◌⊎◌, None, ◌≢◌, nat_eq};
+ghost use Rattle.snb_base.specs.Shelf.{HasCounted, IsRead};
 ghost use Rattle.snb_schema.specs.declared.refusal.Refusal.{Refusal as Refused};
-ghost use Rattle.snb_words.specs.declared.command.Command.{Command as AnyCommand};
-ghost use Rattle.snb_words.specs.Commands.{IsLineOf, IsOtherLine, IsRunnable, folder_of};
-ghost use Rattle.snb_words.specs.Words.{texts_of};
+ghost use Rattle.snb_tool_words.specs.declared.command.Command.{Command as AnyCommand};
+ghost use Rattle.snb_tool_words.specs.Commands.{IsLineOf, IsOtherLine, IsRunnable, folder_of};
+ghost use Rattle.snb_tool_words.specs.Words.{texts_of};
 ghost use Rattle.snb_tool.specs.Inputs.{IsFine, IsWrong};
 ghost use Rattle.snb_tool.specs.Outcome.{IsAnswer, IsCommandAnswer, IsDoneAnswer, IsRefused};
 ghost use Rattle.snb_tool.specs.Output.{HasBegun, HasWritten};
@@ -20,12 +20,9 @@ use crate::run::run;
 use crate::show::show_as;
 use crate::trial::trial;
 use crate::validate::validate;
-use snb_base::clock::Clock;
-use snb_base::gate::Gate;
-use snb_base::outbox::Outbox;
-use snb_base::shelf::Shelf;
-use snb_words::command::{Command, command_of};
-use snb_words::law::one_command;
+use snb_base::{Clock, Gate, Outbox, Shelf};
+use snb_tool_words::law::one_command;
+use snb_tool_words::{Command, command_of};
 use std::sync::Wait;
 use std::thread::Threads;
 
@@ -190,11 +187,9 @@ pub fn snb<
 >(rt: &R, words: &[&str], shelf: &mut S, out: &mut O, clock: &C, gate: &G) -> u8
     ensures answered { HasWritten (O.written out.old) (O.written out.new) (IsAnswer (texts_of words.now) (S.contents shelf.old) (C.fixed clock.now) result)
         ⊎ ((result ≡ 4) ⊎ ((result ≡ 5) ⊎ (result ≡ 6))) }
-    ensures read_fault { result ≡ 4 → Rose (S.faults shelf.old) (S.faults shelf.new) × (O.written out.new ≡ O.written out.old) }
-    ensures write_fault { result ≡ 5 → Rose (O.faults out.old) (O.faults out.new) }
+    ensures unwritten { ((result ≡ 4) ⊎ (result ≡ 6)) → O.written out.new ≡ O.written out.old }
     ensures cut { result ≡ 5 → (status : ℕ) × HasBegun (O.ready out.old) (O.written out.old) (O.written out.new)
         (IsAnswer (texts_of words.now) (S.contents shelf.old) (C.fixed clock.now) status) }
-    ensures memory { result ≡ 6 → O.written out.new ≡ O.written out.old }
     ensures other_line { IsOtherLine (texts_of words.now) → ((result ≡ 2) ⊎ (result ≡ 5)) × (shelf.new ≡ shelf.old) }
     ensures unread { (command : AnyCommand) → IsLineOf (texts_of words.now) command → folder_of command ≡ None → shelf.new ≡ shelf.old }
     ensures complete { (command : AnyCommand) → IsLineOf (texts_of words.now) command → IsFine (S.contents shelf.old) command → Ends (IsDoneAnswer command)
@@ -203,10 +198,8 @@ pub fn snb<
     ensures refuses { (command : AnyCommand) → IsLineOf (texts_of words.now) command → (r : Refused) → IsWrong (S.contents shelf.old) command r → Ends (λ contents fixed. IsRefused r)
         (seen (S.contents shelf.old) (C.fixed clock.now) (S.faults shelf.old) (O.faults out.old) (O.written out.old) (O.ready out.old))
         (seen (S.contents shelf.new) (C.fixed clock.now) (S.faults shelf.new) (O.faults out.new) (O.written out.new) (O.ready out.new)) result }
-    ensures read_only { IsReadOnly (S.contents shelf.old) (S.faults shelf.old) (S.contents shelf.new) (S.faults shelf.new) }
-    ensures reads_calm { result ≢ 4 → S.faults shelf.new ≡ S.faults shelf.old }
-    ensures writes_later { O.faults out.old ≤ O.faults out.new }
-    ensures writes_calm { result ≢ 5 → O.faults out.new ≡ O.faults out.old }
+    ensures read { IsRead (nat_eq result 4) (S.contents shelf.old) (S.faults shelf.old) (S.contents shelf.new) (S.faults shelf.new) }
+    ensures counted { HasCounted (nat_eq result 5) (O.faults out.old) (O.faults out.new) }
 {
     one_command();
     refusal_is_one();

@@ -1,22 +1,21 @@
 //! The command `validate`.
 
 ghost use Rattle.std.specs.Prelude.{◌≡◌, ℕ, ◌≤◌, Option, ◌≢◌};
-ghost use Rattle.snb_base.specs.Shelf.{Rose};
-ghost use Rattle.snb_input.specs.Loading.{OnReadFault, UnlessReadFault};
-ghost use Rattle.snb_words.specs.declared.command.Command.TheVariants.{Validate};
+ghost use Rattle.snb_base.specs.Shelf.{IsRead};
+ghost use Rattle.snb_input_files.specs.Loading.{is_read_fault};
+ghost use Rattle.snb_tool_words.specs.declared.command.Command.TheVariants.{Validate};
 ghost use Rattle.snb_tool.specs.Endings.{IsTallyAnswer};
 ghost use Rattle.snb_tool.specs.Outcome.{IsCommandAnswer};
 ghost use Rattle.snb_tool.specs.Outside.{Ends, IsReadOnly, seen};
 
 use crate::show::{refuse, show_as};
-use snb_base::outbox::Outbox;
-use snb_base::shelf::Shelf;
-use snb_checker::file::check_cases;
-use snb_checker::law::one_cases_refusal;
-use snb_checker::text::{Tally, status_of, tally_lines};
-use snb_input::load::{Load, Used};
-use snb_loader::dataset::load_dataset;
+use snb_base::{Outbox, Shelf};
+use snb_input_files::{Load, Used};
 use snb_loader::law::one_dataset;
+use snb_loader::load_dataset;
+use snb_validation_check::law::one_cases_refusal;
+use snb_validation_check::text::{status_of, tally_lines};
+use snb_validation_check::{Tally, check_cases};
 use std::alloc::Global;
 
 // Reads the tables of a folder, and checks the cases of a file over their graph.
@@ -27,10 +26,7 @@ fn tally_of<S: Shelf>(
     cases: &str,
 ) -> Result<Tally, Load>
     ensures answer { IsTallyAnswer (S.contents shelf.old) folder.now cases.now result }
-    ensures fault { OnReadFault result (Rose (S.faults shelf.old) (S.faults shelf.new)) }
-    ensures later { S.faults shelf.old ≤ S.faults shelf.new }
-    ensures calm { UnlessReadFault result (S.faults shelf.new ≡ S.faults shelf.old) }
-    ensures same { S.contents shelf.new ≡ S.contents shelf.old }
+    ensures read { IsRead (is_read_fault result) (S.contents shelf.old) (S.faults shelf.old) (S.contents shelf.new) (S.faults shelf.new) }
 {
     one_dataset();
     one_cases_refusal();

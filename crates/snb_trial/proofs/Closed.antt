@@ -22,8 +22,8 @@ use Rattle.snb_schema.specs.Inserts.{keys_of}
 use Rattle.snb_schema.specs.QueryLists.{QueryLists}
 use Rattle.snb_schema.specs.References.{added_node, ref, refs_of}
 use Rattle.snb_schema.specs.RowKeys.{RowKey, named_key, row_key}
-use Rattle.snb_schema.specs.Schedule.{ComesBefore}
-use Rattle.snb_tables.specs.Graphs.{HoldsKey}
+use Rattle.snb_history.specs.Schedule.{ComesBefore}
+use Rattle.snb_graph_model.specs.Graphs.{HoldsKey}
 use Rattle.snb_plan.specs.Closed.{IsClosed, IsClosedAt, IsMet, IsTaken, Update, is_in_lane}
 use Rattle.snb_plan.specs.Plans.{IsLineOf, IsPlan, IsRead, IsUpdate, Operation, Placed, Plan, file_of, first_t, lane_of, update_from, update_operation, updates_in}
 use Rattle.snb_trial.specs.Trial.{dataset, half, lane, lanes, line_of}

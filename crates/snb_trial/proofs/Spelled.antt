@@ -14,7 +14,7 @@ use Rattle.snb_schema.specs.declared.column.Column.{Column}
 use Rattle.snb_schema.specs.declared.column.Column.TheVariants.{Number, Small, OptionalId, Date, Day, Words, TextList, IdList, PairList}
 use Rattle.snb_schema.specs.declared.column.Value.{Value}
 use Rattle.snb_schema.specs.declared.column.Value.TheVariants.{Digits, SmallDigits, NoId, Letters, Texts, Ids, Pairs}
-use Rattle.snb_schema.specs.declared.limits.TheConstants.{MAX_TIME}
+use Rattle.snb_schema.specs.declared.limits.TheConstants.{MAX_TIME, MAX_TRIAL}
 use Rattle.snb_schema.specs.declared.op.Line.{Line}
 use Rattle.snb_schema.specs.declared.op.OpKind.{OpKind}
 use Rattle.snb_schema.specs.Columns.{Spells, SpellsAll, canonical_field, no_id}
@@ -131,7 +131,7 @@ letter b ascii bar end = record {
 pub address : IsFieldText (codes "0.0.0.0")
 address = record { utf8 = IsUtf8-from_ascii (codes "0.0.0.0") (grind arith); no_bar = grind arith; one_line = grind arith }
 
-fits : (which : Seven) (i number : ℕ) → i ≤ 5000 → let x = line_of (number, entry_of which i) in AreFit (line_columns (kind_of x.op)) (line_values x.t x.t_d x.op)
+fits : (which : Seven) (i number : ℕ) → i ≤ MAX_TRIAL → let x = line_of (number, entry_of which i) in AreFit (line_columns (kind_of x.op)) (line_values x.t x.t_d x.op)
 fits Person i number few =
     let a : (1000 * i ≤ MAX_TIME) × (1000 * i < 10 ^ 19) = (omega arith, omega arith) in (
       a,
@@ -246,7 +246,7 @@ forum_kind Post i le = (4, omega arith, refl)
 forum_kind Comment i le = (5, omega arith, refl)
 forum_kind Like i le = (0, omega arith, refl)
 
-of_stream : OwnLineOfValues → (l n : ℕ) (kinds : List OpKind) → n ≤ 5000 → ((which : Seven) (i : ℕ) → lane_number which i ≡ l → Contains kinds (kind_of (entry_of which i).op))
+of_stream : OwnLineOfValues → (l n : ℕ) (kinds : List OpKind) → n ≤ MAX_TRIAL → ((which : Seven) (i : ℕ) → lane_number which i ≡ l → Contains kinds (kind_of (entry_of which i).op))
     → AreOfStream kinds (lane (of_lane l) n)
 of_stream own l n kinds few theirs = record {
   of_lines = all_of IsOfLine (lane (of_lane l) n) (λ x c. of_line x (line_in n l x c));
@@ -262,7 +262,7 @@ of_stream own l n kinds few theirs = record {
     of_kind : (x : Line) → IsLineIn n l x → Contains kinds (kind_of x.op)
     of_kind x in' = subst (λ (y : Line). Contains kinds (kind_of y.op)) in'.is (theirs in'.which in'.i in'.there)
 
-pub of_streams : OwnLineOfValues → (n : ℕ) → n ≤ 5000 → AreOfStreams (lanes n)
+pub of_streams : OwnLineOfValues → (n : ℕ) → n ≤ MAX_TRIAL → AreOfStreams (lanes n)
 of_streams own n few = record {
   persons = All-from_recursion (AreOfStream person_inserts) (lanes n).persons (person 0 (omega arith), (person 1 (omega arith), tt));
   forums = All-from_recursion (AreOfStream forum_inserts) (lanes n).forums (forum 2 (omega arith), (forum 3 (omega arith), (forum 4 (omega arith), tt)));

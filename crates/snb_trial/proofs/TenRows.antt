@@ -14,9 +14,9 @@ use Rattle.snb_schema.specs.declared.table.Table.TheVariants as table
 use Rattle.snb_schema.specs.References.{refs_of_row}
 use Rattle.snb_schema.specs.RowKeys.{RowKey, node_key, row_key, slot_of}
 use Rattle.snb_schema.specs.TableRows.{IsFieldText, IsTableRow}
-use Rattle.snb_tables.specs.Graphs.{HasGained, HasKey, row_order}
-use Rattle.snb_tables.specs.Soundness.{Sound}
-use Rattle.snb_tables.proofs.Laws.{of_each, row_total, same_list}
+use Rattle.snb_graph_model.specs.Graphs.{HasGained, HasKey, row_order}
+use Rattle.snb_graph_model.specs.Soundness.{Sound}
+use Rattle.snb_graph_model.proofs.Laws.{of_each, row_total, same_list}
 use Rattle.snb_graph.specs.Additions.{HasClash}
 use Rattle.snb_trial.specs.Trial.{dataset}
 use Rattle.snb_trial.proofs.Elements.{before_it}

@@ -4,13 +4,10 @@ ghost use Rattle.std.specs.Prelude.{◌≡◌, IfOk, codes};
 ghost use Rattle.snb_schema.specs.declared.row.Row.TheVariants as row;
 ghost use Rattle.snb_trial.specs.Trial.{dataset, first_person};
 
-use snb_base::text::Text;
-use snb_graph::graph::Graph;
-use snb_schema::nodes::{Named, Organisation, Place};
-use snb_schema::person::Person;
-use snb_schema::row::Row;
-use snb_schema::table::Table;
-use snb_store::insert::Insert;
+use snb_base::Text;
+use snb_graph::Graph;
+use snb_graph_tables::Insert;
+use snb_schema::{Named, Organisation, Person, Place, Row, Table};
 use std::alloc::{AllocError, Global};
 
 // A place.

@@ -1,18 +1,16 @@
 //! The seven updates of an i, as lines.
 
 ghost use Rattle.std.specs.Prelude.{◌≡◌, ◌≤◌, IfOk};
+ghost use Rattle.snb_schema.specs.declared.limits.TheConstants.{MAX_TRIAL};
 ghost use Rattle.snb_trial.specs.Trial.{comment, forum, friendship, like, line_of, membership, person, post};
 
-use snb_base::numbers::Numbers;
-use snb_base::pairs::Pairs;
-use snb_base::text::Text;
-use snb_base::texts::Texts;
-use snb_schema::op::{Line, Op, Parent};
+use snb_base::{Numbers, Pairs, Text, Texts};
+use snb_schema::{Line, Op, Parent};
 use std::alloc::{AllocError, Global};
 
 /// Person i.
 pub fn person_line(alloc: Global, i: u64, number: u32) -> Result<Line, AllocError>
-    requires { i ≤ 5000 }
+    requires { i ≤ MAX_TRIAL }
     ensures { IfOk result (λ line. line ≡ line_of (number, person i)) }
 {
     let op = Op::AddPerson {
@@ -41,7 +39,7 @@ pub fn person_line(alloc: Global, i: u64, number: u32) -> Result<Line, AllocErro
 
 /// The friendship of i and its half.
 pub fn friendship_line(i: u64, number: u32) -> Line
-    requires { i ≤ 5000 }
+    requires { i ≤ MAX_TRIAL }
     ensures { result ≡ line_of (number, friendship i) }
 {
     let t = 1000 * i + 500;
@@ -59,7 +57,7 @@ pub fn friendship_line(i: u64, number: u32) -> Line
 
 /// Forum i.
 pub fn forum_line(alloc: Global, i: u64, number: u32) -> Result<Line, AllocError>
-    requires { i ≤ 5000 }
+    requires { i ≤ MAX_TRIAL }
     ensures { IfOk result (λ line. line ≡ line_of (number, forum i)) }
 {
     let t = 1000 * i + 600;
@@ -80,7 +78,7 @@ pub fn forum_line(alloc: Global, i: u64, number: u32) -> Result<Line, AllocError
 
 /// The membership of the half in forum i.
 pub fn membership_line(i: u64, number: u32) -> Line
-    requires { i ≤ 5000 }
+    requires { i ≤ MAX_TRIAL }
     ensures { result ≡ line_of (number, membership i) }
 {
     let t = 1000 * i + 700;
@@ -98,7 +96,7 @@ pub fn membership_line(i: u64, number: u32) -> Line
 
 /// Post 2i by i in forum i.
 pub fn post_line(alloc: Global, i: u64, number: u32) -> Result<Line, AllocError>
-    requires { i ≤ 5000 }
+    requires { i ≤ MAX_TRIAL }
     ensures { IfOk result (λ line. line ≡ line_of (number, post i)) }
 {
     let t = 1000 * i + 800;
@@ -126,7 +124,7 @@ pub fn post_line(alloc: Global, i: u64, number: u32) -> Result<Line, AllocError>
 
 /// Comment 2i + 1 by the half on post 2i.
 pub fn comment_line(alloc: Global, i: u64, number: u32) -> Result<Line, AllocError>
-    requires { i ≤ 5000 }
+    requires { i ≤ MAX_TRIAL }
     ensures { IfOk result (λ line. line ≡ line_of (number, comment i)) }
 {
     let t = 1000 * i + 900;
@@ -152,7 +150,7 @@ pub fn comment_line(alloc: Global, i: u64, number: u32) -> Result<Line, AllocErr
 
 /// The like of post 2i by the half.
 pub fn like_line(i: u64, number: u32) -> Line
-    requires { i ≤ 5000 }
+    requires { i ≤ MAX_TRIAL }
     ensures { result ≡ line_of (number, like i) }
 {
     let t = 1000 * i + 950;

@@ -1,18 +1,18 @@
 //! The lanes of all updates.
 
 ghost use Rattle.std.specs.Prelude.{◌≡◌, ◌≤◌, ◌+◌, ◌*◌, ◌++◌, IfOk, OnOk, length};
+ghost use Rattle.snb_schema.specs.declared.limits.TheConstants.{MAX_TRIAL};
 ghost use Rattle.snb_trial.specs.Trial.{forum_lane, lane, lanes, lines_from, person_lane};
 
 use crate::entries::{
     comment_line, forum_line, friendship_line, like_line, membership_line, person_line, post_line,
 };
-use snb_schema::lanes::Lanes;
-use snb_schema::op::Line;
+use snb_schema::{Lanes, Line};
 use std::alloc::{AllocError, Global};
 
 // Appends what a lane of persons has of an i.
 fn push_person(alloc: Global, lines: &mut Vec<Line>, part: u64, i: u64) -> Result<(), AllocError>
-    requires few { i ≤ 5000 }
+    requires few { i ≤ MAX_TRIAL }
     requires room { length lines.old.items ≤ 25000 }
     ensures { OnOk result (lines.new.items ≡ lines.old.items ++ lines_from (length lines.old.items + 1) (person_lane part i)) }
 {
@@ -27,7 +27,7 @@ fn push_person(alloc: Global, lines: &mut Vec<Line>, part: u64, i: u64) -> Resul
 
 // Appends what a forum lane has of an i.
 fn push_forum(alloc: Global, lines: &mut Vec<Line>, part: u64, i: u64) -> Result<(), AllocError>
-    requires few { i ≤ 5000 }
+    requires few { i ≤ MAX_TRIAL }
     requires room { length lines.old.items ≤ 25000 }
     ensures { OnOk result (lines.new.items ≡ lines.old.items ++ lines_from (length lines.old.items + 1) (forum_lane part i)) }
 {
@@ -45,7 +45,7 @@ fn push_forum(alloc: Global, lines: &mut Vec<Line>, part: u64, i: u64) -> Result
 
 // The lines of a lane of persons.
 fn person_lines(alloc: Global, part: u64, n: u32) -> Result<Vec<Line>, AllocError>
-    requires { n ≤ 5000 }
+    requires { n ≤ MAX_TRIAL }
     ensures { IfOk result (λ lines. lines.items ≡ lane (person_lane part) n) }
 {
     let mut lines = Vec::new(alloc);
@@ -57,7 +57,7 @@ fn person_lines(alloc: Global, part: u64, n: u32) -> Result<Vec<Line>, AllocErro
 
 // The lines of a forum lane.
 fn forum_lines(alloc: Global, part: u64, n: u32) -> Result<Vec<Line>, AllocError>
-    requires { n ≤ 5000 }
+    requires { n ≤ MAX_TRIAL }
     ensures { IfOk result (λ lines. lines.items ≡ lane (forum_lane part) n) }
 {
     let mut lines = Vec::new(alloc);
@@ -69,7 +69,7 @@ fn forum_lines(alloc: Global, part: u64, n: u32) -> Result<Vec<Line>, AllocError
 
 /// The lanes of the updates of each i from 1 to n.
 pub fn trial_lanes(alloc: Global, n: u32) -> Result<Lanes, AllocError>
-    requires { n ≤ 5000 }
+    requires { n ≤ MAX_TRIAL }
     ensures { IfOk result (λ made. made ≡ lanes n) }
 {
     let mut made = Lanes::new(alloc);

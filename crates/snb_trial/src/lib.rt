@@ -8,3 +8,5 @@ pub mod law;
 mod lists;
 pub mod terms;
 pub mod trial;
+
+pub use trial::trial_input;

@@ -1,15 +1,15 @@
 //! The input.
 
 ghost use Rattle.std.specs.Prelude.{◌≡◌, ◌≤◌, IfOk};
-ghost use Rattle.snb_tables.specs.Soundness.{Sound};
+ghost use Rattle.snb_schema.specs.declared.limits.TheConstants.{MAX_TRIAL};
+ghost use Rattle.snb_graph_model.specs.Soundness.{Sound};
 ghost use Rattle.snb_trial.specs.Trial.{dataset, lanes, lists};
 
 use crate::dataset::trial_graph;
 use crate::lanes::trial_lanes;
 use crate::lists::trial_lists;
-use snb_graph::graph::Graph;
-use snb_schema::lanes::Lanes;
-use snb_schema::lists::Lists;
+use snb_graph::Graph;
+use snb_schema::{Lanes, Lists};
 use std::alloc::{AllocError, Global};
 
 /// The dataset, the lanes of updates and the parameters of a formula workload of size n, from 1 to
@@ -21,7 +21,7 @@ use std::alloc::{AllocError, Global};
 /// dataset.
 pub fn trial_input(alloc: Global, n: u32) -> Result<(Graph, Lanes, Lists), AllocError>
     requires some { 1 ≤ n }
-    requires few { n ≤ 5000 }
+    requires few { n ≤ MAX_TRIAL }
     ensures graph { IfOk result (λ input. input.0 ≡ dataset) }
     ensures sound { IfOk result (λ input. Sound input.0) }
     ensures lanes { IfOk result (λ input. input.1 ≡ lanes n) }

@@ -4,3 +4,5 @@
 pub mod law;
 pub mod reply;
 mod written;
+
+pub use reply::{reply_text, reply_value};

@@ -12,11 +12,7 @@ ghost use Rattle.snb_validation.specs.ReplyData.{array_of, cell_data, reply_data
 use crate::written::write_reply;
 use json::Writer;
 use serde_json::Value;
-use snb_reads::answer::Answer;
-use snb_reads::answer_row::AnswerRow;
-use snb_reads::cell::Cell;
-use snb_reads::reply::Reply;
-use snb_reads::wording::Wording;
+use snb_read_model::{Answer, AnswerRow, Cell, CowText, Reply};
 use std::alloc::{AllocError, Global};
 use std::mem;
 
@@ -90,7 +86,7 @@ fn cell_value(alloc: Global, cell: &Cell<'_>) -> Result<Value, AllocError>
     }
 }
 
-fn texts_value(alloc: Global, texts: &[Wording<'_>]) -> Result<Vec<Value>, AllocError>
+fn texts_value(alloc: Global, texts: &[CowText<'_>]) -> Result<Vec<Value>, AllocError>
     ensures { IfOk result (λ v. map view v.items ≡ map string texts.now) }
 {
     let mut values = Vec::new(alloc);
@@ -102,7 +98,7 @@ fn texts_value(alloc: Global, texts: &[Wording<'_>]) -> Result<Vec<Value>, Alloc
 
 fn stays_value(
     alloc: Global,
-    stays: &[(Wording<'_>, u32, Wording<'_>)],
+    stays: &[(CowText<'_>, u32, CowText<'_>)],
 ) -> Result<Vec<Value>, AllocError>
     ensures values { IfOk result (λ v. map view v.items ≡ map stay_data stays.now) }
     ensures types { OnOk result (AllByRecursion (λ s. s.1 < 2 ^ 32) stays.now) }
@@ -114,7 +110,7 @@ fn stays_value(
     Ok(values)
 }
 
-fn stay_value(alloc: Global, stay: &(Wording<'_>, u32, Wording<'_>)) -> Result<Value, AllocError>
+fn stay_value(alloc: Global, stay: &(CowText<'_>, u32, CowText<'_>)) -> Result<Value, AllocError>
     ensures value { IfOk result (λ v. view v ≡ stay_data stay.now) }
     ensures types { OnOk result (stay.now.1 < 2 ^ 32) }
 {

@@ -8,11 +8,7 @@ ghost use Rattle.snb_validation.specs.ReplyData.{array_of, cell_data, reply_data
 ghost use Rattle.snb_validation.specs.Written.{WritesData};
 
 use json::Writer;
-use snb_reads::answer::Answer;
-use snb_reads::answer_row::AnswerRow;
-use snb_reads::cell::Cell;
-use snb_reads::reply::Reply;
-use snb_reads::wording::Wording;
+use snb_read_model::{Answer, AnswerRow, Cell, CowText, Reply};
 use std::alloc::AllocError;
 
 // Writes a reply's array. Want of memory leaves some of its tokens written, here and below.
@@ -65,7 +61,7 @@ fn write_cell(to: &mut Writer, cell: &Cell<'_>) -> Result<(), AllocError>
     }
 }
 
-fn write_texts(to: &mut Writer, texts: &[Wording<'_>]) -> Result<(), AllocError>
+fn write_texts(to: &mut Writer, texts: &[CowText<'_>]) -> Result<(), AllocError>
     ensures { WritesData result to.old to.new (array_of string texts.now) }
 {
     to.begin_array()?;
@@ -76,7 +72,7 @@ fn write_texts(to: &mut Writer, texts: &[Wording<'_>]) -> Result<(), AllocError>
     Ok(())
 }
 
-fn write_stays(to: &mut Writer, stays: &[(Wording<'_>, u32, Wording<'_>)]) -> Result<(), AllocError>
+fn write_stays(to: &mut Writer, stays: &[(CowText<'_>, u32, CowText<'_>)]) -> Result<(), AllocError>
     ensures written { WritesData result to.old to.new (array_of stay_data stays.now) }
     ensures types { OnOk result (AllByRecursion (λ s. s.1 < 2 ^ 32) stays.now) }
 {
@@ -88,7 +84,7 @@ fn write_stays(to: &mut Writer, stays: &[(Wording<'_>, u32, Wording<'_>)]) -> Re
     Ok(())
 }
 
-fn write_stay(to: &mut Writer, stay: &(Wording<'_>, u32, Wording<'_>)) -> Result<(), AllocError>
+fn write_stay(to: &mut Writer, stay: &(CowText<'_>, u32, CowText<'_>)) -> Result<(), AllocError>
     ensures written { WritesData result to.old to.new (stay_data stay.now) }
     ensures types { OnOk result (stay.now.1 < 2 ^ 32) }
 {

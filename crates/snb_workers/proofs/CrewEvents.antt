@@ -7,11 +7,11 @@ use Rattle.std.proofs.lemmas.List.Elements.{All-push, filter-append}
 use Rattle.std.proofs.lemmas.List.Folds.{list_any-append}
 use mathlib.Core.List.{IsPrefix}
 use Rattle.snb_base.proofs.Laws.{by_push}
-use Rattle.snb_schema.specs.declared.event.Event.{Event}
-use Rattle.snb_schema.specs.declared.event.Event.TheVariants.{Start, Finish, Halt}
+use Rattle.snb_history.specs.declared.event.Event.{Event}
+use Rattle.snb_history.specs.declared.event.Event.TheVariants.{Start, Finish, Halt}
 use Rattle.snb_schema.specs.declared.limits.TheConstants.{MAX_AT}
-use Rattle.snb_schema.specs.History.{has_moment, is_by, last, moment}
-use Rattle.snb_schema.proofs.Laws.{last-push}
+use Rattle.snb_history.specs.History.{has_moment, is_by, last, moment}
+use Rattle.snb_history.proofs.Laws.{last-push}
 use Rattle.snb_book.specs.Kept.{moment_after}
 use Rattle.snb_board.specs.Boards.{events_of}
 use Rattle.snb_workers.specs.Runs.{IsAt}

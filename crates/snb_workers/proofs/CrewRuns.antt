@@ -10,24 +10,24 @@ use Rattle.std.proofs.lemmas.List.{get_or-map, get_or_default, length-map, take-
 use Rattle.std.proofs.lemmas.List.Sorted.{IsPermutation-refl}
 use Rattle.std.proofs.lemmas.List.Elements.{Contains-append_left, Contains-append_right, Contains-append_cases}
 use mathlib.Core.List.{IsPrefix}
-use Rattle.snb_schema.specs.declared.event.Event.{Event}
-use Rattle.snb_schema.specs.declared.event.Event.TheVariants.{Finish}
+use Rattle.snb_history.specs.declared.event.Event.{Event}
+use Rattle.snb_history.specs.declared.event.Event.TheVariants.{Finish}
 use Rattle.snb_schema.specs.declared.limits.TheConstants.{MAX_WORKERS}
 use Rattle.snb_schema.specs.declared.row.Row.{Row}
-use Rattle.snb_schema.specs.History.{finishes, halted, halts, hand, is_by, started, starts}
-use Rattle.snb_schema.specs.Laws.{HandIsOwn, PrefixIsLegal}
-use Rattle.snb_schema.specs.Rules.{IsComplete, IsLegal}
-use Rattle.snb_schema.specs.Schedule.{Schedule, IsOperation}
-use Rattle.snb_tables.specs.Graphs.{HoldsKey, IsGraph}
-use Rattle.snb_tables.specs.Soundness.{Sound}
+use Rattle.snb_history.specs.History.{finishes, halted, halts, hand, is_by, started, starts}
+use Rattle.snb_history.specs.Laws.{HandIsOwn, PrefixIsLegal}
+use Rattle.snb_history.specs.Rules.{IsComplete, IsLegal}
+use Rattle.snb_history.specs.Schedule.{Schedule, IsOperation}
+use Rattle.snb_graph_model.specs.Graphs.{HoldsKey, IsGraph}
+use Rattle.snb_graph_model.specs.Soundness.{Sound}
 use Rattle.snb_board.specs.Boards.{AreAll, AreMadeBy, AreSeats, IsPartOf, Site, Sitting, events_of, mine, sitting, time_below}
 use Rattle.snb_plan.specs.Closed.{IsClosed}
 use Rattle.snb_plan.specs.Plans.{IsOfStreams, Plan, schedule_of, updates_in}
-use Rattle.snb_replay.specs.Laws.{CompleteIsFinal}
-use Rattle.snb_replay.specs.Waiting.{RunsWait}
-use Rattle.snb_replay.specs.Replay.{IsAfter, IsFinal}
-use Rattle.snb_workers.specs.declared.crew.Left.{Left}
-use Rattle.snb_workers.specs.declared.crew.Post.{Post}
+use Rattle.snb_workers_replay.specs.Laws.{CompleteIsFinal}
+use Rattle.snb_workers_replay.specs.Waiting.{RunsWait}
+use Rattle.snb_workers_replay.specs.Replay.{IsAfter, IsFinal}
+use Rattle.snb_workers.specs.declared.threads.Left.{Left}
+use Rattle.snb_workers.specs.declared.threads.Post.{Post}
 use Rattle.snb_workers.specs.declared.done.Answered.{Answered}
 use Rattle.snb_workers.specs.Crews.{AllLeave, IsReady, Leaves, replies_in, replies_of}
 use Rattle.snb_workers.specs.Replicas.{StandsFor, Taken}
@@ -39,7 +39,7 @@ use Rattle.snb_base.proofs.Laws.{contains_cases, contains_here}
 use Rattle.snb_workers.proofs.Gathered.{all_from, of_all}
 use Rattle.snb_workers.proofs.TurnEvents.{all_done, front_within}
 use Rattle.snb_workers.proofs.WorkEvents.{prefix-trans}
-use Rattle.snb_tables.proofs.Laws.{in_filter}
+use Rattle.snb_graph_model.proofs.Laws.{in_filter}
 
 -- a worker's seat and replica at first
 abbrev pub fresh : Site → ℕ → Sitting

@@ -3,21 +3,21 @@ use Rattle.std.proofs.Common.{◌≡◌, ◌∷◌, ◌++◌, ◌∙◌, ℕ, �
 use Rattle.std.specs.Prelude.{slice_get}
 use Rattle.std.specs.Result.{OnErr}
 use Rattle.std.proofs.lemmas.List.{get_or_default, length-map, take-append-drop, take_more}
-use Rattle.snb_schema.specs.declared.event.Event.{Event}
-use Rattle.snb_schema.specs.declared.event.Event.TheVariants.{Start, Finish, Halt}
+use Rattle.snb_history.specs.declared.event.Event.{Event}
+use Rattle.snb_history.specs.declared.event.Event.TheVariants.{Start, Finish, Halt}
 use Rattle.snb_schema.specs.declared.op.Line.{Line}
 use Rattle.snb_schema.specs.declared.op.Op.{Op}
 use Rattle.snb_schema.specs.declared.row.Row.{Row}
 use Rattle.snb_schema.specs.Inserts.{rows_of}
-use Rattle.snb_schema.specs.Laws.{PrefixIsLegal}
-use Rattle.snb_schema.specs.Rules.{IsLegal, V1}
+use Rattle.snb_history.specs.Laws.{PrefixIsLegal}
+use Rattle.snb_history.specs.Rules.{IsLegal, V1}
 use Rattle.snb_base.proofs.Laws.{split_here}
-use Rattle.snb_tables.specs.Graphs.{HasGained}
+use Rattle.snb_graph_model.specs.Graphs.{HasGained}
 use Rattle.snb_plan.specs.Plans.{Insert, IsOfStreams, Operation, Plan, Work, schedule_of}
 use Rattle.snb_inserts.specs.Applying.{IsWelcome}
-use Rattle.snb_replay.specs.Laws.{WelcomeInTurn}
-use Rattle.snb_replay.specs.Replay.{finished_insert, insert_at, insert_in}
-use Rattle.snb_replay.proofs.Laws.{after_none, after_some}
+use Rattle.snb_workers_replay.specs.Laws.{WelcomeInTurn}
+use Rattle.snb_workers_replay.specs.Replay.{finished_insert, insert_at, insert_in}
+use Rattle.snb_workers_replay.proofs.Laws.{after_none, after_some}
 use Rattle.snb_workers.specs.Replicas.{HasTaken, HasTakenSome, IfFinish, MayTake, StandsFor, Taken}
 
 -- ---- the line of an insert

@@ -9,15 +9,15 @@ use Rattle.std.proofs.lemmas.List.Elements.{All-push, recursion_from_All}
 use Rattle.std.proofs.lemmas.List.Folds.{list_any-from_Any, position_or_len_push}
 use Rattle.std.proofs.Math.Seq.{drop-append_seam}
 use Rattle.snb_base.proofs.Laws.{by_push, split_here}
-use Rattle.snb_schema.specs.declared.event.Event.{Event}
-use Rattle.snb_schema.specs.declared.event.Event.TheVariants.{Start, Finish, Halt}
+use Rattle.snb_history.specs.declared.event.Event.{Event}
+use Rattle.snb_history.specs.declared.event.Event.TheVariants.{Start, Finish, Halt}
 use Rattle.snb_schema.specs.declared.limits.TheConstants.{MAX_AT}
 use Rattle.snb_schema.specs.declared.row.Row.{Row}
-use Rattle.snb_schema.specs.History.{started, finished, finishes, halted, hand, last, starts}
-use Rattle.snb_schema.specs.Rules.{IsComplete, IsFront, IsLegal, MayAct, Obeys, Rule, V1, V8}
-use Rattle.snb_schema.specs.Schedule.{Schedule, IsOperation, step_of}
-use Rattle.snb_schema.proofs.Laws.{halted-push, hand-push, keeps_legal, last-push}
-use Rattle.snb_tables.specs.Graphs.{HoldsKey}
+use Rattle.snb_history.specs.History.{started, finished, finishes, halted, hand, last, starts}
+use Rattle.snb_history.specs.Rules.{IsComplete, IsFront, IsLegal, MayAct, Obeys, Rule, V1, V8}
+use Rattle.snb_history.specs.Schedule.{Schedule, IsOperation, step_of}
+use Rattle.snb_history.proofs.Laws.{halted-push, hand-push, keeps_legal, last-push}
+use Rattle.snb_graph_model.specs.Graphs.{HoldsKey}
 use Rattle.snb_book.specs.Kept.{moment_after}
 use Rattle.snb_plan.specs.Closed.{IsClosed}
 use Rattle.snb_plan.specs.Plans.{Plan, schedule_of, updates_in}

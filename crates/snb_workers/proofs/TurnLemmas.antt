@@ -4,15 +4,15 @@ use Rattle.std.specs.Prelude.{ℤ, All, AllPairs, IfSome}
 use Rattle.std.proofs.lemmas.List.Elements.{All-nil}
 use Rattle.std.proofs.lemmas.List.Sorted.{IsPermutation-refl}
 use Rattle.std.specs.List.Sorted.{IsPermutation}
-use Rattle.snb_schema.specs.declared.event.Event.{Event}
-use Rattle.snb_schema.specs.declared.event.Event.TheVariants.{Start, Finish}
+use Rattle.snb_history.specs.declared.event.Event.{Event}
+use Rattle.snb_history.specs.declared.event.Event.TheVariants.{Start, Finish}
 use Rattle.snb_schema.specs.declared.row.Row.{Row}
-use Rattle.snb_schema.specs.History.{started, halted, hand}
-use Rattle.snb_schema.specs.Rules.{Fits, IsComplete, IsFront, IsLegal, V1, V2}
-use Rattle.snb_schema.specs.Schedule.{Schedule, IsOperation}
-use Rattle.snb_schema.proofs.Laws.{IsLegal-nil}
-use Rattle.snb_tables.specs.Graphs.{HasGained, HoldsKey, IsGraph}
-use Rattle.snb_tables.specs.Soundness.{Sound}
+use Rattle.snb_history.specs.History.{started, halted, hand}
+use Rattle.snb_history.specs.Rules.{Fits, IsComplete, IsFront, IsLegal, V1, V2}
+use Rattle.snb_history.specs.Schedule.{Schedule, IsOperation}
+use Rattle.snb_history.proofs.Laws.{IsLegal-nil}
+use Rattle.snb_graph_model.specs.Graphs.{HasGained, HoldsKey, IsGraph}
+use Rattle.snb_graph_model.specs.Soundness.{Sound}
 use Rattle.snb_book.specs.declared.claim.Claim.{Claim}
 use Rattle.snb_book.specs.declared.claim.Claim.TheVariants.{Halted, AllStarted, Busy, NotDue, Go, Blocked}
 use Rattle.snb_book.specs.declared.claim.Ticket.{Ticket}
@@ -21,9 +21,9 @@ use Rattle.snb_book.specs.Kept.{Kept, moment_after}
 use Rattle.snb_plan.specs.Closed.{IsClosed}
 use Rattle.snb_plan.specs.Plans.{IsOfStreams, Plan, schedule_of, updates_in}
 use Rattle.snb_plan.proofs.Laws.{closed_plan_is_timely}
-use Rattle.snb_replay.specs.Laws.{CompleteIsFinal}
-use Rattle.snb_replay.specs.Waiting.{RunsWait}
-use Rattle.snb_replay.specs.Replay.{all_rows}
+use Rattle.snb_workers_replay.specs.Laws.{CompleteIsFinal}
+use Rattle.snb_workers_replay.specs.Waiting.{RunsWait}
+use Rattle.snb_workers_replay.specs.Replay.{all_rows}
 use Rattle.snb_workers.specs.declared.done.Answered.{Answered}
 use Rattle.snb_workers.specs.Replicas.{StandsFor, Taken}
 use Rattle.snb_workers.specs.Runs.{AreAt, AreReplies, HasRun}

@@ -7,14 +7,14 @@ use Rattle.std.proofs.lemmas.List.Elements.{All-append, All-cons, All-drop, All-
 use Rattle.std.proofs.lemmas.Option.{same_Some}
 use Rattle.std.proofs.Math.Seq.{drop-append_seam, take-append_seam}
 use Rattle.snb_base.proofs.Laws.{contains_cases, contains_here, contains_there}
-use Rattle.snb_schema.specs.declared.event.Event.{Event}
-use Rattle.snb_schema.specs.declared.event.Event.TheVariants.{Start, Finish}
+use Rattle.snb_history.specs.declared.event.Event.{Event}
+use Rattle.snb_history.specs.declared.event.Event.TheVariants.{Start, Finish}
 use Rattle.snb_schema.specs.declared.query.Query.{Query}
 use Rattle.snb_schema.specs.declared.row.Row.{Row}
-use Rattle.snb_schema.specs.History.{started, starts}
-use Rattle.snb_schema.specs.Rules.{IsFront, IsLegal}
+use Rattle.snb_history.specs.History.{started, starts}
+use Rattle.snb_history.specs.Rules.{IsFront, IsLegal}
 use Rattle.snb_plan.specs.Plans.{Ask, Insert, IsOfStreams, Operation, Plan, Work, schedule_of}
-use Rattle.snb_replay.specs.Replay.{IsAfter}
+use Rattle.snb_workers_replay.specs.Replay.{IsAfter}
 use Rattle.snb_workers.specs.declared.done.Answered.{Answered}
 use Rattle.snb_workers.specs.Replies.{HasAdded}
 use Rattle.snb_workers.specs.Replicas.{StandsFor, Taken}

@@ -4,11 +4,11 @@ use Rattle.std.proofs.lemmas.List.{append_cancel_left, append_cancel_right}
 use Rattle.std.specs.Prelude.{All, Contains, IfSome}
 use Rattle.std.proofs.Math.Seq.{drop-append-le}
 use mathlib.Core.List.{IsPrefix}
-use Rattle.snb_schema.specs.declared.event.Event.{Event}
-use Rattle.snb_schema.specs.declared.event.Event.TheVariants.{Start, Finish, Halt}
+use Rattle.snb_history.specs.declared.event.Event.{Event}
+use Rattle.snb_history.specs.declared.event.Event.TheVariants.{Start, Finish, Halt}
 use Rattle.snb_schema.specs.declared.row.Row.{Row}
-use Rattle.snb_schema.specs.History.{halted, halts, has_moment, is_by, moment}
-use Rattle.snb_schema.proofs.Laws.{halted-push}
+use Rattle.snb_history.specs.History.{halted, halts, has_moment, is_by, moment}
+use Rattle.snb_history.proofs.Laws.{halted-push}
 use Rattle.snb_book.specs.Kept.{moment_after}
 use Rattle.snb_board.specs.Boards.{HasCalled, Site, Sitting, events_of, mine}
 use Rattle.snb_plan.specs.Plans.{Plan}

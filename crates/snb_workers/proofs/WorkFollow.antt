@@ -3,11 +3,11 @@ use Rattle.std.proofs.Common.{◌≡◌, ◌∙◌, ℕ, ◌≤◌, List, ◌++�
 use Rattle.std.specs.Prelude.{OnOk, OnErr}
 use Rattle.std.proofs.Math.Seq.{drop-append_seam}
 use mathlib.Core.List.{IsPrefix}
-use Rattle.snb_schema.specs.declared.event.Event.{Event}
+use Rattle.snb_history.specs.declared.event.Event.{Event}
 use Rattle.snb_schema.specs.declared.limits.TheConstants.{MAX_WORKERS}
 use Rattle.snb_schema.specs.declared.row.Row.{Row}
-use Rattle.snb_schema.specs.Rules.{IsLegal}
-use Rattle.snb_schema.specs.Schedule.{Schedule}
+use Rattle.snb_history.specs.Rules.{IsLegal}
+use Rattle.snb_history.specs.Schedule.{Schedule}
 use Rattle.snb_board.specs.Boards.{HasLooked, Sitting}
 use Rattle.snb_plan.specs.Plans.{Plan, schedule_of}
 use Rattle.snb_workers.specs.Replicas.{HasTaken, HasTakenSome, MayTake, StandsFor, Taken}

@@ -4,15 +4,15 @@ use Rattle.std.specs.Prelude.{AllPairs, Contains, IfSome, ℤ, slice_get}
 use Rattle.std.proofs.lemmas.Bool.{eq-eqb}
 use Rattle.std.proofs.lemmas.List.Elements.{Contains-append_left}
 use Rattle.snb_base.proofs.Laws.{contains_cases}
-use Rattle.snb_schema.specs.declared.event.Event.{Event}
-use Rattle.snb_schema.specs.declared.event.Event.TheVariants.{Start, Finish, Halt}
+use Rattle.snb_history.specs.declared.event.Event.{Event}
+use Rattle.snb_history.specs.declared.event.Event.TheVariants.{Start, Finish, Halt}
 use Rattle.snb_schema.specs.declared.query.Query.{Query}
 use Rattle.snb_schema.specs.declared.row.Row.{Row}
-use Rattle.snb_schema.specs.History.{halted, hand, started}
-use Rattle.snb_schema.specs.Laws.{HandIsOwn, PrefixIsLegal}
-use Rattle.snb_schema.specs.Rules.{IsFront, IsLegal}
-use Rattle.snb_schema.specs.Schedule.{Schedule, IsOperation}
-use Rattle.snb_schema.proofs.Laws.{hand-push}
+use Rattle.snb_history.specs.History.{halted, hand, started}
+use Rattle.snb_history.specs.Laws.{HandIsOwn, PrefixIsLegal}
+use Rattle.snb_history.specs.Rules.{IsFront, IsLegal}
+use Rattle.snb_history.specs.Schedule.{Schedule, IsOperation}
+use Rattle.snb_history.proofs.Laws.{hand-push}
 use Rattle.snb_book.specs.declared.claim.Claim.TheVariants.{Halted, AllStarted, Go}
 use Rattle.snb_book.specs.declared.claim.Ticket.{Ticket}
 use Rattle.snb_book.specs.Kept.{IsInHand, moment_after}

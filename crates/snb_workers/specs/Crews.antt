@@ -7,9 +7,9 @@ use Rattle.std.specs.Prelude.{Result, Ok, Err}
 use Rattle.snb_schema.specs.declared.row.Row.{Row}
 use Rattle.snb_board.specs.Boards.{Site, Sitting}
 use Rattle.snb_plan.specs.Plans.{Plan}
-use Rattle.snb_workers.specs.declared.crew.Left.{Left}
-use Rattle.snb_workers.specs.declared.crew.Made.{Made}
-use Rattle.snb_workers.specs.declared.crew.Post.{Post}
+use Rattle.snb_workers.specs.declared.threads.Left.{Left}
+use Rattle.snb_workers.specs.declared.threads.Made.{Made}
+use Rattle.snb_workers.specs.declared.threads.Post.{Post}
 use Rattle.snb_workers.specs.declared.done.Answered.{Answered}
 use Rattle.snb_workers.specs.Replicas.{Taken}
 use Rattle.snb_workers.specs.Works.{AreTimely, HasWorked, IsFollowing, IsFree, IsLater}

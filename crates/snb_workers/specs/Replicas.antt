@@ -1,14 +1,14 @@
 -- What a replica of a graph stands for.
 use Rattle.std.specs.Prelude.{◌≡◌, ℕ, ◌≤◌, List, ◌++◌, length}
-use Rattle.snb_schema.specs.declared.event.Event.{Event}
-use Rattle.snb_schema.specs.declared.event.Event.TheVariants.{Start, Finish, Halt}
+use Rattle.snb_history.specs.declared.event.Event.{Event}
+use Rattle.snb_history.specs.declared.event.Event.TheVariants.{Start, Finish, Halt}
 use Rattle.snb_schema.specs.declared.limits.TheConstants.{MAX_WORKERS}
 use Rattle.snb_schema.specs.declared.row.Row.{Row}
-use Rattle.snb_schema.specs.Rules.{IsLegal}
-use Rattle.snb_tables.specs.Graphs.{HoldsKey}
+use Rattle.snb_history.specs.Rules.{IsLegal}
+use Rattle.snb_graph_model.specs.Graphs.{HoldsKey}
 use Rattle.snb_plan.specs.Closed.{IsClosed}
 use Rattle.snb_plan.specs.Plans.{Plan, schedule_of, updates_in}
-use Rattle.snb_replay.specs.Replay.{IsAfter}
+use Rattle.snb_workers_replay.specs.Replay.{IsAfter}
 
 -- a graph, and how many events it has taken
 pub record Taken : Type 0 where

@@ -2,18 +2,18 @@
 use Rattle.std.specs.Prelude.{◌≡◌, ℕ, min, List, take, All, AllPairs, Contains, ◌<◌, Option, Some, slice_get}
 use Rattle.std.specs.Option.{IfSome}
 use Rattle.serde_json.specs.Written.{compact_text}
-use Rattle.snb_schema.specs.declared.event.Event.{Event}
-use Rattle.snb_schema.specs.declared.event.Event.TheVariants.{Start, Finish, Halt}
+use Rattle.snb_history.specs.declared.event.Event.{Event}
+use Rattle.snb_history.specs.declared.event.Event.TheVariants.{Start, Finish, Halt}
 use Rattle.snb_schema.specs.declared.limits.TheConstants.{MAX_AT}
 use Rattle.snb_schema.specs.declared.query.Query.{Query}
 use Rattle.snb_schema.specs.declared.row.Row.{Row}
-use Rattle.snb_schema.specs.Rules.{IsComplete, IsLegal}
-use Rattle.snb_tables.specs.Soundness.{Sound}
+use Rattle.snb_history.specs.Rules.{IsComplete, IsLegal}
+use Rattle.snb_graph_model.specs.Soundness.{Sound}
 use Rattle.snb_plan.specs.Plans.{Ask, Operation, Plan, schedule_of}
-use Rattle.snb_reads.specs.declared.cell.Cell.{Cell}
-use Rattle.snb_reads.specs.Replies.{IsReply}
-use Rattle.snb_replay.specs.Replay.{IsAfter, IsFinal}
-use Rattle.snb_replay.specs.Waiting.{StaysBelow, WaitsForAll}
+use Rattle.snb_read_model.specs.declared.cell.Cell.{Cell}
+use Rattle.snb_read_model.specs.Replies.{IsReply}
+use Rattle.snb_workers_replay.specs.Replay.{IsAfter, IsFinal}
+use Rattle.snb_workers_replay.specs.Waiting.{StaysBelow, WaitsForAll}
 use Rattle.snb_validation.specs.ReplyData.{reply_data}
 use Rattle.snb_workers.specs.declared.done.Answered.{Answered}
 

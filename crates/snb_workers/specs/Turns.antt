@@ -1,11 +1,11 @@
 -- How far a run of one worker has come. Cited by contracts of private functions alone.
 use Rattle.std.specs.Prelude.{◌≡◌, ℕ, ◌∷◌, [], ◌++◌, List, Option, None, Some, false, slice_get}
-use Rattle.snb_schema.specs.declared.event.Event.{Event}
-use Rattle.snb_schema.specs.declared.event.Event.TheVariants.{Start}
+use Rattle.snb_history.specs.declared.event.Event.{Event}
+use Rattle.snb_history.specs.declared.event.Event.TheVariants.{Start}
 use Rattle.snb_schema.specs.declared.row.Row.{Row}
-use Rattle.snb_schema.specs.History.{halted, hand}
-use Rattle.snb_schema.specs.Rules.{IsComplete, IsLegal}
-use Rattle.snb_tables.specs.Graphs.{HoldsKey}
+use Rattle.snb_history.specs.History.{halted, hand}
+use Rattle.snb_history.specs.Rules.{IsComplete, IsLegal}
+use Rattle.snb_graph_model.specs.Graphs.{HoldsKey}
 use Rattle.snb_book.specs.declared.claim.Ticket.{Ticket}
 use Rattle.snb_book.specs.Kept.{Kept}
 use Rattle.snb_plan.specs.Closed.{IsClosed}

@@ -3,8 +3,8 @@ use Rattle.std.specs.Prelude.{◌≡◌, ◌≢◌, ◌⊎◌, ◌≤◌, ℕ, L
 use Rattle.std.specs.Option.{IfSome}
 use Rattle.snb_schema.specs.declared.query.Query.{Query}
 use Rattle.snb_schema.specs.declared.row.Row.{Row}
-use Rattle.snb_schema.specs.History.{halted, hand}
-use Rattle.snb_schema.specs.Schedule.{IsOperation}
+use Rattle.snb_history.specs.History.{halted, hand}
+use Rattle.snb_history.specs.Schedule.{IsOperation}
 use Rattle.snb_book.specs.declared.claim.Ticket.{Ticket}
 use Rattle.snb_book.specs.Kept.{IsInHand}
 use Rattle.snb_board.specs.Boards.{HasLooked, Sitting, mine}

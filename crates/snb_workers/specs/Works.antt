@@ -1,12 +1,12 @@
 -- What one of several workers does, who share a board, each with a replica of its own.
 use Rattle.std.specs.Prelude.{◌≡◌, ◌≢◌, ◌⊎◌, ◌≤◌, ◌++◌, ◌∷◌, [], ℕ, List, length, drop, All, None, true, false}
 use mathlib.Core.List.{IsPrefix}
-use Rattle.snb_schema.specs.declared.event.Event.{Event}
-use Rattle.snb_schema.specs.declared.event.Event.TheVariants.{Halt}
+use Rattle.snb_history.specs.declared.event.Event.{Event}
+use Rattle.snb_history.specs.declared.event.Event.TheVariants.{Halt}
 use Rattle.snb_schema.specs.declared.row.Row.{Row}
-use Rattle.snb_schema.specs.History.{halted, hand, has_moment, is_by, moment, started}
-use Rattle.snb_schema.specs.Schedule.{Schedule, IsOperation}
-use Rattle.snb_tables.specs.Graphs.{HoldsKey}
+use Rattle.snb_history.specs.History.{halted, hand, has_moment, is_by, moment, started}
+use Rattle.snb_history.specs.Schedule.{Schedule, IsOperation}
+use Rattle.snb_graph_model.specs.Graphs.{HoldsKey}
 use Rattle.snb_book.specs.Kept.{moment_after}
 use Rattle.snb_board.specs.Boards.{Sitting, mine}
 use Rattle.snb_plan.specs.Closed.{IsClosed}

@@ -2,8 +2,13 @@
 //! finish them.
 #![tactic(auto)]
 
-pub mod crew;
 pub mod done;
 pub mod replica;
 pub mod run;
+pub mod threads;
 pub mod work;
+
+pub use done::{Answered, Done};
+pub use replica::Replica;
+pub use run::{Outcome, run_alone};
+pub use threads::run_workers;

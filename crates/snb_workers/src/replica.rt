@@ -1,25 +1,24 @@
 //! Replicas of the graph.
 
 ghost use Rattle.std.specs.Prelude.{◌≡◌, ℕ, ◌<◌, ◌∷◌, [], List, length, IfOk, MatchOption, None, OnOk, OnErr, Some};
-ghost use Rattle.snb_schema.specs.declared.event.Event.{Event as AnyEvent};
+ghost use Rattle.snb_history.specs.declared.event.Event.{Event as AnyEvent};
 ghost use Rattle.snb_schema.specs.declared.row.Row.{Row};
-ghost use Rattle.snb_tables.specs.Soundness.{Sound};
+ghost use Rattle.snb_graph_model.specs.Soundness.{Sound};
 ghost use Rattle.snb_inserts.specs.Applying.{HasLine};
 ghost use Rattle.snb_plan.specs.Plans.{IsOfStreams};
-ghost use Rattle.snb_replay.specs.Replay.{finished_insert};
+ghost use Rattle.snb_workers_replay.specs.Replay.{finished_insert};
 ghost use Rattle.snb_workers.specs.Replicas.{HasTaken, HasTakenSome, IfFinish, MayTake};
 ghost use Rattle.snb_workers.specs.Runs.{IsReplied};
 
-use snb_graph::graph::Graph;
-use snb_inserts::apply::apply_welcome;
-use snb_plan::plan::{Plan, Task};
-use snb_replay::law::replay_is_welcome;
-use snb_replies::reply::answer;
-use snb_schema::event::Event;
-use snb_schema::law::{legal_is_short, prefix_is_legal};
-use snb_schema::op::Line;
-use snb_schema::query::Query;
-use snb_validation::reply::reply_text;
+use snb_graph::Graph;
+use snb_history::Event;
+use snb_history::law::{legal_is_short, prefix_is_legal};
+use snb_inserts::apply_welcome;
+use snb_plan::{Plan, Task};
+use snb_read_replies::reply::answer;
+use snb_schema::{Line, Query};
+use snb_validation::reply_text;
+use snb_workers_replay::law::replay_is_welcome;
 use std::alloc::{AllocError, Global};
 use std::marker::Model;
 
@@ -37,7 +36,7 @@ impl Drop for Replica {
 }
 
 impl Model for Replica {
-    ghost use Rattle.snb_tables.specs.Soundness.{Sound};
+    ghost use Rattle.snb_graph_model.specs.Soundness.{Sound};
     ghost use Rattle.snb_workers.specs.Replicas.{Taken};
 
     ghost Value = { Taken };

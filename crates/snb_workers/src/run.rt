@@ -2,10 +2,10 @@
 
 ghost use Rattle.std.specs.Prelude.{◌≡◌, ◌≢◌, ℕ, ◌<◌, ◌≤◌, All, AllPairs, List, IfOk, OnOk};
 ghost use Rattle.snb_schema.specs.declared.row.Row.{Row};
-ghost use Rattle.snb_schema.specs.Rules.{MayAct};
-ghost use Rattle.snb_schema.specs.Schedule.{IsOperation};
-ghost use Rattle.snb_tables.specs.Graphs.{HoldsKey};
-ghost use Rattle.snb_tables.specs.Soundness.{Sound};
+ghost use Rattle.snb_history.specs.Rules.{MayAct};
+ghost use Rattle.snb_history.specs.Schedule.{IsOperation};
+ghost use Rattle.snb_graph_model.specs.Graphs.{HoldsKey};
+ghost use Rattle.snb_graph_model.specs.Soundness.{Sound};
 ghost use Rattle.snb_book.specs.Kept.{IsInHand};
 ghost use Rattle.snb_plan.specs.Closed.{IsClosed};
 ghost use Rattle.snb_plan.specs.Plans.{schedule_of, updates_in};
@@ -15,14 +15,12 @@ ghost use Rattle.snb_workers.specs.Turns.{HasStarted, IsBehind, IsServed, IsUnde
 
 use crate::done::{Answered, Done};
 use crate::replica::Replica;
-use snb_base::clock::Clock;
-use snb_base::gate::{Gate, Phase};
-use snb_book::book::Book;
-use snb_book::claim::{Claim, Ticket};
-use snb_graph::graph::Graph;
-use snb_plan::plan::{Plan, Task};
-use snb_replay::law::{replay_is_welcome, runs_wait};
-use snb_schema::event::Event;
+use snb_base::{Clock, Gate, Phase};
+use snb_book::{Book, Claim, Ticket};
+use snb_graph::Graph;
+use snb_history::Event;
+use snb_plan::{Plan, Task};
+use snb_workers_replay::law::{replay_is_welcome, runs_wait};
 use std::alloc::{AllocError, Global};
 use std::sync::Wait;
 

@@ -2,7 +2,7 @@
 
 ghost use Rattle.std.specs.Prelude.{◌≡◌, List, IfOk, IfSome, OnErr, OnOk, length};
 ghost use Rattle.snb_schema.specs.declared.row.Row.{Row};
-ghost use Rattle.snb_schema.specs.Schedule.{IsOperation};
+ghost use Rattle.snb_history.specs.Schedule.{IsOperation};
 ghost use Rattle.snb_board.specs.Boards.{HasLearned, Sitting};
 ghost use Rattle.snb_plan.specs.Plans.{schedule_of};
 ghost use Rattle.snb_workers.specs.Replicas.{Taken};
@@ -12,13 +12,11 @@ ghost use Rattle.snb_workers.specs.Works.{AreTimely, HasStopped, HasWorked, IsFo
 use crate::done::Done;
 use crate::replica::Replica;
 use crate::run::{Turn, serve};
-use snb_base::clock::Clock;
-use snb_base::gate::{Gate, Phase};
-use snb_board::board::Board;
-use snb_board::seat::Seat;
-use snb_book::claim::{Claim, Ticket};
-use snb_plan::plan::{Plan, Task};
-use snb_schema::law::{hand_is_own, prefix_is_legal};
+use snb_base::{Clock, Gate, Phase};
+use snb_board::{Board, Seat};
+use snb_book::{Claim, Ticket};
+use snb_history::law::{hand_is_own, prefix_is_legal};
+use snb_plan::{Plan, Task};
 use std::alloc::{AllocError, Global};
 use std::sync::Wait;
 

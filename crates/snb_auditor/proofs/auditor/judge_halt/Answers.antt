@@ -1,6 +1,6 @@
-use Rattle.snb_schema.specs.declared.event.Event.{Event}
-use Rattle.snb_schema.specs.declared.event.Event.TheVariants.{Halt}
-use Rattle.snb_schema.specs.Rules.{V1}
+use Rattle.snb_history.specs.declared.event.Event.{Event}
+use Rattle.snb_history.specs.declared.event.Event.TheVariants.{Halt}
+use Rattle.snb_history.specs.Rules.{V1}
 use Rattle.snb_book.specs.Kept.{Kept}
 use Rattle.snb_auditor.proofs.Judged.{Passes, passes_none, breaks_at}
 use Rattle.snb_auditor.proofs.auditor.judge_halt.Goals as goal

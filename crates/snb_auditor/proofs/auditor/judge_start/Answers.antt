@@ -1,6 +1,6 @@
-use Rattle.snb_schema.specs.declared.event.Event.{Event}
-use Rattle.snb_schema.specs.declared.event.Event.TheVariants.{Start}
-use Rattle.snb_schema.specs.Rules.{V1, V2, V3, V4, V5, V6, V7, V8, V9}
+use Rattle.snb_history.specs.declared.event.Event.{Event}
+use Rattle.snb_history.specs.declared.event.Event.TheVariants.{Start}
+use Rattle.snb_history.specs.Rules.{V1, V2, V3, V4, V5, V6, V7, V8, V9}
 use Rattle.snb_book.specs.Kept.{Kept}
 use Rattle.snb_auditor.proofs.Judged.{Passes, passes_none, passes_more, breaks_at}
 use Rattle.snb_auditor.proofs.auditor.judge_start.Goals as goal

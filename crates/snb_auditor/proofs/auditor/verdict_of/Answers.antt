@@ -1,5 +1,5 @@
 use Rattle.std.proofs.Common.{List, refl, subst, sym}
-use Rattle.snb_schema.specs.declared.event.Event.{Event}
+use Rattle.snb_history.specs.declared.event.Event.{Event}
 use Rattle.snb_book.specs.Asked.{IsFirstUnfinished}
 use Rattle.snb_auditor.proofs.Histories.{accepted_told, late_told, starts_within}
 use Rattle.snb_auditor.proofs.auditor.verdict_of.Goals as goal

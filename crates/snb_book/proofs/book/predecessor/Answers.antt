@@ -1,8 +1,8 @@
 use Rattle.std.proofs.Common.{◌≡◌, get_or, ap, subst, List, arith, Some}
 use Rattle.std.specs.Prelude.{slice_get}
-use Rattle.snb_schema.specs.declared.step.Step.{Step}
-use Rattle.snb_schema.specs.declared.step.LaneKind.TheVariants.{Person, Forum, Query}
-use Rattle.snb_schema.specs.Schedule.{no_step, step_of}
+use Rattle.snb_history.specs.declared.step.Step.{Step}
+use Rattle.snb_history.specs.declared.step.LaneKind.TheVariants.{Person, Forum, Query}
+use Rattle.snb_history.specs.Schedule.{no_step, step_of}
 use Rattle.snb_book.proofs.Places.{kind_told, none_before, predecessor_told}
 use Rattle.snb_book.proofs.book.predecessor.Goals as goal
 

@@ -1,6 +1,6 @@
 use Rattle.std.proofs.Common.{◌≡◌, ℕ, ◌+◌, List, Bool, true, refl, sym, ap, ◌∙◌, subst, Option}
-use Rattle.snb_schema.specs.declared.step.Step.{Step}
-use Rattle.snb_schema.specs.Schedule.{Schedule, step_of}
+use Rattle.snb_history.specs.declared.step.Step.{Step}
+use Rattle.snb_history.specs.Schedule.{Schedule, step_of}
 use Rattle.snb_book.specs.Book.{IsNext}
 use Rattle.snb_book.specs.Heads.{TellsFirstBelow, earlier_where}
 use Rattle.snb_book.proofs.Firsts.{at_next, below_next, below_skip, none_next, one_next}

@@ -1,6 +1,6 @@
 use Rattle.snb_completion.specs.Progress.{flag}
 use Rattle.snb_completion.proofs.law.times_decide.Goals as goal
-use Rattle.snb_schema.proofs.Laws.{decides_where}
+use Rattle.snb_history.proofs.Laws.{decides_where}
 
 pub returns : goal.returns
 returns c p op dependent small =

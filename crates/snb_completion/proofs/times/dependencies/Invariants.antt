@@ -1,4 +1,4 @@
-use Rattle.snb_schema.specs.Schedule.{is_dependency}
+use Rattle.snb_history.specs.Schedule.{is_dependency}
 use Rattle.snb_completion.specs.Waiting.{HasThose}
 use Rattle.snb_completion.proofs.times.dependencies.Given as goal
 

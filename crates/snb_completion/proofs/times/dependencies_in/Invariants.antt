@@ -1,5 +1,5 @@
 use Rattle.std.proofs.Common.{take}
-use Rattle.snb_schema.specs.Schedule.{is_dependency}
+use Rattle.snb_history.specs.Schedule.{is_dependency}
 use Rattle.snb_completion.proofs.Waits.{HasAmong}
 use Rattle.snb_completion.proofs.times.dependencies_in.Given as goal
 

@@ -1,9 +1,9 @@
 use Rattle.std.proofs.Common.{◌≡◌, ℕ, ◌<◌, List, [], ◌∷◌, length, true, get_or, refl, subst, sym, arith}
 use Rattle.std.proofs.lemmas.Bool.{false≢true}
 use Rattle.std.proofs.lemmas.Map.Keys.{le_from_not_gt}
-use Rattle.snb_schema.specs.declared.step.Step.{Step}
-use Rattle.snb_schema.specs.Schedule.{no_step}
-use Rattle.snb_schema.specs.Completion.{least_t}
+use Rattle.snb_history.specs.declared.step.Step.{Step}
+use Rattle.snb_history.specs.Schedule.{no_step}
+use Rattle.snb_history.specs.Completion.{least_t}
 use Rattle.snb_completion.specs.Waiting.{has}
 use Rattle.snb_completion.proofs.Waits.{has-none, least_t-none, least_t-first}
 use Rattle.snb_completion.proofs.times.least_t.Goals as goal

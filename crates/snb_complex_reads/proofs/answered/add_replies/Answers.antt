@@ -1,7 +1,7 @@
 use Rattle.std.proofs.Common.{◌∷◌, [], sym, subst}
 use Rattle.std.specs.List.Sorted.{IsPermutation}
-use Rattle.snb_parts.specs.Pairs.{rest}
-use Rattle.snb_tables.specs.Around.{replies}
+use Rattle.snb_graph_maps.specs.Pairs.{rest}
+use Rattle.snb_graph_model.specs.Around.{replies}
 use Rattle.snb_complex_reads.proofs.Moves.{appended_done, appended_next}
 use Rattle.snb_complex_reads.proofs.answered.add_replies.Goals as goal
 

@@ -2,10 +2,10 @@ use Rattle.std.proofs.Common.{ℕ, ◌∷◌, [], sym, subst}
 use Rattle.std.proofs.lemmas.List.Sorted.{All-permutation, IsPermutation-refl}
 use Rattle.std.proofs.lemmas.Result.{IfOk-weaker}
 use Rattle.std.specs.List.Sorted.{IsPermutation}
-use Rattle.snb_parts.specs.Pairs.{rest}
-use Rattle.snb_tables.specs.Around.{messages, replies}
-use Rattle.snb_reads.specs.ComplexReads.{IsAnswered}
-use Rattle.snb_reads.specs.Order.{Falling, First, Rising}
+use Rattle.snb_graph_maps.specs.Pairs.{rest}
+use Rattle.snb_graph_model.specs.Around.{messages, replies}
+use Rattle.snb_read_model.specs.ComplexReads.{IsAnswered}
+use Rattle.snb_read_model.specs.Order.{Falling, First, Rising}
 use Rattle.snb_complex_reads.proofs.Moves.{answers_moved, joined_done, joined_next}
 use Rattle.snb_complex_reads.proofs.ReplyLemmas.{all_replied}
 use Rattle.snb_complex_reads.specs.Found.{IsCommentFound}

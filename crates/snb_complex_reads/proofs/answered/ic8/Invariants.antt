@@ -1,8 +1,8 @@
 use Rattle.std.proofs.Common.{◌++◌, ℕ}
 use Rattle.std.specs.List.{flat_map}
 use Rattle.std.specs.List.Sorted.{IsPermutation}
-use Rattle.snb_parts.specs.Pairs.{rest}
-use Rattle.snb_tables.specs.Around.{replies}
+use Rattle.snb_graph_maps.specs.Pairs.{rest}
+use Rattle.snb_graph_model.specs.Around.{replies}
 use Rattle.snb_complex_reads.proofs.answered.ic8.Given as goal
 
 abbrev pub invariant-loop-message : goal.invariant-loop-message

@@ -1,9 +1,9 @@
 use Rattle.std.proofs.Common.{◌≡◌, ℕ, ◌<◌, ◌≤◌, ◌&&◌, nat_lt, true, false, refl, sym, subst, ◌∙◌, ap, arith}
 use Rattle.std.proofs.lemmas.Bool.{and_from, and_left, and_right, le-ltb, lt-ltb}
 use Rattle.std.specs.List.{All}
-use Rattle.snb_parts.specs.Pairs.{rest}
-use Rattle.snb_tables.specs.Around.{work}
-use Rattle.snb_reads.specs.ComplexReads.{is_in}
+use Rattle.snb_graph_maps.specs.Pairs.{rest}
+use Rattle.snb_graph_model.specs.Around.{work}
+use Rattle.snb_read_model.specs.ComplexReads.{is_in}
 use Rattle.snb_complex_reads.proofs.FoundLemmas.{person_fits}
 use Rattle.snb_complex_reads.proofs.JobLemmas.{job_next, job_over, jobs_begin, jobs_done, next_stay}
 use Rattle.snb_complex_reads.proofs.StayLemmas.{work_found}

@@ -1,8 +1,8 @@
 use Rattle.std.proofs.Common.{rules, refl}
 use Rattle.std.proofs.lemmas.List.Sorted.{IsPermutation-refl}
 use Rattle.std.proofs.lemmas.Result.{IfOk-weaker}
-use Rattle.snb_order.proofs.Laws.{compares, walked}
-use Rattle.snb_reads.specs.Order.{First}
+use Rattle.snb_read_order.proofs.Laws.{compares, walked}
+use Rattle.snb_read_model.specs.Order.{First}
 use Rattle.snb_complex_reads.proofs.JobLemmas.{job_answers, jobs_first, jobs_total}
 use Rattle.snb_complex_reads.specs.Jobs.{IsJobFound}
 use Rattle.snb_complex_reads.proofs.jobs.first_jobs.Goals as goal

@@ -1,9 +1,9 @@
 use Rattle.std.proofs.Common.{ℕ, ◌∷◌, [], subst}
 use Rattle.std.proofs.lemmas.List.Elements.{All-get_or, All-same}
 use Rattle.std.proofs.lemmas.Result.{IfOk-weaker}
-use Rattle.snb_reads.specs.ComplexReads.{IsJob}
-use Rattle.snb_reads.specs.Distance.{IsPerson}
-use Rattle.snb_reads.specs.Order.{Answers, Falling, First, Rising}
+use Rattle.snb_read_model.specs.ComplexReads.{IsJob}
+use Rattle.snb_read_model.specs.Distance.{IsPerson}
+use Rattle.snb_read_model.specs.Order.{Answers, Falling, First, Rising}
 use Rattle.snb_complex_reads.proofs.FoundLemmas.{near_found}
 use Rattle.snb_complex_reads.proofs.JobLemmas.{jobs_all, jobs_more, jobs_none, none_seen}
 use Rattle.snb_complex_reads.specs.Jobs.{jobs_by}

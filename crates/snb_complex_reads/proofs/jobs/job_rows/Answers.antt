@@ -1,7 +1,7 @@
 use Rattle.std.proofs.Common.{refl, subst, sym}
 use Rattle.std.proofs.lemmas.List.Elements.{All-get_or}
-use Rattle.snb_order.proofs.Laws.{zip_all, zip_more}
-use Rattle.snb_reads.specs.ComplexReads.{IsJob}
+use Rattle.snb_read_order.proofs.Laws.{zip_all, zip_more}
+use Rattle.snb_read_model.specs.ComplexReads.{IsJob}
 use Rattle.snb_complex_reads.specs.Jobs.{IsJobFound, Job, job_of}
 use Rattle.snb_complex_reads.proofs.jobs.job_rows.Goals as goal
 

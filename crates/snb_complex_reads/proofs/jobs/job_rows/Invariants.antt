@@ -1,6 +1,6 @@
 use Rattle.std.proofs.Common.{take}
 use Rattle.std.specs.List.{AllZip}
-use Rattle.snb_reads.specs.ComplexReads.{IsJob}
+use Rattle.snb_read_model.specs.ComplexReads.{IsJob}
 use Rattle.snb_complex_reads.specs.Jobs.{job_of}
 use Rattle.snb_complex_reads.proofs.jobs.job_rows.Given as goal
 

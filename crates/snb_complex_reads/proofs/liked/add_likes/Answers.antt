@@ -1,8 +1,8 @@
 use Rattle.std.proofs.Common.{◌∷◌, [], sym, ap, subst, map}
 use Rattle.std.proofs.lemmas.List.Sorted.{IsPermutation-map}
 use Rattle.std.specs.List.Sorted.{IsPermutation}
-use Rattle.snb_parts.specs.Pairs.{rest}
-use Rattle.snb_tables.specs.Around.{likes}
+use Rattle.snb_graph_maps.specs.Pairs.{rest}
+use Rattle.snb_graph_model.specs.Around.{likes}
 use Rattle.snb_complex_reads.proofs.Moves.{appended_done, appended_next}
 use Rattle.snb_complex_reads.specs.Found.{like_of}
 use Rattle.snb_complex_reads.proofs.liked.add_likes.Goals as goal

@@ -2,11 +2,11 @@ use Rattle.std.proofs.Common.{ℕ, ◌∷◌, [], map, rules, sym, subst}
 use Rattle.std.proofs.lemmas.List.Sorted.{All-permutation, IsPermutation-refl, IsPermutation-trans}
 use Rattle.std.proofs.lemmas.Result.{IfOk-weaker}
 use Rattle.std.specs.List.Sorted.{IsPermutation, IsSorted}
-use Rattle.snb_parts.specs.Pairs.{rest}
-use Rattle.snb_order.proofs.Laws.{compares}
-use Rattle.snb_tables.specs.Around.{likes, messages}
-use Rattle.snb_reads.specs.ComplexReads.{IsLiked, best_likes, liked}
-use Rattle.snb_reads.specs.Order.{Falling, First, Rising}
+use Rattle.snb_graph_maps.specs.Pairs.{rest}
+use Rattle.snb_read_order.proofs.Laws.{compares}
+use Rattle.snb_graph_model.specs.Around.{likes, messages}
+use Rattle.snb_read_model.specs.ComplexReads.{IsLiked, best_likes, liked}
+use Rattle.snb_read_model.specs.Order.{Falling, First, Rising}
 use Rattle.snb_complex_reads.proofs.Heads.{weigh_total}
 use Rattle.snb_complex_reads.proofs.LikeLemmas.{best_found, best_moved}
 use Rattle.snb_complex_reads.proofs.Moves.{answers_moved, joined_done, joined_next, ordered_moved, ordered_sorted}

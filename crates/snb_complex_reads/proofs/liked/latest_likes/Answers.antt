@@ -1,8 +1,8 @@
 use Rattle.std.proofs.Common.{rules, refl}
 use Rattle.std.proofs.lemmas.List.Sorted.{IsPermutation-refl}
 use Rattle.std.proofs.lemmas.Result.{IfOk-weaker}
-use Rattle.snb_order.proofs.Laws.{compares, walked}
-use Rattle.snb_reads.specs.Order.{First}
+use Rattle.snb_read_order.proofs.Laws.{compares, walked}
+use Rattle.snb_read_model.specs.Order.{First}
 use Rattle.snb_complex_reads.proofs.LikeLemmas.{like_answers, likes_first, likes_total}
 use Rattle.snb_complex_reads.specs.Found.{IsLikeFound}
 use Rattle.snb_complex_reads.proofs.liked.latest_likes.Goals as goal

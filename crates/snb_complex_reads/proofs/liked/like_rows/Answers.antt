@@ -1,7 +1,7 @@
 use Rattle.std.proofs.Common.{refl}
 use Rattle.std.proofs.lemmas.List.Elements.{All-get_or}
-use Rattle.snb_order.proofs.Laws.{zip_all, zip_more}
-use Rattle.snb_reads.specs.ComplexReads.{IsLiked}
+use Rattle.snb_read_order.proofs.Laws.{zip_all, zip_more}
+use Rattle.snb_read_model.specs.ComplexReads.{IsLiked}
 use Rattle.snb_complex_reads.specs.Found.{IsLikeFound}
 use Rattle.snb_complex_reads.proofs.liked.like_rows.Goals as goal
 

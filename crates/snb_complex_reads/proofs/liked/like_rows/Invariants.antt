@@ -1,6 +1,6 @@
 use Rattle.std.proofs.Common.{take}
 use Rattle.std.specs.List.{AllZip}
-use Rattle.snb_reads.specs.ComplexReads.{IsLiked}
+use Rattle.snb_read_model.specs.ComplexReads.{IsLiked}
 use Rattle.snb_complex_reads.proofs.liked.like_rows.Given as goal
 
 abbrev pub invariant-loop-like : goal.invariant-loop-like

@@ -3,8 +3,8 @@ use Rattle.std.proofs.lemmas.List.{length-map}
 use Rattle.std.proofs.lemmas.List.Elements.{All-same}
 use Rattle.std.proofs.lemmas.Result.{IfOk-weaker}
 use Rattle.std.specs.List.{filter}
-use Rattle.snb_reads.specs.ComplexReads.{IsNamesake, is_named}
-use Rattle.snb_reads.specs.Order.{Answers, First, Rising}
+use Rattle.snb_read_model.specs.ComplexReads.{IsNamesake, is_named}
+use Rattle.snb_read_model.specs.Order.{Answers, First, Rising}
 use Rattle.snb_complex_reads.proofs.NamesakeLemmas.{near_is}
 use Rattle.snb_complex_reads.proofs.NearFirst.{near_first}
 use Rattle.snb_complex_reads.specs.Namesakes.{AreNamesakes, IsNearFound, namesake_of}

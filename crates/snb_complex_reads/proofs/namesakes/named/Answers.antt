@@ -2,8 +2,8 @@ use Rattle.std.proofs.Common.{◌≡◌, ℕ, ◌+◌, List, ap, get_or, take, s
 use Rattle.std.proofs.lemmas.List.Elements.{All-get_or}
 use Rattle.std.specs.List.{filter}
 use Rattle.std.specs.Str.{bytes_eq}
-use Rattle.snb_reads.specs.ComplexReads.{is_named}
-use Rattle.snb_reads.specs.Distance.{IsPerson}
+use Rattle.snb_read_model.specs.ComplexReads.{is_named}
+use Rattle.snb_read_model.specs.Distance.{IsPerson}
 use Rattle.snb_short_reads.specs.Lookups.{IsOnlyPerson}
 use Rattle.snb_complex_reads.proofs.NamesakeLemmas.{named_all, named_is, named_next, named_over}
 use Rattle.snb_complex_reads.specs.Namesakes.{AreNamesakes, IsNearFound}

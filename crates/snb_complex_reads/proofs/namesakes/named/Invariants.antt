@@ -1,6 +1,6 @@
 use Rattle.std.proofs.Common.{take}
 use Rattle.std.specs.List.{filter}
-use Rattle.snb_reads.specs.ComplexReads.{is_named}
+use Rattle.snb_read_model.specs.ComplexReads.{is_named}
 use Rattle.snb_complex_reads.specs.Namesakes.{AreNamesakes}
 use Rattle.snb_complex_reads.proofs.namesakes.named.Given as goal
 

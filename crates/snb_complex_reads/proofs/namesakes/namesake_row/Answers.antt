@@ -2,8 +2,8 @@ use Rattle.std.proofs.Common.{rules, sym, subst, ◌∙◌}
 use Rattle.std.specs.Cmp.Lexicographic.{slice_cmp}
 use Rattle.std.specs.List.{All}
 use Rattle.std.specs.Ordering.{nat_cmp}
-use Rattle.snb_reads.specs.ComplexReads.{AreStays}
-use Rattle.snb_reads.specs.Order.{FirstOf, Whole}
+use Rattle.snb_read_model.specs.ComplexReads.{AreStays}
+use Rattle.snb_read_model.specs.Order.{FirstOf, Whole}
 use Rattle.snb_complex_reads.proofs.NamesakeLemmas.{city_place}
 use Rattle.snb_complex_reads.proofs.StayLemmas.{emails_are, languages_are, study_found, work_found}
 use Rattle.snb_complex_reads.specs.Found.{IsStayFound}

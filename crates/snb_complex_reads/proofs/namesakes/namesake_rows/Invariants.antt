@@ -1,6 +1,6 @@
 use Rattle.std.proofs.Common.{take}
 use Rattle.std.specs.List.{AllZip}
-use Rattle.snb_reads.specs.ComplexReads.{IsNamesake}
+use Rattle.snb_read_model.specs.ComplexReads.{IsNamesake}
 use Rattle.snb_complex_reads.specs.Namesakes.{namesake_of}
 use Rattle.snb_complex_reads.proofs.namesakes.namesake_rows.Given as goal
 

@@ -2,7 +2,7 @@ use Rattle.std.proofs.Common.{ap, subst}
 use Rattle.std.proofs.lemmas.List.Elements.{All-same}
 use Rattle.std.proofs.lemmas.Result.{IfOk-weaker}
 use Rattle.std.specs.List.{filter}
-use Rattle.snb_reads.specs.ComplexReads.{is_named}
+use Rattle.snb_read_model.specs.ComplexReads.{is_named}
 use Rattle.snb_complex_reads.proofs.NamesakeLemmas.{near_is}
 use Rattle.snb_complex_reads.specs.Namesakes.{AreNamesakes, IsNearFound}
 use Rattle.snb_complex_reads.proofs.namesakes.namesakes.Goals as goal

@@ -2,8 +2,8 @@ use Rattle.std.proofs.Common.{◌≡◌, ◌++◌, rules, sym, ap, subst, ◌∙
 use Rattle.std.proofs.lemmas.List.{append-nil}
 use Rattle.std.specs.Cmp.Lexicographic.{nat_list_cmp_total, slice_cmp}
 use Rattle.std.specs.Ordering.{nat_cmp}
-use Rattle.snb_order.proofs.Laws.{compares}
-use Rattle.snb_reads.specs.Order.{FirstOf, Whole}
+use Rattle.snb_read_order.proofs.Laws.{compares}
+use Rattle.snb_read_model.specs.Order.{FirstOf, Whole}
 use Rattle.snb_complex_reads.proofs.namesakes.sorted.Goals as goal
 
 pub returns : goal.returns

@@ -1,7 +1,7 @@
 use Rattle.std.proofs.Common.{rules, sym, subst, ap}
-use Rattle.snb_parts.specs.Pairs.{rest}
-use Rattle.snb_order.proofs.Laws.{compares}
-use Rattle.snb_reads.specs.ComplexReads.{AreStays, stay_cmp}
+use Rattle.snb_graph_maps.specs.Pairs.{rest}
+use Rattle.snb_read_order.proofs.Laws.{compares}
+use Rattle.snb_read_model.specs.ComplexReads.{AreStays, stay_cmp}
 use Rattle.snb_complex_reads.proofs.NamesakeLemmas.{naming_begins, naming_done, naming_head, naming_next, stay_total}
 use Rattle.snb_complex_reads.proofs.namesakes.stays.Goals as goal
 

@@ -1,4 +1,4 @@
-use Rattle.snb_parts.specs.Pairs.{rest}
+use Rattle.snb_graph_maps.specs.Pairs.{rest}
 use Rattle.snb_complex_reads.proofs.NamesakeLemmas.{IsNaming}
 use Rattle.snb_complex_reads.proofs.namesakes.stays.Given as goal
 

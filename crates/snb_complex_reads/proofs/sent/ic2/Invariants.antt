@@ -1,7 +1,7 @@
 use Rattle.std.proofs.Common.{◌++◌, ℕ, List, nat_le}
 use Rattle.std.specs.List.{flat_map}
 use Rattle.std.specs.List.Sorted.{IsPermutation}
-use Rattle.snb_parts.specs.Pairs.{rest}
+use Rattle.snb_graph_maps.specs.Pairs.{rest}
 use Rattle.snb_complex_reads.specs.Found.{IsLatest, sent_by}
 use Rattle.snb_complex_reads.proofs.sent.ic2.Given as goal
 

@@ -1,8 +1,8 @@
 use Rattle.std.proofs.Common.{[], nat_lt}
 use Rattle.std.proofs.lemmas.List.Sorted.{All-permutation, IsPermutation-refl}
 use Rattle.std.proofs.lemmas.Result.{IfOk-weaker}
-use Rattle.snb_reads.specs.ComplexReads.{IsSent, latest}
-use Rattle.snb_reads.specs.Order.{First}
+use Rattle.snb_read_model.specs.ComplexReads.{IsSent, latest}
+use Rattle.snb_read_model.specs.Order.{First}
 use Rattle.snb_complex_reads.proofs.FoundLemmas.{near_found}
 use Rattle.snb_complex_reads.proofs.Moves.{answers_moved, joined_all, joined_more}
 use Rattle.snb_complex_reads.proofs.SentLemmas.{all_sent}

@@ -1,8 +1,8 @@
 use Rattle.std.proofs.Common.{rules, refl, subst}
 use Rattle.std.proofs.lemmas.List.Sorted.{IsPermutation-refl}
 use Rattle.std.proofs.lemmas.Result.{IfOk-weaker}
-use Rattle.snb_order.proofs.Laws.{compares, walked}
-use Rattle.snb_reads.specs.Order.{First, FirstOf}
+use Rattle.snb_read_order.proofs.Laws.{compares, walked}
+use Rattle.snb_read_model.specs.Order.{First, FirstOf}
 use Rattle.snb_complex_reads.proofs.SentLemmas.{sent_answers, sent_total}
 use Rattle.snb_complex_reads.specs.Found.{IsSentFound, sent_first}
 use Rattle.snb_complex_reads.proofs.sent.latest_sent.Goals as goal

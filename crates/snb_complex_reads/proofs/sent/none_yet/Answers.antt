@@ -1,5 +1,5 @@
 use Rattle.std.proofs.Common.{[], refl, sym, subst}
-use Rattle.snb_order.proofs.Laws.{top_begins}
+use Rattle.snb_read_order.proofs.Laws.{top_begins}
 use Rattle.snb_complex_reads.specs.Found.{IsLatest, sent_first}
 use Rattle.snb_complex_reads.proofs.sent.none_yet.Goals as goal
 

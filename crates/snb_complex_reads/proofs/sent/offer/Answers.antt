@@ -1,5 +1,5 @@
 use Rattle.std.proofs.Common.{rules, ◌∙◌}
-use Rattle.snb_order.proofs.Laws.{compares}
+use Rattle.snb_read_order.proofs.Laws.{compares}
 use Rattle.snb_complex_reads.proofs.SentLemmas.{sent_total}
 use Rattle.snb_complex_reads.specs.Found.{sent_first}
 use Rattle.snb_complex_reads.proofs.sent.offer.Goals as goal

@@ -1,6 +1,6 @@
 use Rattle.std.proofs.Common.{◌≡◌, ◌++◌, ℕ, List, map, nat_lt}
 use Rattle.std.specs.List.{filter}
-use Rattle.snb_parts.specs.Pairs.{rest}
+use Rattle.snb_graph_maps.specs.Pairs.{rest}
 use Rattle.snb_complex_reads.specs.Found.{IsLatest}
 use Rattle.snb_complex_reads.proofs.sent.offer_before.Given as goal
 

@@ -1,7 +1,7 @@
 use Rattle.std.proofs.Common.{ℕ, ◌++◌, ◌∷◌, [], refl, sym, subst, nat_le}
 use Rattle.std.specs.List.Sorted.{IsPermutation}
-use Rattle.snb_parts.specs.Pairs.{rest}
-use Rattle.snb_tables.specs.Around.{messages}
+use Rattle.snb_graph_maps.specs.Pairs.{rest}
+use Rattle.snb_graph_model.specs.Around.{messages}
 use Rattle.snb_complex_reads.proofs.Columns.{le_no, le_yes}
 use Rattle.snb_complex_reads.proofs.Moves.{passed_done, passed_next, passed_over}
 use Rattle.snb_complex_reads.proofs.sent.offer_until.Goals as goal

@@ -1,7 +1,7 @@
 use Rattle.std.proofs.Common.{refl}
 use Rattle.std.proofs.lemmas.List.Elements.{All-get_or}
-use Rattle.snb_order.proofs.Laws.{zip_all, zip_more}
-use Rattle.snb_reads.specs.ComplexReads.{IsSent}
+use Rattle.snb_read_order.proofs.Laws.{zip_all, zip_more}
+use Rattle.snb_read_model.specs.ComplexReads.{IsSent}
 use Rattle.snb_complex_reads.specs.Found.{IsSentFound}
 use Rattle.snb_complex_reads.proofs.sent.sent_rows.Goals as goal
 

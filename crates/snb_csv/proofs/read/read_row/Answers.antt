@@ -1,6 +1,6 @@
 use Rattle.std.proofs.Common.{◌&&◌, cond, List, ap, ◌∙◌}
 use Rattle.snb_schema.specs.declared.column.Value.{Value}
-use Rattle.snb_fields.specs.Values.{starts_twice}
+use Rattle.snb_input_fields.specs.Values.{starts_twice}
 use Rattle.snb_csv.proofs.RowFacts.{bad_stop}
 use Rattle.snb_csv.proofs.read.read_row.Goals as goal
 

@@ -1,7 +1,7 @@
 use Rattle.std.proofs.Common.{◌∙◌, ap, sym}
 use Rattle.snb_schema.specs.Layouts.{shape}
 use Rattle.snb_csv.specs.Make.{row_by}
-use Rattle.snb_fields.specs.Values.{starts_twice}
+use Rattle.snb_input_fields.specs.Values.{starts_twice}
 use Rattle.snb_csv.proofs.RowFacts.{row_as_said, row_in_order}
 use Rattle.snb_csv.proofs.read.row_of.Goals as goal
 

@@ -1,7 +1,7 @@
 use Rattle.std.proofs.Common.{refl}
 use Rattle.snb_schema.specs.declared.row.Row.TheVariants as row
-use Rattle.snb_store.proofs.Laws.{rows_is}
-use Rattle.snb_parts.proofs.Laws.{on_err}
+use Rattle.snb_graph_tables.proofs.Laws.{rows_is}
+use Rattle.snb_graph_maps.proofs.Laws.{on_err}
 use Rattle.snb_graph.proofs.GraphLemmas.{mute_kept}
 use Rattle.snb_graph.proofs.additions.insert_word.Goals as goal
 

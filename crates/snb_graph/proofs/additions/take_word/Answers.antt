@@ -1,7 +1,7 @@
 use Rattle.std.proofs.Common.{refl, sym, subst}
 use Rattle.snb_schema.specs.declared.row.Row.TheVariants as row
-use Rattle.snb_links.specs.Kept.{IsBacked}
-use Rattle.snb_links.proofs.Laws.{mute_left}
+use Rattle.snb_graph_adjacency.specs.Kept.{IsBacked}
+use Rattle.snb_graph_adjacency.proofs.Laws.{mute_left}
 use Rattle.snb_graph.proofs.additions.take_word.Goals as goal
 
 pub returns-clause-back : goal.returns-clause-back

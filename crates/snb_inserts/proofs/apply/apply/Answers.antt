@@ -2,7 +2,7 @@ use Rattle.std.proofs.Common.{List, Ok, Err, refl, subst}
 use Rattle.snb_schema.specs.References.{refs_of}
 use Rattle.snb_schema.specs.declared.row.Row.{Row}
 use Rattle.snb_graph.specs.Additions.{HasClash}
-use Rattle.snb_tables.specs.Graphs.{HasGained}
+use Rattle.snb_graph_model.specs.Graphs.{HasGained}
 use Rattle.snb_inserts.specs.Applying.{IsWelcome}
 use Rattle.snb_inserts.specs.declared.applied.Applied.TheVariants as applied
 use Rattle.snb_inserts.proofs.MissingLemmas.{none_first, not_held, told_missing, told_none}

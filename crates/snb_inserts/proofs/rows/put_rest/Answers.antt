@@ -2,7 +2,7 @@ use Rattle.std.proofs.Common.{◌≡◌, ◌∙◌, ◌++◌, List, drop, sym, a
 use Rattle.snb_schema.specs.Inserts.{rows_of}
 use Rattle.snb_schema.specs.declared.op.Op.{Op}
 use Rattle.snb_schema.specs.declared.row.Row.{Row}
-use Rattle.snb_tables.proofs.Laws.{on_ok}
+use Rattle.snb_graph_model.proofs.Laws.{on_ok}
 use Rattle.snb_inserts.proofs.ListRows.{edges}
 use Rattle.snb_inserts.proofs.rows.put_rest.Goals as goal
 

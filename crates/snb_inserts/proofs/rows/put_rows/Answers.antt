@@ -1,5 +1,5 @@
 use Rattle.snb_schema.specs.Inserts.{rows_of}
-use Rattle.snb_tables.proofs.Laws.{on_ok}
+use Rattle.snb_graph_model.proofs.Laws.{on_ok}
 use Rattle.snb_inserts.proofs.ListRows.{put_all}
 use Rattle.snb_inserts.proofs.rows.put_rows.Goals as goal
 

@@ -1,9 +1,9 @@
 use Rattle.std.proofs.Common.{List, [], Ok, Err, sym, subst, ◌∙◌}
 use Rattle.snb_schema.specs.declared.row.Row.{Row}
-use Rattle.snb_input.specs.declared.load.Load.{Load}
-use Rattle.snb_soundness.specs.Outcomes.{IsWrong}
+use Rattle.snb_input_files.specs.declared.load.Load.{Load}
+use Rattle.snb_graph_integrity.specs.Outcomes.{IsWrong}
 use Rattle.snb_loader.specs.Dataset.{IsDatasetAnswer}
-use Rattle.snb_tables.specs.Soundness.{Held, Sound}
+use Rattle.snb_graph_model.specs.Soundness.{Held, Sound}
 use Rattle.snb_loader.proofs.DatasetFacts.{files_err, graph_err, graph_ok}
 use Rattle.snb_loader.proofs.dataset.load_dataset.Goals as goal
 

@@ -1,7 +1,7 @@
 use Rattle.std.proofs.Common.{Option, Ok, Err, subst}
 use Rattle.snb_base.specs.Shelf.{Files}
-use Rattle.snb_input.specs.Stages.{IsStage, before}
-use Rattle.snb_loader.specs.declared.order.TheConstants.{FORUM_STREAMS}
+use Rattle.snb_input_files.specs.Stages.{IsStage, before}
+use Rattle.snb_loader.specs.Order.{forum_series}
 use Rattle.snb_loader.specs.Lanes.{IsHeard, stream_format}
 use Rattle.snb_loader.proofs.LaneFacts.{forums_err, forums_few, forums_ok, lanes_counted, lanes_streams, persons_err, persons_few}
 use Rattle.snb_loader.proofs.lanes.load_lanes.Goals as goal
@@ -12,7 +12,7 @@ returns-in-Err-clause-answer g c = persons_err (g.S.Shelf.contents c.args.shelf.
 pub returns-in-Err-load_stage-clause-answer : goal.returns-in-Err-load_stage-clause-answer
 returns-in-Err-load_stage-clause-answer g c =
     forums_err (g.S.Shelf.contents c.args.shelf.now) c.args.folder.now c.args.used.now c.stages_join.ensures c.in-Ok.walk c.in-Ok.ensures.answer c.in-Err-load_stage.load
-    (subst (λ (z : Option Files). IsStage stream_format IsHeard z c.args.folder.now FORUM_STREAMS (before c.in-Ok.walk.used) (Err c.in-Err-load_stage.load)) c.in-Ok.ensures.same c.in-Err-load_stage.ensures.answer)
+    (subst (λ (z : Option Files). IsStage stream_format IsHeard z c.args.folder.now forum_series (before c.in-Ok.walk.used) (Err c.in-Err-load_stage.load)) c.in-Ok.ensures.read.same c.in-Err-load_stage.ensures.answer)
 
 pub lanes_of-requires-clause-persons : goal.lanes_of-requires-clause-persons
 lanes_of-requires-clause-persons g c = persons_few (g.S.Shelf.contents c.args.shelf.now) c.args.folder.now c.args.used.now c.in-Ok.walk c.in-Ok.ensures.answer
@@ -24,7 +24,7 @@ lanes_of-requires-clause-forums g c =
 pub returns-clause-answer : goal.returns-clause-answer
 returns-clause-answer g c =
     forums_ok (g.S.Shelf.contents c.args.shelf.now) c.args.folder.now c.args.used.now c.stages_join.ensures c.in-Ok.walk c.in-Ok.ensures.answer c.in-Ok-load_stage.walk
-    (subst (λ (z : Option Files). IsStage stream_format IsHeard z c.args.folder.now FORUM_STREAMS (before c.in-Ok.walk.used) (Ok c.in-Ok-load_stage.walk)) c.in-Ok.ensures.same c.in-Ok-load_stage.ensures.answer)
+    (subst (λ (z : Option Files). IsStage stream_format IsHeard z c.args.folder.now forum_series (before c.in-Ok.walk.used) (Ok c.in-Ok-load_stage.walk)) c.in-Ok.ensures.read.same c.in-Ok-load_stage.ensures.answer)
     c.in_ok-lanes.lanes c.in_ok-lanes.ensures.value
 
 pub returns-clause-streams : goal.returns-clause-streams

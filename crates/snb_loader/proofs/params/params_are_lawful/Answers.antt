@@ -1,5 +1,5 @@
 use Rattle.snb_loader.proofs.ParamFacts.{params_lawful}
-use Rattle.snb_loader.proofs.TakerFacts.{params_ended, params_hear, params_turned}
+use Rattle.snb_loader.proofs.FileSinkFacts.{params_ended, params_hear, params_turned}
 use Rattle.snb_loader.proofs.params.params_are_lawful.Goals as goal
 
 pub returns-clause-lawful : goal.returns-clause-lawful

@@ -1,6 +1,6 @@
 use Rattle.std.proofs.Common.{refl}
 use Rattle.snb_loader.proofs.StreamFacts.{stream_lawful, streams_fit}
-use Rattle.snb_loader.proofs.TakerFacts.{stream_hears, stream_turned}
+use Rattle.snb_loader.proofs.FileSinkFacts.{stream_hears, stream_turned}
 use Rattle.snb_loader.proofs.streams.streams_are_lawful.Goals as goal
 
 pub returns-clause-lawful : goal.returns-clause-lawful

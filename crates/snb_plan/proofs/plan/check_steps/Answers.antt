@@ -1,11 +1,11 @@
 use Rattle.std.proofs.Common.{◌≡◌, ◌∙◌, ◌+◌, ◌++◌, ◌∷◌, [], List, ap, sym, subst, take, get_or}
-use Rattle.snb_schema.specs.Schedule.{no_step}
+use Rattle.snb_history.specs.Schedule.{no_step}
 use Rattle.snb_plan.specs.declared.added.Added.{Added}
 use Rattle.std.proofs.lemmas.List.{take_all}
-use Rattle.snb_schema.specs.declared.step.Step.{Step}
+use Rattle.snb_history.specs.declared.step.Step.{Step}
 use Rattle.snb_plan.specs.Added.{update_of}
 use Rattle.snb_plan.specs.Closed.{Update}
-use Rattle.snb_plan.specs.Spots.{updates_at}
+use Rattle.snb_plan.specs.Positions.{updates_at}
 use Rattle.snb_plan.proofs.ClosedLemmas.{Stands, passed_on, stands_none}
 use Rattle.snb_plan.proofs.Walking.{Follows, closed_end, follows_at, more_read, more_update, stands_more, tried, updates_rise, wrong_next}
 use Rattle.snb_plan.proofs.plan.check_steps.Goals.{then-not-step+in_ok-check_update, else-not-step}

@@ -1,7 +1,7 @@
 use Rattle.std.proofs.Common.{◌≡◌, suc, ◌-◌, IsSome, arith, nat_eq}
 use Rattle.std.proofs.lemmas.List.Elements.{All-get_or}
 use Rattle.std.specs.HashMap.{get}
-use Rattle.snb_reads.specs.Distance.{IsDistance}
+use Rattle.snb_read_model.specs.Distance.{IsDistance}
 use Rattle.snb_reach.proofs.LevelLemmas.{begins, ends_level}
 use Rattle.snb_reach.proofs.LookLemmas.{all_met, known_more}
 use Rattle.snb_reach.proofs.levels.grow.Goals as goal

@@ -1,6 +1,6 @@
 use Rattle.std.proofs.Common.{◌≡◌, ℕ, ◌<◌, IsSome, get_or, nat_eq, true}
 use Rattle.std.specs.HashMap.{get}
-use Rattle.snb_tables.specs.Around.{is_friend}
+use Rattle.snb_graph_model.specs.Around.{is_friend}
 use Rattle.snb_reach.specs.Levels.{IsGrowing}
 use Rattle.snb_reach.proofs.levels.grow.Given as goal
 

@@ -1,5 +1,5 @@
 use Rattle.std.proofs.Common.{inl, inr, refl, arith}
-use Rattle.snb_reads.specs.Distance.{Walk}
+use Rattle.snb_read_model.specs.Distance.{Walk}
 use Rattle.snb_reach.proofs.WalkLemmas.{walk_start}
 use Rattle.snb_reach.proofs.reach.shortest.Goals as goal
 

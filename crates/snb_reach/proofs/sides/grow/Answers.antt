@@ -2,7 +2,7 @@ use Rattle.std.proofs.Common.{◌≡◌, suc, ◌-◌, Some, arith, get_or, nat_
 use Rattle.std.proofs.lemmas.Bool.{MatchBool-at_false, MatchBool-at_true}
 use Rattle.std.proofs.lemmas.List.Elements.{All-get_or}
 use Rattle.std.specs.HashMap.{get}
-use Rattle.snb_reads.specs.Distance.{Walk}
+use Rattle.snb_read_model.specs.Distance.{Walk}
 use Rattle.snb_reach.proofs.LookLemmas.{all_met, known_more}
 use Rattle.snb_reach.proofs.SideLemmas.{begins, ends_level}
 use Rattle.snb_reach.specs.Sides.{HasMetFriends, IsMeeting}

@@ -1,6 +1,6 @@
 use Rattle.std.proofs.Common.{◌≡◌, ℕ, ◌+◌, ◌<◌, length, get_or, nat_eq, Some, true}
 use Rattle.std.specs.HashMap.{get, hash_map_len}
-use Rattle.snb_tables.specs.Around.{is_friend}
+use Rattle.snb_graph_model.specs.Around.{is_friend}
 use Rattle.snb_reach.specs.Sides.{IsSide, KeepsMark, SameOthers}
 use Rattle.snb_reach.proofs.sides.grow.Given as goal
 

@@ -1,10 +1,10 @@
 use Rattle.std.proofs.Common.{◌≡◌, suc, ◌-◌, Some, arith, nat_eq, sym, subst}
 use Rattle.std.specs.HashMap.{get}
 use Rattle.std.specs.List.Sorted.{IsPermutation}
-use Rattle.snb_reads.specs.Distance.{Walk}
-use Rattle.snb_tables.specs.Around.{friends}
-use Rattle.snb_parts.specs.Pairs.{rest}
-use Rattle.snb_shelf.proofs.Laws.{contains_here}
+use Rattle.snb_read_model.specs.Distance.{Walk}
+use Rattle.snb_graph_model.specs.Around.{friends}
+use Rattle.snb_graph_maps.specs.Pairs.{rest}
+use Rattle.snb_graph_rows.proofs.Laws.{contains_here}
 use Rattle.snb_reach.proofs.LookLemmas.{all_looked, looked, looks}
 use Rattle.snb_reach.proofs.SideLemmas.{marked, met_other}
 use Rattle.snb_reach.specs.Sides.{HasMarked}

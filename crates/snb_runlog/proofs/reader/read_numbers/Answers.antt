@@ -1,6 +1,6 @@
 use Rattle.std.proofs.Common.{◌≡◌, ◌+◌, ◌∙◌, Some, suc, take, drop, refl, sym, ap, subst, add-one, arith, length-set, length, ◌<◌}
 use Rattle.std.proofs.lemmas.List.{take_more_set}
-use Rattle.snb_lines.specs.Records.{field_at}
+use Rattle.snb_input_lines.specs.Records.{field_at}
 use Rattle.snb_runlog.specs.Lines.{AreNumbers, IsNumber}
 use Rattle.snb_runlog.proofs.LineFacts.{after_first, found_there, none_there, numbers_push, some_field, stops_here}
 use Rattle.snb_runlog.proofs.NumberFacts.{none_spelled, some_spelled}

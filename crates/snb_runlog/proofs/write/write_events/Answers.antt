@@ -1,4 +1,4 @@
-use Rattle.snb_schema.specs.RunTexts.{event_line}
+use Rattle.snb_history.specs.RunTexts.{event_line}
 use Rattle.snb_runlog.proofs.WriteFacts.{on_err, some_within}
 use Rattle.snb_runlog.proofs.write.write_events.Goals as goal
 

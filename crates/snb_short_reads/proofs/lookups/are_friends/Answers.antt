@@ -1,8 +1,8 @@
 use Rattle.std.proofs.Common.{◌≡◌, min, max, [], sym, subst, arith}
 use Rattle.snb_schema.specs.declared.table.Table.TheVariants as table
 use Rattle.snb_schema.specs.RowKeys.{RowKey}
-use Rattle.snb_tables.specs.Graphs.{HasKey}
-use Rattle.snb_tables.specs.Around.{is_friend}
+use Rattle.snb_graph_model.specs.Graphs.{HasKey}
+use Rattle.snb_graph_model.specs.Around.{is_friend}
 use Rattle.snb_short_reads.proofs.Laws.{befriends_key, key_befriends, same_test}
 use Rattle.snb_short_reads.proofs.lookups.are_friends.Goals as goal
 

@@ -1,5 +1,5 @@
 use Rattle.std.proofs.Common.{◌≡◌, ◌∷◌, [], ℕ, rules, sym, ap, subst, ◌∙◌}
-use Rattle.snb_tables.specs.Around.{persons}
+use Rattle.snb_graph_model.specs.Around.{persons}
 use Rattle.snb_short_reads.proofs.messages.forum_row.Goals as goal
 
 pub returns : goal.returns

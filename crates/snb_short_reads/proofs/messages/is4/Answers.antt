@@ -1,9 +1,9 @@
 use Rattle.std.proofs.Common.{◌≡◌, ◌∷◌, [], rules}
 use Rattle.std.proofs.lemmas.Result.{IfOk-weaker}
-use Rattle.snb_order.proofs.Laws.{one_row}
-use Rattle.snb_reads.specs.declared.cell.Cell.TheVariants.{Words}
-use Rattle.snb_tables.specs.Around.{with_id}
-use Rattle.snb_reads.specs.Cells.{number}
+use Rattle.snb_read_order.proofs.Laws.{one_row}
+use Rattle.snb_read_model.specs.declared.cell.Cell.TheVariants.{Words}
+use Rattle.snb_graph_model.specs.Around.{with_id}
+use Rattle.snb_read_model.specs.Cells.{number}
 use Rattle.snb_short_reads.proofs.messages.is4.Goals as goal
 
 pub returns : goal.returns

@@ -1,8 +1,8 @@
 use Rattle.std.proofs.Common.{[]}
 use Rattle.std.proofs.lemmas.Result.{IfOk-weaker}
-use Rattle.snb_order.proofs.Laws.{one_row}
-use Rattle.snb_tables.specs.Around.{with_id}
-use Rattle.snb_reads.specs.ShortReads.{IsCreator}
+use Rattle.snb_read_order.proofs.Laws.{one_row}
+use Rattle.snb_graph_model.specs.Around.{with_id}
+use Rattle.snb_read_model.specs.ShortReads.{IsCreator}
 use Rattle.snb_short_reads.proofs.messages.is5.Goals as goal
 
 pub returns : goal.returns

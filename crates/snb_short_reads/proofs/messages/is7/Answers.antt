@@ -1,8 +1,8 @@
 use Rattle.std.proofs.Common.{rules, refl}
 use Rattle.std.proofs.lemmas.List.Sorted.{IsPermutation-refl}
 use Rattle.std.proofs.lemmas.Result.{IfOk-weaker}
-use Rattle.snb_order.proofs.Laws.{compares, walked}
-use Rattle.snb_reads.specs.Order.{Whole}
+use Rattle.snb_read_order.proofs.Laws.{compares, walked}
+use Rattle.snb_read_model.specs.Order.{Whole}
 use Rattle.snb_short_reads.proofs.RowLemmas.{is7_answers, replies_first, replies_total}
 use Rattle.snb_short_reads.specs.Found.{IsReplyFound}
 use Rattle.snb_short_reads.proofs.messages.is7.Goals as goal

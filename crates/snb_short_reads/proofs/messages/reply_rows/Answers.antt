@@ -1,7 +1,7 @@
 use Rattle.std.proofs.Common.{refl}
 use Rattle.std.proofs.lemmas.List.Elements.{All-get_or}
-use Rattle.snb_order.proofs.Laws.{zip_all, zip_more}
-use Rattle.snb_reads.specs.ShortReads.{IsReplyTo}
+use Rattle.snb_read_order.proofs.Laws.{zip_all, zip_more}
+use Rattle.snb_read_model.specs.ShortReads.{IsReplyTo}
 use Rattle.snb_short_reads.specs.Found.{IsReplyFound, without_author}
 use Rattle.snb_short_reads.proofs.messages.reply_rows.Goals as goal
 

@@ -1,6 +1,6 @@
 use Rattle.std.proofs.Common.{take}
 use Rattle.std.specs.List.{AllZip}
-use Rattle.snb_reads.specs.ShortReads.{IsReplyTo}
+use Rattle.snb_read_model.specs.ShortReads.{IsReplyTo}
 use Rattle.snb_short_reads.specs.Found.{without_author}
 use Rattle.snb_short_reads.proofs.messages.reply_rows.Given as goal
 

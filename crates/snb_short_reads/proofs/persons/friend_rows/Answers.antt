@@ -1,7 +1,7 @@
 use Rattle.std.proofs.Common.{refl}
 use Rattle.std.proofs.lemmas.List.Elements.{All-get_or}
-use Rattle.snb_order.proofs.Laws.{zip_all, zip_more}
-use Rattle.snb_reads.specs.ShortReads.{IsFriend}
+use Rattle.snb_read_order.proofs.Laws.{zip_all, zip_more}
+use Rattle.snb_read_model.specs.ShortReads.{IsFriend}
 use Rattle.snb_short_reads.specs.Found.{IsFriendFound}
 use Rattle.snb_short_reads.proofs.persons.friend_rows.Goals as goal
 

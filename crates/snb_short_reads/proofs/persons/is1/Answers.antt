@@ -1,9 +1,9 @@
 use Rattle.std.proofs.Common.{◌≡◌, ◌∷◌, [], subst}
 use Rattle.std.proofs.lemmas.Result.{IfOk-weaker}
-use Rattle.snb_order.proofs.Laws.{no_row, one_row}
-use Rattle.snb_tables.proofs.Laws.{no_person, person_only}
-use Rattle.snb_tables.specs.Around.{persons}
-use Rattle.snb_reads.specs.ShortReads.{IsProfile}
+use Rattle.snb_read_order.proofs.Laws.{no_row, one_row}
+use Rattle.snb_graph_model.proofs.Laws.{no_person, person_only}
+use Rattle.snb_graph_model.specs.Around.{persons}
+use Rattle.snb_read_model.specs.ShortReads.{IsProfile}
 use Rattle.snb_short_reads.proofs.persons.is1.Goals as goal
 
 pub returns-in_default : goal.returns-in_default

@@ -2,10 +2,10 @@ use Rattle.std.proofs.Common.{rules}
 use Rattle.std.proofs.lemmas.List.Elements.{All-contains_itself, All-weaker}
 use Rattle.std.proofs.lemmas.Result.{IfOk-weaker}
 use Rattle.std.specs.List.{All, Contains}
-use Rattle.snb_order.proofs.Laws.{compares, walked}
-use Rattle.snb_tables.proofs.Laws.{sent_there}
-use Rattle.snb_tables.specs.Around.{messages}
-use Rattle.snb_reads.specs.Order.{First}
+use Rattle.snb_read_order.proofs.Laws.{compares, walked}
+use Rattle.snb_graph_model.proofs.Laws.{sent_there}
+use Rattle.snb_graph_model.specs.Around.{messages}
+use Rattle.snb_read_model.specs.Order.{First}
 use Rattle.snb_short_reads.proofs.Laws.{message_found}
 use Rattle.snb_short_reads.proofs.RowLemmas.{is2_answers, latest_first, latest_total}
 use Rattle.snb_short_reads.specs.Found.{IsMessageFound}

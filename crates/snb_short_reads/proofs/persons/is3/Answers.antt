@@ -2,10 +2,10 @@ use Rattle.std.proofs.Common.{rules}
 use Rattle.std.proofs.lemmas.List.Elements.{All-contains_itself, All-weaker}
 use Rattle.std.proofs.lemmas.Result.{IfOk-weaker}
 use Rattle.std.specs.List.{All, Contains}
-use Rattle.snb_order.proofs.Laws.{compares, walked}
-use Rattle.snb_tables.proofs.Laws.{friend_there}
-use Rattle.snb_tables.specs.Around.{friends}
-use Rattle.snb_reads.specs.Order.{Whole}
+use Rattle.snb_read_order.proofs.Laws.{compares, walked}
+use Rattle.snb_graph_model.proofs.Laws.{friend_there}
+use Rattle.snb_graph_model.specs.Around.{friends}
+use Rattle.snb_read_model.specs.Order.{Whole}
 use Rattle.snb_short_reads.proofs.Laws.{friend_found}
 use Rattle.snb_short_reads.proofs.RowLemmas.{friends_first, friends_total, is3_answers}
 use Rattle.snb_short_reads.specs.Found.{IsFriendFound}

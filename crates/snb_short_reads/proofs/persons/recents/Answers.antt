@@ -1,7 +1,7 @@
 use Rattle.std.proofs.Common.{refl}
 use Rattle.std.proofs.lemmas.List.Elements.{All-get_or}
-use Rattle.snb_order.proofs.Laws.{zip_all, zip_more}
-use Rattle.snb_reads.specs.ShortReads.{IsRecent}
+use Rattle.snb_read_order.proofs.Laws.{zip_all, zip_more}
+use Rattle.snb_read_model.specs.ShortReads.{IsRecent}
 use Rattle.snb_short_reads.specs.Found.{IsMessageFound}
 use Rattle.snb_short_reads.proofs.persons.recents.Goals as goal
 

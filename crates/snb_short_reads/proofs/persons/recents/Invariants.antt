@@ -1,6 +1,6 @@
 use Rattle.std.proofs.Common.{take}
 use Rattle.std.specs.List.{AllZip}
-use Rattle.snb_reads.specs.ShortReads.{IsRecent}
+use Rattle.snb_read_model.specs.ShortReads.{IsRecent}
 use Rattle.snb_short_reads.proofs.persons.recents.Given as goal
 
 abbrev pub invariant-loop-message : goal.invariant-loop-message

@@ -1,7 +1,7 @@
 use Rattle.std.proofs.Common.{◌∙◌, ap, sym, drop, List}
 use Rattle.std.specs.Option.{unwrap_or}
 use Rattle.snb_schema.specs.declared.column.Value.{Value}
-use Rattle.snb_fields.specs.Values.{first_number}
+use Rattle.snb_input_fields.specs.Values.{first_number}
 use Rattle.snb_streams.specs.Make.{clash_at, op_by}
 use Rattle.snb_streams.proofs.FaultFacts.{told_clash, told_stop}
 use Rattle.snb_streams.proofs.InsertFacts.{told_insert}

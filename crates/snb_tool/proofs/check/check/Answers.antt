@@ -1,6 +1,6 @@
 use Rattle.std.proofs.Common.{◌∙◌}
 use Rattle.snb_schema.specs.ScreenTexts.{refusal_text}
-use Rattle.snb_words.specs.declared.command.Command.TheVariants.{Check}
+use Rattle.snb_tool_words.specs.declared.command.Command.TheVariants.{Check}
 use Rattle.snb_tool.specs.Outcome.{IsCommandAnswer}
 use Rattle.snb_tool.proofs.OutcomeLemmas.{check_done, check_refused, shows_ends, shows_or_not}
 use Rattle.snb_tool.proofs.check.check.Goals as goal

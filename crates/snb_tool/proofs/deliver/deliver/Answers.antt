@@ -1,7 +1,8 @@
 use Rattle.std.proofs.Common.{ap}
 use Rattle.std.proofs.lemmas.Result.{on_err_weaker}
 use Rattle.snb_base.specs.declared.outbox.Channel.TheVariants.{Answers, Cases, Final, Log, Screen}
-use Rattle.snb_texts.specs.Answers.{bytes_in}
+use Rattle.snb_base.proofs.Laws.{counted_after}
+use Rattle.snb_tool_texts.specs.Answers.{bytes_in}
 use Rattle.snb_tool.specs.Endings.{bytes_of}
 use Rattle.snb_tool.proofs.Writing.{stopped_in_answers, stopped_in_cases, stopped_in_finals, stopped_in_log, stopped_in_screen}
 use Rattle.snb_tool.proofs.deliver.deliver.Goals as goal
@@ -64,3 +65,20 @@ returns-clause-sure g c = λ rooms r fit.
     (rw c.deref-3.ensures.value (fit Final)))
     (rw c.deref-4.ensures.value (fit Cases)))
     (rw c.deref-5.ensures.value (fit Screen))
+
+pub returns-in-Err-write_each-clause-counted : goal.returns-in-Err-write_each-clause-counted
+returns-in-Err-write_each-clause-counted g c = counted_after c.in_default.ensures.counted c.in-Err-write_each.ensures.counted
+
+pub returns-in-Err-write_all-clause-counted : goal.returns-in-Err-write_all-clause-counted
+returns-in-Err-write_all-clause-counted g c =
+    counted_after (counted_after c.in_default.ensures.counted c.in_default-write_each.ensures.counted) c.in-Err-write_all.ensures.counted
+
+pub returns-in-Err-write_all-2-clause-counted : goal.returns-in-Err-write_all-2-clause-counted
+returns-in-Err-write_all-2-clause-counted g c =
+    counted_after (counted_after (counted_after c.in_default.ensures.counted c.in_default-write_each.ensures.counted) c.in_default-write_all.ensures.counted) c.in-Err-write_all-2.ensures.counted
+
+pub returns-clause-counted : goal.returns-clause-counted
+returns-clause-counted g c =
+    counted_after
+    (counted_after (counted_after (counted_after c.in_default.ensures.counted c.in_default-write_each.ensures.counted) c.in_default-write_all.ensures.counted) c.in_default-write_all-2.ensures.counted)
+    c.write_all-4.ensures.counted

@@ -1,6 +1,7 @@
-use Rattle.std.proofs.Common.{◌-◌, ◌+◌, ◌∙◌, length, take, subst}
+use Rattle.std.proofs.Common.{◌-◌, ◌+◌, length, take, subst}
 use Rattle.snb_base.specs.Outbox.{Rooms, room_of, with_room}
-use Rattle.snb_texts.specs.Answers.{bytes_in}
+use Rattle.snb_base.proofs.Laws.{counted_after}
+use Rattle.snb_tool_texts.specs.Answers.{bytes_in}
 use Rattle.snb_tool.proofs.Writing.{cut_after, first_pieces, fit_after, left_after, next_piece, written_both}
 use Rattle.snb_tool.proofs.deliver.write_each.Goals as goal
 
@@ -27,7 +28,7 @@ loop-piece-preserved g c =
     let next = next_piece pieces i c.piece-item.result _ c.loop-piece-test.true c.piece-item.is c.deref.ensures.value in
     record {
       written = written_both c.args.channel (bytes_in (take i pieces)) _ _ _ _ _ next c.loop-piece.invariant.written c.in_default.ensures.ok;
-      calm = c.in_default.ensures.calm ∙ c.loop-piece.invariant.calm;
+      counted = counted_after c.loop-piece.invariant.counted c.in_default.ensures.counted;
       sure = λ rooms r l.
           subst (λ (k : Rooms). g.O.Outbox.ready c.write_all.new.out k)
           (left_after c.args.channel (bytes_in (take i pieces)) _ _ (bytes_in pieces) next (first_pieces pieces (i + 1)) rooms)

@@ -1,9 +1,9 @@
 use Rattle.std.proofs.Common.{◌≡◌, ◌∙◌, List, ap, length}
 use Rattle.std.proofs.lemmas.List.{length-map}
-use Rattle.snb_schema.specs.Schedule.{Schedule}
-use Rattle.snb_schema.specs.declared.step.Step.{Step}
+use Rattle.snb_history.specs.Schedule.{Schedule}
+use Rattle.snb_history.specs.declared.step.Step.{Step}
 use Rattle.snb_plan.specs.Plans.{Operation}
-use Rattle.snb_texts.specs.Answers.{bytes_in}
+use Rattle.snb_tool_texts.specs.Answers.{bytes_in}
 use Rattle.snb_tool.proofs.ExpectLemmas.{has_cases}
 use Rattle.snb_tool.proofs.expect.cases_of.Goals as goal
 

@@ -1,5 +1,5 @@
 use Rattle.snb_schema.specs.ScreenTexts.{refusal_text}
-use Rattle.snb_words.specs.declared.command.Command.TheVariants.{Expect}
+use Rattle.snb_tool_words.specs.declared.command.Command.TheVariants.{Expect}
 use Rattle.snb_tool.specs.Endings.{bytes_of}
 use Rattle.snb_tool.specs.Outcome.{IsCommandAnswer}
 use Rattle.snb_tool.specs.Outside.{Whole}
@@ -25,4 +25,4 @@ pub returns-clause-ends : goal.returns-clause-ends
 returns-clause-ends g c = λ fixed.
     run_cut (IsCommandAnswer (Expect c.args.folder.now c.args.frequencies)) _ _ (bytes_of c.in-Ok-cases_of.output)
     (expect_done (g.S.Shelf.contents c.args.shelf.now) c.args.folder.now c.one.result c.args.frequencies fixed c.one.ensures c.params_files.ensures c.in-Ok.input _ c.in-Ok.ensures.answer c.in-Ok-cases_of.ensures)
-    c.in-Err-deliver.ensures.failed c.in-Err-deliver.ensures.err c.in-Err-deliver.ensures.sure
+    c.in-Err-deliver.ensures.counted.told c.in-Err-deliver.ensures.err c.in-Err-deliver.ensures.sure

@@ -1,5 +1,5 @@
 use Rattle.snb_schema.specs.ScreenTexts.{refusal_text}
-use Rattle.snb_words.specs.declared.command.Command.TheVariants.{Read}
+use Rattle.snb_tool_words.specs.declared.command.Command.TheVariants.{Read}
 use Rattle.snb_tool.specs.Outcome.{IsCommandAnswer}
 use Rattle.snb_tool.proofs.OutcomeLemmas.{read_done, read_refused, shows_ends, shows_or_not}
 use Rattle.snb_tool.proofs.read.read.Goals as goal

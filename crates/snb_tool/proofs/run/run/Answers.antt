@@ -1,5 +1,5 @@
 use Rattle.snb_schema.specs.ScreenTexts.{refusal_text}
-use Rattle.snb_words.specs.declared.command.Command.TheVariants.{Run}
+use Rattle.snb_tool_words.specs.declared.command.Command.TheVariants.{Run}
 use Rattle.snb_tool.specs.Endings.{bytes_of}
 use Rattle.snb_tool.specs.Outcome.{IsCommandAnswer}
 use Rattle.snb_tool.specs.Outside.{Whole}
@@ -24,4 +24,4 @@ pub returns-clause-ends : goal.returns-clause-ends
 returns-clause-ends g c =
     run_cut (IsCommandAnswer (Run c.args.folder.now c.args.workers c.args.ratio c.args.frequencies)) _ _ (bytes_of c.in-Ok-run_output.output)
     (run_done (g.S.Shelf.contents c.args.shelf.now) c.args.folder.now c.args.workers c.args.ratio c.args.frequencies (g.C.Clock.fixed c.args.clock.now) c.in-Ok.input _ c.in-Ok.ensures.answer c.in-Ok-run_output.ensures)
-    c.in-Err-deliver.ensures.failed c.in-Err-deliver.ensures.err c.in-Err-deliver.ensures.sure
+    c.in-Err-deliver.ensures.counted.told c.in-Err-deliver.ensures.err c.in-Err-deliver.ensures.sure

@@ -1,5 +1,5 @@
 use Rattle.std.proofs.Common.{inl, inr, refl, ap}
-use Rattle.snb_words.specs.Words.{texts_of}
+use Rattle.snb_tool_words.specs.Words.{texts_of}
 use Rattle.snb_tool.specs.Outcome.{IsAnswer, IsCommandAnswer}
 use Rattle.snb_tool.specs.Output.{on_screen}
 use Rattle.snb_tool.specs.Outside.{OutOfMemory}

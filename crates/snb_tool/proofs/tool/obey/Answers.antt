@@ -1,5 +1,5 @@
 use Rattle.std.proofs.Common.{subst}
-use Rattle.snb_words.specs.Commands.{IsRunnable}
+use Rattle.snb_tool_words.specs.Commands.{IsRunnable}
 use Rattle.snb_tool.proofs.tool.obey.Goals as goal
 
 pub run-requires-clause-workers : goal.run-requires-clause-workers

@@ -6,7 +6,7 @@ use Rattle.snb_schema.specs.declared.row.Row.{Row}
 use Rattle.snb_schema.specs.Frequencies.{FrequencyTable}
 use Rattle.snb_schema.specs.LineLanes.{update_count}
 use Rattle.snb_schema.specs.StreamLines.{AreOfStreams}
-use Rattle.snb_tables.specs.Graphs.{HoldsKey}
+use Rattle.snb_graph_model.specs.Graphs.{HoldsKey}
 use Rattle.snb_tool.proofs.TrialLemmas.{few_reads, plan_of}
 use Rattle.snb_tool.proofs.trial.input_of_size.Goals as goal
 

@@ -1,6 +1,6 @@
 use Rattle.std.proofs.Common.{ℕ, subst, sym, ◌∙◌}
 use Rattle.snb_schema.specs.ScreenTexts.{refusal_text}
-use Rattle.snb_words.specs.declared.command.Command.TheVariants.{Validate}
+use Rattle.snb_tool_words.specs.declared.command.Command.TheVariants.{Validate}
 use Rattle.snb_tool.specs.Outcome.{IsCommandAnswer}
 use Rattle.snb_tool.specs.Output.{on_screen}
 use Rattle.snb_tool.proofs.OutcomeLemmas.{validate_done, validate_refused, shows_ends, shows_or_not}

@@ -1,5 +1,5 @@
 use Rattle.std.proofs.Common.{sym, subst}
-use Rattle.snb_tables.specs.Soundness.{Sound}
+use Rattle.snb_graph_model.specs.Soundness.{Sound}
 use Rattle.snb_trial.proofs.TenRows.{sound}
 use Rattle.snb_trial.proofs.trial.trial_input.Goals as goal
 

@@ -1,6 +1,6 @@
 use Rattle.std.proofs.Common.{◌∙◌, ap}
-use Rattle.snb_replay.specs.Replay.{finished_insert}
-use Rattle.snb_replay.proofs.Laws.{insert_has_line}
+use Rattle.snb_workers_replay.specs.Replay.{finished_insert}
+use Rattle.snb_workers_replay.proofs.Laws.{insert_has_line}
 use Rattle.snb_workers.proofs.Following.{inserts_line}
 use Rattle.snb_workers.proofs.replica.finished_line.Goals as goal
 

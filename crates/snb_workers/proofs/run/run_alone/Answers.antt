@@ -1,5 +1,5 @@
 use Rattle.std.proofs.Common.{[], ◌∙◌, ap, subst}
-use Rattle.snb_schema.specs.Schedule.{Schedule}
+use Rattle.snb_history.specs.Schedule.{Schedule}
 use Rattle.snb_workers.specs.declared.run.Turn.{Turn}
 use Rattle.snb_workers.specs.Turns.{TurnsTo}
 use Rattle.snb_workers.proofs.TurnLemmas.{begins, has_run}

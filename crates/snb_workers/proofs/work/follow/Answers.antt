@@ -1,7 +1,7 @@
 -- The replica has taken the events after those that it stood for, or some of them.
 use Rattle.std.proofs.Common.{◌≡◌, ◌∙◌, ℕ, ◌≤◌, List, ◌++◌, [], drop, ap, subst, sym}
 use Rattle.std.proofs.lemmas.Result.{on_ok_weaker}
-use Rattle.snb_schema.specs.declared.event.Event.{Event as AnyEvent}
+use Rattle.snb_history.specs.declared.event.Event.{Event as AnyEvent}
 use Rattle.snb_schema.specs.declared.limits.TheConstants.{MAX_WORKERS}
 use Rattle.snb_board.specs.Boards.{Site}
 use Rattle.snb_workers.proofs.WorkFollow.{abreast, followed}

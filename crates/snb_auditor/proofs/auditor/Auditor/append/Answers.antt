@@ -1,5 +1,5 @@
 use Rattle.std.proofs.Common.{◌<◌, arith}
-use Rattle.snb_schema.specs.Rules.{V1}
+use Rattle.snb_history.specs.Rules.{V1}
 use Rattle.snb_auditor.proofs.Telling.{beside_start, beside_finish, beside_halt, fits_fields}
 use Rattle.snb_auditor.proofs.auditor.Auditor.append.Goals as goal
 

@@ -1,7 +1,7 @@
 use Rattle.std.proofs.Common.{◌∙◌, ◌≡◌, sym, ap, subst, Some}
 use Rattle.std.specs.Prelude.{All}
 use mathlib.Core.Option.{some-injective}
-use Rattle.snb_schema.specs.Rules.{IsLegal}
+use Rattle.snb_history.specs.Rules.{IsLegal}
 use Rattle.snb_book.specs.Kept.{Kept}
 use Rattle.snb_board.specs.Boards.{IsPartOf}
 use Rattle.snb_board.proofs.Closing.{board_closes, made_by}

@@ -1,5 +1,5 @@
 use Rattle.std.proofs.Common.{sym, subst, refl, ◌∙◌, ◌≡◌, ◌<◌, ℕ, [], ◌∷◌, true}
-use Rattle.snb_schema.specs.declared.event.Event.TheVariants.{Finish}
+use Rattle.snb_history.specs.declared.event.Event.TheVariants.{Finish}
 use Rattle.snb_book.specs.Kept.{moment_after}
 use Rattle.snb_board.proofs.Calls.{calling, finish_effect, found_front, found_in_hand, found_may, giving, same_table, worker_is}
 use Rattle.snb_board.proofs.board.Board.finish.Goals as goal

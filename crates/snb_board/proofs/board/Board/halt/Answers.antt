@@ -1,6 +1,6 @@
 use Rattle.std.proofs.Common.{sym, subst, refl, ◌∙◌, ◌≡◌, ◌<◌, ℕ, [], ◌∷◌, true, false}
-use Rattle.snb_schema.specs.declared.event.Event.TheVariants.{Halt}
-use Rattle.snb_schema.specs.History.{halted}
+use Rattle.snb_history.specs.declared.event.Event.TheVariants.{Halt}
+use Rattle.snb_history.specs.History.{halted}
 use Rattle.snb_board.specs.Boards.{mine}
 use Rattle.snb_board.proofs.Calls.{calling, found_may, giving, one_effect, same_table, worker_is}
 use Rattle.snb_board.proofs.board.Board.halt.Goals as goal

@@ -1,6 +1,6 @@
 use Rattle.std.proofs.Common.{◌≡◌, ℕ, ◌<◌, List, length, get_or, true, false, sym, ◌∙◌, subst, arith, Option, Some, None}
 use Rattle.std.proofs.lemmas.List.{get_or_default}
-use Rattle.snb_schema.specs.History.{halted, hand}
+use Rattle.snb_history.specs.History.{halted, hand}
 use Rattle.snb_book.specs.Kept.{Kept}
 use Rattle.snb_book.specs.Claims.{IsPlanHead}
 use Rattle.snb_book.specs.Heads.{TellsFirst}

@@ -1,5 +1,5 @@
 use Rattle.std.proofs.Common.{◌≤◌, ap, subst, arith, Option, ℕ, length}
-use Rattle.snb_schema.specs.Schedule.{Schedule, step_of}
+use Rattle.snb_history.specs.Schedule.{Schedule, step_of}
 use Rattle.snb_book.specs.Kept.{Kept}
 use Rattle.snb_book.specs.Claims.{IsAdmitted, IsPlanHead}
 use Rattle.snb_book.specs.Heads.{IsLate, TellsFirst}

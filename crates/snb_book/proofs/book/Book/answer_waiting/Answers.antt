@@ -1,7 +1,7 @@
 use Rattle.std.proofs.Common.{ap, get_or, ◌∙◌, ◌≤◌, subst, w64, FitsSigned, rules, Option, ℕ}
 use Rattle.std.proofs.lemmas.Int.{to_z-of_z}
-use Rattle.snb_schema.specs.Rules.{IsNotBusy}
-use Rattle.snb_schema.specs.Schedule.{Schedule, no_step, step_of}
+use Rattle.snb_history.specs.Rules.{IsNotBusy}
+use Rattle.snb_history.specs.Schedule.{Schedule, no_step, step_of}
 use Rattle.snb_book.specs.Claims.{IsPlanHead}
 use Rattle.snb_book.specs.Heads.{IsLate, TellsFirst}
 use Rattle.snb_book.proofs.Answering.{all_busy, blocked, lane_busy}

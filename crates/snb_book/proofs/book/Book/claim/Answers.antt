@@ -1,7 +1,7 @@
 use Rattle.std.proofs.Common.{ℕ, ◌≤◌, subst, sym}
-use Rattle.snb_schema.specs.declared.event.Event.TheVariants.{Start}
-use Rattle.snb_schema.specs.History.{last}
-use Rattle.snb_schema.specs.Rules.{Fits, MayAct}
+use Rattle.snb_history.specs.declared.event.Event.TheVariants.{Start}
+use Rattle.snb_history.specs.History.{last}
+use Rattle.snb_history.specs.Rules.{Fits, MayAct}
 use Rattle.snb_book.specs.Claims.{IsClaim}
 use Rattle.snb_book.specs.Kept.{Kept, IsInHand, moment_after}
 use Rattle.snb_book.proofs.Claiming.{claim_fits, go_acts, go_in_hand, moves_on}

@@ -1,13 +1,13 @@
 use Rattle.std.proofs.Common.{◌≡◌, sym, subst, ◌∙◌, w64, FitsSigned, rules}
 use Rattle.std.specs.Prelude.{ℤ, pos, ◌<ℤ◌}
 use Rattle.std.proofs.lemmas.Int.{to_z-of_z}
-use Rattle.snb_schema.specs.Schedule.{step_of}
-use Rattle.snb_schema.specs.Completion.{time_left, completion}
+use Rattle.snb_history.specs.Schedule.{step_of}
+use Rattle.snb_history.specs.Completion.{time_left, completion}
 use Rattle.snb_completion.specs.Progress.{flag}
 use Rattle.snb_book.specs.Kept.{Kept}
 use Rattle.snb_book.proofs.Answering.{completion_is}
 use Rattle.snb_book.proofs.book.Book.completion.Goals as goal
-use Rattle.snb_schema.proofs.Laws.{completion_waits}
+use Rattle.snb_history.proofs.Laws.{completion_waits}
 
 pub returns-clause-value : goal.returns-clause-value
 returns-clause-value c =

@@ -1,6 +1,6 @@
 use Rattle.std.proofs.Common.{◌≡◌, ℕ, sym, subst}
-use Rattle.snb_schema.specs.declared.event.Event.TheVariants.{Finish}
-use Rattle.snb_schema.specs.Rules.{Fits}
+use Rattle.snb_history.specs.declared.event.Event.TheVariants.{Finish}
+use Rattle.snb_history.specs.Rules.{Fits}
 use Rattle.snb_book.proofs.Telling.{finish_fits, adding_rises}
 use Rattle.snb_book.proofs.book.Book.finish.Goals as goal
 

@@ -1,7 +1,7 @@
 use Rattle.std.proofs.Common.{◌≡◌, ℕ, ◌<◌, refl, sym, ap, subst, arith}
 use Rattle.std.proofs.lemmas.Bool.{eq-eqb}
-use Rattle.snb_schema.specs.declared.event.Event.TheVariants.{Finish}
-use Rattle.snb_schema.specs.Rules.{Fits, V1}
+use Rattle.snb_history.specs.declared.event.Event.TheVariants.{Finish}
+use Rattle.snb_history.specs.Rules.{Fits, V1}
 use Rattle.snb_completion.specs.Progress.{Progress}
 use Rattle.snb_book.specs.Kept.{Kept}
 use Rattle.snb_book.proofs.Telling.{has_room, open_yet, IsSoundBook-push, IsTold-finish, adds_event}

@@ -1,6 +1,6 @@
 use Rattle.std.proofs.Common.{subst}
-use Rattle.snb_schema.specs.Schedule.{Schedule}
-use Rattle.snb_schema.specs.Rules.{IsLegal}
+use Rattle.snb_history.specs.Schedule.{Schedule}
+use Rattle.snb_history.specs.Rules.{IsLegal}
 use Rattle.snb_book.specs.Heads.{IsPredecessor}
 use Rattle.snb_book.specs.Kept.{Kept}
 use Rattle.snb_book.proofs.Asking.{finished_before, waited_told}

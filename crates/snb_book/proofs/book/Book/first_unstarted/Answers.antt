@@ -1,5 +1,5 @@
 use Rattle.std.proofs.Common.{ap}
-use Rattle.snb_schema.specs.declared.step.Step.{Step}
+use Rattle.snb_history.specs.declared.step.Step.{Step}
 use Rattle.snb_book.proofs.Asking.{first_unstarted_read}
 use Rattle.snb_book.proofs.book.Book.first_unstarted.Goals as goal
 

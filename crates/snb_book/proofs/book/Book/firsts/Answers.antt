@@ -1,6 +1,6 @@
 use Rattle.std.proofs.Common.{◌≡◌, ℕ, List, Bool, length, sym, subst}
-use Rattle.snb_schema.specs.Schedule.{Schedule}
-use Rattle.snb_schema.specs.Completion.{is_awaited, least_t}
+use Rattle.snb_history.specs.Schedule.{Schedule}
+use Rattle.snb_history.specs.Completion.{is_awaited, least_t}
 use Rattle.snb_book.specs.declared.book.Firsts.{Firsts}
 use Rattle.snb_book.specs.Kept.{Kept}
 use Rattle.snb_book.specs.Heads.{AreFirsts, AreFirstsBelow}

@@ -1,11 +1,11 @@
 use Rattle.std.proofs.Common.{◌≡◌, ℕ, subst, sym, refl, arith}
 use Rattle.std.proofs.lemmas.Bool.{eq-eqb}
-use Rattle.snb_schema.specs.declared.event.Event.TheVariants.{Halt}
-use Rattle.snb_schema.specs.Rules.{Fits, MayAct}
+use Rattle.snb_history.specs.declared.event.Event.TheVariants.{Halt}
+use Rattle.snb_history.specs.Rules.{Fits, MayAct}
 use Rattle.snb_book.specs.Kept.{Kept}
 use Rattle.snb_book.proofs.Telling.{has_room, IsSoundBook-push, IsTold-halt, adds_event, adding_rises}
 use Rattle.snb_book.proofs.book.Book.halt.Goals as goal
-use Rattle.snb_schema.proofs.Laws.{Fits-halt}
+use Rattle.snb_history.proofs.Laws.{Fits-halt}
 
 -- the Halt fits the fields
 fits_fields : (now inside : Kept) (worker : ℕ) → inside ≡ now → MayAct now.workers now.history worker

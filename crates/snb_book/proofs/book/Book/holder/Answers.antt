@@ -1,6 +1,6 @@
 use Rattle.std.proofs.Common.{◌≡◌, ℕ, List, Option, None, ap, ◌∙◌, subst}
 use Rattle.std.specs.Prelude.{MatchOption}
-use Rattle.snb_schema.specs.History.{holder}
+use Rattle.snb_history.specs.History.{holder}
 use Rattle.snb_book.specs.Kept.{Kept}
 use Rattle.snb_book.specs.Heads.{HasNobody, IsWith}
 use Rattle.snb_book.proofs.Asking.{holder_told}

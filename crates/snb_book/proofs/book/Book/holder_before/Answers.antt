@@ -1,7 +1,7 @@
 use Rattle.std.proofs.Common.{◌≡◌, ℕ, ◌<◌, List, Bool, length, get_or, ap, sym, subst, ◌∙◌, arith, Option, Some, None}
-use Rattle.snb_schema.specs.Schedule.{Schedule}
-use Rattle.snb_schema.specs.History.{hand}
-use Rattle.snb_schema.specs.Rules.{IsLegal, IsNotBusy}
+use Rattle.snb_history.specs.Schedule.{Schedule}
+use Rattle.snb_history.specs.History.{hand}
+use Rattle.snb_history.specs.Rules.{IsLegal, IsNotBusy}
 use Rattle.snb_completion.specs.Progress.{Progress}
 use Rattle.snb_book.specs.Kept.{Kept}
 use Rattle.snb_book.specs.Book.{IsSoundBook, IsTold}

@@ -1,7 +1,7 @@
 use Rattle.std.proofs.Common.{◌≡◌, List, Bool, true, not, sym, ap, ◌∙◌, subst}
 use Rattle.std.specs.List.{list_all}
 use Rattle.std.proofs.lemmas.Bool.{false≢true}
-use Rattle.snb_schema.specs.Rules.{IsComplete}
+use Rattle.snb_history.specs.Rules.{IsComplete}
 use Rattle.snb_book.specs.Kept.{Kept}
 use Rattle.snb_book.proofs.Answering.{complete_where_set, set_where_complete}
 use Rattle.snb_book.proofs.book.Book.is_complete.Goals as goal

@@ -1,5 +1,5 @@
 use Rattle.std.proofs.Common.{arith}
-use Rattle.snb_schema.proofs.Laws.{last_is_bounded}
+use Rattle.snb_history.proofs.Laws.{last_is_bounded}
 use Rattle.snb_book.proofs.book.Book.last.Goals as goal
 
 pub returns-clause-bounded : goal.returns-clause-bounded

@@ -2,8 +2,8 @@ use Rattle.std.proofs.Common.{◌≡◌, ℕ, ◌+◌, ◌≤◌, ap, sym, subst
 use Rattle.std.specs.Prelude.{ℤ, pos, ◌-ℤ◌, ◌+ℤ◌}
 use Rattle.std.proofs.lemmas.Int.{to_z-of_z, ints}
 use Rattle.snb_schema.specs.declared.limits.TheConstants.{MAX_TIME}
-use Rattle.snb_schema.specs.Schedule.{step_of}
-use Rattle.snb_schema.specs.Completion.{is_awaited, least_t}
+use Rattle.snb_history.specs.Schedule.{step_of}
+use Rattle.snb_history.specs.Completion.{is_awaited, least_t}
 use Rattle.snb_book.proofs.Blocking.{least_top}
 use Rattle.snb_book.proofs.book.Book.least.Goals as goal
 

@@ -1,6 +1,6 @@
 use Rattle.std.proofs.Common.{subst}
-use Rattle.snb_schema.specs.declared.event.Event.{Event}
-use Rattle.snb_schema.specs.Rules.{Fits, V1}
+use Rattle.snb_history.specs.declared.event.Event.{Event}
+use Rattle.snb_history.specs.Rules.{Fits, V1}
 use Rattle.snb_book.proofs.book.Book.push.Goals as goal
 
 pub halt-requires : goal.halt-requires

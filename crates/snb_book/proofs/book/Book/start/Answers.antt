@@ -1,9 +1,9 @@
 use Rattle.std.proofs.Common.{◌≡◌, ℕ, ◌<◌, List, length, get_or, sym, ap, subst, arith, refl}
 use Rattle.std.proofs.lemmas.Bool.{eq-eqb}
-use Rattle.snb_schema.specs.declared.event.Event.TheVariants.{Start}
-use Rattle.snb_schema.specs.declared.step.Step.{Step}
-use Rattle.snb_schema.specs.Schedule.{no_step, step_of}
-use Rattle.snb_schema.specs.Rules.{Fits, V1}
+use Rattle.snb_history.specs.declared.event.Event.TheVariants.{Start}
+use Rattle.snb_history.specs.declared.step.Step.{Step}
+use Rattle.snb_history.specs.Schedule.{no_step, step_of}
+use Rattle.snb_history.specs.Rules.{Fits, V1}
 use Rattle.snb_completion.specs.Progress.{Progress}
 use Rattle.snb_book.specs.Kept.{Kept}
 use Rattle.snb_book.proofs.Telling.{has_room, IsSoundBook-push, IsTold-start, next_in_lane, adds_event}

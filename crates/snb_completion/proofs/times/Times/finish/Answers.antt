@@ -1,6 +1,6 @@
 use Rattle.std.proofs.Common.{◌≡◌, ◌<◌, List, length, get_or, subst, sym}
-use Rattle.snb_schema.specs.declared.step.Step.{Step}
-use Rattle.snb_schema.specs.Schedule.{no_step}
+use Rattle.snb_history.specs.declared.step.Step.{Step}
+use Rattle.snb_history.specs.Schedule.{no_step}
 use Rattle.snb_completion.specs.Progress.{Progress}
 use Rattle.snb_completion.proofs.Keeping.{AreTimesOf-finish}
 use Rattle.snb_completion.proofs.times.Times.finish.Goals as goal

@@ -2,7 +2,7 @@ use Rattle.std.proofs.Common.{◌≡◌, ◌<◌, length, subst, sym, ◌∙◌,
 use Rattle.std.specs.Prelude.{pos}
 use Rattle.std.proofs.lemmas.Int.{to_z-of_z}
 use Rattle.snb_schema.specs.declared.limits.TheConstants.{MAX_TIME}
-use Rattle.snb_schema.specs.Completion.{time_left_in}
+use Rattle.snb_history.specs.Completion.{time_left_in}
 use Rattle.snb_completion.specs.declared.times.LaneTimes.{LaneTimes}
 use Rattle.snb_completion.specs.Progress.{Progress, flag}
 use Rattle.snb_completion.specs.Waiting.{IsLaneOf, is_left_in}

@@ -1,6 +1,6 @@
 use Rattle.std.proofs.Common.{sym, subst}
-use Rattle.snb_links.specs.Kept.{IsBacked, IsIndexed}
-use Rattle.snb_links.proofs.Laws.{all_backed, more_backed, same_indexed}
+use Rattle.snb_graph_adjacency.specs.Kept.{IsBacked, IsIndexed}
+use Rattle.snb_graph_adjacency.proofs.Laws.{all_backed, more_backed, same_indexed}
 use Rattle.snb_graph.proofs.graph.Graph.freeze.Goals as goal
 
 -- not all rows are frozen, and the links are as they were

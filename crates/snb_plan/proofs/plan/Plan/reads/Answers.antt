@@ -1,7 +1,7 @@
 -- The steps of reads are as many as the queries.
 use Rattle.std.proofs.Common.{List, length, ap, ◌∙◌, sym, count_by}
 use Rattle.snb_plan.specs.Plans.{Plan, queries_in}
-use Rattle.snb_schema.specs.declared.step.Step.{Step}
+use Rattle.snb_history.specs.declared.step.Step.{Step}
 use Rattle.snb_plan.proofs.Viewing.{queries_counted}
 use Rattle.snb_plan.proofs.plan.Plan.reads.Goals as goal
 

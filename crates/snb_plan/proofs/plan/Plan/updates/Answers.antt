@@ -1,7 +1,7 @@
 -- The steps that are no reads are those of updates.
 use Rattle.std.proofs.Common.{List, length, ap, ◌∙◌, arith, count_by}
 use Rattle.snb_plan.specs.Closed.{Update}
-use Rattle.snb_schema.specs.declared.step.Step.{Step}
+use Rattle.snb_history.specs.declared.step.Step.{Step}
 use Rattle.snb_plan.proofs.Viewing.{updates_counted, updates_seen}
 use Rattle.snb_plan.proofs.plan.Plan.updates.Goals as goal
 

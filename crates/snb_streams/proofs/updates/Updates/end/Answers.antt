@@ -2,8 +2,8 @@ use Rattle.std.proofs.Common.{List, OnOk, ap, ◌∙◌, subst}
 use Rattle.std.proofs.lemmas.Result.{on_ok_weaker}
 use Rattle.snb_schema.specs.Faults.{OnBad}
 use Rattle.snb_schema.specs.declared.op.Line.{Line}
-use Rattle.snb_lines.specs.Feeding.{HasRead, HasRunOut, HasStoppedAtEnd, OnMemory, left_lines}
-use Rattle.snb_lines.proofs.Laws.{on_bad_weaker, on_memory_weaker}
+use Rattle.snb_input_lines.specs.Feeding.{HasRead, HasRunOut, HasStoppedAtEnd, OnMemory, left_lines}
+use Rattle.snb_input_lines.proofs.Laws.{on_bad_weaker, on_memory_weaker}
 use Rattle.snb_streams.specs.declared.order.InOrder.{InOrder}
 use Rattle.snb_streams.specs.Lines.{stream_language}
 use Rattle.snb_streams.specs.Order.{FallsBehind, Follows, IsUnmoved, never_ends, ordered}

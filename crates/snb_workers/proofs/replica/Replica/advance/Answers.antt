@@ -1,7 +1,7 @@
 use Rattle.std.proofs.Common.{◌++◌, List, sym, subst}
 use Rattle.std.proofs.lemmas.List.{take_all}
-use Rattle.snb_schema.specs.declared.event.Event.{Event as AnyEvent}
-use Rattle.snb_schema.specs.declared.event.Event.TheVariants.{Start}
+use Rattle.snb_history.specs.declared.event.Event.{Event as AnyEvent}
+use Rattle.snb_history.specs.declared.event.Event.TheVariants.{Start}
 use Rattle.snb_workers.specs.Replicas.{HasTakenSome, StandsFor}
 use Rattle.snb_workers.proofs.Following.{may_next, on_err, taken_more, taken_some}
 use Rattle.snb_workers.proofs.replica.Replica.advance.Goals as goal

@@ -1,5 +1,5 @@
 use Rattle.std.proofs.Common.{◌++◌, List, take}
-use Rattle.snb_schema.specs.declared.event.Event.{Event as AnyEvent}
+use Rattle.snb_history.specs.declared.event.Event.{Event as AnyEvent}
 use Rattle.snb_schema.specs.declared.row.Row.{Row}
 use Rattle.snb_workers.specs.Replicas.{MayTake, StandsFor}
 use Rattle.snb_workers.proofs.replica.Replica.advance.Given as goal

@@ -1,0 +1,68 @@
+-- What the file of a log says, what it is refused for, and what its reading answers.
+use Rattle.std.specs.Prelude.{◌≡◌, ◌++◌, ℕ, ◌≤◌, List, [], ◌∷◌, All, Option, None, Some, Result, Ok, Err}
+use Rattle.snb_base.specs.Shelf.{Files}
+use Rattle.snb_history.specs.declared.event.Event.{Event}
+use Rattle.snb_schema.specs.declared.limits.TheConstants.{MAX_AT, MAX_WORKERS}
+use Rattle.snb_schema.specs.declared.refusal.Refusal.{Refusal}
+use Rattle.snb_schema.specs.declared.refusal.Refusal.TheVariants.{Absent}
+use Rattle.snb_history.specs.History.{moment}
+use Rattle.snb_schema.specs.Lines.{lines}
+use Rattle.snb_input_lines.specs.Sinks.{Refuses, Takes}
+use Rattle.snb_input_files.specs.declared.load.Load.{Load}
+use Rattle.snb_input_files.specs.declared.load.Load.TheVariants.{Refused, ReadFault, Memory}
+use Rattle.snb_base.specs.FirstOf.{FirstOf, NoneOf}
+use Rattle.snb_input_files.specs.Format.{Format, IsFileSink, Rules}
+use Rattle.snb_input_files.specs.Loading.{IsTold}
+use Rattle.snb_input_files.specs.Places.{LinesSay, file_checks, opening}
+use Rattle.snb_runlog.specs.declared.head.LogHead.{LogHead}
+use Rattle.snb_runlog.specs.Lines.{log_file, log_language}
+use Rattle.snb_auditor_log.specs.declared.log.Log.{Log}
+
+-- events are refused for nothing but their lines: there may be any number of them, and none
+abbrev pub log_rules : Rules Event
+log_rules = record { limit = None; own = λ file done mine x r. ⊥; bare = λ file items. None }
+
+-- what a log says, and what it is refused for
+abbrev pub log_format : Format LogHead Event
+log_format = record { language = λ file. log_language; rules = log_rules }
+
+-- what is tried of a log, in order: whether it is held, then its lines, then whether it has a header
+abbrev pub log_checks : Option (List ℕ) → List {1} (Refusal → Type 0)
+log_checks None = (λ r. r ≡ Absent log_file) ∷ []
+log_checks (Some bytes) = file_checks log_format (opening log_file 0 0 [] bytes) bytes
+
+-- a log is held, and its lines say that there are so many workers, and this history
+abbrev pub IsLogOf : Option (List ℕ) → ℕ → List Event → Type 0
+IsLogOf None workers history = ⊥
+IsLogOf (Some bytes) workers history = (head : LogHead) × LinesSay log_format log_file (lines bytes) history (Some head) × (head.workers ≡ workers)
+
+-- what the reading of a log answers: this is held under the name, where the shelf tells what it holds, of which nothing is wrong and this
+-- is what it says, or which is refused so
+abbrev pub IsLogAnswer : Option Files → List ℕ → Result Log Load → Type 0
+IsLogAnswer contents name (Ok log) =
+    (held : Option (List ℕ)) × IsTold contents name held × NoneOf (log_checks held) × IsLogOf held log.workers log.events.items
+IsLogAnswer contents name (Err (Refused r)) = (held : Option (List ℕ)) × IsTold contents name held × FirstOf (log_checks held) r
+IsLogAnswer contents name (Err ReadFault) = Unit {0}
+IsLogAnswer contents name (Err Memory) = Unit {0}
+
+-- a log of one to `MAX_WORKERS` workers, in which no moment is after `MAX_AT`
+pub record IsAuditable (log : Log) : Type 0 where
+  pub some_worker : 1 ≤ log.workers
+  pub few_workers : log.workers ≤ MAX_WORKERS
+  pub timed : All (λ e. moment e ≤ MAX_AT) log.events.items
+
+-- the events so far are what the file said so far
+abbrev pub HasHeard : List Event → List (List Event) → List Event → Type 0
+HasHeard s done mine = s ≡ mine
+
+-- an event comes after those before
+abbrev pub TakesEvent : Takes (List Event) Event
+TakesEvent old file x new = new ≡ old ++ x ∷ []
+
+-- none is refused
+abbrev pub RefusesEvent : Refuses (List Event) Event
+RefusesEvent old file x r = ⊥
+
+-- what takes the events of a log is a file_sink of its file
+abbrev pub IsLogFileSink : Type 0
+IsLogFileSink = IsFileSink log_format HasHeard (λ x. Unit {0}) TakesEvent RefusesEvent (λ s file. None) (λ old new. new ≡ [])

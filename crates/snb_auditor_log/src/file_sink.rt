@@ -1,0 +1,123 @@
+//! What takes the events of a log.
+
+ghost use Rattle.std.specs.Prelude.{◌≡◌, []};
+ghost use Rattle.snb_input_files.specs.Format.{Lawful};
+ghost use Rattle.snb_auditor_log.specs.LogFiles.{IsLogFileSink, log_format};
+
+use snb_history::Event;
+use snb_input_files::FileSink;
+use snb_input_lines::Sink;
+use snb_runlog::LogLines;
+use snb_runlog::law::{event_or_column, log_is_exact};
+use snb_schema::{Fault, FileId, Refusal};
+use std::alloc::{AllocError, Global};
+use std::marker::Model;
+
+/// Takes the events of a log in order.
+pub(crate) struct LogFileSink {
+    alloc: Global,
+    events: Vec<Event>,
+}
+
+impl Drop for LogFileSink {
+    fn drop(self) {
+        let LogFileSink {
+            alloc: _,
+            events: _,
+        } = self;
+    }
+}
+
+impl Model for LogFileSink {
+    ghost use Rattle.std.specs.Prelude.{List};
+    ghost use Rattle.snb_history.specs.declared.event.Event.{Event};
+
+    ghost Value = { List Event };
+
+    ghost view = { λ s. s.events.items };
+}
+
+impl LogFileSink {
+    /// No events. Takes no memory.
+    pub(crate) fn new(alloc: Global) -> LogFileSink
+        ensures { result ≡ [] }
+    {
+        LogFileSink {
+            alloc,
+            events: Vec::new(alloc),
+        }
+    }
+
+    /// The events.
+    pub(crate) fn into_events(self) -> Vec<Event>
+        ensures { result.items ≡ self }
+    {
+        let LogFileSink { alloc: _, events } = self;
+        events
+    }
+}
+
+/// The file_sink is one of the file of a log. A line says one thing at most, and is refused in one way at
+/// most.
+pub(crate) fn log_is_lawful()
+    ensures lawful { Lawful log_format }
+    ensures right { IsLogFileSink }
+{
+    log_is_exact();
+    event_or_column();
+}
+
+impl Sink<Event> for LogFileSink {
+    ghost use Rattle.std.specs.Prelude.{◌≡◌, [], None, refl};
+    ghost use Rattle.snb_auditor_log.specs.LogFiles.{RefusesEvent, TakesEvent};
+
+    ghost fits = { λ _. Unit {0} };
+
+    ghost takes = { TakesEvent };
+
+    ghost refuses = { RefusesEvent };
+
+    ghost same = { λ old new. new ≡ old };
+
+    ghost ends = { λ _ _. None };
+
+    ghost turns = { λ _ new. new ≡ [] };
+
+    fn put(&mut self, _file: FileId, item: Event) -> Result<(), Fault> {
+        self.events.push(item)?;
+        Ok(())
+    }
+
+    fn at_end(&self, _file: FileId) -> Option<Refusal> {
+        None
+    }
+
+    fn next_file(&mut self) -> Result<(), AllocError> {
+        self.events = Vec::new(self.alloc);
+        Ok(())
+    }
+
+    ghost same_self = { λ _. refl };
+}
+
+impl FileSink<LogLines> for LogFileSink {
+    ghost use Rattle.snb_auditor_log.specs.LogFiles.{HasHeard, log_rules};
+
+    ghost grammar_of = { λ file. record {} };
+
+    ghost limit = { log_rules.limit };
+
+    ghost own = { λ _. log_rules.own };
+
+    ghost bare = { log_rules.bare };
+
+    ghost heard = { λ _. HasHeard };
+
+    fn grammar(&self, _file: FileId) -> LogLines {
+        LogLines {}
+    }
+
+    fn most(&self) -> Option<u64> {
+        None
+    }
+}

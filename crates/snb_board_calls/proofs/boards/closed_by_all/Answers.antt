@@ -1,5 +1,0 @@
-use Rattle.snb_board_calls.proofs.Crews.{all_in_order}
-use Rattle.snb_board_calls.proofs.boards.closed_by_all.Goals as goal
-
-pub close-requires : goal.close-requires
-close-requires c = record { all = all_in_order c.args.board c.args.seats.items c.requires }

@@ -1,6 +1,0 @@
-use Rattle.serde_json.specs.View.{view}
-use Rattle.snb_case_lines.proofs.ReplyFacts.{no_stays}
-use Rattle.snb_case_lines.proofs.cells.stays_in.Goals as goal
-
-pub returns-in-None : goal.returns-in-None
-returns-in-None c x h = no_stays (view c.args.value.now) (rw c.in-None.is at c.in_ok-stays.ensures) x h

@@ -1,6 +1,0 @@
-use Rattle.serde_json.specs.View.{view}
-use Rattle.snb_case_lines.proofs.CaseFacts.{no_header}
-use Rattle.snb_case_lines.proofs.lines.is_header.Goals as goal
-
-pub returns-in-None : goal.returns-in-None
-returns-in-None c = no_header (view c.args.value.now) c.in-None.ensures

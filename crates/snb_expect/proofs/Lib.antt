@@ -1,3 +1,0 @@
-mod Plain
-mod ReadBack
-mod Steps

@@ -1,3 +1,0 @@
-pub mod CaseTexts
-pub mod Expected
-pub mod Writing

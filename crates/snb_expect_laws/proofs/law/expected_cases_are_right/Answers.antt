@@ -1,5 +1,0 @@
-use Rattle.snb_expect_laws.proofs.Expected.{expected_are_right}
-use Rattle.snb_expect_laws.proofs.law.expected_cases_are_right.Goals as goal
-
-pub returns : goal.returns
-returns c = expected_are_right c.graphs_are_their_rows.ensures c.order_is_welcome.ensures c.one_case_line.ensures.exact

@@ -1,4 +1,0 @@
-//! Laws of the cases of a plan.
-#![tactic(auto)]
-
-pub mod law;

@@ -1,9 +1,0 @@
-//! The fields of a line, read by columns: what each spells, and the first that spells nothing; and the
-//! line of values, written from them.
-#![tactic(auto)]
-
-pub mod law;
-mod lists;
-pub mod read;
-pub mod values;
-pub mod write;

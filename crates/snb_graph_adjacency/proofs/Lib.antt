@@ -1,0 +1,4 @@
+pub mod Laws
+pub mod LinkLemmas
+pub mod LinkDeltaLemmas
+mod TellLemmas

@@ -1,0 +1,4 @@
+pub mod Concerns
+pub mod Kept
+pub mod Links
+pub mod LinkDelta

@@ -1,0 +1,9 @@
+//! The links that are walked along in a graph, kept beside its rows.
+#![tactic(auto)]
+
+pub mod indexes;
+pub mod link;
+pub mod link_delta;
+
+pub use indexes::Indexes;
+pub use link::Walk;

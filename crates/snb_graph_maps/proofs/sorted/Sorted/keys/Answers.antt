@@ -1,0 +1,6 @@
+use Rattle.std.proofs.Common.{sym}
+use Rattle.std.proofs.lemmas.Map.Made.{keys_of-zip}
+use Rattle.snb_graph_maps.proofs.sorted.Sorted.keys.Goals as goal
+
+pub returns : goal.returns
+returns g c = rw (← c.self.view_is, c.as_slice.ensures.value) (sym (keys_of-zip c.self.inside.keys.items c.self.inside.values.items c.self.invariant))

@@ -1,0 +1,11 @@
+//! The two parts of a store.
+
+/// Into which part of a store an entry goes.
+#[derive(Clone, Copy)]
+pub enum Layer {
+    /// Into the frozen one, where it may: no copy shares that part, and the entry comes after all in it. Else
+    /// among the added ones.
+    Frozen,
+    /// Among the added ones, from where it can be taken back.
+    Added,
+}

@@ -1,0 +1,8 @@
+use Rattle.std.proofs.Common.{[]}
+use Rattle.snb_graph_tables.specs.Parts.{parts}
+use Rattle.snb_graph_tables.proofs.SlotLemmas.{key_in_part}
+use Rattle.snb_graph_tables.proofs.Laws.{rows_is}
+use Rattle.snb_graph_tables.proofs.tables.Tables.has_edge.Goals as goal
+
+pub returns : goal.returns
+returns c = key_in_part (parts c.self.inside) 8 c.args.self.now.rows (c.args.table, c.args.first, c.args.second, []) c.has.result (rows_is c.self.view_is) c.self.invariant c.requires c.has.ensures

@@ -1,0 +1,14 @@
+//! The rows of all tables in ten ordered maps.
+#![tactic(auto)]
+
+pub mod each;
+pub mod insert;
+mod links;
+pub mod same;
+pub mod tables;
+pub mod words;
+
+pub use each::TableRows;
+pub use insert::Insert;
+pub use tables::Tables;
+pub use words::Words;

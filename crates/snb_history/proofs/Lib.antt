@@ -1,0 +1,17 @@
+pub mod Laws
+pub mod Pushes
+pub mod Histories
+pub mod Held
+pub mod Times
+pub mod Once
+pub mod Unstuck
+pub mod Own
+pub mod Deciding
+pub mod Props
+pub mod Stays
+pub mod Holding
+pub mod LanePrefix
+pub mod Planned
+pub mod Short
+pub mod InTurn
+pub mod Tied

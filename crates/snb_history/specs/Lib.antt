@@ -1,0 +1,9 @@
+pub mod Completion
+pub mod History
+pub mod Lanes
+pub mod Laws
+pub mod Rules
+pub mod RunTexts
+pub mod Schedule
+pub mod Violation
+pub mod Worked

@@ -1,5 +1,0 @@
-use Rattle.snb_input.proofs.LawFacts.{stages_join}
-use Rattle.snb_input.proofs.law.stages_join.Goals as goal
-
-pub returns : goal.returns
-returns c = stages_join

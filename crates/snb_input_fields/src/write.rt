@@ -1,0 +1,113 @@
+//! The one line of values.
+
+ghost use Rattle.std.specs.Prelude.{◌≡◌, ◌++◌, ◌∷◌, [], map, IfOk, OnOk, if◌then◌else◌};
+ghost use Rattle.std.specs.Fmt.{decimal};
+ghost use Rattle.std.specs.List.{join_with_byte};
+ghost use Rattle.snb_schema.specs.Columns.{canonical_field, pair_text};
+ghost use Rattle.snb_input_fields.specs.Cells.{value_of};
+
+use snb_base::{Text, put_number};
+use std::alloc::{AllocError, Global};
+
+/// A value of a line that is written, lent by what has it.
+#[derive(Clone, Copy)]
+pub enum Cell<'a> {
+    /// A number, or a date or a day in milliseconds since 1970-01-01 UTC.
+    Digits(u64),
+    /// A year or a length.
+    SmallDigits(u32),
+    /// No id.
+    NoId,
+    /// A text.
+    Letters(&'a str),
+    /// Texts in order.
+    Texts(&'a [Text]),
+    /// Ids in order.
+    Ids(&'a [u64]),
+    /// Ids with years in order.
+    Pairs(&'a [(u64, u32)]),
+}
+
+// Appends a byte between two elements, so before each that isn't the first.
+fn put_between(later: bool, byte: u8, line: &mut Vec<u8>) -> Result<(), AllocError>
+    ensures { OnOk result (line.new.items ≡ line.old.items ++ (if later then byte ∷ [] else [])) }
+{
+    if later {
+        line.push(byte)?;
+    }
+    Ok(())
+}
+
+// Appends texts, with semicolons between them.
+fn put_texts(texts: &[Text], line: &mut Vec<u8>) -> Result<(), AllocError>
+    ensures { OnOk result (line.new.items ≡ line.old.items ++ join_with_byte 59 texts.now) }
+{
+    for i in 0..texts.len() {
+        put_between(i > 0, b';', line)?;
+        line.extend_from_slice(texts[i].as_str().as_bytes())?;
+    }
+    Ok(())
+}
+
+// Appends ids, with semicolons between them.
+fn put_ids(ids: &[u64], line: &mut Vec<u8>) -> Result<(), AllocError>
+    ensures { OnOk result (line.new.items ≡ line.old.items ++ join_with_byte 59 (map decimal ids.now)) }
+{
+    for i in 0..ids.len() {
+        put_between(i > 0, b';', line)?;
+        put_number(ids[i], line)?;
+    }
+    Ok(())
+}
+
+// Appends an id and a year.
+fn put_pair(pair: (u64, u32), line: &mut Vec<u8>) -> Result<(), AllocError>
+    ensures { OnOk result (line.new.items ≡ line.old.items ++ pair_text pair) }
+{
+    put_number(pair.0, line)?;
+    line.push(b',')?;
+    put_number(u64::from(pair.1), line)
+}
+
+// Appends ids with years, with semicolons between them.
+fn put_pairs(pairs: &[(u64, u32)], line: &mut Vec<u8>) -> Result<(), AllocError>
+    ensures { OnOk result (line.new.items ≡ line.old.items ++ join_with_byte 59 (map pair_text pairs.now)) }
+{
+    for i in 0..pairs.len() {
+        put_between(i > 0, b';', line)?;
+        put_pair(pairs[i], line)?;
+    }
+    Ok(())
+}
+
+// Appends the canonical spelling of a value.
+fn put_cell(cell: Cell<'_>, line: &mut Vec<u8>) -> Result<(), AllocError>
+    ensures { OnOk result (line.new.items ≡ line.old.items ++ canonical_field (value_of cell.entry)) }
+{
+    match cell {
+        Cell::Digits(n) => put_number(n, line),
+        Cell::SmallDigits(n) => put_number(u64::from(n), line),
+        Cell::NoId => line.extend_from_slice(b"-1"),
+        Cell::Letters(text) => line.extend_from_slice(text.as_bytes()),
+        Cell::Texts(texts) => put_texts(texts, line),
+        Cell::Ids(ids) => put_ids(ids, line),
+        Cell::Pairs(pairs) => put_pairs(pairs, line),
+    }
+}
+
+/// The canonical line of the values, in a new vector, without a line end: numbers and dates in
+/// digits, texts as they are, lists in order, with bars between the fields. Without values it is
+/// empty. The one error is want of memory.
+///
+/// Where fields of some line spell these values, the law `own_line` says that this one spells them
+/// too.
+pub fn line_of(alloc: Global, cells: &[Cell<'_>]) -> Result<Vec<u8>, AllocError>
+    ensures { IfOk result (λ line. line.items ≡ join_with_byte 124 (map canonical_field (map value_of cells.now))) }
+{
+    let mut line = Vec::new(alloc);
+    for i in 0..cells.len() {
+        put_between(i > 0, b'|', &mut line)?;
+        put_cell(cells[i], &mut line)?;
+    }
+    Ok(line)
+}

@@ -1,0 +1,12 @@
+pub mod Feeding
+pub mod FileFacts
+pub mod FirstLine
+pub mod Going
+pub mod LawFacts
+pub mod Laws
+pub mod Reach
+pub mod SeriesFacts
+pub mod StageFacts
+pub mod Taking
+pub mod ToldFacts
+pub mod WalkFacts

@@ -1,0 +1,23 @@
+use Rattle.std.proofs.Common.{◌≡◌, ◌-◌, ◌≤◌, ◌<◌, length, None, false}
+use Rattle.snb_base.specs.Shelf.{IsRead}
+use Rattle.snb_input_files.specs.Format.{format_of}
+use Rattle.snb_input_files.proofs.Going.{Going, first}
+use Rattle.snb_input_files.proofs.file.load_known.Given as goal
+
+-- the reader was fed the first bytes of the file, and the shelf has changed nothing
+abbrev pub invariant-pieces : goal.invariant-pieces
+invariant-pieces g l = record {
+  going :
+      (begun : g.row.P.Denot) → Going (format_of g.G.Grammar.language g.P.FileSink.grammar_of g.P.FileSink.limit (g.P.FileSink.own begun) g.P.FileSink.bare) (g.P.FileSink.heard begun) g.P.Sink.takes l.file (g.P.FileSink.grammar_of l.file) (g.S.Shelf.contents l.fn.shelf) l.path
+      (first (format_of g.G.Grammar.language g.P.FileSink.grammar_of g.P.FileSink.limit (g.P.FileSink.own begun) g.P.FileSink.bare) (g.P.FileSink.heard begun) g.P.Sink.takes l.file (g.P.FileSink.grammar_of l.file) l.used.rows l.fn.file_sink) l.reader l.sink;
+  of_file : l.reader.file ≡ l.file;
+  by_grammar : l.reader.grammar ≡ g.P.FileSink.grammar_of l.file;
+  few : l.reader.fed ≤ l.most;
+  goes_on : l.reader.over ≡ false;
+  good : l.reader.fault ≡ None;
+  room : 0 < length l.buffer.items;
+  read : IsRead false (g.S.Shelf.contents l.fn.shelf) (g.S.Shelf.faults l.fn.shelf) (g.S.Shelf.contents l.shelf) (g.S.Shelf.faults l.shelf);
+}
+
+abbrev pub decreases-pieces : goal.decreases-pieces
+decreases-pieces g l = l.most - l.reader.fed

@@ -1,0 +1,58 @@
+-- What the files of a stage of an input say, and what is wrong with what they say.
+use Rattle.std.specs.Prelude.{◌≡◌, ℕ, List, [], ◌∷◌, ◌++◌, Option}
+use Rattle.snb_schema.specs.declared.file.FileId.{FileId}
+use Rattle.snb_schema.specs.declared.refusal.Refusal.{Refusal}
+use Rattle.snb_input_lines.specs.Language.{Fits, Language}
+use Rattle.snb_input_lines.specs.Laws.{IsExact}
+use Rattle.snb_input_lines.specs.Sinks.{Heard, Hears, Own, Refuses, Takes}
+
+-- what the items of the files of a stage are refused for
+pub record Rules (T : Type 0) : Type 1 where
+  -- how many data lines all files of an input may have together, where there is a limit
+  pub limit : Option ℕ
+  -- a file's own check, the last that is tried of a line, refuses an item so, by what each file before it said and what this file said before
+  pub own : Own T
+  -- what is wrong with a file whose data lines said these items
+  pub bare : FileId → List T → Option Refusal
+
+-- what the lines of each file of a stage say, in items, and what these are refused for
+pub record Format (K T : Type 0) : Type 1 where
+  pub language : FileId → Language K T
+  pub rules : Rules T
+
+-- the format of files that are read by these grammars, and whose items are refused by these rules
+abbrev pub format_of : {G K T : Type 0} → (G → Language K T) → (FileId → G) → Option ℕ → Own T → (FileId → List T → Option Refusal) → Format K T
+format_of language grammar_of limit own bare = record {
+  language = λ file. language (grammar_of file);
+  rules = record { limit = limit; own = own; bare = bare };
+}
+
+-- a line says one thing at most, and is refused in one way at most
+pub record Lawful {K T : Type 0} (g : Format K T) : Type 0 where
+  -- a header and a data line say one thing at most, and where they say one they have no bad column
+  pub exact : (file : FileId) → IsExact (g.language file)
+  -- they have one bad column at most
+  pub one_header_column : (file : FileId) (line : List ℕ) (a b : ℕ) → (g.language file).bad_header line a → (g.language file).bad_header line b → a ≡ b
+  pub one_column : (file : FileId) (k : K) (line : List ℕ) (a b : ℕ) → (g.language file).bad_line k line a → (g.language file).bad_line k line b → a ≡ b
+  -- the own check refuses in one way at most
+  pub one_own : (file : FileId) (done : List (List T)) (mine : List T) (x : T) (r q : Refusal) → g.rules.own file done mine x r → g.rules.own file done mine x q → r ≡ q
+
+-- a sink of the items of such files, by which items it may be told, what it does with each, and what it was told
+pub record IsFileSink {P K T : Type 0} (g : Format K T) (heard : Heard P T) (may : T → Type 0) (takes : Takes P T) (refuses : Refuses P T)
+    (ends : P → FileId → Option Refusal) (turns : P → P → Type 0) : Type 0 where
+  -- lines say one thing at most, and are refused in one way at most
+  pub lawful : Lawful g
+  -- it may be told what a line spells
+  pub fits : (file : FileId) → Fits (g.language file) may
+  -- what it takes it was told, and isn't refused by the rules; what it refuses is
+  pub hears : Hears takes refuses heard g.rules.own
+  -- past the end of a file, what that file said is what a file before said
+  pub turned : (old new : P) (done : List (List T)) (mine : List T) → heard old done mine → turns old new → heard new (done ++ mine ∷ []) []
+  -- where a file ends it is refused by the rules
+  pub ended : (s : P) (file : FileId) (done : List (List T)) (mine : List T) → heard s done mine → ends s file ≡ g.rules.bare file mine
+
+-- sinks of such files, where a file's own check and what is told may be said by the state in which the first file was begun
+abbrev pub AreTakers : {P G K T : Type 0} → (G → Language K T) → (FileId → G) → Option ℕ → (P → Own T) → (FileId → List T → Option Refusal) → (P → Heard P T) → (T → Type 0)
+    → Takes P T → Refuses P T → (P → FileId → Option Refusal) → (P → P → Type 0) → Type 0
+AreTakers {P} language grammar_of limit own bare heard may takes refuses ends turns =
+    (begun : P) → IsFileSink (format_of language grammar_of limit (own begun) bare) (heard begun) may takes refuses ends turns

@@ -1,0 +1,10 @@
+pub mod Files
+pub mod Format
+pub mod Laws
+pub mod Loading
+pub mod Looking
+pub mod Pieces
+pub mod Places
+pub mod Ranks
+pub mod Stages
+pub mod Walk

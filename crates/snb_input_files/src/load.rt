@@ -1,0 +1,58 @@
+//! How much of an input was read, and why one isn't read.
+
+ghost use Rattle.std.specs.Prelude.{◌≡◌};
+ghost use Rattle.snb_input_files.specs.declared.load.Load.TheVariants.{Memory};
+ghost use Rattle.snb_input_files.specs.Loading.{load_for};
+
+use snb_schema::{Fault, Refusal};
+use std::alloc::{AllocError, AllocFailed};
+
+/// How much of an input was read so far, of all its files together.
+#[derive(Clone, Copy)]
+pub struct Used {
+    /// How many bytes.
+    pub bytes: u64,
+    /// How many data lines: lines that have a byte, without the headers.
+    pub rows: u64,
+}
+
+/// Why an input isn't read.
+#[derive(Clone, Copy)]
+pub enum Load {
+    /// Something is wrong with it; this is the first thing.
+    Refused { refusal: Refusal },
+    /// A read of the shelf failed; its count of faults rose.
+    ReadFault,
+    /// Memory ran out.
+    Memory,
+}
+
+impl From<AllocError> for Load {
+    ghost use Rattle.std.specs.Prelude.{◌≡◌};
+
+    ghost from_gives = { λ _ e. e ≡ Memory };
+
+    fn from(_error: AllocError) -> Load {
+        Load::Memory
+    }
+}
+
+impl<T: Drop> From<AllocFailed<T>> for Load {
+    ghost use Rattle.std.specs.Prelude.{◌≡◌};
+
+    ghost from_gives = { λ _ e. e ≡ Memory };
+
+    fn from(_error: AllocFailed<T>) -> Load {
+        Load::Memory
+    }
+}
+
+/// Why an input isn't read, where a reader of lines stopped at this.
+pub fn load_of(fault: Fault) -> Load
+    ensures { result ≡ load_for fault }
+{
+    match fault {
+        Fault::Bad { refusal } => Load::Refused { refusal },
+        Fault::Memory => Load::Memory,
+    }
+}

@@ -1,0 +1,124 @@
+//! The pieces of a file, fed to its reader as they come.
+
+ghost use Rattle.std.specs.Prelude.{◌≡◌, ◌+◌, ◌<◌, ◌≤◌, IfOk, OnOk, length, None, false};
+ghost use Rattle.snb_base.specs.Shelf.{IsRead};
+ghost use Rattle.snb_schema.specs.declared.limits.TheConstants.{MAX_BYTES};
+ghost use Rattle.snb_input_files.specs.Format.{AreTakers, format_of};
+ghost use Rattle.snb_input_files.specs.Loading.{is_read_fault};
+ghost use Rattle.snb_input_files.specs.Pieces.{IsBadPiece, IsFedMore, IsStep, OnRefused};
+
+use crate::file_sink::FileSink;
+use crate::load::{Load, load_of};
+use snb_base::{Got, Shelf};
+use snb_input_lines::{Grammar, LineReader, RowCount};
+use snb_schema::limits::MAX_BYTES;
+use snb_schema::{FileId, Refusal};
+
+/// What a read of a file was.
+#[derive(Clone, Copy)]
+pub enum Step {
+    /// A piece more was fed.
+    More,
+    /// The file ends.
+    End,
+    /// The file isn't held.
+    Absent,
+}
+
+// Feeds the reader the next piece of a file, of which `most` bytes may be read. The error is the first
+// line that is refused, which is the one that too many bytes reach where the piece goes on beyond
+// them, or want of memory.
+fn feed_piece<G: Grammar + Drop, P: FileSink<G> + Drop>(
+    file: FileId,
+    most: u64,
+    reader: &mut LineReader<G>,
+    sink: &mut RowCount<P>,
+    piece: &[u8],
+) -> Result<(), Load>
+    requires right { AreTakers G.language P.grammar_of P.limit P.own P.bare P.heard P.fits P.takes P.refuses P.ends P.turns }
+    requires of_file { reader.old.file ≡ file }
+    requires by_grammar { reader.old.grammar ≡ P.grammar_of file }
+    requires most { most ≤ MAX_BYTES }
+    requires few { reader.old.fed ≤ most }
+    requires goes_on { reader.old.over ≡ false }
+    requires good { reader.old.fault ≡ None }
+    ensures ok { (begun : P) → OnOk result (IsFedMore (format_of G.language P.grammar_of P.limit (P.own begun) P.bare) P.takes file (P.grammar_of file) reader.old sink.old piece.now reader.new sink.new) }
+    ensures fed { OnOk result (reader.new.fed ≡ reader.old.fed + length piece.now) }
+    ensures few { OnOk result (reader.new.fed ≤ most) }
+    ensures goes_on { OnOk result (reader.new.over ≡ false) }
+    ensures good { OnOk result (reader.new.fault ≡ None) }
+    ensures of_file { reader.new.file ≡ file }
+    ensures by_grammar { reader.new.grammar ≡ P.grammar_of file }
+    ensures refused { (begun : P) → OnRefused result
+        (IsBadPiece (format_of G.language P.grammar_of P.limit (P.own begun) P.bare) (P.heard begun) P.takes file (P.grammar_of file) most reader.old sink.old piece.now) }
+    ensures fault { is_read_fault result ≡ false }
+{
+    let kept = piece.len().min((most - reader.fed()) as usize);
+    match reader.feed_to(&piece[..kept], sink) {
+        Err(fault) => Err(load_of(fault)),
+        Ok(()) => {
+            if kept < piece.len() {
+                return Err(Load::Refused {
+                    refusal: Refusal::TooLarge { file },
+                });
+            }
+            Ok(())
+        }
+    }
+}
+
+/// Reads the next piece of a file, of which `most` bytes may be read, and feeds it to the reader: more
+/// bytes of it, its end, or that it isn't held. A file that is gone after its first piece ends there.
+/// The error is the first line that is refused, a read that failed, or want of memory.
+///
+/// The file_sink is one of the format (`right`). The reader is of the file, by its grammar (`of_file`, `by_grammar`). No more than the most bytes of an input may be read
+/// (`most`), and no more than these were (`few`); the reader has neither ended (`goes_on`) nor stopped
+/// (`good`). The buffer has room for a byte (`room`).
+pub fn read_piece<S: Shelf, G: Grammar + Drop, P: FileSink<G> + Drop>(
+    shelf: &mut S,
+    name: &str,
+    file: FileId,
+    most: u64,
+    reader: &mut LineReader<G>,
+    sink: &mut RowCount<P>,
+    buffer: &mut [u8],
+) -> Result<Step, Load>
+    requires right { AreTakers G.language P.grammar_of P.limit P.own P.bare P.heard P.fits P.takes P.refuses P.ends P.turns }
+    requires of_file { reader.old.file ≡ file }
+    requires by_grammar { reader.old.grammar ≡ P.grammar_of file }
+    requires most { most ≤ MAX_BYTES }
+    requires few { reader.old.fed ≤ most }
+    requires goes_on { reader.old.over ≡ false }
+    requires good { reader.old.fault ≡ None }
+    requires room { 0 < length buffer.old }
+    ensures step { (begun : P) → IsStep (format_of G.language P.grammar_of P.limit (P.own begun) P.bare) (P.heard begun) P.takes (S.contents shelf.old) name.now file (P.grammar_of file) most
+        reader.old sink.old reader.new sink.new result }
+    ensures more { IfOk result (λ step. step ≡ Step.More → reader.old.fed < reader.new.fed) }
+    ensures few { OnOk result (reader.new.fed ≤ most) }
+    ensures goes_on { OnOk result (reader.new.over ≡ false) }
+    ensures good { OnOk result (reader.new.fault ≡ None) }
+    ensures of_file { reader.new.file ≡ file }
+    ensures by_grammar { reader.new.grammar ≡ P.grammar_of file }
+    ensures read { IsRead (is_read_fault result) (S.contents shelf.old) (S.faults shelf.old) (S.contents shelf.new) (S.faults shelf.new) }
+{
+    match shelf.read(name, reader.fed(), buffer) {
+        Got::Failed => Err(Load::ReadFault),
+        // A file that was there at first and isn't any longer ends here.
+        Got::Absent => {
+            if reader.fed() == 0 {
+                Ok(Step::Absent)
+            } else {
+                Ok(Step::End)
+            }
+        }
+        Got::Took { count } => {
+            if count == 0 {
+                return Ok(Step::End);
+            }
+            match feed_piece(file, most, reader, sink, &buffer[..count]) {
+                Err(load) => Err(load),
+                Ok(()) => Ok(Step::More),
+            }
+        }
+    }
+}

@@ -1,0 +1,60 @@
+use Rattle.std.proofs.Common.{subst, sym, ap, ◌++◌, ◌∙◌, ℕ, List}
+use Rattle.snb_schema.specs.declared.limits.TheConstants.{MAX_BYTES}
+use Rattle.snb_schema.specs.Lines.{HasNoEnd}
+use Rattle.snb_input_lines.proofs.RunFacts.{Coming, coming_at_once, coming_some, coming_step, coming_stops, coming_whole, fields_none, on_memory, passed_on, room_step}
+use Rattle.snb_input_lines.proofs.progress.take_whole.Goals as goal
+
+pub returns-in_err-take_line-clause-bad : goal.returns-in_err-take_line-clause-bad
+returns-in_err-take_line-clause-bad g c =
+    let line = c.in-Some.ensures in
+    passed_on c.from_residual.result c.in_err-take_line.field-0.0 _ _ c.from_residual.ensures.1 c.in_err-take_line.ensures.bad
+    (λ r bad. coming_stops (g.G.Grammar.language c.args.of.now.grammar) g.S.Sink.takes c.args.of.now.file g.S.Sink.refuses g.S.Sink.same c.args.at.now.known c.args.at.now.ended c.args.text c.args.sink.now _ _ c.loop-line.text c.loop-line.sink c.take_line.new.sink
+    c.in-Some.line.now c.read.new.self r c.loop-line.invariant.coming line.0 line.1 bad c.in_err-take_line.ensures.same)
+
+pub returns-in_err-take_line-clause-memory : goal.returns-in_err-take_line-clause-memory
+returns-in_err-take_line-clause-memory g c =
+    on_memory _ _ (coming_some (g.G.Grammar.language c.args.of.now.grammar) g.S.Sink.takes c.args.of.now.file g.S.Sink.same c.args.at.now.known c.args.at.now.ended c.args.text c.args.sink.now _ _ c.loop-line.text c.loop-line.sink c.take_line.new.sink c.loop-line.invariant.coming c.in_err-take_line.ensures.same)
+
+pub loop-line-init : goal.loop-line-init
+loop-line-init g c = record {
+  begun = c.requires.fresh;
+  room = c.requires.room;
+  coming = coming_at_once (g.G.Grammar.language c.args.of.now.grammar) g.S.Sink.takes c.args.of.now.file c.args.at.now.known c.args.at.now.ended c.args.text c.args.sink.now;
+}
+
+pub loop-line-preserved : goal.loop-line-preserved
+loop-line-preserved g c =
+    let line = c.in-Some.ensures in
+    let read = c.in_ok-take_line.ensures.ok in
+    let k = c.loop-line.invariant.coming in
+    record {
+      begun = c.take_line.ensures.begun ∙ c.loop-line.invariant.begun;
+      room = room_step c.loop-line.text c.in-Some.line.now c.read.new.self c.loop-line.at.ended c.take_line.new.at.ended MAX_BYTES line.1 c.loop-line.invariant.room c.in_ok-take_line.ensures.ended;
+      coming =
+          subst (λ (n : ℕ). Coming (g.G.Grammar.language c.args.of.now.grammar) g.S.Sink.takes c.args.of.now.file c.args.at.now.known c.args.at.now.ended c.args.text c.args.sink.now c.take_line.new.at.known n c.read.new.self c.take_line.new.sink) (sym c.in_ok-take_line.ensures.ended)
+          (coming_step (g.G.Grammar.language c.args.of.now.grammar) g.S.Sink.takes c.args.of.now.file c.args.at.now.known c.args.at.now.ended c.args.text c.args.sink.now c.loop-line.at.known c.loop-line.at.ended c.loop-line.text c.loop-line.sink c.in-Some.line.now c.read.new.self read.0 c.take_line.new.at.known c.take_line.new.sink
+          k line.0 line.1 read.1 read.2);
+    }
+
+pub returns-clause-ok : goal.returns-clause-ok
+returns-clause-ok g c =
+    let none = c.in_default.ensures in
+    (coming_whole (g.G.Grammar.language c.args.of.now.grammar) g.S.Sink.takes c.args.of.now.file c.args.at.now.known c.args.at.now.ended c.args.text c.args.sink.now c.loop-line.at.known c.loop-line.at.ended c.loop-line.text c.loop-line.sink c.loop-line.invariant.coming none.0).0
+
+pub returns-clause-ended : goal.returns-clause-ended
+returns-clause-ended g c =
+    let none = c.in_default.ensures in
+    (coming_whole (g.G.Grammar.language c.args.of.now.grammar) g.S.Sink.takes c.args.of.now.file c.args.at.now.known c.args.at.now.ended c.args.text c.args.sink.now c.loop-line.at.known c.loop-line.at.ended c.loop-line.text c.loop-line.sink c.loop-line.invariant.coming none.0).1
+
+pub returns-clause-begun : goal.returns-clause-begun
+returns-clause-begun g c =
+    let none = c.in_default.ensures in
+    c.in_ok-extend_from_slice.ensures.items ∙ ap (λ (xs : List ℕ). xs ++ c.rest.result.now) c.loop-line.invariant.begun ∙ c.rest.ensures (subst HasNoEnd (sym none.1) none.0) ∙ none.1 ∙
+    (coming_whole (g.G.Grammar.language c.args.of.now.grammar) g.S.Sink.takes c.args.of.now.file c.args.at.now.known c.args.at.now.ended c.args.text c.args.sink.now c.loop-line.at.known c.loop-line.at.ended c.loop-line.text c.loop-line.sink c.loop-line.invariant.coming none.0).2
+
+pub returns-in_err-extend_from_slice-clause-memory : goal.returns-in_err-extend_from_slice-clause-memory
+returns-in_err-extend_from_slice-clause-memory g c =
+    on_memory _ _ (coming_some (g.G.Grammar.language c.args.of.now.grammar) g.S.Sink.takes c.args.of.now.file g.S.Sink.same c.args.at.now.known c.args.at.now.ended c.args.text c.args.sink.now _ _ c.loop-line.text c.loop-line.sink c.loop-line.sink c.loop-line.invariant.coming (g.met.S.Sink.same_self c.loop-line.sink))
+
+pub take_line-requires-clause-split : goal.take_line-requires-clause-split
+take_line-requires-clause-split g c filled = fields_none (g.G.Grammar.language c.args.of.now.grammar).splits c.in-Some.line.now _ c.requires.unsplit

@@ -1,6 +1,0 @@
-pub mod BarFacts
-pub mod CutFacts
-pub mod FieldFacts
-pub mod Laws
-pub mod ListFacts
-pub mod RunFacts

@@ -1,5 +1,0 @@
-use Rattle.snb_lines.proofs.CutFacts.{cut_any}
-use Rattle.snb_lines.proofs.law.cut_anywhere.Goals as goal
-
-pub returns : goal.returns
-returns c = cut_any

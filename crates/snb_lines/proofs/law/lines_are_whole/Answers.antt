@@ -1,5 +1,0 @@
-use Rattle.snb_lines.proofs.CutFacts.{lines_whole}
-use Rattle.snb_lines.proofs.law.lines_are_whole.Goals as goal
-
-pub returns : goal.returns
-returns c = lines_whole

@@ -1,6 +1,0 @@
-use Rattle.std.proofs.Common.{ap, subst, sym}
-use Rattle.snb_lines.specs.Language.{Fits}
-use Rattle.snb_lines.proofs.lines.Lines.end_to.Goals as goal
-
-pub finish-taken-requires-clause-fits : goal.finish-taken-requires-clause-fits
-finish-taken-requires-clause-fits g c = subst (λ x. Fits (g.G.Grammar.language x) g.S.Sink.fits) (sym (ap (λ v. v.grammar) c.self.view_is)) c.requires.fits

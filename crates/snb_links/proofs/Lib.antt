@@ -1,4 +1,0 @@
-pub mod Laws
-pub mod LinkLemmas
-pub mod NewsLemmas
-mod TellLemmas

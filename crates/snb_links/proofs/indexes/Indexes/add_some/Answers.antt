@@ -1,6 +1,0 @@
-use Rattle.snb_links.proofs.LinkLemmas.{gained_some}
-use Rattle.snb_tables.proofs.Laws.{on_ok}
-use Rattle.snb_links.proofs.indexes.Indexes.add_some.Goals as goal
-
-pub returns-in-Some-clause-ok : goal.returns-in-Some-clause-ok
-returns-in-Some-clause-ok c = on_ok c.add.result (gained_some c.args.self.now c.add.new.self _ c.args.link c.in-Some.is) c.add.ensures.ok

@@ -1,4 +1,0 @@
-pub mod Concerns
-pub mod Kept
-pub mod Links
-pub mod News

@@ -1,6 +1,0 @@
-//! The links that are walked along in a graph, kept beside its rows.
-#![tactic(auto)]
-
-pub mod indexes;
-pub mod link;
-pub mod news;

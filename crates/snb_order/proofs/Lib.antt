@@ -1,4 +1,0 @@
-pub mod Laws
-pub mod OneFacts
-pub mod SomeFacts
-pub mod TopFacts

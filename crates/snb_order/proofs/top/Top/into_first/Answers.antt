@@ -1,5 +1,0 @@
-use Rattle.snb_order.proofs.TopFacts.{first_of_inside}
-use Rattle.snb_order.proofs.top.Top.into_first.Goals as goal
-
-pub returns : goal.returns
-returns g c by all total compares top = first_of_inside by total all _ c.args.self c.first_of.result.items c.self.view_is (c.first_of.ensures by total compares) top

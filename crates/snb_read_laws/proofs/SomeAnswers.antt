@@ -1,0 +1,63 @@
+-- There is an answer, where each thing shows a row.
+use Rattle.std.proofs.Common.{◌≡◌, List, [], ◌∷◌, inl, inr, map, refl}
+use Rattle.std.proofs.lemmas.Cmp.{back_total, int_cmp_total, nat_cmp_total, nat_list_cmp_total, on_total, then_total}
+use Rattle.std.proofs.lemmas.List.Elements.{Contains-append_cases}
+use Rattle.std.specs.Cmp.{IsTotalOrder}
+use Rattle.std.specs.List.{AllZip, Contains, flat_map}
+use Rattle.snb_read_order.specs.Laws.{SomeFirst}
+use Rattle.snb_base.proofs.Laws.{contains_cases, contains_here, contains_there}
+use Rattle.snb_graph_model.proofs.Laws.{contains_none}
+use Rattle.snb_read_model.specs.declared.cell.Cell.{Cell}
+use Rattle.snb_read_model.specs.Cells.{cell_cmp, column, number_in, text_in}
+use Rattle.snb_read_model.specs.ComplexReads.{Stay, stay_cmp}
+use Rattle.snb_read_model.specs.Order.{Answers, Cut, Falling, Rising, Way, by, way_cmp}
+
+-- ---- what joined lists hold
+
+pub in_map : {X Y : Type 0} (f : X → Y) (xs : List X) (y : Y) → Contains (map f xs) y → (x : X) × Contains xs x × (f x ≡ y)
+in_map f [] y c = absurd (contains_none y c)
+in_map f (x ∷ xs) y c = elim (contains_cases (f x) (map f xs) y c) [
+  | inl e ↦ (x, contains_here x xs, e)
+  | inr d ↦ (let (z, there, is) = in_map f xs y d in (z, contains_there x xs z there, is))
+]
+
+pub in_flat : {X Y : Type 0} (f : X → List Y) (xs : List X) (y : Y) → Contains (flat_map f xs) y → (x : X) × Contains xs x × Contains (f x) y
+in_flat f [] y c = absurd (contains_none y c)
+in_flat f (x ∷ xs) y c = elim (Contains-append_cases (f x) (flat_map f xs) y c) [
+  | inl d ↦ (x, contains_here x xs, d)
+  | inr d ↦ (let (z, there, held) = in_flat f xs y d in (z, contains_there x xs z there, held))
+]
+
+-- ---- the orders are total
+
+cell_total : IsTotalOrder cell_cmp
+cell_total = then_total (on_total number_in int_cmp_total) (on_total text_in nat_list_cmp_total)
+
+way_total : (w : Way) → IsTotalOrder (way_cmp w)
+way_total (Rising n) = on_total (column n) cell_total
+way_total (Falling n) = back_total (on_total (column n) cell_total)
+
+pub by_total : (order : List Way) → IsTotalOrder (by order)
+by_total [] = record { antisymm = λ x y. refl; trans = λ x y z e f. cc; congr = λ x y z e. refl }
+by_total (w ∷ ws) = then_total (way_total w) (by_total ws)
+
+pub stay_total : IsTotalOrder stay_cmp
+stay_total = then_total (on_total (λ (s : Stay). s.0) nat_list_cmp_total) (then_total (on_total (λ (s : Stay). s.1) nat_cmp_total) (on_total (λ (s : Stay). s.2) nat_list_cmp_total))
+
+-- ---- rows beside things
+
+module _ {X Y : Type 0} (R : X → Y → Type 0) where
+  pub some_zip : (xs : List X) → ((x : X) → Contains xs x → (y : Y) × R x y) → (ys : List Y) × AllZip R xs ys
+  some_zip [] each = ([], tt)
+  some_zip (x ∷ xs) each =
+      let (y, here) = each x (contains_here x xs) in
+      let (ys, rest) = some_zip xs (λ z c. each z (contains_there x xs z c)) in
+      (y ∷ ys, (here, rest))
+
+-- where each thing that counts shows a row, there is an answer
+pub some_answers : {X : Type 0} → SomeFirst (List Cell) → (counted : List X) (Shows : X → List Cell → Type 0) (order : List Way) (cut : Cut)
+    → ((x : X) → Contains counted x → (row : List Cell) × Shows x row) → (answer : List (List Cell)) × Answers counted Shows order cut answer
+some_answers some counted Shows order cut each =
+    let (rows, shown) = some_zip Shows counted each in
+    let (answer, first) = some (by order) cut rows (by_total order) in
+    (answer, record { rows = rows; shown = shown; first = first })

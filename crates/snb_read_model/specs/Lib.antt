@@ -1,0 +1,10 @@
+pub mod Cells
+pub mod Columns
+pub mod ComplexReads
+pub mod Distance
+pub mod Order
+pub mod Replies
+pub mod ShortReads
+pub mod Tails
+pub mod CowTexts
+pub mod Worked

@@ -1,0 +1,4 @@
+pub mod Laws
+pub mod OneFacts
+pub mod SomeFacts
+pub mod TopKFacts

@@ -1,0 +1,99 @@
+//! A query's answer, with the answers of the short reads that follow it.
+
+ghost use Rattle.std.specs.Prelude.{IfOk, OnOk};
+ghost use Rattle.snb_read_model.specs.Replies.{IsAnswer, IsReply, message_reads, person_reads};
+ghost use Rattle.snb_read_replies.specs.Tails.{HasAnswered};
+ghost use Rattle.snb_graph_model.specs.Soundness.{Sound};
+
+use snb_complex_reads::answered::ic8;
+use snb_complex_reads::jobs::ic11;
+use snb_complex_reads::liked::ic7;
+use snb_complex_reads::namesakes::ic1;
+use snb_complex_reads::sent::{ic2, ic9};
+use snb_graph::Graph;
+use snb_reach::reach::ic13;
+use snb_read_model::tail::tail_of;
+use snb_read_model::{Answer, Reply};
+use snb_schema::Query;
+use snb_short_reads::messages::{is4, is5, is6, is7};
+use snb_short_reads::persons::{is1, is2, is3};
+use std::alloc::{AllocError, Global};
+
+// The query's own answer.
+fn own_answer<'a>(alloc: Global, graph: &'a Graph, query: &Query) -> Result<Answer<'a>, AllocError>
+    requires sound { Sound graph.now }
+    ensures { IfOk result (IsAnswer graph.now query.now) }
+{
+    match query {
+        Query::Is1 { person } => is1(alloc, graph, *person),
+        Query::Is2 { person } => is2(alloc, graph, *person),
+        Query::Is3 { person } => is3(alloc, graph, *person),
+        Query::Is4 { message } => is4(alloc, graph, *message),
+        Query::Is5 { message } => is5(alloc, graph, *message),
+        Query::Is6 { message } => is6(alloc, graph, *message),
+        Query::Is7 { message } => is7(alloc, graph, *message),
+        Query::Ic1 { person, first_name } => ic1(alloc, graph, *person, first_name.as_str()),
+        Query::Ic2 { person, max_date } => ic2(alloc, graph, *person, *max_date),
+        Query::Ic7 { person } => ic7(alloc, graph, *person),
+        Query::Ic8 { person } => ic8(alloc, graph, *person),
+        Query::Ic9 { person, max_date } => ic9(alloc, graph, *person, *max_date),
+        Query::Ic11 {
+            person,
+            country,
+            year,
+        } => ic11(alloc, graph, *person, country.as_str(), *year),
+        Query::Ic13 { from, to } => ic13(alloc, graph, *from, *to),
+    }
+}
+
+// Adds the answers of the short reads of a person.
+fn push_person<'a>(
+    alloc: Global,
+    graph: &'a Graph,
+    person: u64,
+    reply: &mut Reply<'a>,
+) -> Result<(), AllocError>
+    requires sound { Sound graph.now }
+    ensures { OnOk result (HasAnswered graph.now (person_reads person) reply.old reply.new) }
+{
+    reply.push(is1(alloc, graph, person)?)?;
+    reply.push(is2(alloc, graph, person)?)?;
+    reply.push(is3(alloc, graph, person)?)?;
+    Ok(())
+}
+
+// Adds the answers of the short reads of a message.
+fn push_message<'a>(
+    alloc: Global,
+    graph: &'a Graph,
+    message: u64,
+    reply: &mut Reply<'a>,
+) -> Result<(), AllocError>
+    requires sound { Sound graph.now }
+    ensures { OnOk result (HasAnswered graph.now (message_reads message) reply.old reply.new) }
+{
+    reply.push(is4(alloc, graph, message)?)?;
+    reply.push(is5(alloc, graph, message)?)?;
+    reply.push(is6(alloc, graph, message)?)?;
+    reply.push(is7(alloc, graph, message)?)?;
+    Ok(())
+}
+
+/// The reply to a query: its own answer, and then the answers of the short reads that follow it.
+/// The condition: the graph is sound.
+pub fn answer<'a>(alloc: Global, graph: &'a Graph, query: &Query) -> Result<Reply<'a>, AllocError>
+    requires sound { Sound graph.now }
+    ensures { IfOk result (IsReply graph.now query.now) }
+{
+    let own = own_answer(alloc, graph, query)?;
+    let tail = tail_of(query, &own);
+    let mut reply = Reply::new(alloc);
+    reply.push(own)?;
+    if let Some(person) = tail.person {
+        push_person(alloc, graph, person, &mut reply)?;
+    }
+    if let Some(message) = tail.message {
+        push_message(alloc, graph, message, &mut reply)?;
+    }
+    Ok(reply)
+}

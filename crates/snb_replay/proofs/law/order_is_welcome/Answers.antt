@@ -1,5 +1,0 @@
-use Rattle.snb_replay.proofs.InOrder.{welcome_in_order}
-use Rattle.snb_replay.proofs.law.order_is_welcome.Goals as goal
-
-pub returns : goal.returns
-returns c = welcome_in_order

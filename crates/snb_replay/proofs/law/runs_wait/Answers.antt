@@ -1,5 +1,0 @@
-use Rattle.snb_replay.proofs.Waiting.{runs_wait}
-use Rattle.snb_replay.proofs.law.runs_wait.Goals as goal
-
-pub returns : goal.returns
-returns c = runs_wait c.completion_waits.ensures

@@ -1,7 +1,0 @@
-//! Replies to the reads of LDBC's Social Network Benchmark, Interactive workload v1: a query's answer, and
-//! the answers of the short reads that follow it.
-#![tactic(auto)]
-
-pub mod law;
-pub mod reply;
-pub mod tail;

@@ -1,5 +1,0 @@
-use Rattle.snb_schema.proofs.Deciding.{breaks_one}
-use Rattle.snb_schema.proofs.law.breaks_one.Goals as goal
-
-pub returns : goal.returns
-returns c = breaks_one

@@ -1,5 +1,0 @@
-use Rattle.snb_schema.proofs.Times.{completion_rises}
-use Rattle.snb_schema.proofs.law.completion_rises.Goals as goal
-
-pub returns : goal.returns
-returns c = completion_rises

@@ -1,5 +1,0 @@
-use Rattle.snb_schema.proofs.Times.{completion_waits}
-use Rattle.snb_schema.proofs.law.completion_waits.Goals as goal
-
-pub returns : goal.returns
-returns c = completion_waits

@@ -1,5 +1,0 @@
-use Rattle.snb_schema.proofs.Deciding.{fits_or_breaks}
-use Rattle.snb_schema.proofs.law.fits_or_breaks.Goals as goal
-
-pub returns : goal.returns
-returns c = fits_or_breaks

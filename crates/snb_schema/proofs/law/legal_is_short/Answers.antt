@@ -1,5 +1,0 @@
-use Rattle.snb_schema.proofs.Short.{legal_is_short}
-use Rattle.snb_schema.proofs.law.legal_is_short.Goals as goal
-
-pub returns : goal.returns
-returns c = legal_is_short

@@ -1,5 +1,0 @@
-use Rattle.snb_schema.proofs.LanePrefix.{IsLanePrefix}
-use Rattle.snb_schema.proofs.schedule.lane_of.Given as goal
-
-abbrev pub invariant-loop-op : goal.invariant-loop-op
-invariant-loop-op l = IsLanePrefix (record { steps = l.fn.steps; kinds = l.fn.kinds }) l.lane l.op l.numbers.items

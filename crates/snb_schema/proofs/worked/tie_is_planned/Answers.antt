@@ -1,5 +1,0 @@
-use Rattle.snb_schema.proofs.Tied.{planned_tie}
-use Rattle.snb_schema.proofs.worked.tie_is_planned.Goals as goal
-
-pub returns : goal.returns
-returns c = planned_tie

@@ -1,6 +1,0 @@
-use Rattle.snb_schema.specs.declared.table.Table.TheVariants as table
-use Rattle.snb_soundness.proofs.ChainLemmas.{IsPairing}
-use Rattle.snb_soundness.proofs.chains.replies.Given as goal
-
-abbrev pub invariant-loop-item : goal.invariant-loop-item
-invariant-loop-item l = IsPairing l.tables.rows table.CommentReplyOfComment l.pairs l.item-iterator

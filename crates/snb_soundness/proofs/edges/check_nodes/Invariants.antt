@@ -1,5 +1,0 @@
-use Rattle.snb_soundness.proofs.EdgeLemmas.{IsNeeding}
-use Rattle.snb_soundness.proofs.edges.check_nodes.Given as goal
-
-abbrev pub invariant-loop-item : goal.invariant-loop-item
-invariant-loop-item l = IsNeeding l.tables.rows l.node l.item-iterator

@@ -1,9 +1,0 @@
-//! Whether the graph of the tables is sound, and what is wrong first with one that isn't.
-#![tactic(auto)]
-
-mod chains;
-mod edges;
-pub mod law;
-mod mark;
-pub mod sound;
-pub mod unsound;

@@ -1,8 +1,0 @@
-use Rattle.std.proofs.Common.{[]}
-use Rattle.snb_store.specs.Parts.{parts}
-use Rattle.snb_store.proofs.SlotLemmas.{key_in_part}
-use Rattle.snb_store.proofs.Laws.{rows_is}
-use Rattle.snb_store.proofs.tables.Tables.has_edge.Goals as goal
-
-pub returns : goal.returns
-returns c = key_in_part (parts c.self.inside) 8 c.args.self.now.rows (c.args.table, c.args.first, c.args.second, []) c.has.result (rows_is c.self.view_is) c.self.invariant c.requires c.has.ensures

@@ -1,9 +1,0 @@
-use Rattle.std.proofs.Common.{◌∙◌, refl, arith}
-use Rattle.snb_schema.specs.declared.table.Table.TheVariants as tables
-use Rattle.snb_store.specs.Parts.{parts}
-use Rattle.snb_store.proofs.TableLemmas.{node_range}
-use Rattle.snb_store.proofs.Laws.{rows_is}
-use Rattle.snb_store.proofs.tables.Tables.persons.Goals as goal
-
-pub returns : goal.returns
-returns c = c.through.ensures.rows ∙ node_range tables.Person (parts c.self.inside) c.args.self.now.rows 4 (rows_is c.self.view_is) c.self.invariant refl (omega arith)

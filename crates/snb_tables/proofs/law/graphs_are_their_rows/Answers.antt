@@ -1,5 +1,0 @@
-use Rattle.snb_tables.proofs.SortedLemmas.{graphs_same}
-use Rattle.snb_tables.proofs.law.graphs_are_their_rows.Goals as goal
-
-pub returns : goal.returns
-returns c = graphs_same

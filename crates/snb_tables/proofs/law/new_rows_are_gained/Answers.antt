@@ -1,5 +1,0 @@
-use Rattle.snb_tables.proofs.Gaining.{new_rows_are_gained}
-use Rattle.snb_tables.proofs.law.new_rows_are_gained.Goals as goal
-
-pub returns : goal.returns
-returns c = new_rows_are_gained

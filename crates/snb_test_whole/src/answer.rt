@@ -1,0 +1,49 @@
+//! The calls of this crate by their words.
+
+use crate::calls::{call_audit, call_words};
+use crate::state::{State, channel_of};
+use snb_base::Channel;
+use snb_test_script::escape::shown_lines;
+use snb_test_script::{Files, Flaw};
+use std::alloc::Global;
+use std::sync::Wait;
+use std::thread::Threads;
+
+// The first line of the answers.
+fn answers_head(alloc: Global, state: &mut State) -> Result<String, Flaw> {
+    let lines = state.lines(Channel::Answers)?;
+    match lines.split_once('\n') {
+        Some((head, _)) => Ok(String::from_str(alloc, head)?),
+        None => Ok(lines),
+    }
+}
+
+/// Makes the call of this word, over the files as they are, and tells what it answers; None where there is
+/// no such call.
+pub fn answer<R: AllocGlobal + Threads + Wait + Sync>(
+    rt: &R,
+    alloc: Global,
+    state: &mut State,
+    files: &Files,
+    word: &str,
+    rest: &str,
+) -> Result<Option<String>, Flaw> {
+    if word == "snb" {
+        return Ok(Some(call_words(rt, alloc, state, files, rest)?));
+    }
+    if state.set(word, rest)? {
+        return Ok(Some(String::new(alloc)));
+    }
+    if !rest.is_empty() {
+        return Ok(None);
+    }
+    if let Some(channel) = channel_of(word) {
+        return Ok(Some(state.lines(channel)?));
+    }
+    match word {
+        "answers_head" => Ok(Some(answers_head(alloc, state)?)),
+        "story" => Ok(Some(shown_lines(alloc, state.story.as_bytes())?)),
+        "audit" => Ok(Some(call_audit(rt, alloc, state, files)?)),
+        _ => Ok(None),
+    }
+}

@@ -1,0 +1,200 @@
+//! What is kept of a case.
+
+ghost use Rattle.std.specs.Prelude.{◌≤◌};
+
+use snb_base::{Channel, MemoryOutbox, MemoryShelf, read_number};
+use snb_test_script::escape::shown_lines;
+use snb_test_script::words::{first_word, number_of};
+use snb_test_script::{Files, Flaw};
+use std::alloc::Global;
+
+// How many bytes each channel takes, where a case says nothing else.
+const ROOM: usize = 200_000;
+
+// Each channel and its name, in the order in which an answer names them.
+fn channels() -> [(Channel, &'static str); 5] {
+    [
+        (Channel::Log, "log"),
+        (Channel::Answers, "answers"),
+        (Channel::Final, "final"),
+        (Channel::Screen, "screen"),
+        (Channel::Cases, "cases"),
+    ]
+}
+
+/// The channel of this name.
+pub(crate) fn channel_of(name: &str) -> Option<Channel> {
+    for (channel, other) in channels() {
+        if other == name {
+            return Some(channel);
+        }
+    }
+    None
+}
+
+/// What a case says of its calls, and what came of the last one.
+pub struct State {
+    alloc: Global,
+    /// The shelf is one that never fails.
+    pub(crate) steady: bool,
+    /// The shelf has each file at its first read alone.
+    pub(crate) fading: bool,
+    /// The moments that the clock shows.
+    pub(crate) moments: Vec<u64>,
+    /// The calls of `read` and of `write` that fail, numbered from 0.
+    failing_reads: Vec<u64>,
+    failing_writes: Vec<u64>,
+    /// Rooms of channels, of which the last of a channel counts.
+    rooms: Vec<(Channel, usize)>,
+    /// The words of the last call.
+    pub(crate) words: Vec<String>,
+    came: Option<MemoryOutbox>,
+    pub(crate) story: String,
+    /// The channels whose bytes came and aren't asked for yet.
+    untold: Vec<Channel>,
+}
+
+impl Drop for State {
+    fn drop(self) {
+        let State {
+            alloc: _,
+            steady: _,
+            fading: _,
+            moments: _,
+            failing_reads: _,
+            failing_writes: _,
+            rooms: _,
+            words: _,
+            came: _,
+            story: _,
+            untold: _,
+        } = self;
+    }
+}
+
+impl State {
+    /// As a case begins: nothing fails, and the clock shows 0.
+    pub fn new(alloc: Global) -> State {
+        State {
+            alloc,
+            steady: false,
+            fading: false,
+            moments: Vec::new(alloc),
+            failing_reads: Vec::new(alloc),
+            failing_writes: Vec::new(alloc),
+            rooms: Vec::new(alloc),
+            words: Vec::new(alloc),
+            came: None,
+            story: String::new(alloc),
+            untold: Vec::new(alloc),
+        }
+    }
+
+    /// Refuses a case that doesn't ask for all bytes that came.
+    pub fn end(&self) -> Result<(), Flaw> {
+        if self.untold.is_empty() {
+            return Ok(());
+        }
+        Err(Flaw::Untold)
+    }
+
+    // `clock N N ..`
+    fn set_moments(&mut self, rest: &str) -> Result<(), Flaw> {
+        self.moments.clear();
+        for moment in rest.split(' ') {
+            self.moments.push(number_of(moment)?)?;
+        }
+        Ok(())
+    }
+
+    /// Sets what the line says; whether it says anything of this.
+    pub(crate) fn set(&mut self, word: &str, rest: &str) -> Result<bool, Flaw> {
+        match (word, first_word(rest)) {
+            ("clock", _) => self.set_moments(rest)?,
+            ("fail", ("read", call)) => self.failing_reads.push(number_of(call)?)?,
+            ("fail", ("write", call)) => self.failing_writes.push(number_of(call)?)?,
+            ("room", (name, room)) => {
+                let channel = channel_of(name).ok_or(Flaw::NoName)?;
+                let room = read_number(room.as_bytes(), ROOM as u64).ok_or(Flaw::NoNumber)?;
+                self.rooms.push((channel, room as usize))?;
+            }
+            ("steady", ("", _)) => self.steady = true,
+            ("fading", ("", _)) => self.fading = true,
+            _ => return Ok(false),
+        }
+        Ok(true)
+    }
+
+    /// A shelf with the files, on which the listed calls of `read` fail, numbered from here on.
+    pub(crate) fn shelf(&self, files: &Files) -> Result<MemoryShelf, Flaw> {
+        let mut shelf = files.on_shelf(self.alloc, "")?;
+        let made = files.count() as u64;
+        for call in &self.failing_reads {
+            shelf.fail_at(call.saturating_add(made))?;
+        }
+        Ok(shelf)
+    }
+
+    // The room of a channel.
+    fn room(&self, channel: Channel) -> usize
+        ensures { result ≤ 200000 }
+    {
+        let mut room = ROOM;
+        for (named, count) in &self.rooms {
+            if *named == channel {
+                room = *count;
+            }
+        }
+        room.min(ROOM)
+    }
+
+    /// An empty outbox with the rooms, on which the listed calls of `write` fail.
+    pub(crate) fn outbox(&self) -> Result<MemoryOutbox, Flaw> {
+        let mut out = MemoryOutbox::new(self.alloc, ROOM)?;
+        out.limit(Channel::Log, self.room(Channel::Log));
+        out.limit(Channel::Answers, self.room(Channel::Answers));
+        out.limit(Channel::Final, self.room(Channel::Final));
+        out.limit(Channel::Screen, self.room(Channel::Screen));
+        out.limit(Channel::Cases, self.room(Channel::Cases));
+        for call in &self.failing_writes {
+            out.fail_at(*call)?;
+        }
+        Ok(out)
+    }
+
+    /// Keeps what came. Tells the status and which channels have bytes, or the status and the line that came,
+    /// where that is all and on the screen.
+    pub(crate) fn keep(&mut self, status: u8, out: MemoryOutbox) -> Result<String, Flaw> {
+        let mut text = format!(in self.alloc; "{status}")?;
+        for (channel, name) in channels() {
+            if !out.bytes(channel).is_empty() {
+                write!(&mut text, " {name}")?;
+                self.untold.push(channel)?;
+            }
+        }
+        let screen = shown_lines(self.alloc, out.bytes(Channel::Screen))?;
+        let is_screen = self.untold.len() == 1 && self.untold[0] == Channel::Screen;
+        if is_screen && !screen.contains('\n') {
+            self.untold.clear();
+            let line = screen.as_str();
+            text = format!(in self.alloc; "{status}: {line}")?;
+        }
+        self.came = Some(out);
+        Ok(text)
+    }
+
+    /// The bytes on the channel, for which the case asks.
+    pub(crate) fn bytes(&mut self, channel: Channel) -> Result<&[u8], Flaw> {
+        self.untold.retain(|other| *other != channel);
+        match &self.came {
+            Some(out) => Ok(out.bytes(channel)),
+            None => Err(Flaw::NoCall),
+        }
+    }
+
+    /// The lines on the channel.
+    pub(crate) fn lines(&mut self, channel: Channel) -> Result<String, Flaw> {
+        let alloc = self.alloc;
+        Ok(shown_lines(alloc, self.bytes(channel)?)?)
+    }
+}

@@ -1,0 +1,203 @@
+//! The call in which one of two workers works, while the other one has an operation in hand.
+
+ghost use Rattle.std.specs.Prelude.{◌≡◌};
+ghost use Rattle.snb_test_workers.specs.Wholes.{IsWhole};
+
+use crate::alone::{moments_of, told_work};
+use crate::closed::{Planned, load_closed};
+use crate::pair::work_seat;
+use snb_base::Clock;
+use snb_board::{Board, Seat};
+use snb_book::{Claim, Ticket};
+use snb_history::Schedule;
+use snb_test_board::boards::{board_of_two, is_insert};
+use snb_test_script::words::{first_word, number_of};
+use snb_test_script::{Files, Flaw, Given};
+use std::alloc::Global;
+use std::marker::Model;
+use std::sync::atomic::{AtomicU64, Ordering};
+use std::sync::{Mutex, Wait};
+
+// What is done at last with an operation in hand.
+#[derive(Clone, Copy)]
+enum End {
+    // It is finished.
+    Finish,
+    // Its worker halts.
+    Halt,
+}
+
+// The end that the word names.
+fn end_of(word: &str) -> Result<End, Flaw> {
+    match word {
+        "finishes" => Ok(End::Finish),
+        "halts" => Ok(End::Halt),
+        _ => Err(Flaw::NoName),
+    }
+}
+
+// A worker at the board that has an insert in hand.
+#[derive(Drop)]
+struct Holder<'a> {
+    board: &'a Board,
+    seat: Seat,
+    ticket: Ticket,
+}
+
+impl<'a> Model for Holder<'a> {
+    ghost use Rattle.std.specs.Prelude.{◌≡◌, false};
+    ghost use Rattle.snb_history.specs.History.{halted};
+    ghost use Rattle.snb_history.specs.Rules.{IsFront};
+    ghost use Rattle.snb_book.specs.Kept.{IsInHand};
+    ghost use Rattle.snb_board.specs.Boards.{Sitting, mine};
+
+    ghost Value = { Sitting };
+
+    ghost view = { λ s. s.seat };
+
+    ghost invariant = { λ s. (s.seat.site ≡ s.board.now)
+        × (s.ticket.worker ≡ s.seat.worker)
+        × IsInHand s.seat.seen s.ticket
+        × (halted (mine s.seat) s.ticket.worker ≡ false)
+        × IsFront s.board.now.schedule s.seat.seen s.ticket.op 0 };
+}
+
+impl<'a> Holder<'a> {
+    // The seat's worker claims at 0; None where it is given no insert.
+    fn new<R: Wait>(
+        rt: &R,
+        board: &'a Board,
+        schedule: &Schedule,
+        mut seat: Seat,
+    ) -> Option<Holder<'a>>
+        requires { (seat.site ≡ board.now) × (board.now.schedule ≡ schedule.now) }
+    {
+        let Claim::Go { ticket } = board.claim(rt, &mut seat, 0) else {
+            return None;
+        };
+        if !is_insert(schedule, ticket.op) {
+            return None;
+        }
+        Some(Holder {
+            board,
+            seat,
+            ticket,
+        })
+    }
+
+    // Finishes the insert at the moment, or halts.
+    fn end<R: Wait>(self, rt: &R, end: End, now: u64) {
+        let Holder {
+            board,
+            mut seat,
+            ticket,
+        } = self;
+        match end {
+            End::Finish => board.finish(rt, &mut seat, ticket, now, 0),
+            End::Halt => board.halt(rt, &mut seat),
+        }
+    }
+}
+
+// A clock at which the other worker ends what it has in hand, once it has been rested so often.
+struct Behind<'a> {
+    given: Given<'a>,
+    rested: AtomicU64,
+    most: u64,
+    end: End,
+    holder: Mutex<Option<Holder<'a>>>,
+}
+
+impl Drop for Behind<'_> {
+    fn drop(self) {
+        let Behind {
+            given: _,
+            rested: _,
+            most: _,
+            end: _,
+            holder: _,
+        } = self;
+    }
+}
+
+impl Behind<'_> {
+    // What was noted.
+    fn notes(self) -> String {
+        let Behind {
+            given,
+            rested: _,
+            most: _,
+            end: _,
+            holder: _,
+        } = self;
+        given.notes()
+    }
+}
+
+impl Clock for Behind<'_> {
+    ghost use Rattle.std.specs.Prelude.{None};
+
+    ghost fixed = { λ _. None };
+
+    fn now(&self) -> u64 {
+        self.given.now()
+    }
+
+    fn rest<R: Wait>(&self, rt: &R, until: u64) {
+        self.given.rest(rt, until);
+        let before = self.rested.fetch_add(1, Ordering::SeqCst);
+        if before.saturating_add(1) == self.most {
+            if let Some(holder) = self.holder.lock(rt).take() {
+                holder.end(rt, self.end, until);
+            }
+        }
+    }
+}
+
+// Worker 1 works, at a clock that shows these moments, while worker 0 has the first operation in hand, which
+// must be an insert; it ends at the rest of worker 1 of this number, counted from 1.
+fn told_behind<R: Wait>(
+    rt: &R,
+    alloc: Global,
+    whole: &Planned,
+    end: End,
+    most: u64,
+    moments: &[u64],
+) -> Result<String, Flaw>
+    requires { IsWhole whole.now.graph whole.now.plan }
+{
+    let (board, zero, mut one) = board_of_two(alloc, whole.plan.schedule())?;
+    let holder = Holder::new(rt, &board, whole.plan.schedule(), zero);
+    if holder.is_none() {
+        return Err(Flaw::OtherValue);
+    }
+    let behind = Behind {
+        given: Given::new(alloc, moments),
+        rested: AtomicU64::new(0),
+        most,
+        end,
+        holder: Mutex::new(holder),
+    };
+    let replies = work_seat(rt, alloc, &board, &mut one, whole, &behind, &behind.given)?;
+    let mut events = Vec::new(alloc);
+    board.catch_up(rt, &mut one, 0, &mut events)?;
+    let notes = behind.notes();
+    told_work(alloc, notes.as_str(), &events, replies)
+}
+
+/// `alone_behind END REST MOMENTS RATIO` or `alone_behind END REST MOMENTS RATIO FREQUENCIES`
+pub fn alone_behind<R: Wait>(
+    rt: &R,
+    alloc: Global,
+    files: &Files,
+    rest: &str,
+) -> Result<String, Flaw> {
+    let (end, rest) = first_word(rest);
+    let (most, rest) = first_word(rest);
+    let (moments, terms) = first_word(rest);
+    let end = end_of(end)?;
+    let most = number_of(most)?;
+    let moments = moments_of(alloc, moments)?;
+    let whole = load_closed(alloc, files, terms)?;
+    told_behind(rt, alloc, &whole, end, most, &moments)
+}

@@ -1,0 +1,104 @@
+-- Facts on the words of reads.
+use Rattle.std.proofs.Common.{◌≡◌, ◌↔◌, ◌<◌, ◌≤◌, Bool, false, IsTrue, Option, Some, None, List, [], ◌∷◌, length, refl, sym, subst, ap, ◌∙◌, arith, rules, ℕ}
+use Rattle.std.specs.Option.{MatchOption, is_some}
+use Rattle.snb_base.specs.Spellings.{Date, Num}
+use Rattle.snb_input_fields.proofs.Laws.{spelled_long}
+use Rattle.snb_columns.specs.Laws.{OneList}
+use Rattle.snb_input_fields.specs.Laws.{TakenAgain}
+use Rattle.snb_input_fields.specs.Values.{taken}
+use Rattle.snb_schema.specs.declared.column.Column.{Column}
+use Rattle.snb_schema.specs.declared.column.Column.TheVariants as columns
+use Rattle.snb_schema.specs.declared.column.Column.TheVariants.{Number, Small}
+use Rattle.snb_schema.specs.declared.column.Value.{Value}
+use Rattle.snb_schema.specs.declared.column.Value.TheVariants.{Digits, SmallDigits}
+use Rattle.snb_schema.specs.declared.query.Query.{Query}
+use Rattle.snb_schema.specs.declared.read_kind.ReadKind.{ReadKind}
+use Rattle.snb_schema.specs.Columns.{Spells, SpellsAll}
+use Rattle.snb_schema.specs.ReadKinds.{kind_of, parameter_columns, parameter_values, read_word}
+use Rattle.snb_tool_words.specs.Commands.{IsReadOf}
+use Rattle.snb_tool_words.specs.Taken.{query_by}
+
+-- a read has one to three parameters
+pub few_columns : (kind : ReadKind) → (1 ≤ length (parameter_columns kind)) × (length (parameter_columns kind) < 4)
+few_columns kind = search rules
+
+pub few_parameters : (kind : List ℕ) (parameters : List (List ℕ)) (query : Query) → IsReadOf kind parameters query → (1 ≤ length parameters) × (length parameters < 4)
+few_parameters kind parameters query r =
+    let long = spelled_long (parameter_columns (kind_of query)) parameters (parameter_values query) r.1 in
+    let few = few_columns (kind_of query) in
+    omega arith
+
+-- ---- words by their columns
+
+-- some values are spelled
+abbrev pub AnySpelled : List Column → List (List ℕ) → Type 0
+AnySpelled columns words = (vs : List Value) × SpellsAll columns words vs
+
+abbrev pub IsSpelled : Column → List ℕ → Type 0
+IsSpelled column word = (v : Value) × Spells column word v
+
+-- a number that was found, or none, tells whether the word spells a value
+pub found_spells : (column : Column) (word : List ℕ) (value : ℕ → Value) (r : Option ℕ) → MatchOption r ((n : ℕ) → ¬ Spells column word (value n)) (λ n. Spells column word (value n))
+    → (((n : ℕ) → ¬ Spells column word (value n)) → (v : Value) → ¬ Spells column word v) → IsTrue (is_some r) ↔ IsSpelled column word
+found_spells column word value None none only = (λ t. absurd cc, λ s. absurd (only none s.0 s.1))
+found_spells column word value (Some n) is only = (λ _. (value n, is), λ _. refl)
+
+pub only_number : (most : ℕ) (word : List ℕ) → ((n : ℕ) → ¬ Num word n most) → (v : Value) → ¬ Spells (Number most) word v
+only_number most word none (Digits n) s = none n s
+only_number most word none v s = s
+
+pub only_small : (most : ℕ) (word : List ℕ) → ((n : ℕ) → ¬ Num word n most) → (v : Value) → ¬ Spells (Small most) word v
+only_small most word none (SmallDigits n) s = none n s
+only_small most word none v s = s
+
+pub only_date : (word : List ℕ) → ((n : ℕ) → ¬ Date word n) → (v : Value) → ¬ Spells columns.Date word v
+only_date word none (Digits n) s = none n s
+only_date word none v s = s
+
+-- values are spelled where a first one and the others are
+spelled_parts : (c : Column) (cs : List Column) (x : List ℕ) (xs : List (List ℕ)) (vs : List Value) → SpellsAll (c ∷ cs) (x ∷ xs) vs → IsSpelled c x × AnySpelled cs xs
+spelled_parts c cs x xs [] s = absurd s
+spelled_parts c cs x xs (v ∷ vs) s = ((v, s.0), (vs, s.1))
+
+module _ (c : Column) (cs all : List Column) (x : List ℕ) (xs words : List (List ℕ)) (r : Bool) (columns : all ≡ c ∷ cs) (are : words ≡ x ∷ xs) where
+  pub more_spells : IsSpelled c x → (IsTrue r ↔ AnySpelled cs xs) → IsTrue r ↔ AnySpelled all words
+  more_spells first iff = rw (columns, are) (λ t. let more = iff.0 t in (first.0 ∷ more.0, (first.1, more.1)), λ s. iff.1 (spelled_parts c cs x xs s.0 s.1).1)
+
+  pub first_spells : r ≡ false → (IsTrue r ↔ IsSpelled c x) → IsTrue r ↔ AnySpelled all words
+  first_spells e iff = rw (columns, are) (λ t. absurd cc, λ s. iff.1 (spelled_parts c cs x xs s.0 s.1).0)
+
+-- ---- a read by its kind and its values
+
+-- a word names one kind
+pub one_kind : (a b : ReadKind) → read_word a ≡ read_word b → a ≡ b
+one_kind a b e = search rules
+
+-- a read has the kind and the values that it is made of
+made : (kind : ReadKind) (vs : List Value) → (kind_of (query_by kind vs) ≡ kind) × (parameter_values (query_by kind vs) ≡ taken (parameter_columns kind) vs)
+made kind vs = search rules
+
+-- and is what is made of them
+pub query_back : (query : Query) → query_by (kind_of query) (parameter_values query) ≡ query
+query_back query = search rules
+
+-- words name one read
+pub one_read : OneList → (kind : List ℕ) (parameters : List (List ℕ)) (a b : Query) → IsReadOf kind parameters a → IsReadOf kind parameters b → a ≡ b
+one_read list kind parameters a b x y =
+    let alike = one_kind (kind_of a) (kind_of b) (sym x.0 ∙ y.0) in
+    let same = list (parameter_columns (kind_of a)) parameters (parameter_values a) (parameter_values b) x.1
+    (subst (λ (k : ReadKind). SpellsAll (parameter_columns k) parameters (parameter_values b)) (sym alike) y.1) in
+    sym (query_back a) ∙ (λ i. query_by (alike i) (same i)) ∙ query_back b
+
+-- words that spell values of the columns of a kind name a read of this kind, and no other words do
+pub read_is : TakenAgain → (kind : ReadKind) (word : List ℕ) (words : List (List ℕ)) (columns : List Column) (r : Bool) → word ≡ read_word kind → columns ≡ parameter_columns kind
+    → (IsTrue r ↔ AnySpelled columns words) → IsTrue r ↔ ((query : Query) × IsReadOf word words query)
+read_is again kind word words columns r named same iff = (
+  λ t.
+      let s = iff.0 t in
+      let all : SpellsAll (parameter_columns kind) words s.0 = subst (λ (cs : List Column). SpellsAll cs words s.0) same s.1 in
+      let is = made kind s.0 in
+      (query_by kind s.0, (named ∙ ap read_word (sym is.0), rw (is.0, is.1, again (parameter_columns kind) words s.0 all) all)),
+  λ q.
+      let alike = one_kind kind (kind_of q.0) (sym named ∙ q.1.0) in
+      iff.1 (parameter_values q.0, subst (λ (cs : List Column). SpellsAll cs words (parameter_values q.0)) (sym (same ∙ ap parameter_columns alike)) q.1.1),
+)

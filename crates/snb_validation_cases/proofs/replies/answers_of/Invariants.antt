@@ -1,0 +1,8 @@
+use Rattle.std.proofs.Common.{map, take}
+use Rattle.serde_json.specs.View.{view}
+use Rattle.snb_validation_cases.specs.Replies.{IsAnswerTo}
+use Rattle.snb_validation_cases.specs.Values.{AreAlong}
+use Rattle.snb_validation_cases.proofs.replies.answers_of.Given as goal
+
+abbrev pub invariant-loop-i : goal.invariant-loop-i
+invariant-loop-i l = AreAlong IsAnswerTo (take l.i l.queries) (map view (take l.i l.items)) l.answers.items

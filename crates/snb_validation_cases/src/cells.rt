@@ -1,0 +1,312 @@
+//! The cells of rows.
+
+ghost use Rattle.std.specs.Prelude.{◌≡◌, ℕ, List, IfOk, MatchOption, map};
+ghost use Rattle.std.specs.List.{AllZip};
+ghost use Rattle.serde_json.specs.View.{view};
+ghost use Rattle.snb_read_model.specs.declared.cell.Cell.{Cell as AnyCell};
+ghost use Rattle.snb_read_model.specs.Columns.{Number, Flag, Words as WordsColumn, Texts as TextsColumn, Stays as StaysColumn, columns_of as read_columns};
+ghost use Rattle.snb_validation_cases.specs.CellColumns.{IsCellOf, column_of};
+ghost use Rattle.snb_validation_cases.specs.Replies.{AreStay, IsCellIn, IsStay, IsStayOf};
+ghost use Rattle.snb_validation_cases.specs.Values.{IsArray};
+
+use crate::values::{items_in, number_in, text_in, texts_in};
+use serde_json::Value;
+use snb_read_model::{Cell, CowText, Stays};
+use snb_schema::Query;
+use snb_schema::limits::MAX_YEAR;
+use std::alloc::{AllocError, Global};
+
+/// What stands in a column of a read's rows.
+#[derive(Clone, Copy)]
+pub enum CellColumn {
+    Number,
+    Flag,
+    Words,
+    Texts,
+    Stays,
+}
+
+const PROFILE: [CellColumn; 8] = [
+    CellColumn::Words,
+    CellColumn::Words,
+    CellColumn::Number,
+    CellColumn::Words,
+    CellColumn::Words,
+    CellColumn::Number,
+    CellColumn::Words,
+    CellColumn::Number,
+];
+
+const RECENT: [CellColumn; 7] = [
+    CellColumn::Number,
+    CellColumn::Words,
+    CellColumn::Number,
+    CellColumn::Number,
+    CellColumn::Number,
+    CellColumn::Words,
+    CellColumn::Words,
+];
+
+const FRIEND: [CellColumn; 4] = [
+    CellColumn::Number,
+    CellColumn::Words,
+    CellColumn::Words,
+    CellColumn::Number,
+];
+
+const CONTENT: [CellColumn; 2] = [CellColumn::Number, CellColumn::Words];
+
+const CREATOR: [CellColumn; 3] = [CellColumn::Number, CellColumn::Words, CellColumn::Words];
+
+const FORUM: [CellColumn; 5] = [
+    CellColumn::Number,
+    CellColumn::Words,
+    CellColumn::Number,
+    CellColumn::Words,
+    CellColumn::Words,
+];
+
+const ANSWERED: [CellColumn; 7] = [
+    CellColumn::Number,
+    CellColumn::Words,
+    CellColumn::Number,
+    CellColumn::Number,
+    CellColumn::Words,
+    CellColumn::Words,
+    CellColumn::Flag,
+];
+
+const NAMESAKE: [CellColumn; 13] = [
+    CellColumn::Number,
+    CellColumn::Words,
+    CellColumn::Number,
+    CellColumn::Number,
+    CellColumn::Number,
+    CellColumn::Words,
+    CellColumn::Words,
+    CellColumn::Words,
+    CellColumn::Texts,
+    CellColumn::Texts,
+    CellColumn::Words,
+    CellColumn::Stays,
+    CellColumn::Stays,
+];
+
+const SENT: [CellColumn; 6] = [
+    CellColumn::Number,
+    CellColumn::Words,
+    CellColumn::Words,
+    CellColumn::Number,
+    CellColumn::Words,
+    CellColumn::Number,
+];
+
+const LIKED: [CellColumn; 8] = [
+    CellColumn::Number,
+    CellColumn::Words,
+    CellColumn::Words,
+    CellColumn::Number,
+    CellColumn::Number,
+    CellColumn::Words,
+    CellColumn::Number,
+    CellColumn::Flag,
+];
+
+const REPLIED: [CellColumn; 6] = [
+    CellColumn::Number,
+    CellColumn::Words,
+    CellColumn::Words,
+    CellColumn::Number,
+    CellColumn::Number,
+    CellColumn::Words,
+];
+
+const JOB: [CellColumn; 5] = [
+    CellColumn::Number,
+    CellColumn::Words,
+    CellColumn::Words,
+    CellColumn::Words,
+    CellColumn::Number,
+];
+
+const LENGTH: [CellColumn; 1] = [CellColumn::Number];
+
+/// The columns of the rows of a read.
+pub fn columns_of(query: &Query) -> &'static [CellColumn]
+    ensures { map column_of result.now ≡ read_columns query.now }
+{
+    match query {
+        Query::Is1 { .. } => &PROFILE,
+        Query::Is2 { .. } => &RECENT,
+        Query::Is3 { .. } => &FRIEND,
+        Query::Is4 { .. } => &CONTENT,
+        Query::Is5 { .. } => &CREATOR,
+        Query::Is6 { .. } => &FORUM,
+        Query::Is7 { .. } => &ANSWERED,
+        Query::Ic1 { .. } => &NAMESAKE,
+        Query::Ic2 { .. } => &SENT,
+        Query::Ic7 { .. } => &LIKED,
+        Query::Ic8 { .. } => &REPLIED,
+        Query::Ic9 { .. } => &SENT,
+        Query::Ic11 { .. } => &JOB,
+        Query::Ic13 { .. } => &LENGTH,
+    }
+}
+
+// The number that a value is.
+fn integer_in(value: &Value) -> Option<Cell<'static>>
+    ensures { MatchOption result ((cell : AnyCell) → ¬ IsCellIn Number (view value.now) cell) (IsCellIn Number (view value.now)) }
+{
+    match value.as_i64() {
+        Some(value) => Some(Cell::Number { value }),
+        None => None,
+    }
+}
+
+// The truth value that a value is.
+fn flag_in(value: &Value) -> Option<Cell<'static>>
+    ensures { MatchOption result ((cell : AnyCell) → ¬ IsCellIn Flag (view value.now) cell) (IsCellIn Flag (view value.now)) }
+{
+    match value.as_bool() {
+        Some(value) => Some(Cell::Flag { value }),
+        None => None,
+    }
+}
+
+// The text that a value is.
+fn words_in(alloc: Global, value: &Value) -> Result<Option<Cell<'static>>, AllocError>
+    ensures { IfOk result (λ found. MatchOption found
+        ((cell : AnyCell) → ¬ IsCellIn WordsColumn (view value.now) cell)
+        (IsCellIn WordsColumn (view value.now))) }
+{
+    match text_in(alloc, value)? {
+        Some(text) => Ok(Some(Cell::Words {
+            text: CowText::own(text),
+        })),
+        None => Ok(None),
+    }
+}
+
+// The texts that a value is.
+fn list_in(alloc: Global, value: &Value) -> Result<Option<Cell<'static>>, AllocError>
+    ensures { IfOk result (λ found. MatchOption found
+        ((cell : AnyCell) → ¬ IsCellIn TextsColumn (view value.now) cell)
+        (IsCellIn TextsColumn (view value.now))) }
+{
+    match texts_in(alloc, value)? {
+        Some(texts) => Ok(Some(Cell::List { texts })),
+        None => Ok(None),
+    }
+}
+
+// The stay that three values are.
+fn stay_of(
+    alloc: Global,
+    name: &Value,
+    year: &Value,
+    place: &Value,
+) -> Result<Option<(CowText<'static>, u32, CowText<'static>)>, AllocError>
+    ensures { IfOk result (λ found. MatchOption found
+        ((stay : List ℕ × ℕ × List ℕ) → ¬ IsStayOf (view name.now) (view year.now) (view place.now) stay)
+        (IsStayOf (view name.now) (view year.now) (view place.now))) }
+{
+    let Some(year) = number_in(year, u64::from(MAX_YEAR)) else {
+        return Ok(None);
+    };
+    let Some(name) = text_in(alloc, name)? else {
+        return Ok(None);
+    };
+    let Some(place) = text_in(alloc, place)? else {
+        return Ok(None);
+    };
+    Ok(Some((CowText::own(name), year as u32, CowText::own(place))))
+}
+
+// The stay that these values are.
+fn stay_of_items(
+    alloc: Global,
+    items: &[Value],
+) -> Result<Option<(CowText<'static>, u32, CowText<'static>)>, AllocError>
+    ensures { IfOk result (λ found. MatchOption found
+        ((stay : List ℕ × ℕ × List ℕ) → ¬ AreStay (map view items.now) stay)
+        (AreStay (map view items.now))) }
+{
+    match items {
+        [name, year, place] => stay_of(alloc, name, year, place),
+        _ => Ok(None),
+    }
+}
+
+// The stay that a value is.
+fn stay_in(
+    alloc: Global,
+    value: &Value,
+) -> Result<Option<(CowText<'static>, u32, CowText<'static>)>, AllocError>
+    ensures { IfOk result (λ found. MatchOption found
+        ((stay : List ℕ × ℕ × List ℕ) → ¬ IsStay (view value.now) stay)
+        (IsStay (view value.now))) }
+{
+    match items_in(value) {
+        Some(items) => stay_of_items(alloc, items),
+        None => Ok(None),
+    }
+}
+
+// The stays that these values are.
+fn stays_of(alloc: Global, items: &[Value]) -> Result<Option<Stays<'static>>, AllocError>
+    ensures { IfOk result (λ found. MatchOption found
+        ((stays : List (List ℕ × ℕ × List ℕ)) → ¬ AllZip IsStay (map view items.now) stays)
+        (AllZip IsStay (map view items.now))) }
+{
+    let mut stays = Vec::new(alloc);
+    'items: for item in items {
+        let Some(stay) = stay_in(alloc, item)? else {
+            return Ok(None);
+        };
+        stays.push(stay)?;
+    }
+    Ok(Some(Stays::from_vec(alloc, stays)))
+}
+
+// The array of stays that a value is.
+fn array_of_stays(alloc: Global, value: &Value) -> Result<Option<Stays<'static>>, AllocError>
+    ensures { IfOk result (λ found. MatchOption found
+        ((stays : List (List ℕ × ℕ × List ℕ)) → ¬ IsArray (AllZip IsStay) (view value.now) stays)
+        (IsArray (AllZip IsStay) (view value.now))) }
+{
+    match items_in(value) {
+        Some(items) => stays_of(alloc, items),
+        None => Ok(None),
+    }
+}
+
+// The stays that a value is.
+fn stays_in(alloc: Global, value: &Value) -> Result<Option<Cell<'static>>, AllocError>
+    ensures { IfOk result (λ found. MatchOption found
+        ((cell : AnyCell) → ¬ IsCellIn StaysColumn (view value.now) cell)
+        (IsCellIn StaysColumn (view value.now))) }
+{
+    match array_of_stays(alloc, value)? {
+        Some(stays) => Ok(Some(Cell::Stays { stays })),
+        None => Ok(None),
+    }
+}
+
+/// The cell of a column that a value is.
+pub fn cell_in(
+    alloc: Global,
+    column: CellColumn,
+    value: &Value,
+) -> Result<Option<Cell<'static>>, AllocError>
+    ensures { IfOk result (λ found. MatchOption found
+        ((cell : AnyCell) → ¬ IsCellOf column (view value.now) cell)
+        (IsCellOf column (view value.now))) }
+{
+    match column {
+        CellColumn::Number => Ok(integer_in(value)),
+        CellColumn::Flag => Ok(flag_in(value)),
+        CellColumn::Words => words_in(alloc, value),
+        CellColumn::Texts => list_in(alloc, value),
+        CellColumn::Stays => stays_in(alloc, value),
+    }
+}

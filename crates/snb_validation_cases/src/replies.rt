@@ -1,0 +1,234 @@
+//! The replies that JSON values are.
+
+ghost use Rattle.std.specs.Prelude.{◌≡◌, ◌∷◌, ◌++◌, List, IfOk, MatchOption, OnOk, map, ⊤};
+ghost use Rattle.std.specs.List.{AllZip};
+ghost use Rattle.serde_json.specs.View.{view};
+ghost use Rattle.snb_read_model.specs.declared.cell.Cell.{Cell as AnyCell};
+ghost use Rattle.snb_read_model.specs.Replies.{message_reads, person_reads, tail_reads};
+ghost use Rattle.snb_read_model.specs.Columns.{HaveColumns, columns_of as read_columns};
+ghost use Rattle.snb_read_model.specs.Tails.{queries_of};
+ghost use Rattle.snb_validation_cases.specs.CellColumns.{IsCellOf};
+ghost use Rattle.snb_validation_cases.specs.Replies.{AreReply, IsAnswerTo, IsCellIn, IsReplyTo, IsRow};
+ghost use Rattle.snb_validation_cases.specs.Values.{AreAlong};
+
+use crate::cells::{CellColumn, cell_in, columns_of};
+use crate::values::items_in;
+use serde_json::Value;
+use snb_read_model::tail::tail_of;
+use snb_read_model::{Answer, AnswerRow, Cell, Reply, Tail};
+use snb_schema::Query;
+use std::alloc::{AllocError, Global};
+
+// The cells of these columns that values are.
+fn cells_of(
+    alloc: Global,
+    columns: &[CellColumn],
+    items: &[Value],
+) -> Result<Option<AnswerRow<'static>>, AllocError>
+    ensures { IfOk result (λ found. MatchOption found
+        ((cells : List AnyCell) → ¬ AreAlong IsCellOf columns.now (map view items.now) cells)
+        (AreAlong IsCellOf columns.now (map view items.now))) }
+{
+    if columns.len() != items.len() {
+        return Ok(None);
+    }
+    let mut cells = Vec::new(alloc);
+    for i in 0..columns.len() {
+        let Some(cell) = cell_in(alloc, columns[i], &items[i])? else {
+            return Ok(None);
+        };
+        cells.push(cell)?;
+    }
+    Ok(Some(AnswerRow::from_vec(alloc, cells)))
+}
+
+// The row of a read that values are.
+fn row_of(
+    alloc: Global,
+    query: &Query,
+    items: &[Value],
+) -> Result<Option<AnswerRow<'static>>, AllocError>
+    ensures { IfOk result (λ found. MatchOption found
+        ((row : List AnyCell) → ¬ AreAlong IsCellIn (read_columns query.now) (map view items.now) row)
+        (AreAlong IsCellIn (read_columns query.now) (map view items.now))) }
+{
+    cells_of(alloc, columns_of(query), items)
+}
+
+// The row of a read that a value is.
+fn row_in(
+    alloc: Global,
+    query: &Query,
+    value: &Value,
+) -> Result<Option<AnswerRow<'static>>, AllocError>
+    ensures { IfOk result (λ found. MatchOption found
+        ((row : List AnyCell) → ¬ IsRow query.now (view value.now) row)
+        (IsRow query.now (view value.now))) }
+{
+    match items_in(value) {
+        Some(items) => row_of(alloc, query, items),
+        None => Ok(None),
+    }
+}
+
+// The rows of a read that values are.
+fn rows_of(
+    alloc: Global,
+    query: &Query,
+    items: &[Value],
+) -> Result<Option<Answer<'static>>, AllocError>
+    ensures { IfOk result (λ found. MatchOption found
+        ((rows : List (List AnyCell)) → ¬ AllZip (IsRow query.now) (map view items.now) rows)
+        (AllZip (IsRow query.now) (map view items.now))) }
+{
+    let mut rows = Vec::new(alloc);
+    'items: for item in items {
+        let Some(row) = row_in(alloc, query, item)? else {
+            return Ok(None);
+        };
+        rows.push(row)?;
+    }
+    Ok(Some(Answer::from_vec(alloc, rows)))
+}
+
+// The answer to a query that a value is.
+fn answer_in(
+    alloc: Global,
+    query: &Query,
+    value: &Value,
+) -> Result<Option<Answer<'static>>, AllocError>
+    ensures columns { IfOk result (λ found. MatchOption found ⊤ (HaveColumns query.now)) }
+    ensures found { IfOk result (λ found. MatchOption found
+        ((answer : List (List AnyCell)) → ¬ IsAnswerTo query.now (view value.now) answer)
+        (IsAnswerTo query.now (view value.now))) }
+{
+    match items_in(value) {
+        Some(items) => rows_of(alloc, query, items),
+        None => Ok(None),
+    }
+}
+
+// The short reads of a tail.
+fn tail_queries(alloc: Global, tail: Tail) -> Result<Vec<Query>, AllocError>
+    ensures { IfOk result (λ queries. queries.items ≡ queries_of tail) }
+{
+    let mut queries = Vec::new(alloc);
+    if let Some(person) = tail.person {
+        push_person(person, &mut queries)?;
+    }
+    if let Some(message) = tail.message {
+        push_message(message, &mut queries)?;
+    }
+    Ok(queries)
+}
+
+// Adds the short reads of a person.
+fn push_person(person: u64, queries: &mut Vec<Query>) -> Result<(), AllocError>
+    ensures { OnOk result (queries.new.items ≡ queries.old.items ++ person_reads person) }
+{
+    queries.push(Query::Is1 { person })?;
+    queries.push(Query::Is2 { person })?;
+    queries.push(Query::Is3 { person })?;
+    Ok(())
+}
+
+// Adds the short reads of a message.
+fn push_message(message: u64, queries: &mut Vec<Query>) -> Result<(), AllocError>
+    ensures { OnOk result (queries.new.items ≡ queries.old.items ++ message_reads message) }
+{
+    queries.push(Query::Is4 { message })?;
+    queries.push(Query::Is5 { message })?;
+    queries.push(Query::Is6 { message })?;
+    queries.push(Query::Is7 { message })?;
+    Ok(())
+}
+
+// The answers to these queries that values are.
+fn answers_of(
+    alloc: Global,
+    queries: &[Query],
+    items: &[Value],
+) -> Result<Option<Vec<Answer<'static>>>, AllocError>
+    ensures { IfOk result (λ found. MatchOption found
+        ((answers : List (List (List AnyCell))) → ¬ AreAlong IsAnswerTo queries.now (map view items.now) answers)
+        (λ answers. AreAlong IsAnswerTo queries.now (map view items.now) answers.items)) }
+{
+    if queries.len() != items.len() {
+        return Ok(None);
+    }
+    let mut answers = Vec::new(alloc);
+    for i in 0..queries.len() {
+        let Some(answer) = answer_in(alloc, &queries[i], &items[i])? else {
+            return Ok(None);
+        };
+        answers.push(answer)?;
+    }
+    Ok(Some(answers))
+}
+
+// The answers of the tail of this answer to a query that values are.
+fn tail_in(
+    alloc: Global,
+    query: &Query,
+    own: &Answer,
+    items: &[Value],
+) -> Result<Option<Vec<Answer<'static>>>, AllocError>
+    requires { HaveColumns query.now own.now }
+    ensures { IfOk result (λ found. MatchOption found
+        ((answers : List (List (List AnyCell))) → ¬ AreAlong IsAnswerTo (tail_reads query.now own.now) (map view items.now) answers)
+        (λ answers. AreAlong IsAnswerTo (tail_reads query.now own.now) (map view items.now) answers.items)) }
+{
+    let queries = tail_queries(alloc, tail_of(query, own))?;
+    answers_of(alloc, queries.as_slice(), items)
+}
+
+// The reply whose own answer is this, and whose tail is these.
+fn joined(
+    alloc: Global,
+    own: Answer<'static>,
+    tail: Vec<Answer<'static>>,
+) -> Result<Reply<'static>, AllocError>
+    ensures { IfOk result (λ reply. reply ≡ own.entry ∷ tail.entry.items) }
+{
+    let mut answers = tail;
+    answers.insert(0, own)?;
+    Ok(Reply::from_vec(alloc, answers))
+}
+
+// The reply to a query that values are.
+fn reply_of(
+    alloc: Global,
+    query: &Query,
+    items: &[Value],
+) -> Result<Option<Reply<'static>>, AllocError>
+    ensures { IfOk result (λ found. MatchOption found
+        ((reply : List (List (List AnyCell))) → ¬ AreReply query.now (map view items.now) reply)
+        (AreReply query.now (map view items.now))) }
+{
+    let [first, others @ ..] = items else {
+        return Ok(None);
+    };
+    let Some(own) = answer_in(alloc, query, first)? else {
+        return Ok(None);
+    };
+    let Some(tail) = tail_in(alloc, query, &own, others)? else {
+        return Ok(None);
+    };
+    Ok(Some(joined(alloc, own, tail)?))
+}
+
+/// The reply to a query that a value is.
+pub fn reply_in(
+    alloc: Global,
+    query: &Query,
+    value: &Value,
+) -> Result<Option<Reply<'static>>, AllocError>
+    ensures { IfOk result (λ found. MatchOption found
+        ((reply : List (List (List AnyCell))) → ¬ IsReplyTo query.now (view value.now) reply)
+        (IsReplyTo query.now (view value.now))) }
+{
+    match items_in(value) {
+        Some(items) => reply_of(alloc, query, items),
+        None => Ok(None),
+    }
+}

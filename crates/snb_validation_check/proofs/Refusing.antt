@@ -1,0 +1,63 @@
+-- How the insert of a case is refused.
+use Rattle.std.proofs.Common.{◌≡◌, ◌∷◌, ◌∙◌, List, sym, ap, subst, inl, inr}
+use Rattle.std.specs.List.{All, Contains}
+use Rattle.std.proofs.lemmas.List.Elements.{All-contains, Contains-append_right}
+use Rattle.snb_schema.specs.declared.file.FileId.{FileId}
+use Rattle.snb_schema.specs.declared.refusal.Missing.{Missing}
+use Rattle.snb_schema.specs.declared.refusal.Refusal.{Refusal}
+use Rattle.snb_schema.specs.declared.refusal.Refusal.TheVariants.{Unmet}
+use Rattle.snb_schema.specs.declared.row.Row.{Row}
+use Rattle.snb_schema.specs.References.{refs_of}
+use Rattle.snb_base.proofs.Laws.{contains_here}
+use Rattle.snb_graph_model.specs.Laws.{GraphsAreTheirRows}
+use Rattle.snb_inserts.specs.Applying.{IsFirstMissing, IsThere}
+use Rattle.snb_validation_cases.specs.declared.case.Case.{Case}
+use Rattle.snb_validation_cases.specs.declared.case.Case.TheVariants.{Insert, Ask}
+use Rattle.snb_validation_cases.specs.declared.case.CaseAt.{CaseAt}
+use Rattle.snb_validation_check.specs.CasesFile.{IsRefused, IsRefusedAfter}
+use Rattle.snb_validation_check.specs.Checks.{IsAfter}
+use Rattle.snb_validation_check.specs.Steps.{IsTaken, IsUnmet}
+use Rattle.snb_validation_check.proofs.CasesFacts.{compared}
+use Rattle.snb_validation_check.proofs.Inserting.{one_after}
+
+-- where all that is referred to is held, nothing is missing
+none_missing : (g : List Row) (refs : List Missing) (node : Missing) → All (IsThere g) refs → IsFirstMissing g refs node → ⊥
+none_missing g refs node all first =
+    first.lacking (All-contains (IsThere g) refs node all
+    (subst (λ (rs : List Missing). Contains rs node) first.splits (Contains-append_right first.before (node ∷ first.after) node (contains_here node first.after))))
+
+-- one node is missing first
+missing_one : (g : List Row) (refs : List Missing) (m n : Missing) → IsFirstMissing g refs m → IsFirstMissing g refs n → m ≡ n
+missing_one g refs m n a b = elim (compared a.before m a.after b.before n b.after (a.splits ∙ sym b.splits)) [
+  | inl p ↦ p.1
+  | inr q ↦ elim q [
+    | inl p ↦ absurd (none_missing g b.before m b.there (record { before = a.before; after = p.0; splits = p.1; there = a.there; lacking = a.lacking }))
+    | inr p ↦ absurd (none_missing g a.before n a.there (record { before = b.before; after = p.0; splits = p.1; there = b.there; lacking = b.lacking }))
+  ]
+]
+
+unmet_one : (g : List Row) (c : Case) (m n : Missing) → IsUnmet g c m → IsUnmet g c n → m ≡ n
+unmet_one g (Insert line) m n a b = missing_one g (refs_of line.op) m n a b
+unmet_one g (Ask query reply) m n a b = absurd a
+
+-- what lacks a node isn't a duplicate
+unmet_taken : (g : List Row) (c : Case) (m : Missing) → IsUnmet g c m → IsTaken g c → ⊥
+unmet_taken g (Insert line) m a b = none_missing g (refs_of line.op) m b.0 a
+unmet_taken g (Ask query reply) m a b = a
+
+module _ (g : List Row) (file : FileId) (x : CaseAt) (r q : Refusal) where
+  -- a case is refused in one way at most on a graph
+  refused_one : IsRefused g file x r → IsRefused g file x q → r ≡ q
+  refused_one (inl a) (inl b) = a.2 ∙ (ap (Unmet file x.line) (unmet_one g x.case a.0 b.0 a.1 b.1) ∙ sym b.2)
+  refused_one (inl a) (inr b) = absurd (unmet_taken g x.case a.0 a.1 b.0)
+  refused_one (inr a) (inl b) = absurd (unmet_taken g x.case b.0 b.1 a.0)
+  refused_one (inr a) (inr b) = a.1 ∙ sym b.1
+
+module _ (rows : GraphsAreTheirRows) (base : List Row) (cases : List CaseAt) (file : FileId) (x : CaseAt) where
+  -- what is refused after cases is refused on each graph after them
+  pub refused_on : (r : Refusal) (g : List Row) → IsAfter base cases g → IsRefusedAfter base cases file x r → IsRefused g file x r
+  refused_on r g after a = subst (λ (h : List Row). IsRefused h file x r) (one_after rows base cases a.graph g a.after after) a.refused
+
+  -- and in one way at most
+  pub own_one : (r q : Refusal) → IsRefusedAfter base cases file x r → IsRefusedAfter base cases file x q → r ≡ q
+  own_one r q a b = refused_one a.graph file x r q a.refused (refused_on q a.graph a.after b)

@@ -1,0 +1,50 @@
+-- What takes the cases of a file. Cited by contracts of private functions, and by the private file_sink.
+use Rattle.std.specs.Prelude.{◌≡◌, ◌+◌, ℕ, List, [], ◌∷◌, None}
+use Rattle.snb_schema.specs.declared.file.FileId.{FileId}
+use Rattle.snb_schema.specs.declared.refusal.Refusal.{Refusal}
+use Rattle.snb_schema.specs.declared.row.Row.{Row}
+use Rattle.snb_graph_model.specs.Soundness.{Sound}
+use Rattle.snb_input_lines.specs.Sinks.{Refuses}
+use Rattle.snb_input_files.specs.Format.{AreTakers, Lawful}
+use Rattle.snb_validation_cases.specs.declared.case.CaseAt.{CaseAt}
+use Rattle.snb_validation_cases.specs.CaseFile.{case_language}
+use Rattle.snb_validation_check.specs.CasesFile.{IsAmiss, IsRefused, case_format, said_cases}
+use Rattle.snb_validation_check.specs.Checks.{Finds, IsAfter, count_reads}
+use Rattle.snb_validation_check.specs.Steps.{Checked, HasText, Steps}
+
+-- a checker, and how many reads it took
+pub record Counted : Type 0 where
+  pub checked : Checked
+  pub reads : ℕ
+
+-- a case that isn't refused is taken by the checker, whose graph stays sound, and is counted where it is a read
+pub record TakesCase (old : Counted) (file : FileId) (x : CaseAt) (new : Counted) : Type 0 where
+  pub steps : Steps old.checked x.case x.line new.checked
+  pub fine : (r : Refusal) → ¬ IsRefused old.checked.graph file x r
+  pub sound : Sound new.checked.graph
+  pub counted : new.reads ≡ old.reads + count_reads (x ∷ [])
+
+-- and one that is refused isn't
+abbrev pub RefusesCase : Refuses Counted CaseAt
+RefusesCase old file x r = IsRefused old.checked.graph file x r
+
+-- it has taken these cases, and began with this graph
+pub record HasTaken (base : List Row) (s : Counted) (cases : List CaseAt) : Type 0 where
+  pub after : IsAfter base cases s.checked.graph
+  pub sound : Sound s.checked.graph
+  pub reads : s.reads ≡ count_reads cases
+  pub found : Finds base cases s.checked.first
+
+-- it has taken the cases of the files before and these of this file so far
+abbrev pub IsHeard : List Row → Counted → List (List CaseAt) → List CaseAt → Type 0
+IsHeard base s done mine = HasTaken base s (said_cases done mine)
+
+-- over each base the format is lawful
+abbrev pub CasesAreLawful : Type 0
+CasesAreLawful = (base : List Row) → Lawful (case_format base)
+
+-- what takes cases is a file_sink of their files
+abbrev pub AreCaseTakers : Type 0
+AreCaseTakers =
+    AreTakers {P = Counted} {G = Unit {0}} (λ _. case_language) (λ file. tt) None (λ begun. IsAmiss begun.checked.graph) (λ file items. None)
+    (λ begun. IsHeard begun.checked.graph) (λ x. HasText x.case) TakesCase RefusesCase (λ s file. None) (λ old new. new ≡ old)

@@ -1,0 +1,213 @@
+//! The cases of a file, checked against a graph.
+
+ghost use Rattle.std.specs.Prelude.{◌≡◌, [], ◌∷◌, None};
+ghost use Rattle.snb_base.specs.Shelf.{IsRead};
+ghost use Rattle.snb_input_files.specs.Loading.{is_read_fault};
+ghost use Rattle.snb_graph_model.specs.Soundness.{Sound};
+ghost use Rattle.snb_validation_check.specs.CaseTakers.{AreCaseTakers, CasesAreLawful};
+ghost use Rattle.snb_validation_check.specs.CasesFile.{IsCasesAnswer};
+ghost use Rattle.snb_validation_check.specs.Checks.{count_reads};
+
+use crate::checker::{Checker, StepFault};
+use crate::text::Tally;
+use snb_base::Shelf;
+use snb_graph::Graph;
+use snb_graph_model::law::graphs_are_their_rows;
+use snb_input_files::{FileSink, Found, Load, Used, load_file};
+use snb_input_lines::Sink;
+use snb_schema::{Fault, FileId, FileKind, Refusal};
+use snb_validation_cases::law::one_case_line;
+use snb_validation_cases::{Case, CaseAt, CaseLines};
+use std::alloc::{AllocError, Global};
+use std::marker::Model;
+
+// A checker that takes the cases of a file, and how many reads it took.
+pub(crate) struct CaseFileSink {
+    alloc: Global,
+    checker: Checker,
+    reads: u64,
+}
+
+impl Drop for CaseFileSink {
+    fn drop(self) {
+        let CaseFileSink {
+            alloc: _,
+            checker: _,
+            reads: _,
+        } = self;
+    }
+}
+
+impl Model for CaseFileSink {
+    ghost use Rattle.snb_validation_check.specs.CaseTakers.{Counted};
+
+    ghost Value = { Counted };
+
+    ghost view = { λ t. record { checked = t.checker; reads = t.reads } };
+}
+
+// How many reads a case is.
+fn reads_in(item: &CaseAt) -> u64
+    ensures { result ≡ count_reads (item.now ∷ []) }
+{
+    match &item.case {
+        Case::Insert { line: _ } => 0,
+        Case::Ask { query: _, reply: _ } => 1,
+    }
+}
+
+impl CaseFileSink {
+    // It has taken no case, and begins with this graph. Takes no memory.
+    fn new(alloc: Global, graph: Graph) -> CaseFileSink
+        requires { Sound graph }
+        ensures { result ≡ record { checked = record { graph = graph; first = None }; reads = 0 } }
+    {
+        CaseFileSink {
+            alloc,
+            checker: Checker::new(alloc, graph),
+            reads: 0,
+        }
+    }
+
+    // What was found. Takes no memory.
+    fn into_tally(self) -> Tally
+        ensures { result ≡ record { reads = self.reads; first = self.checked.first } }
+    {
+        let CaseFileSink {
+            alloc: _,
+            checker,
+            reads,
+        } = self;
+        Tally {
+            reads,
+            first: checker.into_first(),
+        }
+    }
+}
+
+impl Sink<CaseAt> for CaseFileSink {
+    ghost use Rattle.std.specs.Prelude.{◌≡◌, None, refl};
+    ghost use Rattle.snb_validation_check.specs.CaseTakers.{RefusesCase, TakesCase};
+    ghost use Rattle.snb_validation_check.specs.Steps.{HasText};
+
+    ghost fits = { λ x. HasText x.case };
+
+    ghost takes = { TakesCase };
+
+    ghost refuses = { RefusesCase };
+
+    ghost same = { λ old new. new ≡ old };
+
+    ghost ends = { λ _ _. None };
+
+    ghost turns = { λ old new. new ≡ old };
+
+    fn put(&mut self, file: FileId, item: CaseAt) -> Result<(), Fault> {
+        // A file has at most `MAX_BYTES` bytes, and so never as many reads as don't fit 64 bits.
+        let Some(reads) = self.reads.checked_add(reads_in(&item)) else {
+            return Err(Fault::Memory);
+        };
+        let line = item.line;
+        match self.checker.step(&item.case, line) {
+            Ok(()) => {}
+            Err(StepFault::Missing { missing }) => {
+                return Err(Fault::Bad {
+                    refusal: Refusal::Unmet {
+                        file,
+                        line,
+                        missing,
+                    },
+                });
+            }
+            Err(StepFault::Duplicate) => {
+                return Err(Fault::Bad {
+                    refusal: Refusal::Duplicate { file, line },
+                });
+            }
+            Err(StepFault::Memory) => return Err(Fault::Memory),
+        }
+        self.checker.known();
+        self.reads = reads;
+        Ok(())
+    }
+
+    fn at_end(&self, _file: FileId) -> Option<Refusal> {
+        None
+    }
+
+    fn next_file(&mut self) -> Result<(), AllocError> {
+        Ok(())
+    }
+
+    ghost same_self = { λ _. refl };
+}
+
+impl FileSink<CaseLines> for CaseFileSink {
+    ghost use Rattle.std.specs.Prelude.{None};
+    ghost use Rattle.snb_validation_check.specs.CasesFile.{IsAmiss};
+    ghost use Rattle.snb_validation_check.specs.CaseTakers.{IsHeard};
+
+    ghost grammar_of = { λ _. tt };
+
+    ghost limit = { None };
+
+    ghost own = { λ begun. IsAmiss begun.checked.graph };
+
+    ghost bare = { λ _ _. None };
+
+    ghost heard = { λ begun. IsHeard begun.checked.graph };
+
+    fn grammar(&self, _file: FileId) -> CaseLines {
+        CaseLines::new(self.alloc)
+    }
+
+    fn most(&self) -> Option<u64> {
+        None
+    }
+}
+
+// The file_sink is one of files of cases. A line says one case at most, and is refused in one way at most.
+pub(crate) fn cases_are_lawful()
+    ensures lawful { CasesAreLawful }
+    ensures right { AreCaseTakers }
+{
+    one_case_line();
+    graphs_are_their_rows();
+}
+
+/// Checks the cases of a file against a graph: each reply that a case has against the one that the
+/// graph gives with the inserts of the cases before it. The file is looked up by its path, is read in
+/// pieces, and may have any number of lines and `MAX_BYTES` bytes.
+///
+/// `Refused` is the first thing wrong with the file: it isn't held (`Absent`); else the first of its
+/// lines that is refused, as of any file, or because its insert refers to a node that isn't held
+/// (`Unmet`), or else takes a key that is held (`Duplicate`); else it has no header (`NoHeader`). The
+/// other errors are a read that failed and want of memory. The graph is gone after the call.
+///
+/// The condition: the graph is sound.
+pub fn check_cases<S: Shelf>(
+    alloc: Global,
+    shelf: &mut S,
+    path: &str,
+    graph: Graph,
+) -> Result<Tally, Load>
+    requires { Sound graph }
+    ensures answer { IsCasesAnswer (S.contents shelf.old) path.now graph result }
+    ensures read { IsRead (is_read_fault result) (S.contents shelf.old) (S.faults shelf.old) (S.contents shelf.new) (S.faults shelf.new) }
+{
+    cases_are_lawful();
+    graph.known();
+    let file = FileId {
+        kind: FileKind::Cases,
+        part: 0,
+    };
+    let used = Used { bytes: 0, rows: 0 };
+    let file_sink = CaseFileSink::new(alloc, graph);
+    match load_file::<S, CaseLines, CaseFileSink>(alloc, shelf, path, file, used, file_sink) {
+        Ok(Found::Whole { file_sink, used: _ }) => Ok(file_sink.into_tally()),
+        Ok(Found::Absent { file_sink: _ }) => Err(Load::Refused {
+            refusal: Refusal::Absent { file },
+        }),
+        Err(load) => Err(load),
+    }
+}

@@ -1,0 +1,20 @@
+//! Laws of checked cases. The function does nothing; its contract is the laws.
+
+ghost use Rattle.snb_validation_check.specs.Laws.{CasesRefuseOnce, CasesRefusedOrNot, FindingIsOne, TallyIsOne};
+
+use crate::file::cases_are_lawful;
+use snb_graph_model::law::graphs_are_their_rows;
+use snb_read_replies::law::one_reply;
+
+/// Over one base a file of cases is refused for one thing at most, and then something is wrong with it;
+/// and what is found over its cases is one.
+pub fn one_cases_refusal()
+    ensures one { CasesRefuseOnce }
+    ensures or_not { CasesRefusedOrNot }
+    ensures finding { FindingIsOne }
+    ensures tally { TallyIsOne }
+{
+    cases_are_lawful();
+    one_reply();
+    graphs_are_their_rows();
+}

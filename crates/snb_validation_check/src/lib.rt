@@ -1,0 +1,13 @@
+//! Checks the cases of a validation file against a graph: whether each reply that a case has is the
+//! one that the graph gives, after the inserts of the cases before it.
+#![tactic(auto)]
+
+pub mod checker;
+pub mod difference;
+pub mod file;
+pub mod law;
+mod same;
+pub mod text;
+
+pub use file::check_cases;
+pub use text::Tally;

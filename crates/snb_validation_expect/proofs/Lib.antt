@@ -1,0 +1,10 @@
+mod Plain
+mod ReadBack
+mod Steps
+mod OneLine
+mod Header
+mod OwnLines
+mod Clean
+mod InTurn
+mod Right
+mod Expected

@@ -1,0 +1,100 @@
+-- On the graph before it, the insert of each case is welcome, and the reply of each is its query's.
+use Rattle.std.proofs.Common.{◌≡◌, ◌∷◌, ◌++◌, ℕ, List, length, Option, Some, ap, subst, inl, inr}
+use Rattle.std.specs.Prelude.{All, Contains, slice_get}
+use Rattle.std.proofs.lemmas.List.Elements.{All-contains, Contains-append_right}
+use Rattle.std.proofs.lemmas.List.Sorted.{Contains-permutation, IsPermutation-sym, IsPermutation-trans}
+use Rattle.snb_base.proofs.Laws.{contains_here}
+use Rattle.snb_schema.specs.declared.file.FileId.{FileId}
+use Rattle.snb_schema.specs.declared.query.Query.{Query}
+use Rattle.snb_schema.specs.declared.refusal.Missing.{Missing}
+use Rattle.snb_schema.specs.declared.refusal.Refusal.{Refusal}
+use Rattle.snb_schema.specs.declared.row.Row.{Row}
+use Rattle.snb_history.specs.declared.step.Step.{Step}
+use Rattle.snb_schema.specs.References.{refs_of}
+use Rattle.snb_graph_model.specs.Graphs.{HasGained}
+use Rattle.snb_graph_model.specs.Laws.{GraphsAreTheirRows}
+use Rattle.snb_plan.specs.declared.plan.Source.{Source}
+use Rattle.snb_plan.specs.Plans.{Plan, Work}
+use Rattle.snb_plan.specs.Plans as plans
+use Rattle.snb_inserts.specs.Applying.{IsFirstMissing, IsThere, IsWelcome}
+use Rattle.snb_read_model.specs.declared.cell.Cell.{Cell}
+use Rattle.snb_read_model.specs.Replies.{IsReply}
+use Rattle.snb_workers_replay.specs.Laws.{IsReplayed, WelcomeInOrder}
+use Rattle.snb_workers_replay.specs.Replay.{IsBefore, insert_in, rows_before}
+use Rattle.snb_validation_cases.specs.declared.case.Case.{Case}
+use Rattle.snb_validation_cases.specs.declared.case.Case.TheVariants.{Ask}
+use Rattle.snb_validation_cases.specs.declared.case.CaseAt.{CaseAt}
+use Rattle.snb_validation_check.specs.CasesFile.{IsRefused, IsRefusedAfter}
+use Rattle.snb_validation_check.specs.Checks.{AreRight, IsAfter, ask_at}
+use Rattle.snb_validation_expect.specs.Expected.{AreExpected, IsCaseOf, IsExpectedAt}
+use Rattle.snb_validation_expect.proofs.InTurn.{IsOfWork, case_at, inserted_before, of_work, operation}
+use Rattle.snb_validation_expect.proofs.OwnLines.{placed}
+
+-- the insert of an operation is welcome
+abbrev IsWelcomeWork : List Row → Work → Type 0
+IsWelcomeWork graph (plans.Insert line) = IsWelcome graph line.op
+IsWelcomeWork graph (plans.Ask query) = Unit {0}
+
+-- two graphs that have gained the same rows are one
+same_gain : GraphsAreTheirRows → (base more g h : List Row) → HasGained base more g → HasGained base more h → g ≡ h
+same_gain rows base more g h a b =
+    rows g h a.graph b.graph
+    (λ r. (λ c. Contains-permutation g h r (IsPermutation-trans g (base ++ more) h a.rows (IsPermutation-sym h (base ++ more) b.rows)) c, λ c. Contains-permutation h g r (IsPermutation-trans h (base ++ more) g b.rows (IsPermutation-sym g (base ++ more) a.rows)) c))
+
+-- ---- inserts
+
+-- of references that are all held none is lacking
+none_missing : (graph : List Row) (refs : List Missing) (missing : Missing) → All (IsThere graph) refs → ¬ IsFirstMissing graph refs missing
+none_missing graph refs missing all first =
+    let held : Contains refs missing = subst (λ (ms : List Missing). Contains ms missing) first.splits (Contains-append_right first.before (missing ∷ first.after) missing (contains_here missing first.after)) in
+    first.lacking (All-contains (IsThere graph) refs missing all held)
+
+-- a case is refused for nothing, where an insert is welcome
+fine : (graph : List Row) (file : FileId) (n : ℕ) (w : Work) (c : Case) (r : Refusal) → IsOfWork w c → IsWelcomeWork graph w → ¬ IsRefused graph file (record { line = n; case = c }) r
+fine graph file n (plans.Insert line) c r is welcome bad =
+    elim (subst (λ (d : Case). IsRefused graph file (record { line = n; case = d }) r) is bad) [
+      | inl unmet ↦ none_missing graph (refs_of line.op) unmet.0 welcome.0 unmet.1
+      | inr taken ↦ welcome.1 taken.0.1
+    ]
+fine graph file n (plans.Ask query) c r is welcome bad =
+    elim (subst (λ (d : Case). IsRefused graph file (record { line = n; case = d }) r) is.1 bad) [
+      | inl unmet ↦ unmet.1
+      | inr taken ↦ taken.0
+    ]
+
+module _ (base : List Row) (plan : Plan) (cases : List Case) (e : AreExpected base plan cases) (before rest : List CaseAt) (x : CaseAt) (splits : before ++ x ∷ rest ≡ placed 2 cases) where
+  -- a graph with what the cases before it insert is one before the operation of its number
+  is_before : (graph : List Row) → IsAfter base before graph → IsBefore base plan (length before) graph
+  is_before graph after = subst (λ (more : List Row). HasGained base more graph) (inserted_before base plan cases before rest x e splits) after
+
+  -- what the case is expected to be
+  expected : IsExpectedAt base plan (length before) x.case
+  expected = e.each (length before) x.case (case_at cases 2 before rest x splits)
+
+  -- where each insert is welcome in turn, the case isn't refused
+  pub not_refused : WelcomeInOrder → IsReplayed base plan → (file : FileId) (r : Refusal) → ¬ IsRefusedAfter base before file x r
+  not_refused order replayed file r bad =
+      fine bad.graph file x.line expected.operation.work x.case r (of_work expected.graph expected.operation.work x.case expected.is)
+      (welcome_of expected.operation.step expected.operation.work expected.operation.source expected.there) bad.refused
+    where
+      welcome_of : (step : Step) (w : Work) (source : Option Source) → slice_get plan.operations (length before) ≡ Some (operation step w source) → IsWelcomeWork bad.graph w
+      welcome_of step (plans.Insert line) source there = order base plan (length before) line.op bad.graph replayed (ap insert_in there) (is_before bad.graph bad.after)
+      welcome_of step (plans.Ask query) source there = tt
+
+-- ---- replies
+
+-- the reply that a case has is the query's on the graph of its operation
+asked : (graph : List Row) (w : Work) (query : Query) (reply : List (List (List Cell))) → IsCaseOf graph w (Ask query reply) → IsReply graph query reply
+asked graph (plans.Insert line) query reply is = absurd cc
+asked graph (plans.Ask other) query reply is =
+    let e = is.2 in
+    let queries : other ≡ query = cc in
+    let replies : is.0 ≡ reply = cc in
+    subst (λ (q : Query). IsReply graph q reply) queries (subst (λ (s : List (List (List Cell))). IsReply graph other s) replies is.1)
+
+-- each reply is right
+pub replies_right : GraphsAreTheirRows → (base : List Row) (plan : Plan) (cases : List Case) → AreExpected base plan cases → AreRight base (placed 2 cases)
+replies_right rows base plan cases e before rest line query reply graph splits after =
+    let x = expected base plan cases e before rest (ask_at line query reply) splits in
+    let same : x.graph ≡ graph = same_gain rows base (rows_before plan (length before)) x.graph graph x.before (is_before base plan cases e before rest (ask_at line query reply) splits graph after) in
+    subst (λ (g : List Row). IsReply g query reply) same (asked x.graph x.operation.work query reply x.is)

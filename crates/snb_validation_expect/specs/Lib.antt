@@ -1,0 +1,4 @@
+pub mod CaseTexts
+pub mod Expected
+pub mod Writing
+pub mod Laws

@@ -1,4 +1,0 @@
-use Rattle.snb_words.proofs.options.ratio_of.Goals as goal
-
-pub returns : goal.returns
-returns c = rw c.as_bytes.ensures.value at c.read.ensures
