@@ -1,6 +1,6 @@
-//! The two parts of a store.
+//! The two parts of a map.
 
-/// Into which part of a store an entry goes.
+/// Into which part of a map an entry goes.
 #[derive(Clone, Copy)]
 pub enum Layer {
     /// Into the frozen one, where it may: no copy shares that part, and the entry comes after all in it. Else

@@ -287,7 +287,7 @@ impl<K: Apart, V: Clone + Drop> LayeredMap<K, V> {
         Walk::over(frozen, self.added.range(from..=last))
     }
 
-    /// Makes all entries the frozen part, which copies share. Where memory doesn't suffice, the store is
+    /// Makes all entries the frozen part, which copies share. Where memory doesn't suffice, the map is
     /// as it was.
     /// The condition: a clone of a value is equal to it.
     pub fn freeze(&mut self) -> Result<(), AllocError>
@@ -304,7 +304,7 @@ impl<K: Apart, V: Clone + Drop> LayeredMap<K, V> {
         Ok(())
     }
 
-    /// A store with the same entries, which shares the frozen part and copies the others. An error says
+    /// A map with the same entries, which shares the frozen part and copies the others. An error says
     /// that memory doesn't suffice.
     /// The condition: a clone of a value is equal to it.
     pub fn try_copy(&self) -> Result<Self, AllocError>

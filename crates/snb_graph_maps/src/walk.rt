@@ -1,4 +1,4 @@
-//! Walks over both parts of a store.
+//! Walks over both parts of a map.
 
 ghost use Rattle.std.specs.Prelude.{◌≡◌, ◌+◌, length};
 ghost use Rattle.std.specs.Option.{option_copied};

@@ -145,7 +145,7 @@ impl<K: Key, V: Kept> RowMap<K, V> {
         Ok(())
     }
 
-    /// A shelf with the same rows, which shares the frozen ones and copies the others. An error says that
+    /// A map with the same rows, which shares the frozen ones and copies the others. An error says that
     /// memory doesn't suffice.
     pub fn try_copy(&self) -> Result<Self, AllocError>
         ensures { IfOk result (λ copy. copy ≡ self.now) }

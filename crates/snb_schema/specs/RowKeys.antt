@@ -13,34 +13,13 @@ use Rattle.snb_schema.specs.declared.table.Kind.TheVariants as kinds
 use Rattle.snb_schema.specs.declared.table.Table.{Table}
 use Rattle.snb_schema.specs.declared.table.Table.TheVariants as table
 use Rattle.snb_schema.specs.Layouts.{key_columns, layout}
+use Rattle.snb_schema.specs.RowLines.{table_of, values}
 
 -- what tells the rows of a graph apart: a table, the ids of its key columns, where 0 stands for no second one, and a word's text
 abbrev pub RowKey : Type 0
 RowKey = Table × ℕ × ℕ × List ℕ
 
--- the key of a row with two ids first, by the columns that are its table's key
-abbrev pub edge_key : KeyColumns → Table → ℕ → ℕ → RowKey
-edge_key First t from to = (t, from, 0, [])
-edge_key Second t from to = (t, to, 0, [])
-edge_key FirstTwo t from to = (t, from, to, [])
-
--- the key of a row: a node's is its id, that of an edge with a date or a year its two ends, that of any
--- other edge what the key columns of its table say, and a word's its person and text
-abbrev pub row_key : Row → RowKey
-row_key (row.Place p) = (table.Place, p.id, 0, [])
-row_key (row.TagClass c) = (table.TagClass, c.id, 0, [])
-row_key (row.Tag g) = (table.Tag, g.id, 0, [])
-row_key (row.Organisation o) = (table.Organisation, o.id, 0, [])
-row_key (row.Person p) = (table.Person, p.id, 0, [])
-row_key (row.Forum f) = (table.Forum, f.id, 0, [])
-row_key (row.Post p) = (table.Post, p.id, 0, [])
-row_key (row.Comment c) = (table.Comment, c.id, 0, [])
-row_key (row.Link t from to) = edge_key (key_columns t) t from to
-row_key (row.Dated t from to date) = (t, from, to, [])
-row_key (row.Yeared t from to year) = (t, from, to, [])
-row_key (row.Word t person text) = (t, person, 0, text)
-
--- the key that a table's key columns give for the values of a row
+-- the key that columns of a table give for the values of a row
 abbrev pub column_key : KeyColumns → Table → List Value → RowKey
 column_key First t (Digits one ∷ rest) = (t, one, 0, [])
 column_key First t values = (t, 0, 0, [])
@@ -49,6 +28,23 @@ column_key Second t values = (t, 0, 0, [])
 column_key FirstTwo t (Digits one ∷ Digits other ∷ rest) = (t, one, other, [])
 column_key FirstTwo t (Digits one ∷ Letters text ∷ rest) = (t, one, 0, text)
 column_key FirstTwo t values = (t, 0, 0, [])
+
+-- the columns of a row's key: of an edge with neither date nor year those that its table says, of any other row with two ends these,
+-- and of a node its id
+abbrev pub key_columns_in : Row → KeyColumns
+key_columns_in (row.Link t from to) = key_columns t
+key_columns_in (row.Dated t from to date) = FirstTwo
+key_columns_in (row.Yeared t from to year) = FirstTwo
+key_columns_in (row.Word t person text) = FirstTwo
+key_columns_in _ = First
+
+-- the key of a row: its key's columns among its values
+abbrev pub row_key : Row → RowKey
+row_key r = column_key (key_columns_in r) (table_of r) (values r)
+
+-- the key of a row with two ids first
+abbrev pub edge_key : KeyColumns → Table → ℕ → ℕ → RowKey
+edge_key key t from to = column_key key t (Digits from ∷ Digits to ∷ [])
 
 -- the table with which a table shares its keys: posts and comments have one id space, and a comment has one parent, be it a post or a comment
 abbrev pub sharing : Table → Table

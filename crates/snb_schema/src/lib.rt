@@ -1,5 +1,5 @@
 //! The plain types of the harness, and the definitions that its layers share: lines, rows, update
-//! lines, graphs, refusals, schedules and histories, with laws of all legal histories.
+//! lines, refusals, the layouts of tables, lanes, lists and frequencies, and the limits.
 #![tactic(auto)]
 
 pub mod column;
