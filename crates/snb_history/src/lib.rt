@@ -4,10 +4,12 @@
 
 pub mod event;
 pub mod law;
+pub mod logged;
 pub mod schedule;
 pub mod step;
 pub mod worked;
 
 pub use event::Event;
+pub use logged::{Header, Logged};
 pub use schedule::Schedule;
 pub use step::{LaneKind, Step};
