@@ -4,6 +4,7 @@ ghost use Rattle.std.specs.Prelude.{◌≡◌, ℕ, ◌<◌, ◌≤◌, ◌^◌,
 ghost use Rattle.std.specs.Fmt.{decimal};
 ghost use Rattle.snb_base.specs.Spellings.{Num};
 
+use itoa::Buffer;
 use std::alloc::AllocError;
 
 /// The number that the text spells: 1 to 19 decimal digits without a leading zero, unless the text
@@ -29,8 +30,8 @@ pub fn put_number(n: u64, to: &mut Vec<u8>) -> Result<(), AllocError>
     ensures ok { OnOk result (to.new.items ≡ to.old.items ++ decimal n) }
     ensures err { OnErr result (to.new.items ≡ to.old.items) }
 {
-    let digits = n.to_string(*to.allocator())?;
-    to.extend_from_slice(digits.as_bytes())
+    let mut digits = Buffer::new();
+    to.extend_from_slice(digits.format(n).as_bytes())
 }
 
 /// The digits that `put_number` writes are the one spelling of the number, where 19 digits suffice.
