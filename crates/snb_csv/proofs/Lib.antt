@@ -3,5 +3,8 @@ pub mod FileFacts
 pub mod OneFacts
 pub mod OwnFacts
 pub mod RowFacts
+mod RowsByValues
 pub mod RowLineFacts
 pub mod SomeFacts
+mod StepFacts
+mod ValueFacts

@@ -13,9 +13,9 @@ use Rattle.snb_schema.specs.RowLines.{Differ, IsLoop, IsWide, SpellsRow, in_orde
 use Rattle.snb_columns.specs.Laws.{OneList}
 use Rattle.snb_input_fields.proofs.Laws.{no_stop, one_stop, spelled_long}
 use Rattle.snb_csv.specs.Laws.{OneColumn, OneRow, RowsAreRight}
-use Rattle.snb_csv.specs.Make.{row_by}
+use Rattle.snb_csv.proofs.RowsByValues.{row_by}
 use Rattle.snb_csv.proofs.CaseFacts.{IsBadColumnCase, to_case}
-use Rattle.snb_csv.proofs.RowFacts.{IsPair, pair_of}
+use Rattle.snb_csv.proofs.ValueFacts.{IsPair, pair_of}
 
 -- the fields of a row are wide
 row_wide : (t : Table) (fs : List (List ℕ)) (r : Row) (turned : Bool) → SpellsRow t fs r turned → IsWide (length (columns t)) fs

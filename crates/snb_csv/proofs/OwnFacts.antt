@@ -21,7 +21,7 @@ use Rattle.snb_columns.specs.Laws.{HasPlainFields, OneList}
 use Rattle.snb_columns.specs.Laws as lines
 use Rattle.snb_csv.specs.Laws.{OwnRowLine}
 use Rattle.snb_csv.proofs.OneFacts.{one_row, only_friends}
-use Rattle.snb_csv.proofs.RowFacts.{pair_of}
+use Rattle.snb_csv.proofs.ValueFacts.{pair_of}
 
 -- fields that spell these values, each a field of a line
 record IsOwn (t : Table) (own : List (List ℕ)) (vs : List Value) : Type 1 where

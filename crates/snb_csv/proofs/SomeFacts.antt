@@ -10,10 +10,10 @@ use Rattle.snb_schema.specs.RowLines.{IsBadColumn, IsWide, SpellsRow, in_order, 
 use Rattle.snb_input_fields.specs.Laws.{EachLineIsRead}
 use Rattle.snb_input_fields.specs.Values.{starts_twice}
 use Rattle.snb_csv.specs.Laws.{RowOrColumn}
-use Rattle.snb_csv.specs.Make.{row_by}
+use Rattle.snb_csv.proofs.RowsByValues.{row_by}
 use Rattle.snb_input_fields.proofs.Laws.{wide_or_not}
 use Rattle.snb_csv.proofs.OneFacts.{only_friends}
-use Rattle.snb_csv.proofs.RowFacts.{bad_at, bad_loop, row_as_said, row_in_order, spells_row, wide_long}
+use Rattle.snb_csv.proofs.ValueFacts.{bad_at, bad_loop, row_as_said, row_in_order, spells_row, wide_long}
 
 -- fields of a wide line that spell values are a row, or lead back
 whole : (t : Table) (fs : List (List ℕ)) (vs : List Value) → IsWide (length (columns t)) fs → SpellsAll (columns t) (take (length (columns t)) fs) vs → ((r : Row) × (turned : Bool) × SpellsRow t fs r turned) ⊎ ((column : ℕ) × IsBadColumn t fs column)

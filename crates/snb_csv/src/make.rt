@@ -1,164 +1,258 @@
-//! Rows out of the values of their columns.
+//! Rows out of the fields of a line.
 
-ghost use Rattle.std.specs.Prelude.{◌≡◌, true};
-ghost use Rattle.snb_schema.specs.Layouts.{shape};
-ghost use Rattle.snb_schema.specs.RowLines.{in_order, is_turned};
-ghost use Rattle.snb_csv.specs.Make.{comment_of, forum_of, named_of, organisation_of, person_of, place_of, post_of, row_by};
+ghost use Rattle.std.specs.Prelude.{◌≡◌, IfOk};
+ghost use Rattle.snb_schema.specs.declared.layout.Shape.TheVariants as shapes;
+ghost use Rattle.snb_schema.specs.declared.row.Row.TheVariants as rows;
+ghost use Rattle.snb_schema.specs.Faults.{OnBadColumn};
+ghost use Rattle.snb_schema.specs.Layouts.{columns, shape, shape_columns};
+ghost use Rattle.snb_schema.specs.RowLines.{values};
+ghost use Rattle.snb_input_fields.specs.Reading.{IsBadIn, at_first};
+ghost use Rattle.snb_csv.specs.Make.{AreFriends, AreNoFriends, IsMadeOf, SpellsFrom};
 
-use snb_input_fields::Values;
+use snb_input_fields::FieldReader;
 use snb_schema::layout::shape_of;
+use snb_schema::limits::{MAX_ID, MAX_LENGTH, MAX_YEAR};
 use snb_schema::{
-    Comment, Forum, Named, Organisation, Person, Place, Post, Row, Shape, Table, Value,
+    Comment, Forum, LineFault, Named, Organisation, Person, Place, Placed, Post, Row, Shape, Table,
 };
 
-fn place(values: &mut Values) -> Place
-    ensures { result ≡ place_of values.old }
+fn place(table: Table, fields: &mut FieldReader<'_>) -> Result<Row, LineFault>
+    requires { fields.old ≡ at_first (shape_columns shapes.Place) fields.old.fields }
+    ensures ok { IfOk result (IsMadeOf shapes.Place table fields.old.fields) }
+    ensures bad { OnBadColumn result (IsBadIn (shape_columns shapes.Place) fields.old.fields) }
 {
-    Place {
-        id: values.number(),
-        name: values.text(),
-        url: values.text(),
-        kind: values.text(),
-    }
+    Ok(Row::Place {
+        place: Place {
+            id: fields.number(MAX_ID)?,
+            name: fields.text()?,
+            url: fields.text()?,
+            kind: fields.text()?,
+        },
+    })
 }
 
-fn named(values: &mut Values) -> Named
-    ensures { result ≡ named_of values.old }
+// A tag, or a class of tags.
+fn named(fields: &mut FieldReader<'_>) -> Result<Named, LineFault>
+    requires { fields.old ≡ at_first (shape_columns shapes.Tag) fields.old.fields }
+    ensures ok { IfOk result (λ named. SpellsFrom 0 (shape_columns shapes.Tag) fields.old.fields (values (rows.Tag named))) }
+    ensures bad { OnBadColumn result (IsBadIn (shape_columns shapes.Tag) fields.old.fields) }
 {
-    Named {
-        id: values.number(),
-        name: values.text(),
-        url: values.text(),
-    }
+    Ok(Named {
+        id: fields.number(MAX_ID)?,
+        name: fields.text()?,
+        url: fields.text()?,
+    })
 }
 
-fn organisation(values: &mut Values) -> Organisation
-    ensures { result ≡ organisation_of values.old }
+fn tag_class(table: Table, fields: &mut FieldReader<'_>) -> Result<Row, LineFault>
+    requires { fields.old ≡ at_first (shape_columns shapes.TagClass) fields.old.fields }
+    ensures ok { IfOk result (IsMadeOf shapes.TagClass table fields.old.fields) }
+    ensures bad { OnBadColumn result (IsBadIn (shape_columns shapes.TagClass) fields.old.fields) }
 {
-    Organisation {
-        id: values.number(),
-        kind: values.text(),
-        name: values.text(),
-        url: values.text(),
-    }
+    Ok(Row::TagClass {
+        named: named(fields)?,
+    })
 }
 
-fn person(values: &mut Values) -> Person
-    ensures { result ≡ person_of values.old }
+fn tag(table: Table, fields: &mut FieldReader<'_>) -> Result<Row, LineFault>
+    requires { fields.old ≡ at_first (shape_columns shapes.Tag) fields.old.fields }
+    ensures ok { IfOk result (IsMadeOf shapes.Tag table fields.old.fields) }
+    ensures bad { OnBadColumn result (IsBadIn (shape_columns shapes.Tag) fields.old.fields) }
 {
-    Person {
-        id: values.number(),
-        first_name: values.text(),
-        last_name: values.text(),
-        gender: values.text(),
-        birthday: values.number(),
-        creation_date: values.number(),
-        location_ip: values.text(),
-        browser_used: values.text(),
-    }
+    Ok(Row::Tag {
+        named: named(fields)?,
+    })
 }
 
-fn forum(values: &mut Values) -> Forum
-    ensures { result ≡ forum_of values.old }
+fn organisation(table: Table, fields: &mut FieldReader<'_>) -> Result<Row, LineFault>
+    requires { fields.old ≡ at_first (shape_columns shapes.Organisation) fields.old.fields }
+    ensures ok { IfOk result (IsMadeOf shapes.Organisation table fields.old.fields) }
+    ensures bad { OnBadColumn result (IsBadIn (shape_columns shapes.Organisation) fields.old.fields) }
 {
-    Forum {
-        id: values.number(),
-        title: values.text(),
-        creation_date: values.number(),
-    }
+    Ok(Row::Organisation {
+        organisation: Organisation {
+            id: fields.number(MAX_ID)?,
+            kind: fields.text()?,
+            name: fields.text()?,
+            url: fields.text()?,
+        },
+    })
 }
 
-fn post(values: &mut Values) -> Post
-    ensures { result ≡ post_of values.old }
+fn person(table: Table, fields: &mut FieldReader<'_>) -> Result<Row, LineFault>
+    requires { fields.old ≡ at_first (shape_columns shapes.Person) fields.old.fields }
+    ensures ok { IfOk result (IsMadeOf shapes.Person table fields.old.fields) }
+    ensures bad { OnBadColumn result (IsBadIn (shape_columns shapes.Person) fields.old.fields) }
 {
-    Post {
-        id: values.number(),
-        image_file: values.text(),
-        creation_date: values.number(),
-        location_ip: values.text(),
-        browser_used: values.text(),
-        language: values.text(),
-        content: values.text(),
-        length: values.small(),
-    }
+    Ok(Row::Person {
+        person: Person {
+            id: fields.number(MAX_ID)?,
+            first_name: fields.text()?,
+            last_name: fields.text()?,
+            gender: fields.text()?,
+            birthday: fields.day()?,
+            creation_date: fields.date()?,
+            location_ip: fields.text()?,
+            browser_used: fields.text()?,
+        },
+    })
 }
 
-fn comment(values: &mut Values) -> Comment
-    ensures { result ≡ comment_of values.old }
+fn forum(table: Table, fields: &mut FieldReader<'_>) -> Result<Row, LineFault>
+    requires { fields.old ≡ at_first (shape_columns shapes.Forum) fields.old.fields }
+    ensures ok { IfOk result (IsMadeOf shapes.Forum table fields.old.fields) }
+    ensures bad { OnBadColumn result (IsBadIn (shape_columns shapes.Forum) fields.old.fields) }
 {
-    Comment {
-        id: values.number(),
-        creation_date: values.number(),
-        location_ip: values.text(),
-        browser_used: values.text(),
-        content: values.text(),
-        length: values.small(),
-    }
+    Ok(Row::Forum {
+        forum: Forum {
+            id: fields.number(MAX_ID)?,
+            title: fields.text()?,
+            creation_date: fields.date()?,
+        },
+    })
 }
 
-/// The row of the table that has these values.
-pub fn make_row(table: Table, values: &mut Values) -> Row
-    ensures { result ≡ row_by (shape table) table values.old }
+fn post(table: Table, fields: &mut FieldReader<'_>) -> Result<Row, LineFault>
+    requires { fields.old ≡ at_first (shape_columns shapes.Post) fields.old.fields }
+    ensures ok { IfOk result (IsMadeOf shapes.Post table fields.old.fields) }
+    ensures bad { OnBadColumn result (IsBadIn (shape_columns shapes.Post) fields.old.fields) }
+{
+    Ok(Row::Post {
+        post: Post {
+            id: fields.number(MAX_ID)?,
+            image_file: fields.text()?,
+            creation_date: fields.date()?,
+            location_ip: fields.text()?,
+            browser_used: fields.text()?,
+            language: fields.text()?,
+            content: fields.text()?,
+            length: fields.small(MAX_LENGTH)?,
+        },
+    })
+}
+
+fn comment(table: Table, fields: &mut FieldReader<'_>) -> Result<Row, LineFault>
+    requires { fields.old ≡ at_first (shape_columns shapes.Comment) fields.old.fields }
+    ensures ok { IfOk result (IsMadeOf shapes.Comment table fields.old.fields) }
+    ensures bad { OnBadColumn result (IsBadIn (shape_columns shapes.Comment) fields.old.fields) }
+{
+    Ok(Row::Comment {
+        comment: Comment {
+            id: fields.number(MAX_ID)?,
+            creation_date: fields.date()?,
+            location_ip: fields.text()?,
+            browser_used: fields.text()?,
+            content: fields.text()?,
+            length: fields.small(MAX_LENGTH)?,
+        },
+    })
+}
+
+fn link(table: Table, fields: &mut FieldReader<'_>) -> Result<Row, LineFault>
+    requires { fields.old ≡ at_first (shape_columns shapes.Link) fields.old.fields }
+    ensures ok { IfOk result (IsMadeOf shapes.Link table fields.old.fields) }
+    ensures bad { OnBadColumn result (IsBadIn (shape_columns shapes.Link) fields.old.fields) }
+{
+    Ok(Row::Link {
+        table,
+        from: fields.number(MAX_ID)?,
+        to: fields.number(MAX_ID)?,
+    })
+}
+
+fn dated(table: Table, fields: &mut FieldReader<'_>) -> Result<Row, LineFault>
+    requires { fields.old ≡ at_first (shape_columns shapes.Dated) fields.old.fields }
+    ensures ok { IfOk result (IsMadeOf shapes.Dated table fields.old.fields) }
+    ensures bad { OnBadColumn result (IsBadIn (shape_columns shapes.Dated) fields.old.fields) }
+{
+    Ok(Row::Dated {
+        table,
+        from: fields.number(MAX_ID)?,
+        to: fields.number(MAX_ID)?,
+        date: fields.date()?,
+    })
+}
+
+fn yeared(table: Table, fields: &mut FieldReader<'_>) -> Result<Row, LineFault>
+    requires { fields.old ≡ at_first (shape_columns shapes.Yeared) fields.old.fields }
+    ensures ok { IfOk result (IsMadeOf shapes.Yeared table fields.old.fields) }
+    ensures bad { OnBadColumn result (IsBadIn (shape_columns shapes.Yeared) fields.old.fields) }
+{
+    Ok(Row::Yeared {
+        table,
+        from: fields.number(MAX_ID)?,
+        to: fields.number(MAX_ID)?,
+        year: fields.small(MAX_YEAR)?,
+    })
+}
+
+fn word(table: Table, fields: &mut FieldReader<'_>) -> Result<Row, LineFault>
+    requires { fields.old ≡ at_first (shape_columns shapes.Word) fields.old.fields }
+    ensures ok { IfOk result (IsMadeOf shapes.Word table fields.old.fields) }
+    ensures bad { OnBadColumn result (IsBadIn (shape_columns shapes.Word) fields.old.fields) }
+{
+    Ok(Row::Word {
+        table,
+        person: fields.number(MAX_ID)?,
+        text: fields.word()?,
+    })
+}
+
+/// The row of the table that the fields of a line spell, in the order in which they have its ids. The
+/// error is the first column whose field spells no value of it, or want of memory.
+pub fn make_row(table: Table, fields: &mut FieldReader<'_>) -> Result<Row, LineFault>
+    requires { fields.old ≡ at_first (columns table) fields.old.fields }
+    ensures ok { IfOk result (IsMadeOf (shape table) table fields.old.fields) }
+    ensures bad { OnBadColumn result (IsBadIn (columns table) fields.old.fields) }
 {
     match shape_of(table) {
-        Shape::Place => Row::Place {
-            place: place(values),
-        },
-        Shape::TagClass => Row::TagClass {
-            named: named(values),
-        },
-        Shape::Tag => Row::Tag {
-            named: named(values),
-        },
-        Shape::Organisation => Row::Organisation {
-            organisation: organisation(values),
-        },
-        Shape::Person => Row::Person {
-            person: person(values),
-        },
-        Shape::Forum => Row::Forum {
-            forum: forum(values),
-        },
-        Shape::Post => Row::Post { post: post(values) },
-        Shape::Comment => Row::Comment {
-            comment: comment(values),
-        },
-        Shape::Link => Row::Link {
-            table,
-            from: values.number(),
-            to: values.number(),
-        },
-        Shape::Dated => Row::Dated {
-            table,
-            from: values.number(),
-            to: values.number(),
-            date: values.number(),
-        },
-        Shape::Yeared => Row::Yeared {
-            table,
-            from: values.number(),
-            to: values.number(),
-            year: values.small(),
-        },
-        Shape::Word => Row::Word {
-            table,
-            person: values.number(),
-            text: values.text(),
-        },
+        Shape::Place => place(table, fields),
+        Shape::TagClass => tag_class(table, fields),
+        Shape::Tag => tag(table, fields),
+        Shape::Organisation => organisation(table, fields),
+        Shape::Person => person(table, fields),
+        Shape::Forum => forum(table, fields),
+        Shape::Post => post(table, fields),
+        Shape::Comment => comment(table, fields),
+        Shape::Link => link(table, fields),
+        Shape::Dated => dated(table, fields),
+        Shape::Yeared => yeared(table, fields),
+        Shape::Word => word(table, fields),
     }
 }
 
-/// Puts the lower of the first two numbers first, and tells whether it was second.
-pub fn put_in_order(values: &mut Vec<Value>) -> bool
-    ensures values { values.new.items ≡ in_order true values.old.items }
-    ensures turned { result ≡ is_turned true values.old.items }
+/// The friendship that the fields of a line of this number spell, with the lower id first. The error is
+/// column 2 where it leads back to the person it comes from, else the first column whose field spells no
+/// value of it, or want of memory.
+pub fn make_friends(
+    table: Table,
+    line: u32,
+    fields: &mut FieldReader<'_>,
+) -> Result<Placed, LineFault>
+    requires { fields.old ≡ at_first (shape_columns shapes.Dated) fields.old.fields }
+    ensures ok { IfOk result (λ p. AreFriends table fields.old.fields p.row p.turned × (p.line ≡ line)) }
+    ensures bad { OnBadColumn result (AreNoFriends fields.old.fields) }
 {
-    let turned = match values.as_slice() {
-        [Value::Digits { n: one }, Value::Digits { n: other }, ..] => *other < *one,
-        _ => false,
+    let one = match fields.number(MAX_ID) {
+        Ok(one) => one,
+        Err(why) => return Err(why),
     };
-    if turned {
-        values.swap(0, 1);
+    let other = match fields.number(MAX_ID) {
+        Ok(other) => other,
+        Err(why) => return Err(why),
+    };
+    if one == other {
+        return Err(LineFault::Bad { column: 2 });
     }
-    turned
+    let date = fields.date()?;
+    Ok(Placed {
+        line,
+        row: Row::Dated {
+            table,
+            from: one.min(other),
+            to: one.max(other),
+            date,
+        },
+        turned: other < one,
+    })
 }

@@ -1,8 +1,6 @@
 //! The reader of a table's file.
 
-ghost use Rattle.std.specs.Prelude.{◌≡◌, All, IfOk, IsUtf8};
-ghost use Rattle.snb_schema.specs.Faults.{OnBadColumn};
-ghost use Rattle.snb_schema.specs.RowLines.{IsBadColumn, SpellsRow};
+ghost use Rattle.std.specs.Prelude.{◌≡◌};
 
 use crate::read::read_row;
 use snb_input_fields::read::is_wide;
@@ -11,25 +9,6 @@ use snb_schema::layout::columns_of;
 use snb_schema::{FileId, FileKind, LineFault, Placed, Table};
 use std::alloc::Global;
 use std::marker::Model;
-
-// The row of the table that the fields of the line of this number spell, as `read_row` has it.
-fn read_placed(
-    alloc: Global,
-    table: Table,
-    number: u32,
-    fields: &Record,
-) -> Result<Placed, LineFault>
-    requires { All IsUtf8 fields.now }
-    ensures ok { IfOk result (λ p. SpellsRow table fields.now p.row p.turned × (p.line ≡ number)) }
-    ensures bad { OnBadColumn result (IsBadColumn table fields.now) }
-{
-    let read = read_row(alloc, table, fields)?;
-    Ok(Placed {
-        line: number,
-        row: read.row,
-        turned: read.turned,
-    })
-}
 
 /// What the lines of a table's file say: of the header only the number of fields counts, and each
 /// later line is a row. The row of a friendship has the lower id first. No line of a file of another
@@ -124,7 +103,7 @@ impl Grammar for TableLines {
         fields: &Record,
     ) -> Result<Placed, LineFault> {
         match self.kind {
-            FileKind::Table { table } => read_placed(self.alloc, table, number, fields),
+            FileKind::Table { table } => read_row(self.alloc, table, number, fields),
             FileKind::PersonStream
             | FileKind::ForumStream
             | FileKind::Params { .. }

@@ -3,3 +3,4 @@ pub mod JoinFacts
 pub mod Laws
 pub mod ReadingFacts
 pub mod WideFacts
+mod ReaderFacts

@@ -2,12 +2,14 @@
 //! line of values, written from them.
 #![tactic(auto)]
 
+pub mod field_reader;
 pub mod law;
 mod lists;
 pub mod read;
 pub mod values;
 pub mod write;
 
+pub use field_reader::FieldReader;
 pub use read::{read_value, read_values};
 pub use values::Values;
 pub use write::{Cell, line_of};

@@ -1,0 +1,16 @@
+use Rattle.std.proofs.Common.{refl}
+use Rattle.snb_schema.specs.declared.column.Column.TheVariants as columns
+use Rattle.snb_schema.specs.declared.column.Value.TheVariants.{Digits}
+use Rattle.snb_schema.specs.declared.limits.TheConstants.{MAX_ID}
+use Rattle.snb_csv.proofs.StepFacts.{moved, spelled}
+use Rattle.snb_csv.proofs.make.dated.Goals as goal
+
+pub returns-clause-ok : goal.returns-clause-ok
+returns-clause-ok c =
+    let e1 = moved c.in_ok-number.ensures.past c.requires in
+    let e2 = moved c.in_ok-number-2.ensures.past e1 in
+    record {
+      table = refl;
+      shaped = refl;
+      spelled = (spelled 0 (columns.Number MAX_ID) (Digits c.in_ok-number.field-0) c.requires c.in_ok-number.ensures.ok, (spelled 1 (columns.Number MAX_ID) (Digits c.in_ok-number-2.field-0) e1 c.in_ok-number-2.ensures.ok, (spelled 2 columns.Date (Digits c.in_ok-date.field-0) e2 c.in_ok-date.ensures.ok, tt)));
+    }
