@@ -149,6 +149,7 @@ pub fn read_values(
     ensures bad { OnBadColumn result (λ column. (n : ℕ) × StopsAfter columns.now fields.now n × (column ≡ n + 1)
         × SpellsAll (take n columns.now) (take n fields.now) values.new.items) }
 {
+    values.reserve(columns.len())?;
     for i in 0..columns.len() {
         let column = columns[i];
         let Some(field) = fields.get(i) else {
