@@ -153,8 +153,8 @@ cut_last text k l none is =
     let byte : get_or text k 0 ≡ 10 = grind (arith, Decides-eqb (get_or text k 0) 10) in
     let back : drop k text ≡ 10 ∷ drop (suc k) text = drop-cons text k 0 l ∙ ap (λ (b : ℕ). b ∷ drop (suc k) text) byte in (
       All-from_get_or (λ b. b ≢ 10) (drop (suc k) text) 0 (λ i m e.
-      let at : suc k + i < length text = omega (arith, m, length-drop (suc k) text) in
-      none (suc k + i) (omega arith) at (rw (sym (get_or-drop (suc k) text i 0) ∙ e) refl)),
+          let at : suc k + i < length text = omega (arith, m, length-drop (suc k) text) in
+          none (suc k + i) (omega arith) at (rw (sym (get_or-drop (suc k) text i 0) ∙ e) refl)),
       sym (take-append-drop k text) ∙ ap (λ (xs : List ℕ). take k text ++ xs) back,
     )
 

@@ -111,12 +111,7 @@ impl<'a> Model for EndedLines<'a> {
 impl<'a> EndedLines<'a> {
     /// Reads a line, which has no `\n`, and what comes after it, which begins with one. The lines are
     /// split where `splits` says so.
-    pub fn new(
-        alloc: Global,
-        splits: bool,
-        first: &'a [u8],
-        others: &'a [u8],
-    ) -> EndedLines<'a>
+    pub fn new(alloc: Global, splits: bool, first: &'a [u8], others: &'a [u8]) -> EndedLines<'a>
         requires one_line { HasNoEnd first.now }
         requires ends { (rest : List ℕ) × (others.now ≡ 10 ∷ rest) }
         ensures text { result.text ≡ first.entry.now ++ others.entry.now }

@@ -1,6 +1,6 @@
 //! Lines cut at their ends, and their fields, split by `csv`.
 
-ghost use Rattle.std.specs.Prelude.{◌≡◌, ◌≢◌, ◌++◌, ◌∷◌, ℕ, List, Some, [], OnOk, OnErr, IsTrue, IsUtf8, MatchOption, true, ◌↔◌};
+ghost use Rattle.std.specs.Prelude.{◌≡◌, ◌≢◌, ◌++◌, ℕ, List, Some, [], OnOk, OnErr, IsTrue, IsUtf8, MatchOption, true, ◌↔◌};
 ghost use Rattle.csv.specs.Machine.{next_record};
 ghost use Rattle.csv.specs.Reading.{has_failed};
 ghost use Rattle.csv.specs.Records.{fields_of};
@@ -56,7 +56,10 @@ pub(crate) fn bar_reader<'a>(alloc: Global, front: &'a [u8], back: &'a [u8]) -> 
 }
 
 /// Takes the next record. The one error is want of memory, after which the reader has failed.
-pub(crate) fn take_fields(reader: &mut BarReader<'_>, row: &mut ByteRecord) -> Result<(), AllocError>
+pub(crate) fn take_fields(
+    reader: &mut BarReader<'_>,
+    row: &mut ByteRecord,
+) -> Result<(), AllocError>
     requires { (text : List ℕ) × MayStand reader.old text }
     ensures ok { OnOk result ((text rest : List ℕ) (fs : List (List ℕ)) → MayStand reader.old text
         → next_record bar_config st.StartRecord [] [] text ≡ Some (fs, st.StartRecord, rest)

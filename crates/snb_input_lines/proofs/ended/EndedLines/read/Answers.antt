@@ -1,4 +1,4 @@
-use Rattle.std.proofs.Common.{◌++◌, subst, sym}
+use Rattle.std.proofs.Common.{subst, sym}
 use Rattle.snb_input_lines.specs.Ended.{AnyStands, AreUtf8}
 use Rattle.snb_input_lines.proofs.BarFacts.{rest-left, rest-of-end}
 use Rattle.snb_input_lines.proofs.CutFacts.{first_text}
