@@ -1,61 +1,64 @@
 //! Rows as lines.
 
-ghost use Rattle.std.specs.Prelude.{◌≡◌, ◌++◌, ◌∷◌, [], IfOk, OnOk, OnErr};
+ghost use Rattle.std.specs.Prelude.{◌≡◌, ◌++◌, ◌∷◌, [], OnOk, OnErr};
 ghost use Rattle.snb_schema.specs.declared.row.Row.TheVariants as rows;
 ghost use Rattle.snb_schema.specs.RowLines.{canonical};
 
-use snb_input_fields::{Cell, line_of};
+use snb_input_fields::{Cell, put_line};
 use snb_schema::{Comment, Forum, Named, Organisation, Person, Place, Post, Row};
-use std::alloc::{AllocError, Global};
+use std::alloc::AllocError;
 
-fn place_line(alloc: Global, place: &Place) -> Result<Vec<u8>, AllocError>
-    ensures { IfOk result (λ line. line.items ≡ canonical (rows.Place place.now)) }
+fn put_place(place: &Place, to: &mut Vec<u8>) -> Result<(), AllocError>
+    ensures ok { OnOk result (to.new.items ≡ to.old.items ++ (canonical (rows.Place place.now) ++ 10 ∷ [])) }
+    ensures err { OnErr result (to.new.items ≡ to.old.items) }
 {
-    line_of(
-        alloc,
+    put_line(
         &[
             Cell::Digits(place.id),
             Cell::Letters(place.name.as_str()),
             Cell::Letters(place.url.as_str()),
             Cell::Letters(place.kind.as_str()),
         ],
+        to,
     )
 }
 
-// The line of a tag, or of a class of tags.
-fn named_line(alloc: Global, named: &Named) -> Result<Vec<u8>, AllocError>
-    ensures tag { IfOk result (λ line. line.items ≡ canonical (rows.Tag named.now)) }
-    ensures class { IfOk result (λ line. line.items ≡ canonical (rows.TagClass named.now)) }
+// Appends the line of a tag, or of a class of tags.
+fn put_named(named: &Named, to: &mut Vec<u8>) -> Result<(), AllocError>
+    ensures tag { OnOk result (to.new.items ≡ to.old.items ++ (canonical (rows.Tag named.now) ++ 10 ∷ [])) }
+    ensures class { OnOk result (to.new.items ≡ to.old.items ++ (canonical (rows.TagClass named.now) ++ 10 ∷ [])) }
+    ensures err { OnErr result (to.new.items ≡ to.old.items) }
 {
-    line_of(
-        alloc,
+    put_line(
         &[
             Cell::Digits(named.id),
             Cell::Letters(named.name.as_str()),
             Cell::Letters(named.url.as_str()),
         ],
+        to,
     )
 }
 
-fn organisation_line(alloc: Global, organisation: &Organisation) -> Result<Vec<u8>, AllocError>
-    ensures { IfOk result (λ line. line.items ≡ canonical (rows.Organisation organisation.now)) }
+fn put_organisation(organisation: &Organisation, to: &mut Vec<u8>) -> Result<(), AllocError>
+    ensures ok { OnOk result (to.new.items ≡ to.old.items ++ (canonical (rows.Organisation organisation.now) ++ 10 ∷ [])) }
+    ensures err { OnErr result (to.new.items ≡ to.old.items) }
 {
-    line_of(
-        alloc,
+    put_line(
         &[
             Cell::Digits(organisation.id),
             Cell::Letters(organisation.kind.as_str()),
             Cell::Letters(organisation.name.as_str()),
             Cell::Letters(organisation.url.as_str()),
         ],
+        to,
     )
 }
 
-fn person_line(alloc: Global, person: &Person) -> Result<Vec<u8>, AllocError>
-    ensures { IfOk result (λ line. line.items ≡ canonical (rows.Person person.now)) }
+fn put_person(person: &Person, to: &mut Vec<u8>) -> Result<(), AllocError>
+    ensures ok { OnOk result (to.new.items ≡ to.old.items ++ (canonical (rows.Person person.now) ++ 10 ∷ [])) }
+    ensures err { OnErr result (to.new.items ≡ to.old.items) }
 {
-    line_of(
-        alloc,
+    put_line(
         &[
             Cell::Digits(person.id),
             Cell::Letters(person.first_name.as_str()),
@@ -66,27 +69,29 @@ fn person_line(alloc: Global, person: &Person) -> Result<Vec<u8>, AllocError>
             Cell::Letters(person.location_ip.as_str()),
             Cell::Letters(person.browser_used.as_str()),
         ],
+        to,
     )
 }
 
-fn forum_line(alloc: Global, forum: &Forum) -> Result<Vec<u8>, AllocError>
-    ensures { IfOk result (λ line. line.items ≡ canonical (rows.Forum forum.now)) }
+fn put_forum(forum: &Forum, to: &mut Vec<u8>) -> Result<(), AllocError>
+    ensures ok { OnOk result (to.new.items ≡ to.old.items ++ (canonical (rows.Forum forum.now) ++ 10 ∷ [])) }
+    ensures err { OnErr result (to.new.items ≡ to.old.items) }
 {
-    line_of(
-        alloc,
+    put_line(
         &[
             Cell::Digits(forum.id),
             Cell::Letters(forum.title.as_str()),
             Cell::Digits(forum.creation_date),
         ],
+        to,
     )
 }
 
-fn post_line(alloc: Global, post: &Post) -> Result<Vec<u8>, AllocError>
-    ensures { IfOk result (λ line. line.items ≡ canonical (rows.Post post.now)) }
+fn put_post(post: &Post, to: &mut Vec<u8>) -> Result<(), AllocError>
+    ensures ok { OnOk result (to.new.items ≡ to.old.items ++ (canonical (rows.Post post.now) ++ 10 ∷ [])) }
+    ensures err { OnErr result (to.new.items ≡ to.old.items) }
 {
-    line_of(
-        alloc,
+    put_line(
         &[
             Cell::Digits(post.id),
             Cell::Letters(post.image_file.as_str()),
@@ -97,14 +102,15 @@ fn post_line(alloc: Global, post: &Post) -> Result<Vec<u8>, AllocError>
             Cell::Letters(post.content.as_str()),
             Cell::SmallDigits(post.length),
         ],
+        to,
     )
 }
 
-fn comment_line(alloc: Global, comment: &Comment) -> Result<Vec<u8>, AllocError>
-    ensures { IfOk result (λ line. line.items ≡ canonical (rows.Comment comment.now)) }
+fn put_comment(comment: &Comment, to: &mut Vec<u8>) -> Result<(), AllocError>
+    ensures ok { OnOk result (to.new.items ≡ to.old.items ++ (canonical (rows.Comment comment.now) ++ 10 ∷ [])) }
+    ensures err { OnErr result (to.new.items ≡ to.old.items) }
 {
-    line_of(
-        alloc,
+    put_line(
         &[
             Cell::Digits(comment.id),
             Cell::Digits(comment.creation_date),
@@ -113,40 +119,8 @@ fn comment_line(alloc: Global, comment: &Comment) -> Result<Vec<u8>, AllocError>
             Cell::Letters(comment.content.as_str()),
             Cell::SmallDigits(comment.length),
         ],
+        to,
     )
-}
-
-// The line of a row, without a line end.
-fn row_line(alloc: Global, row: &Row) -> Result<Vec<u8>, AllocError>
-    ensures { IfOk result (λ line. line.items ≡ canonical row.now) }
-{
-    match row {
-        Row::Place { place } => place_line(alloc, place),
-        Row::TagClass { named } => named_line(alloc, named),
-        Row::Tag { named } => named_line(alloc, named),
-        Row::Organisation { organisation } => organisation_line(alloc, organisation),
-        Row::Person { person } => person_line(alloc, person),
-        Row::Forum { forum } => forum_line(alloc, forum),
-        Row::Post { post } => post_line(alloc, post),
-        Row::Comment { comment } => comment_line(alloc, comment),
-        Row::Link { from, to, .. } => line_of(alloc, &[Cell::Digits(*from), Cell::Digits(*to)]),
-        Row::Dated { from, to, date, .. } => line_of(
-            alloc,
-            &[Cell::Digits(*from), Cell::Digits(*to), Cell::Digits(*date)],
-        ),
-        Row::Yeared { from, to, year, .. } => line_of(
-            alloc,
-            &[
-                Cell::Digits(*from),
-                Cell::Digits(*to),
-                Cell::SmallDigits(*year),
-            ],
-        ),
-        Row::Word { person, text, .. } => line_of(
-            alloc,
-            &[Cell::Digits(*person), Cell::Letters(text.as_str())],
-        ),
-    }
 }
 
 /// Appends the row's line and its line end: its columns in the order of its table, with numbers and
@@ -158,7 +132,40 @@ pub fn write_row(row: &Row, to: &mut Vec<u8>) -> Result<(), AllocError>
     ensures ok { OnOk result (to.new.items ≡ to.old.items ++ (canonical row.now ++ 10 ∷ [])) }
     ensures err { OnErr result (to.new.items ≡ to.old.items) }
 {
-    let mut line = row_line(*to.allocator(), row)?;
-    line.push(b'\n')?;
-    to.extend_from_slice(&line)
+    match row {
+        Row::Place { place } => put_place(place, to),
+        Row::TagClass { named } => put_named(named, to),
+        Row::Tag { named } => put_named(named, to),
+        Row::Organisation { organisation } => put_organisation(organisation, to),
+        Row::Person { person } => put_person(person, to),
+        Row::Forum { forum } => put_forum(forum, to),
+        Row::Post { post } => put_post(post, to),
+        Row::Comment { comment } => put_comment(comment, to),
+        Row::Link { from, to: end, .. } => put_line(&[Cell::Digits(*from), Cell::Digits(*end)], to),
+        Row::Dated {
+            from,
+            to: end,
+            date,
+            ..
+        } => put_line(
+            &[Cell::Digits(*from), Cell::Digits(*end), Cell::Digits(*date)],
+            to,
+        ),
+        Row::Yeared {
+            from,
+            to: end,
+            year,
+            ..
+        } => put_line(
+            &[
+                Cell::Digits(*from),
+                Cell::Digits(*end),
+                Cell::SmallDigits(*year),
+            ],
+            to,
+        ),
+        Row::Word { person, text, .. } => {
+            put_line(&[Cell::Digits(*person), Cell::Letters(text.as_str())], to)
+        }
+    }
 }

@@ -1,6 +1,9 @@
 -- Texts joined one after another.
-use Rattle.std.proofs.Common.{◌≡◌, ◌∙◌, ◌<◌, ℕ, zero, suc, cond, ltb, List, [], ◌∷◌, ◌++◌, length, map, take, get_or, refl, sym, ap, arith, append_assoc}
+use Rattle.std.proofs.Common.{◌≡◌, ◌∙◌, ◌<◌, ◌≤◌, ℕ, zero, suc, cond, ltb, List, [], ◌∷◌, ◌++◌, length, map, take, drop, take_all, get_or, refl, sym, subst, ap, Result, Ok, Err, OnErr, arith, append_assoc}
 use Rattle.std.proofs.lemmas.Bool.Decides.{Decides-ltb}
+use Rattle.std.proofs.lemmas.List.{take-append-drop}
+use Rattle.std.proofs.Math.Seq.{take-append_seam}
+use Rattle.std.specs.Io.{StartsWith}
 use Rattle.std.specs.List.{join_with_byte}
 use Rattle.snb_schema.specs.Columns.{canonical_field}
 use Rattle.snb_input_fields.specs.Cells.{value_of}
@@ -50,3 +53,35 @@ pub cells_more : (i : ℕ) (cells : List Cell) (d : Cell) → i < length cells
 cells_more i cells d l =
     ap (join_with_byte 124) (each_spelling (take (suc i) cells)) ∙ joined_more 124 (λ c. canonical_field (value_of c)) i cells d l
     ∙ ap (λ (ts : List (List ℕ)). join_with_byte 124 ts ++ mark_before 124 i ++ canonical_field (value_of (get_or cells i d))) (sym (each_spelling (take i cells)))
+
+-- one cell more after the first
+pub later_more : (start : List ℕ) (first d : Cell) (later cells : List Cell) (i : ℕ) (before marked whole : List ℕ) → cells ≡ first ∷ later → i < length later
+    → before ≡ start ++ join_with_byte 124 (map canonical_field (map value_of (take (suc i) cells))) → marked ≡ before ++ 124 ∷ [] → whole ≡ marked ++ canonical_field (value_of (get_or later i d))
+    → whole ≡ start ++ join_with_byte 124 (map canonical_field (map value_of (take (suc (suc i)) cells)))
+later_more start first d later cells i before marked whole e l f g h =
+    let fields : List Cell → List ℕ = λ cs. join_with_byte 124 (map canonical_field (map value_of cs)) in
+    let text = canonical_field (value_of (get_or later i d)) in
+    let all = first ∷ later in
+    let mark = ap (λ (t : List ℕ). fields (take (suc i) all) ++ t ++ text) (mark_there 124 i) in
+    let next : fields (take (suc (suc i)) all) ≡ fields (take (suc i) all) ++ (124 ∷ []) ++ text = cells_more (suc i) all d (omega (arith, l)) ∙ mark in
+    subst (λ (cs : List Cell). whole ≡ start ++ fields (take (suc (suc i)) cs)) (sym e)
+    (grown start (fields (take (suc i) all)) (124 ∷ []) text before marked whole (fields (take (suc (suc i)) all)) (f ∙ ap (λ (cs : List Cell). start ++ fields (take (suc i) cs)) e) g h next)
+
+-- all cells after the first
+pub later_all : (start : List ℕ) (first : Cell) (later cells : List Cell) (i : ℕ) (whole : List ℕ) → cells ≡ first ∷ later → length later ≤ i
+    → whole ≡ start ++ join_with_byte 124 (map canonical_field (map value_of (take (suc i) cells))) → whole ≡ start ++ join_with_byte 124 (map canonical_field (map value_of cells))
+later_all start first later cells i whole e l h =
+    h ∙ ap (λ (cs : List Cell). start ++ join_with_byte 124 (map canonical_field (map value_of cs))) (take_all (suc i) cells (subst (λ (cs : List Cell). length cs ≤ suc i) (sym e) (omega (arith, l))))
+
+-- the bytes that others are appended to are in front
+pub front_of : {T E : Type 0} (result : Result T E) (start more new : List ℕ) → new ≡ start ++ more → OnErr result (StartsWith new start)
+front_of (Ok x) start more new e = tt
+front_of (Err x) start more new e = ap (take (length start)) e ∙ take-append_seam start more
+
+-- also where a mark and more are appended
+pub front_within : {T E : Type 0} (result : Result T E) (start joined mark before marked new : List ℕ) → before ≡ start ++ joined → marked ≡ before ++ mark → StartsWith new marked → OnErr result (StartsWith new start)
+front_within result start joined mark before marked new e f h =
+    let rest = drop (length marked) new in
+    front_of result start (joined ++ mark ++ rest) new
+    (sym (take-append-drop (length marked) new) ∙ ap (λ (t : List ℕ). t ++ rest) (h ∙ f ∙ ap (λ (t : List ℕ). t ++ mark) e) ∙ append_assoc (start ++ joined) mark rest ∙ append_assoc start joined (mark ++ rest)
+    ∙ ap (λ (t : List ℕ). start ++ t) (sym (append_assoc joined mark rest)))

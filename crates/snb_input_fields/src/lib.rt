@@ -12,4 +12,4 @@ pub mod write;
 pub use field_reader::FieldReader;
 pub use read::{read_value, read_values};
 pub use values::Values;
-pub use write::{Cell, line_of};
+pub use write::{Cell, put_fields, put_line};

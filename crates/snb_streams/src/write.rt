@@ -1,6 +1,6 @@
 //! Inserts as lines.
 
-ghost use Rattle.std.specs.Prelude.{◌≡◌, ◌++◌, ◌∷◌, [], IfOk, OnOk, OnErr, map};
+ghost use Rattle.std.specs.Prelude.{◌≡◌, ◌++◌, ◌∷◌, [], OnOk, OnErr, map};
 ghost use Rattle.std.specs.List.{join_with_byte};
 ghost use Rattle.snb_schema.specs.declared.column.Value.TheVariants.{Digits};
 ghost use Rattle.snb_schema.specs.declared.op.OpKind.TheVariants as kinds;
@@ -8,9 +8,9 @@ ghost use Rattle.snb_schema.specs.Columns.{canonical_field};
 ghost use Rattle.snb_schema.specs.UpdateLines.{canonical_line, kind_of, parent_comment, parent_post};
 ghost use Rattle.snb_input_fields.specs.Cells.{value_of};
 
-use snb_input_fields::{Cell, line_of};
+use snb_input_fields::{Cell, put_fields};
 use snb_schema::{Line, Op, Parent};
-use std::alloc::{AllocError, Global};
+use std::alloc::AllocError;
 
 // The cell of the post that is replied to, where it is one.
 fn post_cell(parent: Parent) -> Cell<'static>
@@ -32,10 +32,11 @@ fn comment_cell(parent: Parent) -> Cell<'static>
     }
 }
 
-// The line of a person's insert and its two times.
-fn person_line(alloc: Global, t: u64, t_d: u64, op: &Op) -> Result<Vec<u8>, AllocError>
+// Appends the line of a person's insert and its two times.
+fn put_person(t: u64, t_d: u64, op: &Op, to: &mut Vec<u8>) -> Result<(), AllocError>
     requires { kind_of op.now ≡ kinds.AddPerson }
-    ensures { IfOk result (λ text. text.items ≡ canonical_line t t_d op.now) }
+    ensures ok { OnOk result (to.new.items ≡ to.old.items ++ canonical_line t t_d op.now) }
+    ensures err { OnErr result (to.new.items ≡ to.old.items) }
 {
     let Op::AddPerson {
         person_id,
@@ -56,8 +57,7 @@ fn person_line(alloc: Global, t: u64, t_d: u64, op: &Op) -> Result<Vec<u8>, Allo
     else {
         unreachable!()
     };
-    line_of(
-        alloc,
+    put_fields(
         &[
             Cell::Digits(t),
             Cell::Digits(t_d),
@@ -77,13 +77,15 @@ fn person_line(alloc: Global, t: u64, t_d: u64, op: &Op) -> Result<Vec<u8>, Allo
             Cell::Pairs(study_at.as_slice()),
             Cell::Pairs(work_at.as_slice()),
         ],
+        to,
     )
 }
 
-// The line of a post's insert and its two times.
-fn post_line(alloc: Global, t: u64, t_d: u64, op: &Op) -> Result<Vec<u8>, AllocError>
+// Appends the line of a post's insert and its two times.
+fn put_post(t: u64, t_d: u64, op: &Op, to: &mut Vec<u8>) -> Result<(), AllocError>
     requires { kind_of op.now ≡ kinds.AddPost }
-    ensures { IfOk result (λ text. text.items ≡ canonical_line t t_d op.now) }
+    ensures ok { OnOk result (to.new.items ≡ to.old.items ++ canonical_line t t_d op.now) }
+    ensures err { OnErr result (to.new.items ≡ to.old.items) }
 {
     let Op::AddPost {
         post_id,
@@ -102,8 +104,7 @@ fn post_line(alloc: Global, t: u64, t_d: u64, op: &Op) -> Result<Vec<u8>, AllocE
     else {
         unreachable!()
     };
-    line_of(
-        alloc,
+    put_fields(
         &[
             Cell::Digits(t),
             Cell::Digits(t_d),
@@ -121,13 +122,15 @@ fn post_line(alloc: Global, t: u64, t_d: u64, op: &Op) -> Result<Vec<u8>, AllocE
             Cell::Digits(*country_id),
             Cell::Ids(tag_ids.as_slice()),
         ],
+        to,
     )
 }
 
-// The line of a comment's insert and its two times.
-fn comment_line(alloc: Global, t: u64, t_d: u64, op: &Op) -> Result<Vec<u8>, AllocError>
+// Appends the line of a comment's insert and its two times.
+fn put_comment(t: u64, t_d: u64, op: &Op, to: &mut Vec<u8>) -> Result<(), AllocError>
     requires { kind_of op.now ≡ kinds.AddComment }
-    ensures { IfOk result (λ text. text.items ≡ canonical_line t t_d op.now) }
+    ensures ok { OnOk result (to.new.items ≡ to.old.items ++ canonical_line t t_d op.now) }
+    ensures err { OnErr result (to.new.items ≡ to.old.items) }
 {
     let Op::AddComment {
         comment_id,
@@ -144,8 +147,7 @@ fn comment_line(alloc: Global, t: u64, t_d: u64, op: &Op) -> Result<Vec<u8>, All
     else {
         unreachable!()
     };
-    line_of(
-        alloc,
+    put_fields(
         &[
             Cell::Digits(t),
             Cell::Digits(t_d),
@@ -162,13 +164,15 @@ fn comment_line(alloc: Global, t: u64, t_d: u64, op: &Op) -> Result<Vec<u8>, All
             comment_cell(*parent),
             Cell::Ids(tag_ids.as_slice()),
         ],
+        to,
     )
 }
 
-// The line of a forum's insert and its two times.
-fn forum_line(alloc: Global, t: u64, t_d: u64, op: &Op) -> Result<Vec<u8>, AllocError>
+// Appends the line of a forum's insert and its two times.
+fn put_forum(t: u64, t_d: u64, op: &Op, to: &mut Vec<u8>) -> Result<(), AllocError>
     requires { kind_of op.now ≡ kinds.AddForum }
-    ensures { IfOk result (λ text. text.items ≡ canonical_line t t_d op.now) }
+    ensures ok { OnOk result (to.new.items ≡ to.old.items ++ canonical_line t t_d op.now) }
+    ensures err { OnErr result (to.new.items ≡ to.old.items) }
 {
     let Op::AddForum {
         forum_id,
@@ -180,8 +184,7 @@ fn forum_line(alloc: Global, t: u64, t_d: u64, op: &Op) -> Result<Vec<u8>, Alloc
     else {
         unreachable!()
     };
-    line_of(
-        alloc,
+    put_fields(
         &[
             Cell::Digits(t),
             Cell::Digits(t_d),
@@ -192,22 +195,23 @@ fn forum_line(alloc: Global, t: u64, t_d: u64, op: &Op) -> Result<Vec<u8>, Alloc
             Cell::Digits(*moderator_id),
             Cell::Ids(tag_ids.as_slice()),
         ],
+        to,
     )
 }
 
-// The line of an insert of three numbers, and its two times.
-fn numbers_line(
-    alloc: Global,
+// Appends the line of an insert of three numbers, and its two times.
+fn put_numbers(
     times: (u64, u64),
     kind: u64,
     first: u64,
     second: u64,
     date: u64,
-) -> Result<Vec<u8>, AllocError>
-    ensures { IfOk result (λ text. text.items ≡ join_with_byte 124 (map canonical_field (Digits times.0 ∷ Digits times.1 ∷ Digits kind ∷ Digits first ∷ Digits second ∷ Digits date ∷ []))) }
+    to: &mut Vec<u8>,
+) -> Result<(), AllocError>
+    ensures ok { OnOk result (to.new.items ≡ to.old.items ++ join_with_byte 124 (map canonical_field (Digits times.0 ∷ Digits times.1 ∷ Digits kind ∷ Digits first ∷ Digits second ∷ Digits date ∷ []))) }
+    ensures err { OnErr result (to.new.items ≡ to.old.items) }
 {
-    line_of(
-        alloc,
+    put_fields(
         &[
             Cell::Digits(times.0),
             Cell::Digits(times.1),
@@ -216,38 +220,40 @@ fn numbers_line(
             Cell::Digits(second),
             Cell::Digits(date),
         ],
+        to,
     )
 }
 
-// The line of an insert and its two times, without a line end.
-fn op_line(alloc: Global, t: u64, t_d: u64, op: &Op) -> Result<Vec<u8>, AllocError>
-    ensures { IfOk result (λ text. text.items ≡ canonical_line t t_d op.now) }
+// Appends the line of an insert and its two times, without a line end.
+fn put_op(t: u64, t_d: u64, op: &Op, to: &mut Vec<u8>) -> Result<(), AllocError>
+    ensures ok { OnOk result (to.new.items ≡ to.old.items ++ canonical_line t t_d op.now) }
+    ensures err { OnErr result (to.new.items ≡ to.old.items) }
 {
     match op {
-        Op::AddPerson { .. } => person_line(alloc, t, t_d, op),
+        Op::AddPerson { .. } => put_person(t, t_d, op, to),
         Op::LikePost {
             person_id,
             post_id,
             date,
-        } => numbers_line(alloc, (t, t_d), 2, *person_id, *post_id, *date),
+        } => put_numbers((t, t_d), 2, *person_id, *post_id, *date, to),
         Op::LikeComment {
             person_id,
             comment_id,
             date,
-        } => numbers_line(alloc, (t, t_d), 3, *person_id, *comment_id, *date),
-        Op::AddForum { .. } => forum_line(alloc, t, t_d, op),
+        } => put_numbers((t, t_d), 3, *person_id, *comment_id, *date, to),
+        Op::AddForum { .. } => put_forum(t, t_d, op, to),
         Op::AddMember {
             person_id,
             forum_id,
             join_date,
-        } => numbers_line(alloc, (t, t_d), 5, *person_id, *forum_id, *join_date),
-        Op::AddPost { .. } => post_line(alloc, t, t_d, op),
-        Op::AddComment { .. } => comment_line(alloc, t, t_d, op),
+        } => put_numbers((t, t_d), 5, *person_id, *forum_id, *join_date, to),
+        Op::AddPost { .. } => put_post(t, t_d, op, to),
+        Op::AddComment { .. } => put_comment(t, t_d, op, to),
         Op::AddFriend {
             person1_id,
             person2_id,
             date,
-        } => numbers_line(alloc, (t, t_d), 8, *person1_id, *person2_id, *date),
+        } => put_numbers((t, t_d), 8, *person1_id, *person2_id, *date, to),
     }
 }
 
@@ -260,6 +266,5 @@ pub fn write_line(line: &Line, to: &mut Vec<u8>) -> Result<(), AllocError>
     ensures ok { OnOk result (to.new.items ≡ to.old.items ++ canonical_line line.now.t line.now.t_d line.now.op) }
     ensures err { OnErr result (to.new.items ≡ to.old.items) }
 {
-    let text = op_line(*to.allocator(), line.t, line.t_d, &line.op)?;
-    to.extend_from_slice(&text)
+    put_op(line.t, line.t_d, &line.op, to)
 }

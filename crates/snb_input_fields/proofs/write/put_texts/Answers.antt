@@ -9,4 +9,4 @@ loop-i-preserved c =
     let next = texts_more c.loop-i.i c.args.texts.now item c.loop-i-test.true in
     let text = c.as_bytes.ensures.value ∙ c.as_str.ensures ∙ c.index-texts-i.is in
     rw add-one (grown c.args.line.now.items (join_with_byte 59 (take c.loop-i.i c.args.texts.now)) (mark_before 59 c.loop-i.i) (get_or c.args.texts.now c.loop-i.i item) c.loop-i.line.items c.put_between.new.line.items c.extend_from_slice.new.self.items
-    (join_with_byte 59 (take (suc c.loop-i.i) c.args.texts.now)) c.loop-i.invariant c.in_ok-put_between.ensures (c.in_ok-extend_from_slice.ensures.items ∙ ap (λ (t : List ℕ). c.put_between.new.line.items ++ t) text) next)
+    (join_with_byte 59 (take (suc c.loop-i.i) c.args.texts.now)) c.loop-i.invariant c.in_ok-put_between.ensures.ok (c.in_ok-extend_from_slice.ensures.items ∙ ap (λ (t : List ℕ). c.put_between.new.line.items ++ t) text) next)
