@@ -112,6 +112,16 @@ can_be ((b ∷ bs) ∷ ls) head n h s =
       lines = subst (λ (x : Header). All (CanBeLogged x.version) h) same (subst (λ (xs : List Logged). All (CanBeLogged k.version) xs) (sym (s.5 ∙ ap (λ (xs : List Logged). xs ++ s.1) s.3.1.2)) rest.1);
     }
 
+-- what a reader knows after lines is a header that a log can have, where that was so before
+pub knows_header : (ls : List (List ℕ)) (known new : Option Header) (n : ℕ) (h : List Logged) → IfSome known CanBeHeader → Says log_language known n ls h new → IfSome new CanBeHeader
+knows_header [] known new n h k s = subst (λ (o : Option Header). IfSome o CanBeHeader) (sym s.1) k
+knows_header ([] ∷ ls) known new n h k s = knows_header ls s.2 new (n + 1) s.1 (subst (λ (o : Option Header). IfSome o CanBeHeader) (sym s.3.1) k) s.4
+knows_header ((b ∷ bs) ∷ ls) None new n h k s =
+    let head = s.3.1.0 in
+    let can : CanBeHeader head = numbers_within (version_column ∷ header_columns head.version) _ (header_numbers head) s.3.1.1.numbers in
+    knows_header ls s.2 new (n + 1) s.1 (subst (λ (o : Option Header). IfSome o CanBeHeader) (sym s.3.1.3) can) s.4
+knows_header ((b ∷ bs) ∷ ls) (Some head) new n h k s = knows_header ls s.2 new (n + 1) s.1 (subst (λ (o : Option Header). IfSome o CanBeHeader) (sym s.3.1.3) k) s.4
+
 pub log_again : OwnNumbers → LogIsWrittenAgain
 log_again own text h head s = (let can = can_be (lines text) head 0 h s in log_reads_back own head h can.header can.lines)
 

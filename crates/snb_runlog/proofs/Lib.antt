@@ -6,3 +6,4 @@ mod OwnFacts
 mod LogLemmas
 mod BackFacts
 mod WriteFacts
+mod ReaderFacts

@@ -5,6 +5,7 @@ ghost use Rattle.snb_schema.specs.declared.limits.TheConstants.{MAX_BYTES};
 ghost use Rattle.snb_schema.specs.Faults.{OnBad};
 ghost use Rattle.snb_input_lines.specs.Feeding.{IsSameFile, KeepsFault, OnMemory, at_begin, at_file_end, fed_more, left_lines, new_lines};
 ghost use Rattle.snb_input_lines.specs.Lists.{HasAppended, HasAppendedSome, HasStoppedAfter, HasStoppedAfterAll};
+ghost use Rattle.snb_runlog.specs.Columns.{CanBeHeader, HasOperations};
 ghost use Rattle.snb_runlog.specs.Lines.{log_file, log_language};
 
 use crate::grammar::LogLines;
@@ -34,7 +35,11 @@ impl Model for LogReader {
 
     ghost Value = { Reader Lines Head };
 
+    ghost use Rattle.snb_runlog.specs.Reading.{KnowsHeader};
+
     ghost view = { λ s. s.lines };
+
+    ghost invariant = { λ s. KnowsHeader s.lines };
 }
 
 impl LogReader {
@@ -75,8 +80,8 @@ impl LogReader {
     }
 
     /// Ends the log, and appends what a last line without a `\n` tells, where it has a byte; answers what
-    /// the header said. No `end` before it answered Ok. Once this has answered Ok, the reader is fed and
-    /// ended no more.
+    /// the header said, which is a header that a log can have. No `end` before it answered Ok. Once this
+    /// has answered Ok, the reader is fed and ended no more.
     ///
     /// The error is that last line, where it is refused, or that a header is due, or want of memory. It is
     /// kept as an error of `feed` is.
@@ -87,6 +92,8 @@ impl LogReader {
         ensures ok { OnOk result
             (HasAppended log_language (left_lines self.old) self.old into.old.items self.new into.new.items) }
         ensures header { IfOk result (λ head. self.new.known ≡ Some head) }
+        ensures fits { IfOk result CanBeHeader }
+        ensures counted { IfOk result HasOperations }
         ensures after { OnOk result (self.new ≡ at_file_end self.old self.new.known) }
         ensures bad { self.old.fault ≡ None → OnBad result
             (HasStoppedAfterAll log_language (left_lines self.old) self.old into.old.items self.new into.new.items) }
