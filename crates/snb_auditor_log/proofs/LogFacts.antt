@@ -1,9 +1,11 @@
 -- Facts on the file of a log.
 use Rattle.std.proofs.Common.{◌≡◌, ◌∙◌, ◌≤◌, ◌+◌, ◌++◌, ◌∷◌, ℕ, List, [], All, Option, Some, None, Ok, Err, drop, refl, sym, ap, subst, inl, inr, arith}
-use Rattle.std.proofs.lemmas.List.Elements.{All-append, All-cons, All-nil}
+use Rattle.std.proofs.lemmas.List.Elements.{All-append, All-cons, All-head, All-nil, All-tail}
 use Rattle.snb_base.specs.Shelf.{Files}
 use Rattle.snb_history.specs.declared.event.Event.{Event}
 use Rattle.snb_history.specs.declared.event.Event.TheVariants.{Start, Finish, Halt}
+use Rattle.snb_history.specs.declared.logged.Header.{Header}
+use Rattle.snb_history.specs.declared.logged.Logged.{Logged}
 use Rattle.snb_schema.specs.declared.file.FileId.{FileId}
 use Rattle.snb_schema.specs.declared.limits.TheConstants.{MAX_AT, MAX_WORKERS}
 use Rattle.snb_schema.specs.declared.refusal.Refusal.{Refusal}
@@ -21,18 +23,17 @@ use Rattle.snb_input_files.specs.Format.{Lawful}
 use Rattle.snb_input_files.specs.Loading.{IsKnownAnswer}
 use Rattle.snb_input_files.specs.Places.{Knows, opening}
 use Rattle.snb_input_files.proofs.Laws.{file_one, first_some, says_knows, says_one}
-use Rattle.snb_runlog.specs.declared.head.LogHead.{LogHead}
-use Rattle.snb_runlog.specs.Columns.{AreWithin, IsLogged, head_columns, columns, kind_of, numbers_of}
-use Rattle.snb_runlog.specs.Laws.{EventOrColumn, HeadOrColumn, LogIsExact}
-use Rattle.snb_runlog.specs.Lines.{AreNumbers, IsEvent, IsHead, log_file, log_language}
+use Rattle.snb_runlog.specs.Columns.{AreWithin, CanBeHeader, columns, count_numbers, event_numbers, header_columns, header_numbers, kind_of, version_column}
+use Rattle.snb_runlog.specs.Laws.{EventOrColumn, HeaderOrColumn, LogIsExact}
+use Rattle.snb_runlog.specs.Lines.{AreNumbers, IsHeader, IsLogged, log_file, log_language}
 use Rattle.snb_auditor_log.specs.declared.log.Log.{Log}
 use Rattle.snb_auditor_log.specs.Laws.{LogSaysOne, OneLogRefusal, RefusedOrNot}
-use Rattle.snb_auditor_log.specs.LogFiles.{HasHeard, IsAuditable, IsLogAnswer, IsLogOf, RefusesEvent, TakesEvent, log_checks, log_format}
+use Rattle.snb_auditor_log.specs.LogFiles.{HasHeard, events_of, IsAuditable, IsLogAnswer, IsLogOf, RefusesEvent, TakesEvent, log_checks, log_format}
 
 -- ---- the file_sink of a log
 
 -- a line of a log says one thing at most, and is refused in one way at most
-pub log_lawful : LogIsExact → ((fs : List (List ℕ)) → HeadOrColumn fs) → ((version : ℕ) (fs : List (List ℕ)) → EventOrColumn version fs) → Lawful log_format
+pub log_lawful : LogIsExact → ((fs : List (List ℕ)) → HeaderOrColumn fs) → ((version : ℕ) (fs : List (List ℕ)) → EventOrColumn version fs) → Lawful log_format
 log_lawful exact head event = record {
   exact = λ file. exact;
   one_header_column = λ file line a b p q. (head (fields line)).one a b p q;
@@ -40,9 +41,14 @@ log_lawful exact head event = record {
   one_own = λ file done mine x r q a b. absurd a;
 }
 
-pub log_hears : Hears TakesEvent RefusesEvent HasHeard (λ (file : FileId) (done : List (List Event)) (mine : List Event) (x : Event) (r : Refusal). ⊥)
+-- the events of what is told, and then of more
+events_append : (xs ys : List Logged) → events_of (xs ++ ys) ≡ events_of xs ++ events_of ys
+events_append [] ys = refl
+events_append (x ∷ xs) ys = ap (λ (es : List Event). x.event ∷ es) (events_append xs ys)
+
+pub log_hears : Hears TakesEvent RefusesEvent HasHeard (λ (file : FileId) (done : List (List Logged)) (mine : List Logged) (x : Logged) (r : Refusal). ⊥)
 log_hears = record {
-  more = λ old new file x done mine h taken. taken ∙ ap (λ (xs : List Event). xs ++ x ∷ []) h;
+  more = λ old new file x done mine h taken. taken ∙ ap (λ (xs : List Event). xs ++ x.event ∷ []) h ∙ sym (events_append mine (x ∷ []));
   passes = λ old new file x done mine r h taken own. own;
   bad = λ old file x done mine r h wrong. wrong;
 }
@@ -62,40 +68,50 @@ says_all {K} {T} g F each ((b ∷ bs) ∷ ls) (Some k) new n items h =
     (All-append F h.0 h.1 (subst (λ (xs : List T). All F xs) (sym h.3.1.2) (All-cons F h.3.1.0 [] (each k (n + 1) (b ∷ bs) h.3.1.0 h.3.1.1) (All-nil F))) (says_all g F each ls h.2 new (n + 1) h.1 h.4))
 
 -- numbers that fields spell are within their columns
-within : (least : ℕ) (mosts : List ℕ) (xs : List (List ℕ)) (ns : List ℕ) → AreNumbers least mosts xs ns → AreWithin least mosts ns
-within least [] [] [] h = tt
-within least [] [] (n ∷ ns) h = absurd h
-within least [] (x ∷ xs) ns h = absurd h
-within least (m ∷ ms) [] ns h = absurd h
-within least (m ∷ ms) (x ∷ xs) [] h = absurd h
-within least (m ∷ ms) (x ∷ xs) (n ∷ ns) h = (h.0.1, h.0.0.small, within least ms xs ns h.1)
+within : (cs : List (ℕ × ℕ)) (xs : List (List ℕ)) (ns : List ℕ) → AreNumbers cs xs ns → AreWithin cs ns
+within [] [] [] h = tt
+within [] [] (n ∷ ns) h = absurd h
+within [] (x ∷ xs) ns h = absurd h
+within (c ∷ cs) [] ns h = absurd h
+within (c ∷ cs) (x ∷ xs) [] h = absurd h
+within (c ∷ cs) (x ∷ xs) (n ∷ ns) h = (h.0.1, h.0.0.small, within cs xs ns h.1)
 
--- an event that a line spells has no moment that is too great
-timed : (version : ℕ) (fs : List (List ℕ)) (e : Event) → IsEvent version fs e → moment e ≤ MAX_AT
-timed version fs (Start op worker at) s = (let h : IsLogged version (Start op worker at) = within 0 (columns version (kind_of (Start op worker at))) (drop 1 fs) (numbers_of (Start op worker at)) s.numbers in h.2.2.1)
-timed version fs (Finish op worker at front) s = (let h : IsLogged version (Finish op worker at front) = within 0 (columns version (kind_of (Finish op worker at front))) (drop 1 fs) (numbers_of (Finish op worker at front)) s.numbers in h.2.2.1)
-timed version fs (Halt worker) s = omega arith
+-- an event with such numbers has no moment that is too great
+timed_within : (version : ℕ) (e : Event) (o : Option ℕ) → AreWithin (columns version (kind_of e)) (event_numbers e ++ count_numbers o) → moment e ≤ MAX_AT
+timed_within version (Start op worker at) o h = h.2.2.1
+timed_within version (Finish op worker at front) o h = h.2.2.1
+timed_within version (Halt worker) o h = omega arith
+
+-- nor has one that a line tells
+timed : (version : ℕ) (line : List ℕ) (l : Logged) → IsLogged version line l → moment l.event ≤ MAX_AT
+timed version line l s = timed_within version l.event l.rows (within (columns version (kind_of l.event)) (drop 1 (fields line)) (event_numbers l.event ++ count_numbers l.rows) s.numbers)
 
 -- a header says that there is a worker, and not too many
-few_workers : (fs : List (List ℕ)) (head : LogHead) → IsHead fs head → (1 ≤ head.workers) × (head.workers ≤ MAX_WORKERS)
-few_workers fs head s = (let h : AreWithin 1 head_columns (head.version ∷ head.workers ∷ []) = within 1 head_columns (drop 1 fs) (head.version ∷ head.workers ∷ []) s.numbers in (h.2.0, h.2.1))
+few_workers : (fs : List (List ℕ)) (head : Header) → IsHeader fs head → (1 ≤ head.workers) × (head.workers ≤ MAX_WORKERS)
+few_workers fs head s = (let h : CanBeHeader head = within (version_column ∷ header_columns head.version) (drop 1 fs) (header_numbers head) s.numbers in (h.2.0, h.2.1))
 
-known_workers : (ls : List (List ℕ)) (head : LogHead) → Knows None log_language.heads ls (Some head) → (1 ≤ head.workers) × (head.workers ≤ MAX_WORKERS)
+known_workers : (ls : List (List ℕ)) (head : Header) → Knows None log_language.heads ls (Some head) → (1 ≤ head.workers) × (head.workers ≤ MAX_WORKERS)
 known_workers [] head e = absurd cc
-known_workers (l ∷ ls) head (k, is, e) = few_workers (fields l) head (subst (λ (x : LogHead). IsHead (fields l) x) (same k head e) is)
+known_workers (l ∷ ls) head (k, is, e) = few_workers (fields l) head (subst (λ (x : Header). IsHeader (fields l) x) (same k head e) is)
   where
-    same : (k head : LogHead) → Some head ≡ Some k → k ≡ head
+    same : (k head : Header) → Some head ≡ Some k → k ≡ head
     same k head e = cc
+
+-- what holds of each event that is told holds of the events
+events_all : (P : Event → Type 0) (xs : List Logged) → All (λ l. P l.event) xs → All P (events_of xs)
+events_all P [] h = All-nil P
+events_all P (x ∷ xs) h = All-cons P x.event (events_of xs) (All-head (λ l. P l.event) x xs h) (events_all P xs (All-tail (λ l. P l.event) x xs h))
 
 -- a log that is told can be audited
 auditable : (held : Option (List ℕ)) (log : Log) → IsLogOf held log.workers log.events.items → IsAuditable log
 auditable None log h = absurd h
-auditable (Some bytes) log (head, says, e) =
-    let few = known_workers (filled (lines bytes)) head (says_knows log_language (lines bytes) None (Some head) 0 log.events.items says) in
+auditable (Some bytes) log (head, logged, says, told, e) =
+    let few = known_workers (filled (lines bytes)) head (says_knows log_language (lines bytes) None (Some head) 0 logged says) in
+    let each = says_all log_language (λ l. moment l.event ≤ MAX_AT) (λ k number line x s. timed k.version line x s) (lines bytes) None (Some head) 0 logged says in
     record {
       some_worker = subst (λ (n : ℕ). 1 ≤ n) e few.0;
       few_workers = subst (λ (n : ℕ). n ≤ MAX_WORKERS) e few.1;
-      timed = says_all log_language (λ x. moment x ≤ MAX_AT) (λ k number line x s. timed k.version (fields line) x s) (lines bytes) None (Some head) 0 log.events.items says;
+      timed = subst (λ (es : List Event). All (λ e. moment e ≤ MAX_AT) es) told (events_all (λ e. moment e ≤ MAX_AT) logged each);
     }
 
 pub answer_auditable : (contents : Option Files) (name : List ℕ) (log : Log) → IsLogAnswer contents name (Ok log) → IsAuditable log
@@ -107,16 +123,16 @@ answer_auditable contents name log a = auditable a.0 log a.3
 abbrev pub nothing : Used
 nothing = record { bytes = 0; rows = 0 }
 
-pub log_err : (contents : Option Files) (name : List ℕ) (start : List Event) (known : Option LogHead) (load : Load) → IsKnownAnswer log_format HasHeard contents name log_file nothing [] start known (Err load) → IsLogAnswer contents name (Err load)
+pub log_err : (contents : Option Files) (name : List ℕ) (start : List Event) (known : Option Header) (load : Load) → IsKnownAnswer log_format HasHeard contents name log_file nothing [] start known (Err load) → IsLogAnswer contents name (Err load)
 log_err contents name start known (Refused r) a = (Some a.0, a.1, a.2)
 log_err contents name start known ReadFault a = tt
 log_err contents name start known Memory a = tt
 
-pub log_absent : (contents : Option Files) (name : List ℕ) (start : List Event) (known : Option LogHead) (file_sink : List Event) → IsKnownAnswer log_format HasHeard contents name log_file nothing [] start known (Ok (found.Absent file_sink))
+pub log_absent : (contents : Option Files) (name : List ℕ) (start : List Event) (known : Option Header) (file_sink : List Event) → IsKnownAnswer log_format HasHeard contents name log_file nothing [] start known (Ok (found.Absent file_sink))
     → IsLogAnswer contents name (Err (Refused (Absent log_file)))
 log_absent contents name start known file_sink a = (None, a.0, inl refl)
 
-pub log_ok : (contents : Option Files) (name : List ℕ) (start : List Event) (known : Option LogHead) (head : LogHead) (file_sink : List Event) (used : Used) (log : Log)
+pub log_ok : (contents : Option Files) (name : List ℕ) (start : List Event) (known : Option Header) (head : Header) (file_sink : List Event) (used : Used) (log : Log)
     → IsKnownAnswer log_format HasHeard contents name log_file nothing [] start known (Ok (found.Whole file_sink used)) → known ≡ Some head → log.workers ≡ head.workers → log.events.items ≡ file_sink → IsLogAnswer contents name (Ok log)
 log_ok contents name start known head file_sink used log a e w h =
     let t = a.3.0 in
@@ -124,17 +140,17 @@ log_ok contents name start known head file_sink used log a e w h =
       Some a.0,
       a.1,
       t.clean,
-      (t.says.0, subst (λ (xs : List Event). Says log_language None 0 (lines a.0) xs (Some t.says.0)) (sym (h ∙ t.tells)) t.says.1, sym (w ∙ ap (λ (x : LogHead). x.workers) same)),
+      (t.says.0, t.mine, t.says.1, sym (h ∙ t.tells), sym (w ∙ ap (λ (x : Header). x.workers) same)),
     )
   where
-    same_head : (o : Option LogHead) (x y : LogHead) → o ≡ Some x → o ≡ Some y → x ≡ y
+    same_head : (o : Option Header) (x y : Header) → o ≡ Some x → o ≡ Some y → x ≡ y
     same_head o x y p q = cc
 
 -- where a file is whole, its header is known
-pub some_known : (contents : Option Files) (name : List ℕ) (start : List Event) (known : Option LogHead) (file_sink : List Event) (used : Used) → IsKnownAnswer log_format HasHeard contents name log_file nothing [] start known (Ok (found.Whole file_sink used)) → known ≡ None → ⊥
+pub some_known : (contents : Option Files) (name : List ℕ) (start : List Event) (known : Option Header) (file_sink : List Event) (used : Used) → IsKnownAnswer log_format HasHeard contents name log_file nothing [] start known (Ok (found.Whole file_sink used)) → known ≡ None → ⊥
 some_known contents name start known file_sink used a none = none_some known a.3.0.says.0 none a.3.1
   where
-    none_some : (o : Option LogHead) (x : LogHead) → o ≡ None → o ≡ Some x → ⊥
+    none_some : (o : Option Header) (x : Header) → o ≡ None → o ≡ Some x → ⊥
     none_some o x p q = cc
 
 -- ---- the laws
@@ -149,11 +165,11 @@ module _ (lawful : Lawful log_format) where
   pub says_one_log : LogSaysOne
   says_one_log None w v h g a b = absurd a
   says_one_log (Some bytes) w v h g a b =
-      let one = says_one log_format lawful log_file (lines bytes) h g (Some a.0) (Some b.0) a.1 b.1 in
+      let one = says_one log_format lawful log_file (lines bytes) a.1 b.1 (Some a.0) (Some b.0) a.2 b.2 in
       let same : a.0 ≡ b.0 = same_head a.0 b.0 one.1 in
-      (sym a.2 ∙ ap (λ (x : LogHead). x.workers) same ∙ b.2, one.0)
+      (sym a.4 ∙ ap (λ (x : Header). x.workers) same ∙ b.4, sym a.3 ∙ ap events_of one.0 ∙ b.3)
     where
-      same_head : (x y : LogHead) → Some x ≡ Some y → x ≡ y
+      same_head : (x y : Header) → Some x ≡ Some y → x ≡ y
       same_head x y p = cc
 
 pub refused_or_not : RefusedOrNot

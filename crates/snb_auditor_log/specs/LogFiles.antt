@@ -1,7 +1,9 @@
 -- What the file of a log says, what it is refused for, and what its reading answers.
-use Rattle.std.specs.Prelude.{◌≡◌, ◌++◌, ℕ, ◌≤◌, List, [], ◌∷◌, All, Option, None, Some, Result, Ok, Err}
+use Rattle.std.specs.Prelude.{◌≡◌, ◌++◌, ℕ, ◌≤◌, List, [], ◌∷◌, All, Option, None, Some, Result, Ok, Err, map}
 use Rattle.snb_base.specs.Shelf.{Files}
 use Rattle.snb_history.specs.declared.event.Event.{Event}
+use Rattle.snb_history.specs.declared.logged.Header.{Header}
+use Rattle.snb_history.specs.declared.logged.Logged.{Logged}
 use Rattle.snb_schema.specs.declared.limits.TheConstants.{MAX_AT, MAX_WORKERS}
 use Rattle.snb_schema.specs.declared.refusal.Refusal.{Refusal}
 use Rattle.snb_schema.specs.declared.refusal.Refusal.TheVariants.{Absent}
@@ -14,16 +16,15 @@ use Rattle.snb_base.specs.FirstOf.{FirstOf, NoneOf}
 use Rattle.snb_input_files.specs.Format.{Format, IsFileSink, Rules}
 use Rattle.snb_input_files.specs.Loading.{IsTold}
 use Rattle.snb_input_files.specs.Places.{LinesSay, file_checks, opening}
-use Rattle.snb_runlog.specs.declared.head.LogHead.{LogHead}
 use Rattle.snb_runlog.specs.Lines.{log_file, log_language}
 use Rattle.snb_auditor_log.specs.declared.log.Log.{Log}
 
 -- events are refused for nothing but their lines: there may be any number of them, and none
-abbrev pub log_rules : Rules Event
+abbrev pub log_rules : Rules Logged
 log_rules = record { limit = None; own = λ file done mine x r. ⊥; bare = λ file items. None }
 
 -- what a log says, and what it is refused for
-abbrev pub log_format : Format LogHead Event
+abbrev pub log_format : Format Header Logged
 log_format = record { language = λ file. log_language; rules = log_rules }
 
 -- what is tried of a log, in order: whether it is held, then its lines, then whether it has a header
@@ -31,10 +32,16 @@ abbrev pub log_checks : Option (List ℕ) → List {1} (Refusal → Type 0)
 log_checks None = (λ r. r ≡ Absent log_file) ∷ []
 log_checks (Some bytes) = file_checks log_format (opening log_file 0 0 [] bytes) bytes
 
--- a log is held, and its lines say that there are so many workers, and this history
+-- the events of what a log tells
+abbrev pub events_of : List Logged → List Event
+events_of logged = map (λ l. l.event) logged
+
+-- a log of either version is held, and its lines say that there are so many workers, and what has this history
 abbrev pub IsLogOf : Option (List ℕ) → ℕ → List Event → Type 0
 IsLogOf None workers history = ⊥
-IsLogOf (Some bytes) workers history = (head : LogHead) × LinesSay log_format log_file (lines bytes) history (Some head) × (head.workers ≡ workers)
+IsLogOf (Some bytes) workers history =
+    (head : Header) × (logged : List Logged) × LinesSay log_format log_file (lines bytes) logged (Some head)
+    × (events_of logged ≡ history) × (head.workers ≡ workers)
 
 -- what the reading of a log answers: this is held under the name, where the shelf tells what it holds, of which nothing is wrong and this
 -- is what it says, or which is refused so
@@ -51,16 +58,16 @@ pub record IsAuditable (log : Log) : Type 0 where
   pub few_workers : log.workers ≤ MAX_WORKERS
   pub timed : All (λ e. moment e ≤ MAX_AT) log.events.items
 
--- the events so far are what the file said so far
-abbrev pub HasHeard : List Event → List (List Event) → List Event → Type 0
-HasHeard s done mine = s ≡ mine
+-- the events so far are those of what the file said so far
+abbrev pub HasHeard : List Event → List (List Logged) → List Logged → Type 0
+HasHeard s done mine = s ≡ events_of mine
 
--- an event comes after those before
-abbrev pub TakesEvent : Takes (List Event) Event
-TakesEvent old file x new = new ≡ old ++ x ∷ []
+-- an event comes after those before, without its count
+abbrev pub TakesEvent : Takes (List Event) Logged
+TakesEvent old file x new = new ≡ old ++ x.event ∷ []
 
 -- none is refused
-abbrev pub RefusesEvent : Refuses (List Event) Event
+abbrev pub RefusesEvent : Refuses (List Event) Logged
 RefusesEvent old file x r = ⊥
 
 -- what takes the events of a log is a file_sink of its file

@@ -11,8 +11,9 @@ use snb_history::Schedule;
 use snb_input_files::Load;
 use std::alloc::Global;
 
-/// The verdict on the log of this path, whose operations are those of the schedule. The whole log is
-/// read before any verdict: with a log that is refused there is none. The errors are those of
+/// The verdict on the log of this path, of version 1 or 2, whose operations are those of the schedule. The
+/// whole log is read before any verdict: with a log that is refused there is none. The counts of a log of
+/// version 2 are read and not judged. The errors are those of
 /// `load_log`.
 pub fn audit_log<S: Shelf>(
     alloc: Global,

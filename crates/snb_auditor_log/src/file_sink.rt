@@ -4,7 +4,7 @@ ghost use Rattle.std.specs.Prelude.{◌≡◌, []};
 ghost use Rattle.snb_input_files.specs.Format.{Lawful};
 ghost use Rattle.snb_auditor_log.specs.LogFiles.{IsLogFileSink, log_format};
 
-use snb_history::Event;
+use snb_history::{Event, Logged};
 use snb_input_files::FileSink;
 use snb_input_lines::Sink;
 use snb_runlog::LogLines;
@@ -13,7 +13,7 @@ use snb_schema::{Fault, FileId, Refusal};
 use std::alloc::{AllocError, Global};
 use std::marker::Model;
 
-/// Takes the events of a log in order.
+/// Takes the events of a log in order, without their counts.
 pub(crate) struct LogFileSink {
     alloc: Global,
     events: Vec<Event>,
@@ -67,7 +67,7 @@ pub(crate) fn log_is_lawful()
     event_or_column();
 }
 
-impl Sink<Event> for LogFileSink {
+impl Sink<Logged> for LogFileSink {
     ghost use Rattle.std.specs.Prelude.{◌≡◌, [], None, refl};
     ghost use Rattle.snb_auditor_log.specs.LogFiles.{RefusesEvent, TakesEvent};
 
@@ -83,8 +83,8 @@ impl Sink<Event> for LogFileSink {
 
     ghost turns = { λ _ new. new ≡ [] };
 
-    fn put(&mut self, _file: FileId, item: Event) -> Result<(), Fault> {
-        self.events.push(item)?;
+    fn put(&mut self, _file: FileId, item: Logged) -> Result<(), Fault> {
+        self.events.push(item.event)?;
         Ok(())
     }
 

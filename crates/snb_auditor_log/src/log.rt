@@ -31,8 +31,9 @@ impl Drop for Log {
     }
 }
 
-/// Reads the log of this path. It is read in pieces, and of what was read the events are kept alone. A
-/// log has 268,435,456 bytes at most, from one to `MAX_WORKERS` workers, and no moment after `MAX_AT`.
+/// Reads the log of this path, of version 1 or 2. It is read in pieces, and of what was read the events are
+/// kept alone, without counts: logs of either version with the same events and workers say the same. A log
+/// has 268,435,456 bytes at most, from one to `MAX_WORKERS` workers, and no moment after `MAX_AT`.
 ///
 /// `Refused` is the first thing wrong: it isn't held (`Absent`); the first of its lines that is refused;
 /// no line has a byte (`NoHeader`). A line is refused, where it has a byte, for the first of these: bytes

@@ -1,7 +1,9 @@
 mod NumberFacts
 mod LineFacts
 mod EventFacts
+mod HeaderFacts
 mod OwnFacts
+mod LogLemmas
 mod BackFacts
 mod WriteFacts
-mod LogLemmas
+mod ReaderFacts

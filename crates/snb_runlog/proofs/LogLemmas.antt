@@ -1,17 +1,23 @@
--- Facts on logs.
-use Rattle.std.proofs.Common.{◌≡◌, ℕ, ◌<◌, ◌^◌, List, [], ◌∷◌, ◌++◌, codes, refl, sym, ◌∙◌, subst, arith}
+-- Logs that are the same text are the same.
+use Rattle.std.proofs.Common.{◌≡◌, ◌∙◌, ℕ, ◌<◌, ◌^◌, List, [], ◌∷◌, ◌++◌, Some, codes, refl, sym, ap, subst, arith, append_assoc}
 use Rattle.std.specs.Fmt.{decimal}
 use Rattle.std.specs.Int.{IsInRange}
 use Rattle.std.specs.List.{flat_map, All}
 use Rattle.std.specs.Str.Parse.{AllDigits}
 use Rattle.std.proofs.lemmas.Fmt.{decimal_is_IsNumeral, decimal_injective}
-use Rattle.std.proofs.lemmas.List.{append_assoc, append_cancel_left}
-use Rattle.std.proofs.lemmas.List.Elements.{All-head, All-tail}
+use Rattle.std.proofs.lemmas.List.{append_cancel_left}
+use Rattle.std.proofs.lemmas.List.Elements.{All-from_recursion, All-head, All-tail}
 use Rattle.std.proofs.lemmas.Str.Parse.{tells_digits}
-use Rattle.snb_history.specs.declared.event.Event.{Event}
-use Rattle.snb_history.specs.declared.event.Event.TheVariants.{Start, Finish, Halt}
-use Rattle.snb_history.specs.RunTexts.{event_line, log_text}
-use Rattle.snb_runlog.specs.Laws.{IsWritten, LogIsOfOneHistory}
+use Rattle.snb_history.specs.declared.logged.Header.{Header}
+use Rattle.snb_history.specs.declared.logged.Logged.{Logged}
+use Rattle.snb_history.specs.RunTexts.{header_of, logged_line, text_of_log}
+use Rattle.snb_runlog.specs.declared.columns.EventKind.{EventKind}
+use Rattle.snb_runlog.specs.Columns.{header_numbers, kind_of, letter_of, log_name, numbers_of}
+use Rattle.snb_runlog.specs.Laws.{AreWritten, IsWritten, LogIsOfOneHistory, TextIsOfOneLog, line_of}
+use Rattle.snb_runlog.specs.Writing.{cells_text}
+use Rattle.snb_runlog.proofs.EventFacts.{letter_some, one_kind, same_logged}
+use Rattle.snb_runlog.proofs.HeaderFacts.{same_header}
+use Rattle.snb_runlog.proofs.OwnFacts.{header_written, line_written}
 
 -- digits end before the first byte that is no digit
 digits_end : (ds es : List ℕ) (x y : ℕ) (xs ys : List ℕ) → AllDigits 10 ds → AllDigits 10 es → ¬ IsInRange 48 57 x → ¬ IsInRange 48 57 y → ds ++ x ∷ xs ≡ es ++ y ∷ ys →
@@ -24,86 +30,114 @@ digits_end (c ∷ ds) (k ∷ es) x y xs ys a b p q e =
     let rest = digits_end ds es x y xs ys (tells_digits.parts c ds a).1 (tells_digits.parts k es b).1 p q cc in
     ((λ i. same i ∷ rest.0 i), rest.1)
 
--- numbers that the same byte ends, which is no digit, are the same where the texts are
-number_end : (t m n : ℕ) (xs ys : List ℕ) → ¬ IsInRange 48 57 t → m < 2 ^ 64 → n < 2 ^ 64 → decimal m ++ t ∷ xs ≡ decimal n ++ t ∷ ys → (m ≡ n) × (xs ≡ ys)
-number_end t m n xs ys stops a b e =
-    let parts = digits_end (decimal m) (decimal n) t t xs ys (decimal_is_IsNumeral m a).0.1 (decimal_is_IsNumeral n b).0.1 stops stops e in
-    (decimal_injective m n a b parts.0, let rest : t ∷ xs ≡ t ∷ ys = parts.1 in cc)
+-- numbers with bars before them, and then a line end and what follows it
+abbrev onto : List ℕ → List ℕ → List ℕ
+onto [] rest = 10 ∷ rest
+onto (n ∷ ns) rest = 124 ∷ (decimal n ++ onto ns rest)
 
--- a bar is no digit
-bar : ¬ IsInRange 48 57 124
-bar r = omega (arith, r.1)
+cells_onto : (ns rest : List ℕ) → cells_text ns ++ 10 ∷ rest ≡ onto ns rest
+cells_onto [] rest = refl
+cells_onto (n ∷ ns) rest = ap (λ (t : List ℕ). 124 ∷ t) (append_assoc (decimal n) (cells_text ns) (10 ∷ rest) ∙ ap (λ (t : List ℕ). decimal n ++ t) (cells_onto ns rest))
 
--- nor is a line end
-line_end : ¬ IsInRange 48 57 10
-line_end r = omega (arith, r.0)
+-- these begin with a byte that is no digit
+record Begins (text : List ℕ) : Type 0 where
+  first : ℕ
+  more : List ℕ
+  is : text ≡ first ∷ more
+  no_digit : ¬ IsInRange 48 57 first
 
--- a Start's line and what follows it, with each number before the byte that ends it
-pub start_line : (op worker at : ℕ) (rest : List ℕ) → event_line (Start op worker at) ++ rest ≡ 83 ∷ 124 ∷ (decimal op ++ 124 ∷ (decimal worker ++ 124 ∷ (decimal at ++ 10 ∷ rest)))
-start_line op worker at rest = simp append_assoc
+onto_begins : (ns rest : List ℕ) → Begins (onto ns rest)
+onto_begins [] rest = record { first = 10; more = rest; is = refl; no_digit = λ r. omega (arith, r.0) }
+onto_begins (n ∷ ns) rest = record { first = 124; more = decimal n ++ onto ns rest; is = refl; no_digit = λ r. omega (arith, r.1) }
 
--- the same of a Finish
-pub finish_line : (op worker at front : ℕ) (rest : List ℕ) → event_line (Finish op worker at front) ++ rest ≡ 70 ∷ 124 ∷ (decimal op ++ 124 ∷ (decimal worker ++ 124 ∷ (decimal at ++ 124 ∷ (decimal front ++ 10 ∷ rest))))
-finish_line op worker at front rest = simp append_assoc
-
--- the same of a Halt
-pub halt_line : (worker : ℕ) (rest : List ℕ) → event_line (Halt worker) ++ rest ≡ 72 ∷ 124 ∷ (decimal worker ++ 10 ∷ rest)
-halt_line worker rest = simp append_assoc
-
--- texts that are the same are so after their first two bytes
-after_two : (x y : ℕ) (xs ys : List ℕ) → x ∷ y ∷ xs ≡ x ∷ y ∷ ys → xs ≡ ys
-after_two x y xs ys e = cc
+-- numbers before such texts are the same where both together are
+number_end : (m n : ℕ) (xs ys : List ℕ) → Begins xs → Begins ys → m < 2 ^ 64 → n < 2 ^ 64 → decimal m ++ xs ≡ decimal n ++ ys → (m ≡ n) × (xs ≡ ys)
+number_end m n xs ys p q a b e =
+    let both : decimal m ++ p.first ∷ p.more ≡ decimal n ++ q.first ∷ q.more = sym (ap (λ (t : List ℕ). decimal m ++ t) p.is) ∙ (e ∙ ap (λ (t : List ℕ). decimal n ++ t) q.is) in
+    let parts = digits_end (decimal m) (decimal n) p.first q.first p.more q.more (decimal_is_IsNumeral m a).0.1 (decimal_is_IsNumeral n b).0.1 p.no_digit q.no_digit both in
+    (decimal_injective m n a b parts.0, p.is ∙ parts.1 ∙ sym q.is)
 
 -- texts that begin with different bytes aren't the same
 differ : {A : Type 0} (x y : ℕ) (xs ys : List ℕ) → (x ≡ y → ⊥) → x ∷ xs ≡ y ∷ ys → A
 differ x y xs ys other e = absurd (let same : x ≡ y = cc in other same)
 
--- texts that begin with the lines of events begin with the same event where they are the same, and then go on alike
-same_line : (d e : Event) (xs ys : List ℕ) → IsWritten d → IsWritten e → event_line d ++ xs ≡ event_line e ++ ys → (d ≡ e) × (xs ≡ ys)
-same_line (Start a b c) (Start k l m) xs ys u v q =
-    let op = number_end 124 a k _ _ bar u.0 v.0 (after_two 83 124 _ _ (sym (start_line a b c xs) ∙ (q ∙ start_line k l m ys))) in
-    let worker = number_end 124 b l _ _ bar u.1 v.1 op.1 in
-    let at = number_end 10 c m _ _ line_end u.2 v.2 worker.1 in
-    ((λ i. Start (op.0 i) (worker.0 i) (at.0 i)), at.1)
-same_line (Finish a b c d) (Finish k l m n) xs ys u v q =
-    let op = number_end 124 a k _ _ bar u.0 v.0 (after_two 70 124 _ _ (sym (finish_line a b c d xs) ∙ (q ∙ finish_line k l m n ys))) in
-    let worker = number_end 124 b l _ _ bar u.1 v.1 op.1 in
-    let at = number_end 124 c m _ _ bar u.2 v.2 worker.1 in
-    let front = number_end 10 d n _ _ line_end u.3 v.3 at.1 in
-    ((λ i. Finish (op.0 i) (worker.0 i) (at.0 i) (front.0 i)), front.1)
-same_line (Halt a) (Halt k) xs ys u v q =
-    let worker = number_end 10 a k _ _ line_end u v (after_two 72 124 _ _ (sym (halt_line a xs) ∙ (q ∙ halt_line k ys))) in
-    ((λ i. Halt (worker.0 i)), worker.1)
-same_line (Start a b c) (Finish k l m n) xs ys u v q = differ 83 70 _ _ (λ z. omega arith) (sym (start_line a b c xs) ∙ (q ∙ finish_line k l m n ys))
-same_line (Start a b c) (Halt k) xs ys u v q = differ 83 72 _ _ (λ z. omega arith) (sym (start_line a b c xs) ∙ (q ∙ halt_line k ys))
-same_line (Finish a b c d) (Start k l m) xs ys u v q = differ 70 83 _ _ (λ z. omega arith) (sym (finish_line a b c d xs) ∙ (q ∙ start_line k l m ys))
-same_line (Finish a b c d) (Halt k) xs ys u v q = differ 70 72 _ _ (λ z. omega arith) (sym (finish_line a b c d xs) ∙ (q ∙ halt_line k ys))
-same_line (Halt a) (Start k l m) xs ys u v q = differ 72 83 _ _ (λ z. omega arith) (sym (halt_line a xs) ∙ (q ∙ start_line k l m ys))
-same_line (Halt a) (Finish k l m n) xs ys u v q = differ 72 70 _ _ (λ z. omega arith) (sym (halt_line a xs) ∙ (q ∙ finish_line k l m n ys))
+-- lists of numbers before a line end are the same where the texts are, and then the texts go on alike
+numbers_end : (ms ns xs ys : List ℕ) → All (λ n. n < 2 ^ 64) ms → All (λ n. n < 2 ^ 64) ns → onto ms xs ≡ onto ns ys → (ms ≡ ns) × (xs ≡ ys)
+numbers_end [] [] xs ys u v e = (refl, cc)
+numbers_end [] (n ∷ ns) xs ys u v e = differ 10 124 _ _ (λ z. omega arith) e
+numbers_end (m ∷ ms) [] xs ys u v e = differ 124 10 _ _ (λ z. omega arith) e
+numbers_end (m ∷ ms) (n ∷ ns) xs ys u v e =
+    let after : decimal m ++ onto ms xs ≡ decimal n ++ onto ns ys = cc in
+    let first = number_end m n (onto ms xs) (onto ns ys) (onto_begins ms xs) (onto_begins ns ys) (All-head (λ n. n < 2 ^ 64) m ms u) (All-head (λ n. n < 2 ^ 64) n ns v) after in
+    let rest = numbers_end ms ns xs ys (All-tail (λ n. n < 2 ^ 64) m ms u) (All-tail (λ n. n < 2 ^ 64) n ns v) first.1 in
+    (λ i. first.0 i ∷ rest.0 i, rest.1)
 
--- a text that begins with an event's line isn't empty
-no_line : (e : Event) (rest : List ℕ) → event_line e ++ rest ≡ [] → ⊥
-no_line (Start a b c) rest q = cc
-no_line (Finish a b c d) rest q = cc
-no_line (Halt a) rest q = cc
+-- letters before texts are the same where both together are
+letter_end : (k j : EventKind) (xs ys : List ℕ) → letter_of k ++ xs ≡ letter_of j ++ ys → (k ≡ j) × (xs ≡ ys)
+letter_end k j xs ys e =
+    let a = letter_some k in
+    let b = letter_some j in
+    let both : a.0 ∷ xs ≡ b.0 ∷ ys = sym (ap (λ (t : List ℕ). t ++ xs) a.1) ∙ (e ∙ ap (λ (t : List ℕ). t ++ ys) b.1) in
+    let byte : a.0 ≡ b.0 = cc in
+    let letters : letter_of k ≡ letter_of j = a.1 ∙ ap (λ (c : ℕ). c ∷ []) byte ∙ sym b.1 in
+    (one_kind k j letters, cc)
 
--- lines that are the same text are of the same events
-same_lines : (g h : List Event) → All IsWritten g → All IsWritten h → flat_map event_line g ≡ flat_map event_line h → g ≡ h
+-- a line and what follows it
+line_onto : (l : Logged) (rest : List ℕ) → logged_line l ++ rest ≡ letter_of (kind_of l.event) ++ onto (numbers_of l) rest
+line_onto l rest =
+    ap (λ (t : List ℕ). t ++ rest) (line_written l)
+    ∙ append_assoc (line_of l) (codes "\n") rest
+    ∙ append_assoc (letter_of (kind_of l.event)) (cells_text (numbers_of l)) (10 ∷ rest)
+    ∙ ap (λ (t : List ℕ). letter_of (kind_of l.event) ++ t) (cells_onto (numbers_of l) rest)
+
+-- texts that begin with lines tell the same first where they are the same, and then go on alike
+same_line : (d e : Logged) (xs ys : List ℕ) → IsWritten d → IsWritten e → logged_line d ++ xs ≡ logged_line e ++ ys → (d ≡ e) × (xs ≡ ys)
+same_line d e xs ys u v q =
+    let letter = letter_end (kind_of d.event) (kind_of e.event) (onto (numbers_of d) xs) (onto (numbers_of e) ys) (sym (line_onto d xs) ∙ (q ∙ line_onto e ys)) in
+    let numbers = numbers_end (numbers_of d) (numbers_of e) xs ys u v letter.1 in
+    (same_logged d e letter.0 numbers.0, numbers.1)
+
+-- a text that begins with a line isn't empty
+no_line : (l : Logged) (rest : List ℕ) → logged_line l ++ rest ≡ [] → ⊥
+no_line l rest q =
+    let letter = letter_some (kind_of l.event) in
+    let none : letter.0 ∷ onto (numbers_of l) rest ≡ [] = sym (ap (λ (t : List ℕ). t ++ onto (numbers_of l) rest) letter.1) ∙ (sym (line_onto l rest) ∙ q) in
+    cc
+
+-- lines that are the same text tell the same
+same_lines : (g h : List Logged) → All IsWritten g → All IsWritten h → flat_map logged_line g ≡ flat_map logged_line h → g ≡ h
 same_lines [] [] a b q = refl
-same_lines [] (e ∷ h) a b q = absurd (no_line e (flat_map event_line h) (sym q))
-same_lines (d ∷ g) [] a b q = absurd (no_line d (flat_map event_line g) q)
+same_lines [] (e ∷ h) a b q = absurd (no_line e (flat_map logged_line h) (sym q))
+same_lines (d ∷ g) [] a b q = absurd (no_line d (flat_map logged_line g) q)
 same_lines (d ∷ g) (e ∷ h) a b q =
-    let line = same_line d e (flat_map event_line g) (flat_map event_line h) (All-head IsWritten d g a) (All-head IsWritten e h b) q in
+    let line = same_line d e (flat_map logged_line g) (flat_map logged_line h) (All-head IsWritten d g a) (All-head IsWritten e h b) q in
     let rest = same_lines g h (All-tail IsWritten d g a) (All-tail IsWritten e h b) line.1 in
     λ i. line.0 i ∷ rest i
 
--- a log begins with its number of workers, which a line end ends
-log_opens : (w : ℕ) (h : List Event) → log_text w h ≡ codes "snblog|1|" ++ (decimal w ++ 10 ∷ flat_map event_line h)
-log_opens w h = simp append_assoc
+-- a log begins with its name and the numbers of its header
+log_opens : (head : Header) (h : List Logged) → text_of_log head h ≡ log_name ++ onto (header_numbers head) (flat_map logged_line h)
+log_opens head h =
+    let rest = flat_map logged_line h in
+    ap (λ (t : List ℕ). t ++ rest) (header_written head)
+    ∙ append_assoc (log_name ++ cells_text (header_numbers head)) (codes "\n") rest
+    ∙ append_assoc log_name (cells_text (header_numbers head)) (10 ∷ rest)
+    ∙ ap (λ (t : List ℕ). log_name ++ t) (cells_onto (header_numbers head) rest)
+
+-- a text is one log's alone
+pub text_of_one : TextIsOfOneLog
+text_of_one a b g h u v m n q =
+    let whole = append_cancel_left log_name _ _ (sym (log_opens a g) ∙ (q ∙ log_opens b h)) in
+    let head = numbers_end (header_numbers a) (header_numbers b) (flat_map logged_line g) (flat_map logged_line h) u v whole in
+    (same_header a b head.0, same_lines g h m n head.1)
 
 -- a log is the text of one history alone
 pub log_of_one : LogIsOfOneHistory
-log_of_one w v g h a b small few q =
-    let whole = append_cancel_left (codes "snblog|1|") _ _ (sym (log_opens w g) ∙ (q ∙ log_opens v h)) in
-    let workers = number_end 10 w v _ _ line_end (omega arith) (omega arith) whole in
-    (workers.0, same_lines g h a b workers.1)
+log_of_one w v m n g h a b small few short less q =
+    let one = text_of_one (header_of w m) (header_of v n) g h (written w m small short) (written v n few less) a b q in
+    (ap (λ (x : Header). x.workers) one.0, some_one m n (ap (λ (x : Header). x.operations) one.0), one.1)
+  where
+    written : (k o : ℕ) → k < 2 ^ 32 → o < 2 ^ 32 → AreWritten (header_numbers (header_of k o))
+    written k o p r = All-from_recursion (λ n. n < 2 ^ 64) (header_numbers (header_of k o)) (omega arith, (omega arith, (omega arith, tt)))
+
+    some_one : (k o : ℕ) → Some k ≡ Some o → k ≡ o
+    some_one k o e = cc

@@ -18,7 +18,7 @@ Decided P = P ⊎ ¬ P
 abbrev pub Found : {A : Type 0} → (A → Type 0) → Type 0
 Found {A} P = ((a : A) × P a) ⊎ ((a : A) → ¬ P a)
 
-both : {P Q : Type 0} → Decided P → Decided Q → Decided (P × Q)
+pub both : {P Q : Type 0} → Decided P → Decided Q → Decided (P × Q)
 both (inl p) (inl q) = inl (p, q)
 both (inl p) (inr never) = inr (λ h. never h.1)
 both (inr never) q = inr (λ h. never h.0)
@@ -52,17 +52,17 @@ number_found x most = elim (both (all_digits x) (both (is_less 0 (length x)) (bo
 ]
 
 -- a text is one number at most
-pub one_number : (least most : ℕ) (x : List ℕ) (m n : ℕ) → IsNumber least most x m → IsNumber least most x n → m ≡ n
-one_number least most x m n s t = s.0.value ∙ sym t.0.value
+pub one_number : (column : ℕ × ℕ) (x : List ℕ) (m n : ℕ) → IsNumber column x m → IsNumber column x n → m ≡ n
+one_number column x m n s t = s.0.value ∙ sym t.0.value
 
 -- where the number that a text spells is too low for a column, it spells none of the column
-pub too_low : (least most : ℕ) (x : List ℕ) (m : ℕ) → Num x m most → m < least → (n : ℕ) → ¬ IsNumber least most x n
-too_low least most x m s low n t = (let same : m ≡ n = s.value ∙ sym t.0.value in let high = t.1 in omega arith)
+pub too_low : (column : ℕ × ℕ) (x : List ℕ) (m most : ℕ) → Num x m most → m < column.0 → (n : ℕ) → ¬ IsNumber column x n
+too_low column x m most s low n t = (let same : m ≡ n = s.value ∙ sym t.0.value in let high = t.1 in omega arith)
 
 -- a text spells a number of a column, or it spells none
-pub column_found : (least most : ℕ) (x : List ℕ) → Found (IsNumber least most x)
-column_found least most x = elim (number_found x most) [
-  | inl s ↦ elim (cases_lt s.0 least) [ inl low ↦ inr (too_low least most x s.0 s.1 low) | inr high ↦ inl (s.0, (s.1, high)) ]
+pub column_found : (column : ℕ × ℕ) (x : List ℕ) → Found (IsNumber column x)
+column_found column x = elim (number_found x column.1) [
+  | inl s ↦ elim (cases_lt s.0 column.0) [ inl low ↦ inr (too_low column x s.0 column.1 s.1 low) | inr high ↦ inl (s.0, (s.1, high)) ]
   | inr never ↦ inr (λ n t. never n t.0)
 ]
 

@@ -1,7 +1,6 @@
--- The line that is written of an event or of a header spells it.
-use Rattle.std.proofs.Common.{◌≡◌, ◌≢◌, ◌==◌, ◌&&◌, ◌∙◌, ◌<◌, ◌≤◌, ◌^◌, ℕ, List, [], ◌∷◌, ◌++◌, All, false, map, codes, refl, sym, ap, subst, arith, append_assoc, append-nil}
+-- The line that is written of what a log tells, or of a header, says that.
+use Rattle.std.proofs.Common.{◌≡◌, ◌≢◌, ◌==◌, ◌&&◌, ◌∙◌, ◌<◌, ◌≤◌, ◌^◌, ℕ, List, [], ◌∷◌, ◌++◌, All, Option, None, Some, false, map, codes, refl, sym, ap, subst, arith, append_assoc, append-nil, drop}
 use Rattle.std.proofs.lemmas.Bool.{ne_eqb, eq-eqb}
-use Rattle.std.proofs.lemmas.Fmt.{decimal_digit}
 use Rattle.std.proofs.lemmas.List.Elements.{All-append, All-cons, All-from_recursion, All-nil, All-weaker}
 use Rattle.std.proofs.lemmas.List.Splits.{slice_split_at, slice_split_none}
 use Rattle.std.proofs.lemmas.Str.{IsUtf8-from_ascii}
@@ -12,17 +11,20 @@ use Rattle.snb_base.specs.Calendar.{IsDigit}
 use Rattle.snb_base.specs.Spellings.{Num}
 use Rattle.snb_history.specs.declared.event.Event.{Event}
 use Rattle.snb_history.specs.declared.event.Event.TheVariants.{Start, Finish, Halt}
+use Rattle.snb_history.specs.declared.logged.Header.{Header}
+use Rattle.snb_history.specs.declared.logged.Logged.{Logged}
 use Rattle.snb_schema.specs.Lines.{HasNoBar, HasNoEnd, begins_with_mark, fields}
-use Rattle.snb_history.specs.RunTexts.{event_line}
+use Rattle.snb_history.specs.RunTexts.{count_text, event_text, header_line, logged_line}
+use Rattle.snb_schema.specs.UpdateLines.{field}
 use Rattle.snb_input_lines.specs.Language.{IsText}
 use Rattle.snb_runlog.specs.declared.columns.EventKind.{EventKind}
 use Rattle.snb_runlog.specs.declared.columns.EventKind.TheVariants as kinds
-use Rattle.snb_runlog.specs.Columns.{AreWithin, columns, head_columns, kind_of, letter_of, log_name, numbers_of}
-use Rattle.snb_runlog.specs.Laws.{OwnHead, OwnLine, head_line, head_of, line_of}
-use Rattle.snb_runlog.specs.Lines.{AreNumbers, IsEvent, IsHead}
-use Rattle.snb_runlog.specs.Writing.{cells_text}
-use Rattle.snb_runlog.proofs.EventFacts.{one_event, one_head}
-use Rattle.snb_runlog.proofs.LogLemmas.{finish_line, halt_line, start_line}
+use Rattle.snb_runlog.specs.Columns.{AreWithin, columns, count_columns, count_numbers, event_numbers, header_columns, header_numbers, kind_of, letter_of, log_name, numbers_of, version_column}
+use Rattle.snb_runlog.specs.Laws.{OwnHeader, OwnLine, header_text, line_of}
+use Rattle.snb_runlog.specs.Lines.{AreNumbers, IsHeader, IsLogged}
+use Rattle.snb_runlog.specs.Writing.{cells_text, line_with}
+use Rattle.snb_runlog.proofs.EventFacts.{by_counts, one_event}
+use Rattle.snb_runlog.proofs.HeaderFacts.{one_header}
 
 -- digits spell their number, where 19 suffice
 abbrev pub OwnNumbers : Type 0
@@ -32,17 +34,25 @@ OwnNumbers = (n most : ℕ) → n ≤ most → n < 10 ^ 19 → Num (decimal n) n
 abbrev IsShort : ℕ → Type 0
 IsShort n = n < 10 ^ 19
 
--- the columns have short numbers
-short_columns : (version : ℕ) (kind : EventKind) → AllByRecursion IsShort (columns version kind)
+-- the greatest of a column is one
+abbrev HasShort : ℕ × ℕ → Type 0
+HasShort c = IsShort c.1
+
+-- columns of counts have short numbers
+short_counts : (version : ℕ) → AllByRecursion HasShort (count_columns version)
+short_counts version = by_counts (AllByRecursion HasShort) (omega arith, tt) tt version
+
+-- and so have all columns
+short_columns : (version : ℕ) (kind : EventKind) → AllByRecursion HasShort (columns version kind)
 short_columns version kinds.Start = (omega arith, (omega arith, (omega arith, tt)))
-short_columns version kinds.Finish = (omega arith, (omega arith, (omega arith, (omega arith, tt))))
+short_columns version kinds.Finish = (omega arith, (omega arith, (omega arith, (omega arith, short_counts version))))
 short_columns version kinds.Halt = (omega arith, tt)
 
 -- so numbers that are within them are short
-short_numbers : (least : ℕ) (cs ns : List ℕ) → AllByRecursion IsShort cs → AreWithin least cs ns → AllByRecursion IsShort ns
-short_numbers least [] [] o w = tt
-short_numbers least (c ∷ cs) (n ∷ ns) o w = (let high = w.1 in let short = o.0 in omega arith, short_numbers least cs ns o.1 w.2)
-short_numbers least cs ns o w = absurd w
+short_numbers : (cs : List (ℕ × ℕ)) (ns : List ℕ) → AllByRecursion HasShort cs → AreWithin cs ns → AllByRecursion IsShort ns
+short_numbers [] [] o w = tt
+short_numbers (c ∷ cs) (n ∷ ns) o w = (let high = w.1 in let short = o.0 in omega arith, short_numbers cs ns o.1 w.2)
+short_numbers cs ns o w = absurd w
 
 -- what holds of each digit holds of each byte of digits
 each_digit : OwnNumbers → (P : ℕ → Type 0) → ((b : ℕ) → IsDigit b → P b) → (n : ℕ) → IsShort n → All P (decimal n)
@@ -64,10 +74,10 @@ cells_split own x (n ∷ ns) h s =
     ∙ ap (λ (ts : List (List ℕ)). x ∷ ts) (cells_split own (decimal n) ns (no_bar own n s.0) s.1)
 
 -- the digits of numbers that are within columns spell them
-own_numbers : OwnNumbers → (least : ℕ) (cs ns : List ℕ) → AllByRecursion IsShort cs → AreWithin least cs ns → AreNumbers least cs (map decimal ns) ns
-own_numbers own least [] [] o w = tt
-own_numbers own least (c ∷ cs) (n ∷ ns) o w = ((own n c w.1 (let high = w.1 in let short = o.0 in omega arith), w.0), own_numbers own least cs ns o.1 w.2)
-own_numbers own least cs ns o w = absurd w
+own_numbers : OwnNumbers → (cs : List (ℕ × ℕ)) (ns : List ℕ) → AllByRecursion HasShort cs → AreWithin cs ns → AreNumbers cs (map decimal ns) ns
+own_numbers own [] [] o w = tt
+own_numbers own (c ∷ cs) (n ∷ ns) o w = ((own n c.1 w.1 (let high = w.1 in let short = o.0 in omega arith), w.0), own_numbers own cs ns o.1 w.2)
+own_numbers own cs ns o w = absurd w
 
 -- a byte of ASCII that ends no line
 abbrev IsPlain : ℕ → Type 0
@@ -105,68 +115,96 @@ letter_text kinds.Start rest h = plain_text 83 rest (omega arith) (All-cons IsPl
 letter_text kinds.Finish rest h = plain_text 70 rest (omega arith) (All-cons IsPlain 70 rest (omega arith, omega arith) h)
 letter_text kinds.Halt rest h = plain_text 72 rest (omega arith) (All-cons IsPlain 72 rest (omega arith, omega arith) h)
 
--- numbers with bars before them, and what follows, one after the other
-abbrev onto : List ℕ → List ℕ → List ℕ
-onto [] rest = rest
-onto (n ∷ ns) rest = 124 ∷ (decimal n ++ onto ns rest)
+-- numbers and then more numbers, with bars before them
+cells_append : (ms ns : List ℕ) → cells_text (ms ++ ns) ≡ cells_text ms ++ cells_text ns
+cells_append [] ns = refl
+cells_append (m ∷ ms) ns = ap (λ (t : List ℕ). (124 ∷ decimal m) ++ t) (cells_append ms ns) ∙ sym (append_assoc (124 ∷ decimal m) (cells_text ms) (cells_text ns))
 
-cells_onto : (ns rest : List ℕ) → cells_text ns ++ rest ≡ onto ns rest
-cells_onto [] rest = refl
-cells_onto (n ∷ ns) rest = ap (λ (t : List ℕ). 124 ∷ t) (append_assoc (decimal n) (cells_text ns) rest ∙ ap (λ (t : List ℕ). decimal n ++ t) (cells_onto ns rest))
+-- a count is the text of its number
+count_cells : (o : Option ℕ) → count_text o ≡ cells_text (count_numbers o)
+count_cells None = refl
+count_cells (Some n) = sym (append-nil (124 ∷ decimal n))
 
--- the event's line is its letter, its numbers and a line end
-pub line_written : (e : Event) → event_line e ≡ line_of e ++ codes "\n"
-line_written (Start op worker at) = sym (append-nil (event_line (Start op worker at))) ∙ start_line op worker at [] ∙ ap (λ (t : List ℕ). 83 ∷ t) (sym (cells_onto (op ∷ worker ∷ at ∷ []) (codes "\n")))
-line_written (Finish op worker at front) =
-    sym (append-nil (event_line (Finish op worker at front))) ∙ finish_line op worker at front [] ∙ ap (λ (t : List ℕ). 70 ∷ t) (sym (cells_onto (op ∷ worker ∷ at ∷ front ∷ []) (codes "\n")))
-line_written (Halt worker) = sym (append-nil (event_line (Halt worker))) ∙ halt_line worker [] ∙ ap (λ (t : List ℕ). 72 ∷ t) (sym (cells_onto (worker ∷ []) (codes "\n")))
+-- a line is what it begins with, its numbers and its count's, and a line end
+pub line_is : (first ns : List ℕ) (o : Option ℕ) → line_with first ns o ≡ (first ++ cells_text (ns ++ count_numbers o)) ++ codes "\n"
+line_is first ns o =
+    ap (λ (t : List ℕ). first ++ cells_text ns ++ t ++ codes "\n") (count_cells o)
+    ∙ ap (λ (t : List ℕ). t ++ codes "\n") (append_assoc first (cells_text ns) (cells_text (count_numbers o)) ∙ ap (λ (t : List ℕ). first ++ t) (sym (cells_append ns (count_numbers o))))
+
+-- what the line of an event begins with is its letter and its numbers
+event_cells : (e : Event) → event_text e ≡ letter_of (kind_of e) ++ cells_text (event_numbers e)
+event_cells (Start op worker at) = simp (append_assoc, append-nil)
+event_cells (Finish op worker at front) = simp (append_assoc, append-nil)
+event_cells (Halt worker) = simp append-nil
+
+-- the line of what a log tells, as it is written
+pub logged_with : (l : Logged) → logged_line l ≡ line_with (letter_of (kind_of l.event)) (event_numbers l.event) l.rows
+logged_with l = ap (λ (t : List ℕ). t ++ count_text l.rows ++ codes "\n") (event_cells l.event)
+
+pub line_written : (l : Logged) → logged_line l ≡ line_of l ++ codes "\n"
+line_written l = logged_with l ∙ line_is (letter_of (kind_of l.event)) (event_numbers l.event) l.rows
+
+-- and the line of a header
+pub header_with : (head : Header) → header_line head ≡ line_with log_name (head.version ∷ head.workers ∷ []) head.operations
+header_with head = ap (λ (t : List ℕ). t ++ count_text head.operations ++ codes "\n") (cells head.version head.workers)
+  where
+    cells : (v w : ℕ) → codes "snblog|" ++ decimal v ++ codes "|" ++ decimal w ≡ log_name ++ cells_text (v ∷ w ∷ [])
+    cells v w = simp (append_assoc, append-nil)
+
+pub header_written : (head : Header) → header_line head ≡ header_text head ++ codes "\n"
+header_written head = header_with head ∙ line_is log_name (head.version ∷ head.workers ∷ []) head.operations
 
 -- fields that are a letter and numbers spell an event
-spelled : (version : ℕ) (fs : List (List ℕ)) (e : Event) → fs ≡ letter_of (kind_of e) ∷ map decimal (numbers_of e) → AreNumbers 0 (columns version (kind_of e)) (map decimal (numbers_of e)) (numbers_of e) → IsEvent version fs e
-spelled version fs e is s = subst (λ (xs : List (List ℕ)). IsEvent version xs e) (sym is) (record { letter = refl; numbers = s })
+spelled : (version : ℕ) (line : List ℕ) (l : Logged) → fields line ≡ letter_of (kind_of l.event) ∷ map decimal (numbers_of l) → AreNumbers (columns version (kind_of l.event)) (map decimal (numbers_of l)) (numbers_of l) → IsLogged version line l
+spelled version line l is s = record {
+  letter = ap (field 0) is;
+  numbers = subst (λ (xs : List (List ℕ)). AreNumbers (columns version (kind_of l.event)) (drop 1 xs) (numbers_of l)) (sym is) s;
+}
 
 pub own_line : OwnNumbers → OwnLine
-own_line own version e w =
-    let short = short_numbers 0 (columns version (kind_of e)) (numbers_of e) (short_columns version (kind_of e)) w in
-    let text = letter_text (kind_of e) (cells_text (numbers_of e)) (plain_cells own (numbers_of e) short) in
-    let again = spelled version (fields (line_of e)) e (cells_split own (letter_of (kind_of e)) (numbers_of e) (letter_no_bar (kind_of e)) short) (own_numbers own 0 (columns version (kind_of e)) (numbers_of e) (short_columns version (kind_of e)) w) in
+own_line own version l w =
+    let columned = short_columns version (kind_of l.event) in
+    let short = short_numbers (columns version (kind_of l.event)) (numbers_of l) columned w in
+    let text = letter_text (kind_of l.event) (cells_text (numbers_of l)) (plain_cells own (numbers_of l) short) in
+    let split = cells_split own (letter_of (kind_of l.event)) (numbers_of l) (letter_no_bar (kind_of l.event)) short in
+    let again = spelled version (line_of l) l split (own_numbers own (columns version (kind_of l.event)) (numbers_of l) columned w) in
     record {
-      written = line_written e;
+      written = line_written l;
       text = text.0;
       one_line = text.1;
       again = again;
-      no_other = λ d s. one_event version (fields (line_of e)) d e s again;
+      no_other = λ d s. one_event version (fields (line_of l)) d l s again;
     }
 
--- the header's line is its name, its version and its count of workers
-head_is : (workers : ℕ) → head_line workers ≡ log_name ++ cells_text (1 ∷ workers ∷ [])
-head_is workers =
-    sym (ap (λ (ds : List ℕ). log_name ++ 124 ∷ (ds ++ 124 ∷ (decimal workers ++ []))) (decimal_digit 1 (omega arith)) ∙ ap (λ (t : List ℕ). codes "snblog|1|" ++ t) (append-nil (decimal workers)))
+-- the name has no bar
+name_no_bar : HasNoBar log_name
+name_no_bar = All-from_recursion (λ b. b ≢ 124) log_name (omega arith, (omega arith, (omega arith, (omega arith, (omega arith, (omega arith, tt))))))
 
--- the fields of a header's line
-head_split : OwnNumbers → (workers : ℕ) → IsShort workers → fields (head_line workers) ≡ log_name ∷ map decimal (1 ∷ workers ∷ [])
-head_split own workers short = ap fields (head_is workers) ∙ cells_split own log_name (1 ∷ workers ∷ []) name (omega arith, (short, tt))
+-- the name and what follows it
+name_text : (rest : List ℕ) → All IsPlain rest → IsText (log_name ++ rest) × HasNoEnd (log_name ++ rest)
+name_text rest h = plain_text 115 (codes "nblog" ++ rest) (omega arith) (All-append IsPlain log_name rest name h)
   where
-    name : HasNoBar log_name
-    name = All-from_recursion (λ b. b ≢ 124) log_name (omega arith, (omega arith, (omega arith, (omega arith, (omega arith, (omega arith, tt))))))
+    name : All IsPlain log_name
+    name = All-from_recursion IsPlain log_name ((omega arith, omega arith), ((omega arith, omega arith), ((omega arith, omega arith), ((omega arith, omega arith), ((omega arith, omega arith), ((omega arith, omega arith), tt))))))
 
-pub own_head : OwnNumbers → OwnHead
-own_head own workers some few =
-    let short : workers < 10 ^ 19 = omega arith in
-    let w : AreWithin 1 head_columns (1 ∷ workers ∷ []) = (omega arith, omega arith, (some, few, tt)) in
-    let s = own_numbers own 1 head_columns (1 ∷ workers ∷ []) (omega arith, (omega arith, tt)) w in
-    let again : IsHead (fields (head_line workers)) (head_of workers) = subst (λ (xs : List (List ℕ)). IsHead xs (head_of workers)) (sym (head_split own workers short)) (record { name = refl; numbers = s }) in
-    let tail = plain_cells own (workers ∷ []) (short, tt) in
+pub own_header : OwnNumbers → OwnHeader
+own_header own head w =
+    let cs = version_column ∷ header_columns head.version in
+    let columned : AllByRecursion HasShort (version_column ∷ header_columns head.version) = (omega arith, (omega arith, short_counts head.version)) in
+    let short = short_numbers cs (header_numbers head) columned w in
+    let text = name_text (cells_text (header_numbers head)) (plain_cells own (header_numbers head) short) in
+    let split = cells_split own log_name (header_numbers head) name_no_bar short in
+    let again = spelled_header (header_text head) split (own_numbers own cs (header_numbers head) columned w) in
     record {
-      written = refl;
-      text = (head_text_of tail).0;
-      one_line = (head_text_of tail).1;
+      written = header_written head;
+      text = text.0;
+      one_line = text.1;
       again = again;
-      no_other = λ head h. one_head (fields (head_line workers)) head (head_of workers) h again;
+      no_other = λ other s. one_header (fields (header_text head)) other head s again;
     }
   where
-    head_text_of : All IsPlain (cells_text (workers ∷ [])) → IsText (head_line workers) × HasNoEnd (head_line workers)
-    head_text_of h = plain_text 115 (codes "nblog|1|" ++ decimal workers) (omega arith) (subst (All IsPlain) (ap (λ (t : List ℕ). codes "snblog|1" ++ 124 ∷ t) (append-nil (decimal workers))) (All-append IsPlain (codes "snblog|1") (cells_text (workers ∷ [])) front h))
-      where
-        front : All IsPlain (codes "snblog|1")
-        front = All-from_recursion IsPlain (codes "snblog|1") ((omega arith, omega arith), ((omega arith, omega arith), ((omega arith, omega arith), ((omega arith, omega arith), ((omega arith, omega arith), ((omega arith, omega arith), ((omega arith, omega arith), ((omega arith, omega arith), tt))))))))
+    spelled_header : (line : List ℕ) → fields line ≡ log_name ∷ map decimal (header_numbers head) → AreNumbers (version_column ∷ header_columns head.version) (map decimal (header_numbers head)) (header_numbers head) → IsHeader (fields line) head
+    spelled_header line is s = record {
+      name = ap (field 0) is;
+      numbers = subst (λ (xs : List (List ℕ)). AreNumbers (version_column ∷ header_columns head.version) (drop 1 xs) (header_numbers head)) (sym is) s;
+    }

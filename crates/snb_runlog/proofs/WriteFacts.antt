@@ -1,13 +1,15 @@
 -- Texts that are appended, whole or in part.
-use Rattle.std.proofs.Common.{◌≡◌, ◌∙◌, ◌<◌, ℕ, zero, suc, OnErr, Result, Ok, Err, List, [], ◌∷◌, ◌++◌, length, take, drop, get_or, refl, sym, ap, subst, arith, append_assoc, append-nil}
+use Rattle.std.proofs.Common.{◌≡◌, ◌∙◌, ◌<◌, ℕ, zero, suc, OnErr, OnOk, Result, Ok, Err, List, [], ◌∷◌, ◌++◌, length, take, drop, get_or, map, refl, sym, ap, subst, arith, append_assoc, append-nil}
 use Rattle.std.specs.List.{flat_map}
 use Rattle.std.specs.Fmt.{decimal}
 use Rattle.snb_history.specs.declared.event.Event.{Event}
-use Rattle.snb_history.specs.RunTexts.{event_line}
+use Rattle.snb_history.specs.declared.logged.Header.{Header}
+use Rattle.snb_history.specs.declared.logged.Logged.{Logged}
+use Rattle.snb_history.specs.RunTexts.{first_header, first_log_text, header_line, logged_line, without_count}
 use Rattle.snb_runlog.specs.declared.columns.EventKind.{EventKind}
-use Rattle.snb_runlog.specs.Columns.{columns, kind_of, letter_of, numbers_of}
-use Rattle.snb_runlog.specs.Writing.{AppendsSome, line_with}
-use Rattle.snb_runlog.proofs.OwnFacts.{line_written}
+use Rattle.snb_runlog.specs.Columns.{columns, event_numbers, kind_of, letter_of, log_name}
+use Rattle.snb_runlog.specs.Writing.{AppendsSome, events_text, line_with}
+use Rattle.snb_runlog.proofs.OwnFacts.{header_with, logged_with}
 
 -- nothing is appended
 pub appends_none : (old new text : List ℕ) → new ≡ old → AppendsSome old new text
@@ -45,6 +47,11 @@ pub on_err_weaker : {A E : Type 0} (r : Result A E) (P Q : Type 0) → (P → Q)
 on_err_weaker (Ok a) P Q then p = tt
 on_err_weaker (Err e) P Q then p = then p
 
+-- and what follows where all went well
+pub on_ok_weaker : {A E : Type 0} (r : Result A E) (P Q : Type 0) → (P → Q) → OnOk r P → OnOk r Q
+on_ok_weaker (Ok a) P Q then p = then p
+on_ok_weaker (Err e) P Q then p = tt
+
 module _ {A : Type 0} (f : A → List ℕ) where
   -- texts of the first so many items, and of the others
   flat_cut : (xs : List A) (i : ℕ) → flat_map f xs ≡ flat_map f (take i xs) ++ flat_map f (drop i xs)
@@ -75,10 +82,23 @@ module _ {A : Type 0} (f : A → List ℕ) where
 pub bar_alone : (mid barred new : List ℕ) (n : ℕ) → barred ≡ mid ++ 124 ∷ [] → new ≡ barred → AppendsSome mid new (124 ∷ decimal n)
 bar_alone mid barred new n e f = record { written = 124 ∷ []; left = decimal n; part = refl; appended = f ∙ e }
 
--- the line of an event, by the columns of its kind
-pub event_text : (e : Event) (kind : EventKind) (first cs ns : List ℕ) → kind ≡ kind_of e → first ≡ letter_of kind → cs ≡ columns 1 kind → take (length (columns 1 (kind_of e))) ns ≡ numbers_of e
-    → line_with first (take (length cs) ns) ≡ event_line e
-event_text e kind first cs ns is letter columned numbers =
-    let long : take (length cs) ns ≡ numbers_of e = ap (λ (ds : List ℕ). take (length ds) ns) (columned ∙ ap (columns 1) is) ∙ numbers in
-    let begins : first ≡ letter_of (kind_of e) = letter ∙ ap letter_of is in
-    (λ i. line_with (begins i) (long i)) ∙ sym (line_written e)
+-- the line of what a log tells, by the columns of its kind
+pub logged_text : (l : Logged) (kind : EventKind) (first : List ℕ) (cs : List (ℕ × ℕ)) (ns : List ℕ) → kind ≡ kind_of l.event → first ≡ letter_of kind → cs ≡ columns 1 kind → take (length (columns 1 (kind_of l.event))) ns ≡ event_numbers l.event
+    → line_with first (take (length cs) ns) l.rows ≡ logged_line l
+logged_text l kind first cs ns is letter columned numbers =
+    let long : take (length cs) ns ≡ event_numbers l.event = ap (λ (ds : List (ℕ × ℕ)). take (length ds) ns) (columned ∙ ap (columns 1) is) ∙ numbers in
+    let begins : first ≡ letter_of (kind_of l.event) = letter ∙ ap letter_of is in
+    (λ i. line_with (begins i) (long i) l.rows) ∙ sym (logged_with l)
+
+-- the line of a header, by what it begins with and its numbers
+pub header_text : (head : Header) (first : List ℕ) (version workers : ℕ) → first ≡ log_name → version ≡ head.version → workers ≡ head.workers → line_with first (version ∷ workers ∷ []) head.operations ≡ header_line head
+header_text head first version workers begins v w = (λ i. line_with (begins i) (v i ∷ w i ∷ []) head.operations) ∙ sym (header_with head)
+
+-- texts of items one after the other are those of what the items are made to
+pub flat_made : {A B : Type 0} (f : B → List ℕ) (g : A → B) (xs : List A) → flat_map f (map g xs) ≡ flat_map (λ x. f (g x)) xs
+flat_made f g [] = refl
+flat_made f g (x ∷ xs) = ap (λ (t : List ℕ). f (g x) ++ t) (flat_made f g xs)
+
+-- a log of version 1 is its header and the lines of its events
+pub first_text : (workers : ℕ) (h : List Event) → first_log_text workers h ≡ header_line (first_header workers) ++ events_text h
+first_text workers h = ap (λ (t : List ℕ). header_line (first_header workers) ++ t) (flat_made logged_line without_count h)

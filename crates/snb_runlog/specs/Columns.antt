@@ -1,7 +1,9 @@
--- The table of the columns of a log, and the numbers that an event has in them.
-use Rattle.std.specs.Prelude.{◌≤◌, ℕ, List, [], ◌∷◌, codes}
+-- The table of the columns of a log, and the numbers that a header and an event have in them.
+use Rattle.std.specs.Prelude.{◌≡◌, ◌≤◌, ◌==◌, ◌↔◌, ℕ, List, [], ◌∷◌, ◌++◌, Option, None, Some, IsSome, codes, if◌then◌else◌}
 use Rattle.snb_history.specs.declared.event.Event.{Event}
 use Rattle.snb_history.specs.declared.event.Event.TheVariants.{Start, Finish, Halt}
+use Rattle.snb_history.specs.declared.logged.Header.{Header}
+use Rattle.snb_history.specs.declared.logged.Logged.{Logged}
 use Rattle.snb_schema.specs.declared.limits.TheConstants.{MAX_AT, MAX_WORKERS}
 use Rattle.snb_runlog.specs.declared.columns.EventKind.{EventKind}
 use Rattle.snb_runlog.specs.declared.columns.EventKind.TheVariants as kinds
@@ -11,15 +13,26 @@ use Rattle.snb_runlog.specs.declared.columns.TheConstants.{LAST_VERSION, MAX_NUM
 abbrev pub log_name : List ℕ
 log_name = codes "snblog"
 
--- the greatest number of each column of a header after its name: its version, and the count of workers; the least is 1
-abbrev pub head_columns : List ℕ
-head_columns = LAST_VERSION ∷ MAX_WORKERS ∷ []
+-- A column is the least and the greatest number that it may have.
 
--- the greatest number of each column that follows the letter of a line of this kind, in a log of this version; the least is 0
-abbrev pub columns : ℕ → EventKind → List ℕ
-columns version kinds.Start = MAX_NUMBER ∷ MAX_NUMBER ∷ MAX_AT ∷ []
-columns version kinds.Finish = MAX_NUMBER ∷ MAX_NUMBER ∷ MAX_AT ∷ MAX_NUMBER ∷ []
-columns version kinds.Halt = MAX_NUMBER ∷ []
+-- the column of the version, which follows the name of a header
+abbrev pub version_column : ℕ × ℕ
+version_column = (1, LAST_VERSION)
+
+-- the columns of counts of a log of this version: of operations in its header, and of rows at a Finish
+abbrev pub count_columns : ℕ → List (ℕ × ℕ)
+count_columns version = if version == LAST_VERSION then (0, MAX_NUMBER) ∷ [] else []
+
+-- the columns that follow the version of a header of this version: the workers, and the operations where they are counted
+abbrev pub header_columns : ℕ → List (ℕ × ℕ)
+header_columns version = (1, MAX_WORKERS) ∷ count_columns version
+
+-- the columns that follow the letter of a line of this kind, in a log of this version: the operation, the worker, the moment, the front, and
+-- the rows where they are counted; a Halt has its worker alone
+abbrev pub columns : ℕ → EventKind → List (ℕ × ℕ)
+columns version kinds.Start = (0, MAX_NUMBER) ∷ (0, MAX_NUMBER) ∷ (0, MAX_AT) ∷ []
+columns version kinds.Finish = (0, MAX_NUMBER) ∷ (0, MAX_NUMBER) ∷ (0, MAX_AT) ∷ (0, MAX_NUMBER) ∷ count_columns version
+columns version kinds.Halt = (0, MAX_NUMBER) ∷ []
 
 -- the letter that a line of this kind begins with
 abbrev pub letter_of : EventKind → List ℕ
@@ -33,18 +46,43 @@ kind_of (Start op worker at) = kinds.Start
 kind_of (Finish op worker at front) = kinds.Finish
 kind_of (Halt worker) = kinds.Halt
 
+-- the number of a count, where there is one
+abbrev pub count_numbers : Option ℕ → List ℕ
+count_numbers None = []
+count_numbers (Some n) = n ∷ []
+
 -- the numbers of an event, in the order of its columns
-abbrev pub numbers_of : Event → List ℕ
-numbers_of (Start op worker at) = op ∷ worker ∷ at ∷ []
-numbers_of (Finish op worker at front) = op ∷ worker ∷ at ∷ front ∷ []
-numbers_of (Halt worker) = worker ∷ []
+abbrev pub event_numbers : Event → List ℕ
+event_numbers (Start op worker at) = op ∷ worker ∷ at ∷ []
+event_numbers (Finish op worker at front) = op ∷ worker ∷ at ∷ front ∷ []
+event_numbers (Halt worker) = worker ∷ []
+
+-- and of what a line tells
+abbrev pub numbers_of : Logged → List ℕ
+numbers_of logged = event_numbers logged.event ++ count_numbers logged.rows
+
+-- the numbers of a header, in the order of its columns
+abbrev pub header_numbers : Header → List ℕ
+header_numbers head = head.version ∷ head.workers ∷ count_numbers head.operations
 
 -- there is a number for each column, from the least to the greatest of the column
-abbrev pub AreWithin : ℕ → List ℕ → List ℕ → Type 0
-AreWithin least [] [] = Unit {0}
-AreWithin least (most ∷ mosts) (n ∷ ns) = (least ≤ n) × (n ≤ most) × AreWithin least mosts ns
-AreWithin least _ _ = ⊥
+abbrev pub AreWithin : List (ℕ × ℕ) → List ℕ → Type 0
+AreWithin [] [] = Unit {0}
+AreWithin (c ∷ cs) (n ∷ ns) = (c.0 ≤ n) × (n ≤ c.1) × AreWithin cs ns
+AreWithin _ _ = ⊥
 
--- an event that a log of this version can have
-abbrev pub IsLogged : ℕ → Event → Type 0
-IsLogged version e = AreWithin 0 (columns version (kind_of e)) (numbers_of e)
+-- what a line of a log of this version can tell
+abbrev pub CanBeLogged : ℕ → Logged → Type 0
+CanBeLogged version logged = AreWithin (columns version (kind_of logged.event)) (numbers_of logged)
+
+-- a header that a log can have
+abbrev pub CanBeHeader : Header → Type 0
+CanBeHeader head = AreWithin (version_column ∷ header_columns head.version) (header_numbers head)
+
+-- there is a count of rows exactly at a Finish of the last version
+abbrev pub HasCount : ℕ → Logged → Type 0
+HasCount version logged = IsSome logged.rows ↔ ((version ≡ LAST_VERSION) × (kind_of logged.event ≡ kinds.Finish))
+
+-- and of operations exactly in a header of the last version
+abbrev pub HasOperations : Header → Type 0
+HasOperations head = IsSome head.operations ↔ (head.version ≡ LAST_VERSION)

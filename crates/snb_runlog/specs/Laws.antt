@@ -1,104 +1,146 @@
 -- Laws of the log.
-use Rattle.std.specs.Prelude.{◌≡◌, ◌⊎◌, ◌<◌, ◌≤◌, ◌^◌, ◌++◌, ℕ, List, All, Option, None, Some, codes}
-use Rattle.std.specs.Fmt.{decimal}
-use Rattle.snb_history.specs.declared.event.Event.{Event}
-use Rattle.snb_history.specs.declared.event.Event.TheVariants.{Start, Finish, Halt}
+use Rattle.std.specs.Prelude.{◌≡◌, ◌⊎◌, ◌<◌, ◌≤◌, ◌^◌, ◌++◌, ℕ, List, All, Option, None, Some, IfSome, codes, map}
+use Rattle.snb_history.specs.declared.logged.Header.{Header}
+use Rattle.snb_history.specs.declared.logged.Logged.{Logged}
+use Rattle.snb_history.specs.RunTexts.{first_log_text, header_line, header_of, log_text, logged_line, text_of_log}
 use Rattle.snb_schema.specs.declared.limits.TheConstants.{MAX_WORKERS}
 use Rattle.snb_schema.specs.Lines.{HasNoEnd, fields, lines}
-use Rattle.snb_history.specs.RunTexts.{event_line, log_text}
 use Rattle.snb_input_lines.specs.Language.{IsText}
 use Rattle.snb_input_lines.specs.Laws.{IsExact}
 use Rattle.snb_input_lines.specs.Reading.{Says}
-use Rattle.snb_runlog.specs.declared.head.LogHead.{LogHead}
-use Rattle.snb_runlog.specs.Columns.{IsLogged, kind_of, letter_of, numbers_of}
-use Rattle.snb_runlog.specs.Lines.{IsEvent, IsHead, IsNoEvent, IsNoHead, log_language}
-use Rattle.snb_runlog.specs.Writing.{cells_text, head_text}
+use Rattle.snb_runlog.specs.declared.columns.TheConstants.{LAST_VERSION, MAX_NUMBER}
+use Rattle.snb_runlog.specs.Columns.{CanBeHeader, CanBeLogged, HasCount, HasOperations, header_numbers, kind_of, letter_of, log_name, numbers_of}
+use Rattle.snb_runlog.specs.Lines.{IsEvent, IsHeader, IsLogged, IsNoEvent, IsNoHeader, log_language}
+use Rattle.snb_runlog.specs.Writing.{cells_text}
 
--- the event's numbers are below 2 ^ 64, as all are that a run writes
-abbrev pub IsWritten : Event → Type 0
-IsWritten (Start op worker at) = (op < 2 ^ 64) × (worker < 2 ^ 64) × (at < 2 ^ 64)
-IsWritten (Finish op worker at front) = (op < 2 ^ 64) × (worker < 2 ^ 64) × (at < 2 ^ 64) × (front < 2 ^ 64)
-IsWritten (Halt worker) = worker < 2 ^ 64
+-- the numbers are below 2 ^ 64, as all are that a run writes
+abbrev pub AreWritten : List ℕ → Type 0
+AreWritten ns = All (λ n. n < 2 ^ 64) ns
 
--- logs that are the same text are of the same number of workers and the same history
+-- what a log tells is of such numbers
+abbrev pub IsWritten : Logged → Type 0
+IsWritten logged = AreWritten (numbers_of logged)
+
+-- logs of the last version that are the same text are of the same number of workers and of operations, and of the same history and counts
 abbrev pub LogIsOfOneHistory : Type 0
 LogIsOfOneHistory =
-    (w v : ℕ) (g h : List Event) → All IsWritten g → All IsWritten h → w < 2 ^ 32 → v < 2 ^ 32 →
-    log_text w g ≡ log_text v h → (w ≡ v) × (g ≡ h)
+    (w v m n : ℕ) (g h : List Logged) → All IsWritten g → All IsWritten h → w < 2 ^ 32 → v < 2 ^ 32 → m < 2 ^ 32 → n < 2 ^ 32 →
+    log_text w m g ≡ log_text v n h → (w ≡ v) × (m ≡ n) × (g ≡ h)
 
--- the fields of a line spell one event at most
+-- and logs of any versions that are the same text have the same header, and tell the same
+abbrev pub TextIsOfOneLog : Type 0
+TextIsOfOneLog =
+    (a b : Header) (g h : List Logged) → AreWritten (header_numbers a) → AreWritten (header_numbers b) → All IsWritten g → All IsWritten h →
+    text_of_log a g ≡ text_of_log b h → (a ≡ b) × (g ≡ h)
+
+-- the fields of a line spell one thing at most
 abbrev pub OneEvent : Type 0
-OneEvent = (version : ℕ) (fs : List (List ℕ)) (d e : Event) → IsEvent version fs d → IsEvent version fs e → d ≡ e
+OneEvent = (version : ℕ) (fs : List (List ℕ)) (d e : Logged) → IsEvent version fs d → IsEvent version fs e → d ≡ e
 
 -- and are one header at most
-abbrev pub OneHead : Type 0
-OneHead = (fs : List (List ℕ)) (a b : LogHead) → IsHead fs a → IsHead fs b → a ≡ b
+abbrev pub OneHeader : Type 0
+OneHeader = (fs : List (List ℕ)) (a b : Header) → IsHeader fs a → IsHeader fs b → a ≡ b
 
 -- fields spell an event or have a bad column, not both, and have one bad column at most
 pub record EventOrColumn (version : ℕ) (fs : List (List ℕ)) : Type 0 where
-  pub some : ((event : Event) × IsEvent version fs event) ⊎ ((column : ℕ) × IsNoEvent version fs column)
-  pub right : (event : Event) (column : ℕ) → IsEvent version fs event → ¬ IsNoEvent version fs column
+  pub some : ((logged : Logged) × IsEvent version fs logged) ⊎ ((column : ℕ) × IsNoEvent version fs column)
+  pub right : (logged : Logged) (column : ℕ) → IsEvent version fs logged → ¬ IsNoEvent version fs column
   pub one : (a b : ℕ) → IsNoEvent version fs a → IsNoEvent version fs b → a ≡ b
 
 -- fields are a header or have a bad column, not both, and have one bad column at most
-pub record HeadOrColumn (fs : List (List ℕ)) : Type 0 where
-  pub some : ((head : LogHead) × IsHead fs head) ⊎ ((column : ℕ) × IsNoHead fs column)
-  pub right : (head : LogHead) (column : ℕ) → IsHead fs head → ¬ IsNoHead fs column
-  pub one : (a b : ℕ) → IsNoHead fs a → IsNoHead fs b → a ≡ b
+pub record HeaderOrColumn (fs : List (List ℕ)) : Type 0 where
+  pub some : ((head : Header) × IsHeader fs head) ⊎ ((column : ℕ) × IsNoHeader fs column)
+  pub right : (head : Header) (column : ℕ) → IsHeader fs head → ¬ IsNoHeader fs column
+  pub one : (a b : ℕ) → IsNoHeader fs a → IsNoHeader fs b → a ≡ b
 
--- the line of an event without its end
-abbrev pub line_of : Event → List ℕ
-line_of e = letter_of (kind_of e) ++ cells_text (numbers_of e)
+-- the line of what a log tells, without its end
+abbrev pub line_of : Logged → List ℕ
+line_of logged = letter_of (kind_of logged.event) ++ cells_text (numbers_of logged)
 
--- the line that is written of an event is one line, and spells that event and no other
-pub record IsOwnLine (version : ℕ) (e : Event) : Type 0 where
-  pub written : event_line e ≡ line_of e ++ codes "\n"
-  pub text : IsText (line_of e)
-  pub one_line : HasNoEnd (line_of e)
-  pub again : IsEvent version (fields (line_of e)) e
-  pub no_other : (d : Event) → IsEvent version (fields (line_of e)) d → d ≡ e
+-- the line that is written is one line, and tells that and nothing else
+pub record IsOwnLine (version : ℕ) (logged : Logged) : Type 0 where
+  pub written : logged_line logged ≡ line_of logged ++ codes "\n"
+  pub text : IsText (line_of logged)
+  pub one_line : HasNoEnd (line_of logged)
+  pub again : IsLogged version (line_of logged) logged
+  pub no_other : (d : Logged) → IsLogged version (line_of logged) d → d ≡ logged
 
--- each event that a log can have has a line of its own
+-- what a log of some version can tell has a line of its own
 abbrev pub OwnLine : Type 0
-OwnLine = (version : ℕ) (e : Event) → IsLogged version e → IsOwnLine version e
-
--- what the header of a log of so many workers says
-abbrev pub head_of : ℕ → LogHead
-head_of workers = record { version = 1; workers = workers }
+OwnLine = (version : ℕ) (logged : Logged) → CanBeLogged version logged → IsOwnLine version logged
 
 -- the line of a header without its end
-abbrev pub head_line : ℕ → List ℕ
-head_line workers = codes "snblog|1|" ++ decimal workers
+abbrev pub header_text : Header → List ℕ
+header_text head = log_name ++ cells_text (header_numbers head)
 
--- the header's line is one line, and says that there are so many workers and nothing else
-pub record IsOwnHead (workers : ℕ) : Type 0 where
-  pub written : head_text workers ≡ head_line workers ++ codes "\n"
-  pub text : IsText (head_line workers)
-  pub one_line : HasNoEnd (head_line workers)
-  pub again : IsHead (fields (head_line workers)) (head_of workers)
-  pub no_other : (head : LogHead) → IsHead (fields (head_line workers)) head → head ≡ head_of workers
+-- the header's line is one line, and says that header and nothing else
+pub record IsOwnHeader (head : Header) : Type 0 where
+  pub written : header_line head ≡ header_text head ++ codes "\n"
+  pub text : IsText (header_text head)
+  pub one_line : HasNoEnd (header_text head)
+  pub again : IsHeader (fields (header_text head)) head
+  pub no_other : (other : Header) → IsHeader (fields (header_text head)) other → other ≡ head
 
--- each count of workers has a header of its own
-abbrev pub OwnHead : Type 0
-OwnHead = (workers : ℕ) → 1 ≤ workers → workers ≤ MAX_WORKERS → IsOwnHead workers
+-- each header that a log can have has a line of its own
+abbrev pub OwnHeader : Type 0
+OwnHeader = (head : Header) → CanBeHeader head → IsOwnHeader head
 
 -- a line of a log says one thing at most, or has a bad column
 abbrev pub LogIsExact : Type 0
 LogIsExact = IsExact log_language
 
--- the lines of the log that is written say its workers and its events, and nothing else
-pub record ReadsBack (workers : ℕ) (h : List Event) : Type 0 where
-  pub says : Says log_language None 0 (lines (log_text workers h)) h (Some (head_of workers))
-  pub no_other : (items : List Event) (new : Option LogHead)
-      → Says log_language None 0 (lines (log_text workers h)) items new
-      → (items ≡ h) × (new ≡ Some (head_of workers))
+-- a text says this header, and tells this
+abbrev pub IsLog : List ℕ → Header → List Logged → Type 0
+IsLog text head logged = Says log_language None 0 (lines text) logged (Some head)
 
--- what is written is read as it was
+-- the lines of the log that is written say its header and what it tells, and nothing else
+pub record ReadsBack (head : Header) (logged : List Logged) : Type 0 where
+  pub says : IsLog (text_of_log head logged) head logged
+  pub no_other : (items : List Logged) (new : Option Header)
+      → Says log_language None 0 (lines (text_of_log head logged)) items new
+      → (items ≡ logged) × (new ≡ Some head)
+
+-- what is written is read as it was, in either version
 abbrev pub LogReadsBack : Type 0
-LogReadsBack = (workers : ℕ) (h : List Event) → 1 ≤ workers → workers ≤ MAX_WORKERS → All (IsLogged 1) h → ReadsBack workers h
+LogReadsBack = (head : Header) (logged : List Logged) → CanBeHeader head → All (CanBeLogged head.version) logged → ReadsBack head logged
 
--- and what a log says, whatever its text, is written as a log that says the same
+-- so with the log of a run
+abbrev pub RunReadsBack : Type 0
+RunReadsBack =
+    (workers operations : ℕ) (logged : List Logged) → 1 ≤ workers → workers ≤ MAX_WORKERS → operations ≤ MAX_NUMBER
+    → All (CanBeLogged LAST_VERSION) logged → ReadsBack (header_of workers operations) logged
+
+-- what a log says, whatever its text, is written as a log that says the same
 abbrev pub LogIsWrittenAgain : Type 0
-LogIsWrittenAgain = (text : List ℕ) (items : List Event) (head : LogHead)
-    → Says log_language None 0 (lines text) items (Some head)
-    → (head ≡ head_of head.workers) × ReadsBack head.workers items
+LogIsWrittenAgain = (text : List ℕ) (logged : List Logged) (head : Header) → IsLog text head logged → ReadsBack head logged
+
+-- where a log is of the last version, that is the log of a run of its workers, of a plan with its operations
+abbrev pub LastIsWrittenAgain : Type 0
+LastIsWrittenAgain =
+    (text : List ℕ) (logged : List Logged) (head : Header) → IsLog text head logged → head.version ≡ LAST_VERSION
+    → (operations : ℕ) × (text_of_log head logged ≡ log_text head.workers operations logged)
+
+-- where it is of version 1, that is the log of version 1 of its workers and its history
+abbrev pub FirstIsWrittenAgain : Type 0
+FirstIsWrittenAgain =
+    (text : List ℕ) (logged : List Logged) (head : Header) → IsLog text head logged → head.version ≡ 1
+    → text_of_log head logged ≡ first_log_text head.workers (map (λ l. l.event) logged)
+
+-- the same events one by one, with a count of rows exactly at each Finish
+pub record AddsCounts (logged more : List Logged) : Type 0 where
+  pub events : map (λ l. l.event) more ≡ map (λ l. l.event) logged
+  pub counted : All (HasCount LAST_VERSION) more
+  pub small : All (λ l. IfSome l.rows (λ n. n ≤ MAX_NUMBER)) more
+
+-- a log of version 1 is one of the last version without its counts: whatever counts are added, it is read back with those
+abbrev pub FirstLacksCounts : Type 0
+FirstLacksCounts =
+    (text : List ℕ) (logged : List Logged) (head : Header) → IsLog text head logged → head.version ≡ 1
+    → (operations : ℕ) (more : List Logged) → operations ≤ MAX_NUMBER → AddsCounts logged more
+    → ReadsBack (header_of head.workers operations) more
+
+-- a log has counts of rows exactly at each Finish of the last version, and a count of operations exactly in the last version
+abbrev pub WhereCountsAre : Type 0
+WhereCountsAre =
+    (text : List ℕ) (logged : List Logged) (head : Header) → IsLog text head logged
+    → HasOperations head × All (HasCount head.version) logged

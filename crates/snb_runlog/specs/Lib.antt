@@ -1,4 +1,5 @@
 pub mod Columns
 pub mod Laws
 pub mod Lines
+pub mod Reading
 pub mod Writing

@@ -1,9 +1,8 @@
 //! The table of the columns of a log.
 
-ghost use Rattle.std.specs.Prelude.{◌≡◌, ◌∷◌, []};
-ghost use Rattle.snb_runlog.specs.Columns.{columns, head_columns, kind_of, letter_of as letter_text, numbers_of as numbers};
+ghost use Rattle.std.specs.Prelude.{◌≡◌, ◌==◌, ◌∷◌, []};
+ghost use Rattle.snb_runlog.specs.Columns.{columns, header_columns};
 
-use snb_history::Event;
 use snb_schema::limits::{MAX_AT, MAX_WORKERS};
 
 /// What a line after the header tells of.
@@ -14,39 +13,69 @@ pub enum EventKind {
     Halt,
 }
 
-/// The greatest version of a log.
-pub const LAST_VERSION: u64 = 1;
+/// The least and the greatest number of a column.
+pub type Column = (u64, u64);
 
-/// The greatest number of an operation, of a worker, or of events.
+/// The least version of a log.
+pub const FIRST_VERSION: u32 = 1;
+
+/// The greatest version of a log. It alone has counts: of the operations of the plan in its header, and
+/// of the rows that a read gave at its Finish.
+pub const LAST_VERSION: u32 = 2;
+
+/// The greatest number of an operation, of a worker, of events, of operations or of rows.
 pub const MAX_NUMBER: u64 = 4294967295;
 
-/// No line has more columns than so many, its first aside.
-pub const COLUMNS_END: usize = 5;
+/// The column of the version, which follows the name of a header.
+pub const VERSION: Column = (FIRST_VERSION as u64, LAST_VERSION as u64);
 
-const HEAD: [u64; 2] = [LAST_VERSION, MAX_WORKERS as u64];
+const NUMBER: Column = (0, MAX_NUMBER);
 
-const START: [u64; 3] = [MAX_NUMBER, MAX_NUMBER, MAX_AT];
+const MOMENT: Column = (0, MAX_AT);
 
-const FINISH: [u64; 4] = [MAX_NUMBER, MAX_NUMBER, MAX_AT, MAX_NUMBER];
+const WORKERS: Column = (1, MAX_WORKERS as u64);
 
-const HALT: [u64; 1] = [MAX_NUMBER];
+const HEADER: [Column; 2] = [WORKERS, NUMBER];
 
-/// The greatest number of each column of a header after its name: the version, and the count of
-/// workers. The least is 1.
-pub fn head_columns_of() -> &'static [u64]
-    ensures { result.now ≡ head_columns }
+const HEADER_WITHOUT_COUNT: [Column; 1] = [WORKERS];
+
+const START: [Column; 3] = [NUMBER, NUMBER, MOMENT];
+
+const FINISH: [Column; 5] = [NUMBER, NUMBER, MOMENT, NUMBER, NUMBER];
+
+const FINISH_WITHOUT_COUNT: [Column; 4] = [NUMBER, NUMBER, MOMENT, NUMBER];
+
+const HALT: [Column; 1] = [NUMBER];
+
+/// Whether a log of this version has counts.
+pub fn has_counts(version: u32) -> bool
+    ensures { result ≡ (version == LAST_VERSION) }
 {
-    &HEAD
+    version == LAST_VERSION
 }
 
-/// The greatest number of each column that follows the letter of a line of this kind, in a log of
-/// this version. The least is 0.
-pub fn columns_of(_version: u32, kind: EventKind) -> &'static [u64]
-    ensures { result.now ≡ columns _version kind }
+/// The columns that follow the version of a header of this version.
+pub fn header_columns_of(version: u32) -> &'static [Column]
+    ensures { result.now ≡ header_columns version }
+{
+    if has_counts(version) {
+        &HEADER
+    } else {
+        &HEADER_WITHOUT_COUNT
+    }
+}
+
+/// The columns that follow the letter of a line of this kind, in a log of this version.
+pub fn columns_of(version: u32, kind: EventKind) -> &'static [Column]
+    ensures { result.now ≡ columns version kind }
 {
     match kind {
         EventKind::Start => &START,
-        EventKind::Finish => &FINISH,
+        EventKind::Finish => if has_counts(version) {
+            &FINISH
+        } else {
+            &FINISH_WITHOUT_COUNT
+        },
         EventKind::Halt => &HALT,
     }
 }

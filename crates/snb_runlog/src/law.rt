@@ -2,26 +2,28 @@
 //! laws.
 
 ghost use Rattle.std.specs.Prelude.{ℕ, List};
-ghost use Rattle.snb_runlog.specs.Laws.{EventOrColumn, HeadOrColumn, LogIsExact, LogIsOfOneHistory, LogIsWrittenAgain, LogReadsBack, OneEvent, OneHead, OwnHead, OwnLine};
+ghost use Rattle.snb_runlog.specs.Laws.{EventOrColumn, FirstIsWrittenAgain, FirstLacksCounts, HeaderOrColumn, LastIsWrittenAgain, LogIsExact, LogIsOfOneHistory, LogIsWrittenAgain, LogReadsBack, OneEvent, OneHeader, OwnHeader, OwnLine, RunReadsBack, TextIsOfOneLog, WhereCountsAre};
 
 use snb_base::number::one_spelling;
 
-/// A log is the text of one history alone.
+/// A log is the text of one history alone, with one count of rows at each Finish (`last`); and, in whatever
+/// version, of one header and one list of what its lines tell (`text`).
 pub fn log_is_of_one_history()
-    ensures { LogIsOfOneHistory }
+    ensures last { LogIsOfOneHistory }
+    ensures text { TextIsOfOneLog }
 {}
 
 /// The fields of a line spell one event at most, and are one header at most.
 pub fn one_event()
     ensures event { OneEvent }
-    ensures head { OneHead }
+    ensures header { OneHeader }
 {}
 
 /// The fields of a line spell an event or have a bad column. Not both; and they have only one bad
 /// column. So it is with the header.
 pub fn event_or_column()
     ensures event { (version : ℕ) (fs : List (List ℕ)) → EventOrColumn version fs }
-    ensures head { (fs : List (List ℕ)) → HeadOrColumn fs }
+    ensures header { (fs : List (List ℕ)) → HeaderOrColumn fs }
 {}
 
 /// A line of a log says one thing at most, or has a bad column.
@@ -29,21 +31,35 @@ pub fn log_is_exact()
     ensures { LogIsExact }
 {}
 
-/// The line that is written of an event is one line, and spells that event and no other. So it is with
+/// A log has counts of rows exactly at each Finish of version 2, and a count of operations exactly in
+/// version 2.
+pub fn counts_are_in_version_2()
+    ensures { WhereCountsAre }
+{}
+
+/// The line that is written is one line, and tells what it was written of and nothing else. So it is with
 /// the header.
 pub fn own_line()
     ensures event { OwnLine }
-    ensures head { OwnHead }
+    ensures header { OwnHeader }
 {
     one_spelling();
 }
 
-/// The log that is written is read as it was, and in no other way (`back`). What a log says, whatever
-/// its text, is written as a log that says the same (`again`): so writing what was read gives the
-/// canonical text, and doing so twice gives the same.
+/// The log that is written is read as it was, and in no other way, in either version (`back`), and so that
+/// of a run (`run`). What a log says, whatever its text, is written as a log that says the same (`again`):
+/// so writing what was read gives the canonical text, and doing so twice gives the same.
+///
+/// What is written again of a log of version 2 is what `write_log` writes (`last`), and of one of version 1
+/// what `write_first_log` does (`first`). A log of version 1 is one of version 2 without its counts, event
+/// by event: with whatever counts are added, the log of version 2 is read back (`lacks`).
 pub fn log_reads_back()
     ensures back { LogReadsBack }
+    ensures run { RunReadsBack }
     ensures again { LogIsWrittenAgain }
+    ensures last { LastIsWrittenAgain }
+    ensures first { FirstIsWrittenAgain }
+    ensures lacks { FirstLacksCounts }
 {
     one_spelling();
 }

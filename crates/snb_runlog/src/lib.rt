@@ -1,11 +1,13 @@
-//! The log of a run as text, both ways: one table of columns, by which lines are written and read.
+//! The log of a run as text, both ways and in each of its versions: one table of columns, by which lines
+//! are written and read.
 #![tactic(auto)]
 
 pub mod columns;
-pub mod head;
+pub mod grammar;
 pub mod law;
 pub mod reader;
 pub mod write;
 
-pub use reader::LogLines;
-pub use write::write_log;
+pub use grammar::LogLines;
+pub use reader::LogReader;
+pub use write::{write_first_log, write_log};

@@ -16,7 +16,7 @@ use Rattle.std.specs.Prelude.{IfSome}
 use Rattle.snb_schema.specs.declared.row.Row.{Row}
 use Rattle.snb_schema.specs.Frequencies.{FrequencyTable}
 use Rattle.snb_history.specs.History.{moment}
-use Rattle.snb_history.specs.RunTexts.{log_text}
+use Rattle.snb_history.specs.RunTexts.{first_log_text}
 use Rattle.snb_schema.specs.ScreenTexts.{refusal_text, summary_text}
 use Rattle.snb_graph_model.specs.FinalText.{final_text}
 use Rattle.snb_graph_model.specs.Graphs.{HasGained}
@@ -135,7 +135,7 @@ run_shown workers input fixed o texts ran shown = record {
   ran = ran;
   shown = shown ∙ (λ i. record {
     screen = summary_text (length input.plan.operations) (length (updates_in input.plan)) (length (queries_in input.plan)) (rows_after input.graph (all_rows input.plan) o.graph ran.final i);
-    log = log_text workers o.events.items;
+    log = first_log_text workers o.events.items;
     answers = answers_text o.replies;
     finals = final_text o.graph;
     cases = [];

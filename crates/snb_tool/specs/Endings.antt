@@ -22,7 +22,7 @@ use Rattle.snb_schema.specs.declared.row.Row.{Row}
 use Rattle.snb_schema.specs.Frequencies.{FrequencyTable}
 use Rattle.snb_schema.specs.LineLanes.{LineLanes, update_count}
 use Rattle.snb_schema.specs.QueryLists.{QueryLists}
-use Rattle.snb_history.specs.RunTexts.{log_text}
+use Rattle.snb_history.specs.RunTexts.{first_log_text}
 use Rattle.snb_schema.specs.ScreenTexts.{summary_text}
 use Rattle.snb_graph_model.specs.FinalText.{final_text}
 use Rattle.snb_graph_model.specs.Graphs.{HoldsKey}
@@ -101,7 +101,7 @@ pub record IsTrialInput (size : ℕ) (input : Input) : Type 0 where
 abbrev pub AreTexts : ℕ → Plan → RunOutcome → Written → Type 0
 AreTexts workers plan o texts = texts ≡ record {
   screen = summary_text (length plan.operations) (length (updates_in plan)) (length (queries_in plan)) (length o.graph);
-  log = log_text workers o.events.items;
+  log = first_log_text workers o.events.items;
   answers = answers_text o.replies;
   finals = final_text o.graph;
   cases = [];

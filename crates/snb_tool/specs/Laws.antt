@@ -27,7 +27,7 @@ use Rattle.snb_schema.specs.declared.refusal.Refusal.{Refusal}
 use Rattle.snb_schema.specs.declared.row.Row.{Row}
 use Rattle.snb_schema.specs.Frequencies.{FrequencyTable}
 use Rattle.snb_history.specs.Rules.{IsComplete, IsLegal}
-use Rattle.snb_history.specs.RunTexts.{log_text}
+use Rattle.snb_history.specs.RunTexts.{first_log_text}
 use Rattle.snb_graph_model.specs.FinalText.{final_text}
 use Rattle.snb_tool_texts.specs.Answers.{answers_text}
 use Rattle.snb_tool_words.specs.declared.command.Command.{Command}
@@ -66,7 +66,7 @@ pub record IsRunInShort (files : Files) (folder : List ℕ) (workers ratio : ℕ
   pub complete : IsComplete (schedule_of plan) history
   pub waits : WaitsForAll plan history
   pub below : StaysBelow plan history
-  pub log : new.log ≡ old.log ++ log_text workers history
+  pub log : new.log ≡ old.log ++ first_log_text workers history
   pub replies : List Answered
   pub answered : AreReplies graph plan history history replies
   pub answers : new.answers ≡ old.answers ++ answers_text replies

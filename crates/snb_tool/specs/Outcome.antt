@@ -25,7 +25,7 @@ use Rattle.snb_schema.specs.declared.query.Query.{Query}
 use Rattle.snb_schema.specs.declared.refusal.Refusal.{Refusal}
 use Rattle.snb_schema.specs.declared.row.Row.{Row}
 use Rattle.snb_schema.specs.Frequencies.{FrequencyTable}
-use Rattle.snb_history.specs.RunTexts.{log_text}
+use Rattle.snb_history.specs.RunTexts.{first_log_text}
 use Rattle.snb_schema.specs.ScreenTexts.{refusal_text, summary_text, usage_text}
 use Rattle.snb_graph_model.specs.FinalText.{final_text}
 use Rattle.snb_tool_texts.specs.Answers.{answers_text}
@@ -53,7 +53,7 @@ summary_of base plan =
 abbrev pub run_texts : ℕ → List Row → Plan → List Event → List Answered → List Row → Written
 run_texts workers base plan h replies final = record {
   screen = summary_of base plan;
-  log = log_text workers h;
+  log = first_log_text workers h;
   answers = answers_text replies;
   finals = final_text final;
   cases = [];

@@ -5,7 +5,7 @@ ghost use Rattle.snb_plan.specs.Closed.{IsClosed};
 ghost use Rattle.snb_plan.specs.Plans.{queries_in, updates_in};
 ghost use Rattle.snb_runlog.specs.Writing.{AreTimed};
 ghost use Rattle.snb_schema.specs.declared.limits.TheConstants.{MAX_WORKERS};
-ghost use Rattle.snb_history.specs.RunTexts.{log_text};
+ghost use Rattle.snb_history.specs.RunTexts.{first_log_text};
 ghost use Rattle.snb_schema.specs.ScreenTexts.{summary_text};
 ghost use Rattle.snb_graph_model.specs.FinalText.{final_text};
 ghost use Rattle.snb_graph_model.specs.Graphs.{HoldsKey};
@@ -24,7 +24,7 @@ use snb_history::Event;
 use snb_input_files::Load;
 use snb_plan::Plan;
 use snb_ratio::Ratio;
-use snb_runlog::write_log;
+use snb_runlog::write_first_log;
 use snb_schema::Frequencies;
 use snb_tool_texts::answers::answer_pieces;
 use snb_tool_texts::counts::summary_lines;
@@ -39,10 +39,10 @@ fn log_of(alloc: Global, workers: u32, events: Vec<Event>) -> Result<Vec<u8>, Al
     requires some { 1 ≤ workers }
     requires few { workers ≤ MAX_WORKERS }
     requires timed { AreTimed events.items }
-    ensures { IfOk result (λ log. log.items ≡ log_text workers events.items) }
+    ensures { IfOk result (λ log. log.items ≡ first_log_text workers events.items) }
 {
     let mut log = Vec::new(alloc);
-    write_log(workers, &events, &mut log)?;
+    write_first_log(workers, &events, &mut log)?;
     Ok(log)
 }
 

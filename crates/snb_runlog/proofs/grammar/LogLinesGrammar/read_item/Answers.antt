@@ -1,6 +1,6 @@
-use Rattle.std.proofs.Common.{List, ℕ, subst, sym}
+use Rattle.std.proofs.Common.{List, ℕ, subst}
 use Rattle.snb_runlog.specs.Lines.{IsNoEvent}
-use Rattle.snb_runlog.proofs.reader.LogLinesGrammar.read_item.Goals as goal
+use Rattle.snb_runlog.proofs.grammar.LogLinesGrammar.read_item.Goals as goal
 
 pub returns-in-Err-clause-bad : goal.returns-in-Err-clause-bad
 returns-in-Err-clause-bad c =
