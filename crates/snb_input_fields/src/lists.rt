@@ -16,10 +16,7 @@ pub fn text_of(alloc: Global, field: &[u8]) -> Result<Text, AllocError>
     requires { IsUtf8 field.now }
     ensures { IfOk result (λ text. text ≡ field.now) }
 {
-    match str::from_utf8(field) {
-        Ok(text) => Text::from_str(alloc, text),
-        Err(_) => unreachable!(),
-    }
+    Text::from_str(alloc, unsafe { str::from_utf8_unchecked(field) })
 }
 
 // What stands between the semicolons of a field.
