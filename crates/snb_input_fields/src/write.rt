@@ -40,7 +40,17 @@ fn put_between(later: bool, byte: u8, line: &mut Vec<u8>) -> Result<(), AllocErr
     Ok(())
 }
 
+// Appends a text as it is.
+#[inline(never)]
+fn put_text(text: &str, line: &mut Vec<u8>) -> Result<(), AllocError>
+    ensures ok { OnOk result (line.new.items ≡ line.old.items ++ text.now) }
+    ensures err { OnErr result (line.new.items ≡ line.old.items) }
+{
+    line.extend_from_slice(text.as_bytes())
+}
+
 // Appends texts, with semicolons between them.
+#[inline(never)]
 fn put_texts(texts: &[Text], line: &mut Vec<u8>) -> Result<(), AllocError>
     ensures ok { OnOk result (line.new.items ≡ line.old.items ++ join_with_byte 59 texts.now) }
     ensures err { OnErr result (StartsWith line.new.items line.old.items) }
@@ -53,6 +63,7 @@ fn put_texts(texts: &[Text], line: &mut Vec<u8>) -> Result<(), AllocError>
 }
 
 // Appends ids, with semicolons between them.
+#[inline(never)]
 fn put_ids(ids: &[u64], line: &mut Vec<u8>) -> Result<(), AllocError>
     ensures ok { OnOk result (line.new.items ≡ line.old.items ++ join_with_byte 59 (map decimal ids.now)) }
     ensures err { OnErr result (StartsWith line.new.items line.old.items) }
@@ -75,6 +86,7 @@ fn put_pair(pair: (u64, u32), line: &mut Vec<u8>) -> Result<(), AllocError>
 }
 
 // Appends ids with years, with semicolons between them.
+#[inline(never)]
 fn put_pairs(pairs: &[(u64, u32)], line: &mut Vec<u8>) -> Result<(), AllocError>
     ensures ok { OnOk result (line.new.items ≡ line.old.items ++ join_with_byte 59 (map pair_text pairs.now)) }
     ensures err { OnErr result (StartsWith line.new.items line.old.items) }
@@ -86,16 +98,17 @@ fn put_pairs(pairs: &[(u64, u32)], line: &mut Vec<u8>) -> Result<(), AllocError>
     Ok(())
 }
 
-// Appends the canonical spelling of a value.
-fn put_cell(cell: Cell<'_>, line: &mut Vec<u8>) -> Result<(), AllocError>
-    ensures ok { OnOk result (line.new.items ≡ line.old.items ++ canonical_field (value_of cell.entry)) }
+// Appends the canonical spelling of a value. What a text or a list takes is never inlined here, so
+// that the way of a number is short.
+fn put_cell(cell: &Cell<'_>, line: &mut Vec<u8>) -> Result<(), AllocError>
+    ensures ok { OnOk result (line.new.items ≡ line.old.items ++ canonical_field (value_of cell.now)) }
     ensures err { OnErr result (StartsWith line.new.items line.old.items) }
 {
-    match cell {
+    match *cell {
         Cell::Digits(n) => put_number(n, line),
         Cell::SmallDigits(n) => put_number(u64::from(n), line),
-        Cell::NoId => line.extend_from_slice(b"-1"),
-        Cell::Letters(text) => line.extend_from_slice(text.as_bytes()),
+        Cell::NoId => put_text("-1", line),
+        Cell::Letters(text) => put_text(text, line),
         Cell::Texts(texts) => put_texts(texts, line),
         Cell::Ids(ids) => put_ids(ids, line),
         Cell::Pairs(pairs) => put_pairs(pairs, line),
@@ -110,10 +123,10 @@ fn put_cells(cells: &[Cell<'_>], to: &mut Vec<u8>) -> Result<(), AllocError>
     let Some((first, later)) = cells.split_first() else {
         return Ok(());
     };
-    put_cell(*first, to)?;
+    put_cell(first, to)?;
     for cell in later {
         to.push(b'|')?;
-        put_cell(*cell, to)?;
+        put_cell(cell, to)?;
     }
     Ok(())
 }
