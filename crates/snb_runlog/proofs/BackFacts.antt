@@ -7,7 +7,7 @@ use Rattle.snb_history.specs.declared.event.Event.{Event}
 use Rattle.snb_history.specs.declared.event.Event.TheVariants.{Start, Finish, Halt}
 use Rattle.snb_history.specs.declared.logged.Header.{Header}
 use Rattle.snb_history.specs.declared.logged.Logged.{Logged}
-use Rattle.snb_history.specs.RunTexts.{first_header, header_of, logged_line, text_of_log, without_count}
+use Rattle.snb_history.specs.RunTexts.{first_header, first_log_text, header_of, logged_line, text_of_log, without_count}
 use Rattle.snb_schema.specs.Lines.{HasNoEnd, lines}
 use Rattle.snb_input_lines.specs.Cut.{last_lines}
 use Rattle.snb_input_lines.specs.Language.{IsText}
@@ -178,11 +178,10 @@ last_header head can is =
     let operations = count.1 in
     (count.0, λ i. record { version = is i; workers = head.workers; operations = operations i })
 
-pub last_again : LastIsWrittenAgain
-last_again text h head s is =
-    let can = can_be (lines text) head 0 h s in
-    let header = last_header head can.header is in
-    (header.0, ap (λ (x : Header). text_of_log x h) header.1)
+pub last_again : OwnNumbers → LastIsWrittenAgain
+last_again own text h head s is =
+    let header = last_header head (can_be (lines text) head 0 h s).header is in
+    (header.0, header.1, subst (λ (x : Header). IsLog (text_of_log x h) head h) header.1 (log_again own text h head s).says)
 
 -- one of version 1 has none
 header_of_first : (head : Header) → CanBeHeader head → head.version ≡ 1 → head ≡ first_header head.workers
@@ -202,12 +201,13 @@ lines_of_first (l ∷ h) w =
     no_rows None never = refl
     no_rows (Some n) never = absurd (never refl)
 
-pub first_again : FirstIsWrittenAgain
-first_again text h head s is =
+pub first_again : OwnNumbers → FirstIsWrittenAgain
+first_again own text h head s is =
     let can = can_be (lines text) head 0 h s in
     let header = header_of_first head can.header is in
     let told = lines_of_first h (each_count 1 h (subst (λ (v : ℕ). All (CanBeLogged v) h) is can.lines)) in
-    λ i. text_of_log (header i) (told i)
+    let whole : text_of_log head h ≡ first_log_text head.workers (map (λ (l : Logged). l.event) h) = (λ i. text_of_log (header i) (told i)) in
+    (header, subst (λ (t : List ℕ). IsLog t head h) whole (log_again own text h head s).says)
 
 -- an event of version 1 with a count where one is due is one of the last version
 with_count : (e : Event) (o p : Option ℕ) → AreWithin (columns 1 (kind_of e)) (event_numbers e ++ count_numbers o) → IsSome p ↔ ((LAST_VERSION ≡ LAST_VERSION) × (kind_of e ≡ kinds.Finish)) → IfSome p (λ n. n ≤ MAX_NUMBER)

@@ -2,7 +2,7 @@
 use Rattle.std.specs.Prelude.{◌≡◌, ◌⊎◌, ◌<◌, ◌≤◌, ◌^◌, ◌++◌, ℕ, List, All, Option, None, Some, IfSome, codes, map}
 use Rattle.snb_history.specs.declared.logged.Header.{Header}
 use Rattle.snb_history.specs.declared.logged.Logged.{Logged}
-use Rattle.snb_history.specs.RunTexts.{first_log_text, header_line, header_of, log_text, logged_line, text_of_log}
+use Rattle.snb_history.specs.RunTexts.{first_header, first_log_text, header_line, header_of, log_text, logged_line, text_of_log}
 use Rattle.snb_schema.specs.declared.limits.TheConstants.{MAX_WORKERS}
 use Rattle.snb_schema.specs.Lines.{HasNoEnd, fields, lines}
 use Rattle.snb_input_lines.specs.Language.{IsText}
@@ -114,17 +114,17 @@ RunReadsBack =
 abbrev pub LogIsWrittenAgain : Type 0
 LogIsWrittenAgain = (text : List ℕ) (logged : List Logged) (head : Header) → IsLog text head logged → ReadsBack head logged
 
--- where a log is of the last version, that is the log of a run of its workers, of a plan with its operations
+-- where a log is of the last version, so it is with the log of a run of its workers, of a plan with its operations
 abbrev pub LastIsWrittenAgain : Type 0
 LastIsWrittenAgain =
     (text : List ℕ) (logged : List Logged) (head : Header) → IsLog text head logged → head.version ≡ LAST_VERSION
-    → (operations : ℕ) × (text_of_log head logged ≡ log_text head.workers operations logged)
+    → (operations : ℕ) × (head ≡ header_of head.workers operations) × IsLog (log_text head.workers operations logged) head logged
 
--- where it is of version 1, that is the log of version 1 of its workers and its history
+-- where it is of version 1, so it is with the log of version 1 of its workers and its history
 abbrev pub FirstIsWrittenAgain : Type 0
 FirstIsWrittenAgain =
     (text : List ℕ) (logged : List Logged) (head : Header) → IsLog text head logged → head.version ≡ 1
-    → text_of_log head logged ≡ first_log_text head.workers (map (λ l. l.event) logged)
+    → (head ≡ first_header head.workers) × IsLog (first_log_text head.workers (map (λ l. l.event) logged)) head logged
 
 -- the same events one by one, with a count of rows exactly at each Finish
 pub record AddsCounts (logged more : List Logged) : Type 0 where

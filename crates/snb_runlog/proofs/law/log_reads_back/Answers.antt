@@ -11,10 +11,10 @@ pub returns-clause-again : goal.returns-clause-again
 returns-clause-again c = BackFacts.log_again c.one_spelling.ensures.read
 
 pub returns-clause-last : goal.returns-clause-last
-returns-clause-last c = BackFacts.last_again
+returns-clause-last c = BackFacts.last_again c.one_spelling.ensures.read
 
 pub returns-clause-first : goal.returns-clause-first
-returns-clause-first c = BackFacts.first_again
+returns-clause-first c = BackFacts.first_again c.one_spelling.ensures.read
 
 pub returns-clause-lacks : goal.returns-clause-lacks
 returns-clause-lacks c = BackFacts.first_lacks c.one_spelling.ensures.read
