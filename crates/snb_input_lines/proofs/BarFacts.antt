@@ -12,8 +12,8 @@ use Rattle.csv.specs.declared.parser.State.{State}
 use Rattle.csv.specs.declared.parser.State.TheVariants as st
 use Rattle.std.specs.List.{onto_first}
 use Rattle.snb_schema.specs.Lines.{fields}
-use Rattle.snb_input_lines.specs.Bars.{IsBefore, MayStand, Source, Stands, bar_config, bytes_of}
-use Rattle.snb_input_lines.specs.Cut.{IsCutAtEnd}
+use Rattle.snb_input_lines.specs.Bars.{MayStand, Source, Stands, bar_config, bytes_of}
+use Rattle.snb_input_lines.specs.Ended.{AnyStands, AreUtf8, IsLeft}
 use Rattle.snb_schema.specs.Lines.{HasNoEnd}
 use Rattle.snb_input_lines.proofs.CutFacts.{all_back}
 
@@ -160,7 +160,7 @@ is-empty [] e = refl
 is-empty (b ∷ line) e = absurd (omega (arith, eqb-true (length (b ∷ line)) 0 e))
 
 -- what follows a line end
-rest-of-end : (text rest : List ℕ) → text ≡ 10 ∷ rest → take (length text - 1) (drop 1 text) ≡ rest
+pub rest-of-end : (text rest : List ℕ) → text ≡ 10 ∷ rest → take (length text - 1) (drop 1 text) ≡ rest
 rest-of-end text rest e = ap (λ (t : List ℕ). take (length t - 1) (drop 1 t)) e ∙ ap (λ (n : ℕ). take n rest) (one-less rest) ∙ take-length rest
   where
     one-less : (rest : List ℕ) → length (10 ∷ rest) - 1 ≡ length rest
@@ -173,23 +173,13 @@ end-unmarked [] = refl
 end-unmarked (a ∷ []) = refl
 end-unmarked (a ∷ b ∷ text) = refl
 
--- what a text begins with, where it begins with a line that has a byte
-pub first-line-read : (text line back : List ℕ) → line ≢ [] → (cut : IsCutAtEnd text line back) → next_record bar_config st.StartRecord [] [] text ≡ Some (fields line, st.StartRecord, cut.rest)
-first-line-read text line back n cut = rw cut.joined (line-then line cut.rest n cut.one_line)
-
--- past that line, what the reader has left is what follows its end
-pub stands-past-line : (s : Reader Source) (text line back : List ℕ) → (cut : IsCutAtEnd text line back) → Stands s cut.rest → Stands s (take (length back - 1) (drop 1 back))
-stands-past-line s text line back cut h = subst (Stands s) (sym (rest-of-end back cut.rest cut.ends)) h
-
--- past an empty line a reader stands as it did
-pub stands-past-empty : (s : Reader Source) (text line back : List ℕ) → line ≡ [] → (cut : IsCutAtEnd text line back) → Stands s text → Stands s (take (length back - 1) (drop 1 back))
-stands-past-empty s text line back n cut h =
-    let e : text ≡ 10 ∷ cut.rest = rw n at cut.joined in
-    stands-past-line s text line back cut (stands-empty s cut.rest (subst (Stands s) e h))
+-- past the fields of a line, or past an empty line, a reader stands before what follows
+pub stands-past : (s : Reader Source) (line rest : List ℕ) → line ≡ [] → MayStand s (line ++ 10 ∷ rest) → MayStand s rest
+stands-past s line rest n may fresh = stands-empty s rest (subst (λ (l : List ℕ). Stands s (l ++ 10 ∷ rest)) n (may fresh))
 
 -- then the text after it has no first line that is apart
-pub before-rest : (s : Reader Source) (rest : List ℕ) → MayStand s rest → IsBefore s [] rest
-before-rest s rest may = record { stands = may; one_line = All-nil (λ (b : ℕ). b ≢ 10); ends = λ none. absurd (none refl) }
+pub rest-left : (reader : Option (Reader Source)) (rest : List ℕ) (known : Bool) → AnyStands reader rest → AreUtf8 known rest → IsLeft reader [] rest known
+rest-left reader rest known stands utf8 = record { stands = stands; one_line = All-nil (λ (b : ℕ). b ≢ 10); ends = λ none. absurd (none refl); utf8 = utf8 }
 
 -- where no line is left that is ended, none is apart
 pub none-apart : (first rest : List ℕ) → (first ≢ [] → (others : List ℕ) × (rest ≡ 10 ∷ others)) → HasNoEnd (first ++ rest) → rest ≡ first ++ rest

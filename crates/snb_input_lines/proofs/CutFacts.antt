@@ -1,12 +1,14 @@
 -- Facts of texts cut at their line ends.
 use Rattle.std.proofs.Common.{◌≡◌, ◌≢◌, ◌==◌, ◌++◌, ◌∷◌, ◌∙◌, ◌⊎◌, ◌+◌, ◌<◌, ◌≤◌, [], ℕ, List, refl, sym, ap, subst, false, append_assoc, inl, inr, suc, length, arith, length-append, length-take, cond, All, zero, get_or, take, drop, true}
 use Rattle.std.proofs.lemmas.Bool.{cases_Bool, eqb-true, ne_eqb, eq-eqb}
-use Rattle.std.proofs.Math.Seq.{drop-cons}
+use Rattle.std.proofs.Math.Seq.{drop-append-add, drop-cons, get_or-append_seam, take-append_seam}
 use Rattle.std.proofs.lemmas.Bool.Decides.{Decides-eqb}
-use Rattle.std.proofs.lemmas.List.{get_or-take, take-append-drop}
+use Rattle.std.proofs.lemmas.List.{get_or-drop, get_or-take, length-drop, take-append-drop}
 use Rattle.std.proofs.lemmas.List.Elements.{All-from_get_or, All-nil, All-cons, All-head, All-tail}
 use Rattle.std.proofs.lemmas.List.Splits.{slice_split_at, slice_split_none, length-slice_split}
+use Rattle.std.proofs.lemmas.Str.{IsCharBoundary-after_ascii, IsCharBoundary-before_ascii, IsUtf8-append, IsUtf8-drop, IsUtf8-take}
 use Rattle.std.specs.List.{slice_split, onto_first}
+use Rattle.std.specs.Str.{IsUtf8}
 use Rattle.snb_schema.specs.Lines.{lines}
 use Rattle.snb_input_lines.specs.Cut.{IsCutAtEnd, all_but_last, last_lines, last_part, rest_of, whole_lines}
 use Rattle.snb_schema.specs.Lines.{HasNoEnd}
@@ -143,3 +145,49 @@ cut_here text k l none is =
       ends = back;
       joined = sym (take-append-drop k text) ∙ ap (λ (xs : List ℕ). take k text ++ xs) back;
     }
+
+-- and at the last byte that is one
+pub cut_last : (text : List ℕ) (k : ℕ) → k < length text → ((i : ℕ) → k + 1 ≤ i → i < length text → ¬ ((get_or text i 0 == 10) ≡ true)) → (get_or text k 0 == 10) ≡ true
+    → HasNoEnd (drop (suc k) text) × (text ≡ take k text ++ 10 ∷ drop (suc k) text)
+cut_last text k l none is =
+    let byte : get_or text k 0 ≡ 10 = grind (arith, Decides-eqb (get_or text k 0) 10) in
+    let back : drop k text ≡ 10 ∷ drop (suc k) text = drop-cons text k 0 l ∙ ap (λ (b : ℕ). b ∷ drop (suc k) text) byte in (
+      All-from_get_or (λ b. b ≢ 10) (drop (suc k) text) 0 (λ i m e.
+          let at : suc k + i < length text = omega (arith, m, length-drop (suc k) text) in
+          none (suc k + i) (omega arith) at (rw (sym (get_or-drop (suc k) text i 0) ∙ e) refl)),
+      sym (take-append-drop k text) ∙ ap (λ (xs : List ℕ). take k text ++ xs) back,
+    )
+
+-- what a byte of ASCII ends, and what follows it, is text where the whole is
+pub around_byte : (c : ℕ) (part rest : List ℕ) → c < 128 → IsUtf8 (part ++ c ∷ rest) → IsUtf8 part × IsUtf8 rest
+around_byte c part rest ascii u =
+    let text = part ++ c ∷ rest in
+    let within : length part < length text = omega (arith, length-append part (c ∷ rest)) in
+    let byte : get_or text (length part) 0 ≡ c = get_or-append_seam part c rest 0 in
+    let low : get_or text (length part) 0 < 128 = omega arith in (
+      subst IsUtf8 (take-append_seam part (c ∷ rest)) (IsUtf8-take text (length part) u (IsCharBoundary-before_ascii text (length part) within low)),
+      subst IsUtf8 (drop-append-add part (c ∷ rest) 1) (IsUtf8-drop text (length part + 1) u (IsCharBoundary-after_ascii text (length part) u within low)),
+    )
+
+-- each line that is ended is text, where what comes before the last end is
+lines_text : (front rest : List ℕ) → HasNoEnd rest → IsUtf8 front → All IsUtf8 (whole_lines (front ++ 10 ∷ rest))
+lines_text front rest h = by_cuts 10 (λ t. IsUtf8 t → All IsUtf8 (whole_lines (t ++ 10 ∷ rest)))
+    (λ line k u. subst (All IsUtf8) (sym ((first_whole line rest k).0 ∙ ap (λ (ls : List (List ℕ)). line ∷ ls) (none_whole rest h).0)) (All-cons IsUtf8 line [] u (All-nil IsUtf8)))
+    (λ line more k later u.
+    let both = around_byte 10 line more (omega arith) u in
+    subst (All IsUtf8) (sym (ap whole_lines (append_assoc line (10 ∷ more) (10 ∷ rest)) ∙ (first_whole line (more ++ 10 ∷ rest) k).0)) (All-cons IsUtf8 line (whole_lines (more ++ 10 ∷ rest)) both.0 (later both.1)))
+    front
+
+-- so it is in a text in two parts, of which the second has the last end at this place
+pub lines_known : (front back : List ℕ) (k : ℕ) → k < length back → ((i : ℕ) → k + 1 ≤ i → i < length back → ¬ ((get_or back i 0 == 10) ≡ true)) → (get_or back k 0 == 10) ≡ true
+    → IsUtf8 front → IsUtf8 (take k back) → All IsUtf8 (whole_lines (front ++ back))
+lines_known front back k l none is u v =
+    let cut = cut_last back k l none is in
+    let joined = append_assoc front (take k back) (10 ∷ drop (suc k) back) ∙ ap (λ (xs : List ℕ). front ++ xs) (sym cut.1) in
+    subst (λ (t : List ℕ). All IsUtf8 (whole_lines t)) joined (lines_text (front ++ take k back) (drop (suc k) back) cut.0 (IsUtf8-append front (take k back) u v))
+
+-- the first of the lines that are ended is text, and so are the others
+pub first_text : (text line back : List ℕ) → (cut : IsCutAtEnd text line back) → All IsUtf8 (whole_lines text) → IsUtf8 line × All IsUtf8 (whole_lines cut.rest)
+first_text text line back cut all =
+    let each = subst (All IsUtf8) (ap whole_lines cut.joined ∙ (first_whole line cut.rest cut.one_line).0) all in
+    (All-head IsUtf8 line (whole_lines cut.rest) each, All-tail IsUtf8 line (whole_lines cut.rest) each)

@@ -25,10 +25,6 @@ pub fields_as : (splits : Bool) (line : List ℕ) (fs : List (List ℕ)) → fs 
 fields_as true line fs same = same
 fields_as false line fs same = tt
 
-pub fields_none : (splits : Bool) (line : List ℕ) (fs : List (List ℕ)) → splits ≡ false → FieldsAs splits line fs
-fields_none true line fs e = cc
-fields_none false line fs e = tt
-
 none_more : (n : ℕ) → n + length {A = List ℕ} [] ≡ n
 none_more n = omega arith
 

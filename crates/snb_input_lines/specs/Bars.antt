@@ -1,5 +1,5 @@
 -- How `csv` is set up to read the fields of lines, and where it stands. Cited by contracts of private functions alone.
-use Rattle.std.specs.Prelude.{◌≡◌, ◌≢◌, ◌++◌, ◌∷◌, ℕ, true, false, List, [], Option, None, Some}
+use Rattle.std.specs.Prelude.{◌≡◌, ℕ, true, false, List, [], Option, None, Some}
 use Rattle.std.specs.Borrow.{Bor}
 use Rattle.std.specs.declared.io.traits.Chain.{Chain}
 use Rattle.std.specs.Io.Chain.{chain_remaining}
@@ -10,7 +10,6 @@ use Rattle.csv.specs.declared.reader.Reader.{Reader}
 use Rattle.csv.specs.declared.reader.Trim.TheVariants as trim
 use Rattle.csv.specs.Machine.{next_record}
 use Rattle.csv.specs.Reading.{Ready, has_failed, is_flexible, reader_config, reader_state, reader_trim, source_of}
-use Rattle.snb_schema.specs.Lines.{HasNoEnd}
 
 -- bars between fields, no quoting, lines end at `\n` alone
 abbrev pub bar_config : Config
@@ -48,9 +47,3 @@ pub record Stands (s : Reader Source) (text : List ℕ) : Type 0 where
 -- a reader stands before this text, unless it failed
 abbrev pub MayStand : Reader Source → List ℕ → Type 0
 MayStand s text = has_failed s ≡ false → Stands s text
-
--- a reader stands before a text, of which the first line may be apart, without its end
-pub record IsBefore (s : Reader Source) (first rest : List ℕ) : Type 0 where
-  pub stands : MayStand s (first ++ rest)
-  pub one_line : HasNoEnd first
-  pub ends : first ≢ [] → (others : List ℕ) × (rest ≡ 10 ∷ others)

@@ -1,5 +1,5 @@
 -- How many data lines are read, where they may be so many at most, and what a sink does that counts them.
-use Rattle.std.specs.Prelude.{◌≡◌, ◌+◌, ◌<◌, ◌≤◌, ℕ, List, [], ◌∷◌, Option, Some, None}
+use Rattle.std.specs.Prelude.{◌≡◌, ◌+◌, ◌<◌, ◌≤◌, ℕ, [], ◌∷◌, Option, Some, None}
 use Rattle.snb_base.specs.FirstOf.{FirstOf}
 use Rattle.snb_schema.specs.declared.refusal.Counted.TheVariants.{Rows}
 use Rattle.snb_schema.specs.declared.refusal.Refusal.TheVariants.{TooMany}

@@ -1,6 +1,7 @@
 pub mod Bars
 pub mod Counts
 pub mod Cut
+pub mod Ended
 pub mod Fed
 pub mod Feeding
 pub mod Files
@@ -12,4 +13,3 @@ pub mod Records
 pub mod Sinks
 pub mod Steps
 pub mod View
-pub mod Whole

@@ -3,6 +3,7 @@
 #![tactic(auto)]
 
 pub mod counted;
+mod ended;
 pub mod grammar;
 pub mod law;
 pub mod line_reader;
@@ -12,7 +13,6 @@ mod progress;
 pub mod record;
 pub mod sink;
 pub mod split;
-mod whole;
 
 pub use counted::RowCount;
 pub use grammar::Grammar;

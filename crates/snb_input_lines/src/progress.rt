@@ -1,6 +1,6 @@
 //! How far a reader of lines has come.
 
-ghost use Rattle.std.specs.Prelude.{◌≡◌, ◌+◌, ◌^◌, ◌≢◌, ◌<◌, ◌≤◌, ◌++◌, ◌∷◌, ℕ, List, [], length, IfErr, OnOk, OnErr, None, false};
+ghost use Rattle.std.specs.Prelude.{◌≡◌, ◌+◌, ◌^◌, ◌≢◌, ◌<◌, ◌≤◌, ◌++◌, ◌∷◌, ℕ, List, [], length, IfErr, IsUtf8, OnOk, OnErr, None, true};
 ghost use Rattle.snb_schema.specs.declared.fault.Fault.TheVariants.{Bad};
 ghost use Rattle.snb_schema.specs.declared.limits.TheConstants.{MAX_BYTES};
 ghost use Rattle.snb_schema.specs.declared.refusal.Refusal.{Refusal as Refused};
@@ -13,17 +13,19 @@ ghost use Rattle.snb_input_lines.specs.Language.{FieldsAs, Fits, IsText, IsTextL
 ghost use Rattle.snb_input_lines.specs.Reading.{RefusesAs, end_fault};
 ghost use Rattle.snb_input_lines.specs.Steps.{FileStopped, LineRefused, LineTaken, LinesRunOut, LinesStopped, LinesTaken, TextTaken, fault_of};
 
+use crate::ended::EndedLines;
 use crate::grammar::Grammar;
 use crate::record::Record;
 use crate::sink::Sink;
-use crate::split::{EndedLines, cut_at_end, is_marked, split_line};
-use crate::whole::WholeLines;
+use crate::split::{cut_at_end, is_marked, is_utf8, split_line};
 use snb_schema::{Fault, FileId, LineFault, Refusal};
 use std::alloc::Global;
-use std::{mem, str};
+use std::mem;
 
-// Finds fault with a line that begins with a byte order mark, or that isn't UTF-8.
-fn check_line(file: FileId, number: u32, line: &[u8]) -> Result<(), Fault>
+// Finds fault with a line that begins with a byte order mark, or that isn't UTF-8, unless it is known
+// to be.
+fn check_line(file: FileId, number: u32, line: &[u8], known: bool) -> Result<(), Fault>
+    requires { known ≡ true → IsUtf8 line.now }
     ensures ok { OnOk result (IsText line.now) }
     ensures err { IfErr result (λ fault. (r : Refused) × (fault ≡ Bad r) × RefusesText file number line.now r) }
 {
@@ -36,7 +38,7 @@ fn check_line(file: FileId, number: u32, line: &[u8]) -> Result<(), Fault>
             },
         });
     }
-    if str::from_utf8(line).is_err() {
+    if !known && !is_utf8(line) {
         return Err(Fault::Bad {
             refusal: Refusal::NotUtf8 { file, line: number },
         });
@@ -104,16 +106,18 @@ fn take_text<G: Grammar, S: Sink<G::Item>>(
     }
 }
 
-// Takes the next line. Its fields are in `row`, where it has a byte.
+// Takes the next line, which may be known to be UTF-8. Its fields are in `row`, where it has a byte.
 fn take_line<G: Grammar, S: Sink<G::Item>>(
     of: &Source<G>,
     at: &mut Progress<G::Known>,
     line: &[u8],
+    known: bool,
     row: &Record,
     sink: &mut S,
 ) -> Result<(), Fault>
     requires room { at.old.ended + 1 < 2 ^ 32 }
     requires one_line { HasNoEnd line.now }
+    requires utf8 { known ≡ true → IsUtf8 line.now }
     requires split { line.now ≢ [] → FieldsAs (G.language of.now.grammar).splits line.now (row.now) }
     requires fits { Fits (G.language of.now.grammar) S.fits }
     ensures ok { OnOk result (LineTaken (G.language of.now.grammar) S.takes of.now.file line.now at.old sink.old at.new sink.new) }
@@ -124,7 +128,7 @@ fn take_line<G: Grammar, S: Sink<G::Item>>(
 {
     let number = at.ended + 1;
     if !line.is_empty() {
-        check_line(of.file, number, line)?;
+        check_line(of.file, number, line, known)?;
         take_text(of, at, number, line, row, sink)?;
     }
     at.ended = number;
@@ -149,53 +153,29 @@ fn take_last<G: Grammar, S: Sink<G::Item>>(
     let mut row = Record::new(of.alloc);
     let line = mem::replace(&mut at.begun, Vec::new(of.alloc));
     split_line(of.alloc, line.as_slice(), &mut row)?;
-    take_line(of, at, line.as_slice(), &row, sink)
+    take_line(of, at, line.as_slice(), false, &row, sink)
 }
 
 // Takes the lines of a text that are ended, and begins the line that follows them.
 fn take_lines<G: Grammar, S: Sink<G::Item>>(
     of: &Source<G>,
     at: &mut Progress<G::Known>,
-    mut text: EndedLines<'_>,
+    text: &mut EndedLines<'_>,
     sink: &mut S,
 ) -> Result<(), Fault>
+    requires splits { text.old.splits ≡ (G.language of.now.grammar).splits }
     requires fresh { at.old.begun.items ≡ [] }
-    requires room { at.old.ended + length text ≤ MAX_BYTES }
+    requires room { at.old.ended + length text.old.text ≤ MAX_BYTES }
     requires fits { Fits (G.language of.now.grammar) S.fits }
-    ensures ok { OnOk result (LinesTaken (G.language of.now.grammar) S.takes of.now.file (whole_lines text.entry) at.old sink.old at.new sink.new) }
-    ensures bad { OnBad result (LinesStopped (G.language of.now.grammar) S.takes S.refuses S.same of.now.file (whole_lines text.entry) at.old sink.old sink.new) }
-    ensures memory { OnMemory result (LinesRunOut (G.language of.now.grammar) S.takes S.same of.now.file (whole_lines text.entry) at.old sink.old sink.new) }
-    ensures ended { OnOk result (at.new.ended ≡ at.old.ended + length (whole_lines text.entry)) }
-    ensures begun { OnOk result (at.new.begun.items ≡ rest_of text.entry) }
+    ensures ok { OnOk result (LinesTaken (G.language of.now.grammar) S.takes of.now.file (whole_lines text.old.text) at.old sink.old at.new sink.new) }
+    ensures bad { OnBad result (LinesStopped (G.language of.now.grammar) S.takes S.refuses S.same of.now.file (whole_lines text.old.text) at.old sink.old sink.new) }
+    ensures memory { OnMemory result (LinesRunOut (G.language of.now.grammar) S.takes S.same of.now.file (whole_lines text.old.text) at.old sink.old sink.new) }
+    ensures ended { OnOk result (at.new.ended ≡ at.old.ended + length (whole_lines text.old.text)) }
+    ensures begun { OnOk result (at.new.begun.items ≡ rest_of text.old.text) }
 {
     let mut row = Record::new(of.alloc);
     while let Some(line) = text.read(&mut row)? {
-        take_line(of, at, line, &row, sink)?;
-    }
-    at.begun.extend_from_slice(text.rest())?;
-    Ok(())
-}
-
-// Takes the lines of a text that are ended, each seen whole, and begins the line that follows them.
-fn take_whole<G: Grammar, S: Sink<G::Item>>(
-    of: &Source<G>,
-    at: &mut Progress<G::Known>,
-    mut text: WholeLines<'_>,
-    sink: &mut S,
-) -> Result<(), Fault>
-    requires unsplit { (G.language of.now.grammar).splits ≡ false }
-    requires fresh { at.old.begun.items ≡ [] }
-    requires room { at.old.ended + length text ≤ MAX_BYTES }
-    requires fits { Fits (G.language of.now.grammar) S.fits }
-    ensures ok { OnOk result (LinesTaken (G.language of.now.grammar) S.takes of.now.file (whole_lines text.entry) at.old sink.old at.new sink.new) }
-    ensures bad { OnBad result (LinesStopped (G.language of.now.grammar) S.takes S.refuses S.same of.now.file (whole_lines text.entry) at.old sink.old sink.new) }
-    ensures memory { OnMemory result (LinesRunOut (G.language of.now.grammar) S.takes S.same of.now.file (whole_lines text.entry) at.old sink.old sink.new) }
-    ensures ended { OnOk result (at.new.ended ≡ at.old.ended + length (whole_lines text.entry)) }
-    ensures begun { OnOk result (at.new.begun.items ≡ rest_of text.entry) }
-{
-    let row = Record::new(of.alloc);
-    while let Some(line) = text.read() {
-        take_line(of, at, line, &row, sink)?;
+        take_line(of, at, line, text.is_utf8(), &row, sink)?;
     }
     at.begun.extend_from_slice(text.rest())?;
     Ok(())
@@ -221,10 +201,8 @@ fn take_ended<G: Grammar, S: Sink<G::Item>>(
     ensures ended { OnOk result (at.new.ended ≡ at.old.ended + length (whole_lines (first.now ++ others.now))) }
     ensures begun { OnOk result (at.new.begun.items ≡ rest_of (first.now ++ others.now)) }
 {
-    if of.grammar.splits() {
-        return take_lines(of, at, EndedLines::new(of.alloc, first, others), sink);
-    }
-    take_whole(of, at, WholeLines::new(first, others), sink)
+    let mut text = EndedLines::new(of.alloc, of.grammar.splits(), first, others);
+    take_lines(of, at, &mut text, sink)
 }
 
 /// Takes the lines that are ended in the piece, and begins the line that follows them.

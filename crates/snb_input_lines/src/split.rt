@@ -1,6 +1,6 @@
-//! Lines and their fields, split by `csv`.
+//! Lines cut at their ends, and their fields, split by `csv`.
 
-ghost use Rattle.std.specs.Prelude.{◌≡◌, ◌≢◌, ◌++◌, ◌∷◌, ℕ, List, Some, [], OnOk, OnErr, IfOk, MatchOption, true, false, ⊤};
+ghost use Rattle.std.specs.Prelude.{◌≡◌, ◌≢◌, ◌++◌, ℕ, List, Some, [], OnOk, OnErr, IsTrue, IsUtf8, MatchOption, true, ◌↔◌};
 ghost use Rattle.csv.specs.Machine.{next_record};
 ghost use Rattle.csv.specs.Reading.{has_failed};
 ghost use Rattle.csv.specs.Records.{fields_of};
@@ -15,10 +15,13 @@ use csv::{ByteRecord, ErrorKind, Reader, ReaderBuilder, Terminator};
 use memchr::memchr;
 use std::alloc::{AllocError, Global};
 use std::io::{Chain, Read};
-use std::marker::Model;
+use std::str;
 
 // A line end, and two texts after it.
 type Source<'a> = Chain<Chain<&'a [u8], &'a [u8]>, &'a [u8]>;
+
+/// A reader of fields between bars.
+pub(crate) type BarReader<'a> = Reader<Source<'a>>;
 
 /// Whether the line begins with a byte order mark.
 pub fn is_marked(line: &[u8]) -> bool
@@ -30,9 +33,16 @@ pub fn is_marked(line: &[u8]) -> bool
     }
 }
 
-// A reader of the fields of the lines of two texts, one after the other. `csv` is given a line end
-// before them, since it passes over a mark where its text begins, and here none may be passed over.
-fn bar_reader<'a>(alloc: Global, front: &'a [u8], back: &'a [u8]) -> Reader<Source<'a>>
+/// Whether the line is UTF-8.
+pub(crate) fn is_utf8(line: &[u8]) -> bool
+    ensures { IsTrue result ↔ IsUtf8 line.now }
+{
+    str::from_utf8(line).is_ok()
+}
+
+/// A reader of the fields of the lines of two texts, one after the other. `csv` is given a line end
+/// before them, since it passes over a mark where its text begins, and here none may be passed over.
+pub(crate) fn bar_reader<'a>(alloc: Global, front: &'a [u8], back: &'a [u8]) -> BarReader<'a>
     ensures { Stands result (front.entry.now ++ back.entry.now) }
 {
     let end: &'a [u8] = b"\n";
@@ -45,8 +55,11 @@ fn bar_reader<'a>(alloc: Global, front: &'a [u8], back: &'a [u8]) -> Reader<Sour
         .from_reader(alloc, end.chain(front).chain(back))
 }
 
-// Takes the next record. The one error is want of memory, after which the reader has failed.
-fn take_fields(reader: &mut Reader<Source<'_>>, row: &mut ByteRecord) -> Result<(), AllocError>
+/// Takes the next record. The one error is want of memory, after which the reader has failed.
+pub(crate) fn take_fields(
+    reader: &mut BarReader<'_>,
+    row: &mut ByteRecord,
+) -> Result<(), AllocError>
     requires { (text : List ℕ) × MayStand reader.old text }
     ensures ok { OnOk result ((text rest : List ℕ) (fs : List (List ℕ)) → MayStand reader.old text
         → next_record bar_config st.StartRecord [] [] text ≡ Some (fs, st.StartRecord, rest)
@@ -86,89 +99,4 @@ pub fn split_line(alloc: Global, line: &[u8], row: &mut Record) -> Result<(), Al
     }
     let mut reader = bar_reader(alloc, line, &[]);
     take_fields(&mut reader, &mut row.row)
-}
-
-// The next line that is ended, of which the first may be apart, and what begins with its end.
-fn next_line<'a>(first: &'a [u8], rest: &'a [u8]) -> Option<(&'a [u8], &'a [u8])>
-    requires one_line { HasNoEnd first.now }
-    requires ends { first.now ≢ [] → (others : List ℕ) × (rest.now ≡ 10 ∷ others) }
-    ensures { MatchOption result (HasNoEnd (first.entry.now ++ rest.entry.now))
-        (λ parts. IsCutAtEnd (first.entry.now ++ rest.entry.now) parts.0.now parts.1.now) }
-{
-    if first.is_empty() {
-        cut_at_end(rest)
-    } else {
-        Some((first, rest))
-    }
-}
-
-/// Gives the lines of a text that are ended, each with its fields, over one reader of `csv`. The first
-/// of them may be apart from the others. A contract sees it as the bytes that are left.
-pub struct EndedLines<'a> {
-    reader: Reader<Source<'a>>,
-    first: &'a [u8],
-    rest: &'a [u8],
-}
-
-impl Drop for EndedLines<'_> {
-    fn drop(self) {
-        let EndedLines {
-            reader: _,
-            first: _,
-            rest: _,
-        } = self;
-    }
-}
-
-impl<'a> Model for EndedLines<'a> {
-    ghost use Rattle.std.specs.Prelude.{◌++◌, List, ℕ};
-    ghost use Rattle.snb_input_lines.specs.Bars.{IsBefore};
-
-    ghost Value = { List ℕ };
-
-    ghost view = { λ s. s.first.now ++ s.rest.now };
-
-    ghost invariant = { λ s. IsBefore s.reader s.first.now s.rest.now };
-}
-
-impl<'a> EndedLines<'a> {
-    /// Reads a line, which has no `\n`, and what comes after it, which begins with one.
-    pub fn new(alloc: Global, first: &'a [u8], others: &'a [u8]) -> EndedLines<'a>
-        requires one_line { HasNoEnd first.now }
-        requires ends { (rest : List ℕ) × (others.now ≡ 10 ∷ rest) }
-        ensures { result ≡ first.entry.now ++ others.entry.now }
-    {
-        EndedLines {
-            reader: bar_reader(alloc, first, others),
-            first,
-            rest: others,
-        }
-    }
-
-    /// The bytes that are left, once no line is left that is ended.
-    pub fn rest(&self) -> &'a [u8]
-        ensures { HasNoEnd self.now → result.now ≡ self.now }
-    {
-        self.rest
-    }
-
-    /// The next line that is ended, which may be empty, and, where it is not, its fields in `row`.
-    /// The one error is want of memory.
-    pub fn read(&mut self, row: &mut Record) -> Result<Option<&'a [u8]>, AllocError>
-        ensures line { IfOk result
-            (λ found. MatchOption found (HasNoEnd self.old × (self.new ≡ self.old))
-            (λ line. HasNoEnd line.now × (self.old ≡ line.now ++ 10 ∷ self.new))) }
-        ensures fields { IfOk result
-            (λ found. MatchOption found ⊤ (λ line. line.now ≢ [] → row.new ≡ fields line.now)) }
-    {
-        let Some((line, others)) = next_line(self.first, self.rest) else {
-            return Ok(None);
-        };
-        if !line.is_empty() {
-            take_fields(&mut self.reader, &mut row.row)?;
-        }
-        self.first = &[];
-        self.rest = &others[1..];
-        Ok(Some(line))
-    }
 }

@@ -6,10 +6,11 @@ use Rattle.snb_input_lines.proofs.progress.take_lines.Given as goal
 -- the lines before what is left are read
 abbrev pub invariant-loop-row : goal.invariant-loop-row
 invariant-loop-row g l = record {
+  splits : l.text.splits ≡ (g.G.Grammar.language l.of.grammar).splits;
   begun : l.at.begun.items ≡ [];
-  room : l.at.ended + length l.text ≤ MAX_BYTES;
-  coming : Coming (g.G.Grammar.language l.of.grammar) g.S.Sink.takes l.of.file l.fn.at.known l.fn.at.ended l.fn.text l.fn.sink l.at.known l.at.ended l.text l.sink;
+  room : l.at.ended + length l.text.text ≤ MAX_BYTES;
+  coming : Coming (g.G.Grammar.language l.of.grammar) g.S.Sink.takes l.of.file l.fn.at.known l.fn.at.ended l.fn.text.text l.fn.sink l.at.known l.at.ended l.text.text l.sink;
 }
 
 abbrev pub decreases-loop-row : goal.decreases-loop-row
-decreases-loop-row g l = length l.text
+decreases-loop-row g l = length l.text.text
