@@ -13,9 +13,9 @@ ghost use Rattle.snb_schema.specs.Lines.{HasNoEnd};
 use crate::record::Record;
 use csv::{ByteRecord, ErrorKind, Reader, ReaderBuilder, Terminator};
 use memchr::memchr;
+use simdutf8::is_utf8_baseline;
 use std::alloc::{AllocError, Global};
 use std::io::{Chain, Read};
-use std::str;
 
 // A line end, and two texts after it.
 type Source<'a> = Chain<Chain<&'a [u8], &'a [u8]>, &'a [u8]>;
@@ -37,7 +37,7 @@ pub fn is_marked(line: &[u8]) -> bool
 pub(crate) fn is_utf8(line: &[u8]) -> bool
     ensures { IsTrue result ↔ IsUtf8 line.now }
 {
-    str::from_utf8(line).is_ok()
+    is_utf8_baseline(line)
 }
 
 /// A reader of the fields of the lines of two texts, one after the other. `csv` is given a line end
