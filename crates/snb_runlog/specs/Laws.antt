@@ -144,3 +144,8 @@ abbrev pub WhereCountsAre : Type 0
 WhereCountsAre =
     (text : List ℕ) (logged : List Logged) (head : Header) → IsLog text head logged
     → HasOperations head × All (HasCount head.version) logged
+
+-- the limits of a log
+pub record LogLimits : Type 0 where
+  pub versions : LAST_VERSION ≡ 2
+  pub numbers : MAX_NUMBER ≡ 4294967295

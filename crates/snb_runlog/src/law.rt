@@ -2,7 +2,7 @@
 //! laws.
 
 ghost use Rattle.std.specs.Prelude.{ℕ, List};
-ghost use Rattle.snb_runlog.specs.Laws.{EventOrColumn, FirstIsWrittenAgain, FirstLacksCounts, HeaderOrColumn, LastIsWrittenAgain, LogIsExact, LogIsOfOneHistory, LogIsWrittenAgain, LogReadsBack, OneEvent, OneHeader, OwnHeader, OwnLine, RunReadsBack, TextIsOfOneLog, WhereCountsAre};
+ghost use Rattle.snb_runlog.specs.Laws.{EventOrColumn, FirstIsWrittenAgain, FirstLacksCounts, HeaderOrColumn, LastIsWrittenAgain, LogIsExact, LogIsOfOneHistory, LogIsWrittenAgain, LogLimits, LogReadsBack, OneEvent, OneHeader, OwnHeader, OwnLine, RunReadsBack, TextIsOfOneLog, WhereCountsAre};
 
 use snb_base::number::one_spelling;
 
@@ -63,3 +63,8 @@ pub fn log_reads_back()
 {
     one_spelling();
 }
+
+/// There are two versions of a log, and a number in it is at most 4294967295, but for a moment.
+pub fn log_limits()
+    ensures { LogLimits }
+{}
