@@ -48,7 +48,7 @@ each_spelling [] = refl
 each_spelling (c ∷ cells) = ap (λ (ts : List (List ℕ)). canonical_field (value_of c) ∷ ts) (each_spelling cells)
 
 -- one cell more
-pub cells_more : (i : ℕ) (cells : List Cell) (d : Cell) → i < length cells
+cells_more : (i : ℕ) (cells : List Cell) (d : Cell) → i < length cells
     → join_with_byte 124 (map canonical_field (map value_of (take (suc i) cells))) ≡ join_with_byte 124 (map canonical_field (map value_of (take i cells))) ++ mark_before 124 i ++ canonical_field (value_of (get_or cells i d))
 cells_more i cells d l =
     ap (join_with_byte 124) (each_spelling (take (suc i) cells)) ∙ joined_more 124 (λ c. canonical_field (value_of c)) i cells d l

@@ -98,8 +98,8 @@ fn put_pairs(pairs: &[(u64, u32)], line: &mut Vec<u8>) -> Result<(), AllocError>
     Ok(())
 }
 
-// Appends the canonical spelling of a value. What a text or a list takes is never inlined here, so
-// that the way of a number is short.
+// Appends the canonical spelling of a value. The functions for texts and lists stay out of line, so
+// that a number takes few instructions.
 fn put_cell(cell: &Cell<'_>, line: &mut Vec<u8>) -> Result<(), AllocError>
     ensures ok { OnOk result (line.new.items ≡ line.old.items ++ canonical_field (value_of cell.now)) }
     ensures err { OnErr result (StartsWith line.new.items line.old.items) }
