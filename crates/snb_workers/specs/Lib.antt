@@ -1,3 +1,5 @@
+pub mod Counts
+pub mod Miscounts
 pub mod Replicas
 pub mod Replies
 pub mod Runs

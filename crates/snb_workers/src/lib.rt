@@ -3,12 +3,14 @@
 #![tactic(auto)]
 
 pub mod done;
+pub mod miscount;
 pub mod replica;
 pub mod run;
 pub mod threads;
 pub mod work;
 
 pub use done::{Answered, Done};
+pub use miscount::Miscount;
 pub use replica::Replica;
 pub use run::{Outcome, run_alone};
 pub use threads::run_workers;
