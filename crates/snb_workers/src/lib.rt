@@ -4,6 +4,7 @@
 
 pub mod counts;
 pub mod done;
+pub mod law;
 pub mod miscount;
 pub mod replica;
 pub mod run;
