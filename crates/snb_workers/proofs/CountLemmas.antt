@@ -1,14 +1,14 @@
 -- Facts on the counts that a log tells.
-use Rattle.std.proofs.Common.{◌≡◌, ◌≢◌, ◌∙◌, ◌++◌, ℕ, ◌+◌, ◌<◌, ◌≤◌, ◌⊎◌, List, [], ◌∷◌, length, map, take, drop, Bool, true, false, cond, Some, inl, inr, refl, sym, ap, subst, arith, length-map}
+use Rattle.std.proofs.Common.{◌≡◌, ◌≢◌, ◌∙◌, ◌++◌, ℕ, zero, suc, ◌+◌, ◌<◌, ◌≤◌, ◌⊎◌, List, [], ◌∷◌, length, map, take, drop, Bool, true, false, cond, Some, inl, inr, refl, sym, ap, subst, arith}
 use Rattle.std.specs.Prelude.{◌==◌, All, Contains, slice_get}
 use Rattle.std.specs.List.{count_by}
 use Rattle.std.specs.List.Sorted.{IsPermutation}
 use Rattle.std.proofs.lemmas.Bool.{cases_Bool, eq-eqb, eqb-true}
-use Rattle.std.proofs.lemmas.List.{take-append-drop}
+use Rattle.std.proofs.lemmas.List.{length-map, take-append-drop}
 use Rattle.std.proofs.lemmas.List.Elements.{All-contains, All-contains_itself, All-cons, All-map, All-nil}
 use Rattle.std.proofs.lemmas.List.Sorted.{Contains-permutation, IsPermutation-sym, IsPermutation-trans}
 use Rattle.std.proofs.lemmas.List.Sums.{sum_by-cons}
-use Rattle.std.proofs.lemmas.Option.{same_Some, slice_get-get_or}
+use Rattle.std.proofs.lemmas.Option.{same_Some}
 use Rattle.serde_json.specs.Written.{compact_text}
 use Rattle.snb_base.proofs.Laws.{contains_cases, contains_here, contains_there, split_here}
 use Rattle.snb_history.specs.declared.event.Event.{Event}
@@ -36,12 +36,16 @@ use Rattle.snb_workers.specs.Runs.{AreReplies, Asks, IsAnswered}
 
 -- ---- what passes once
 
+-- what passes counts one
+counts_one : (b : Bool) → b ≡ true → cond {A = ℕ} b 1 0 ≡ 1
+counts_one b e = ap (λ (c : Bool). cond {A = ℕ} c 1 0) e
+
 passes : {X : Type 0} (p : X → Bool) (xs : List X) (e : X) → Contains xs e → p e ≡ true → 1 ≤ count_by p xs
 passes p [] e c hit = absurd (let l = c.1 in omega (arith, l))
 passes p (x ∷ xs) e c hit =
     let size = sum_by-cons (λ y. cond (p y) 1 0) x xs in
     elim (contains_cases x xs e c) [
-      | inl same ↦ (let here : p x ≡ true = ap p same ∙ hit in let one : cond (p x) 1 0 ≡ 1 = ap (λ (b : Bool). cond b 1 0) here in omega (arith, size, one))
+      | inl same ↦ (let here : p x ≡ true = ap p same ∙ hit in let one = counts_one (p x) here in omega (arith, size, one))
       | inr later ↦ (let rest = passes p xs e later hit in omega (arith, size, rest))
     ]
 
@@ -55,14 +59,14 @@ passes_once p (x ∷ xs) e f once c d hit also =
         | inl too ↦ sym same ∙ too
         | inr later ↦ absurd (
             let here : p x ≡ true = ap p same ∙ hit in
-            let one : cond (p x) 1 0 ≡ 1 = ap (λ (b : Bool). cond b 1 0) here in
+            let one = counts_one (p x) here in
             let rest = passes p xs f later also in
             omega (arith, size, one, rest, once))
       ]
       | inr later ↦ elim (contains_cases x xs f d) [
         | inl too ↦ absurd (
             let here : p x ≡ true = ap p too ∙ also in
-            let one : cond (p x) 1 0 ≡ 1 = ap (λ (b : Bool). cond b 1 0) here in
+            let one = counts_one (p x) here in
             let rest = passes p xs e later hit in
             omega (arith, size, one, rest, once))
         | inr after ↦ passes_once p xs e f (omega (arith, size, once)) later after hit also
@@ -96,6 +100,12 @@ found_by (a ∷ replies) op = elim (cases_Bool (a.op == op)) [
 
 -- ---- the counts of a run
 
+-- within a list something stands
+got : {X : Type 0} (xs : List X) (i : ℕ) → i < length xs → (x : X) × (slice_get xs i ≡ Some x)
+got [] i lt = absurd (omega (arith, lt))
+got (x ∷ xs) zero lt = (x, refl)
+got (x ∷ xs) (suc i) lt = got xs i (omega (arith, lt))
+
 -- what is told of an event is told of that event
 told_of : (replies : List Answered) (e : Event) → (logged_by replies e).event ≡ e
 told_of replies (Start op worker at) = refl
@@ -114,16 +124,8 @@ module _ (base : List Row) (plan : Plan) (workers : ℕ) (h : List Event) (repli
       let k : ℕ = c.0 in
       let e : Event = Finish op worker at front in
       let is : IsOperation (schedule_of plan) op = ((legal.fits (take k h) e (drop (k + 1) h) (split_here h k e c.1 (sym c.2))).obeys V1).0 in
-      let size = length-map (λ (o : Operation). o.step) plan.operations in
-      there (omega (arith, is, size))
-    where
-      there : op < length plan.operations → (o : Operation) × (slice_get plan.operations op ≡ Some o)
-      there lt = at plan.operations op lt
-
-      at : {X : Type 0} (xs : List X) (i : ℕ) → i < length xs → (x : X) × (slice_get xs i ≡ Some x)
-      at [] i lt = absurd (omega (arith, lt))
-      at (x ∷ xs) 0 lt = (x, refl)
-      at (x ∷ xs) (suc i) lt = at xs i (omega (arith, lt))
+      let size = length-map plan.operations (λ (o : Operation). o.step) in
+      got plan.operations op (omega (arith, is, size))
 
   -- the rows of an entry are the count of the Finish of its operation
   of_entry : (op worker at front : ℕ) (o : Operation) (b : Answered) → Contains h (Finish op worker at front) → slice_get plan.operations op ≡ Some o → Contains replies b → b.op ≡ op
@@ -154,12 +156,14 @@ module _ (base : List Row) (plan : Plan) (workers : ℕ) (h : List Event) (repli
       (
         rows_by replies op,
         refl,
-        o,
-        there.1,
-        elim (found_by replies op) [
-          | inl found ↦ subst (IsCountOf base plan h front o.work) (sym found.3) (of_entry op worker at front o found.0 c there.1 found.1 found.2)
-          | inr none ↦ subst (IsCountOf base plan h front o.work) (sym none.1) (of_none op worker at front o c there.1 none.0 o.work refl)
-        ],
+        (
+          o,
+          there.1,
+          elim (found_by replies op) [
+            | inl found ↦ subst (IsCountOf base plan h front o.work) (sym found.3) (of_entry op worker at front o found.0 c there.1 found.1 found.2)
+            | inr none ↦ subst (IsCountOf base plan h front o.work) (sym none.1) (of_none op worker at front o c there.1 none.0 o.work refl)
+          ],
+        ),
       )
 
   pub tells_counts : TellsCounts base plan h (logged_of replies h)
