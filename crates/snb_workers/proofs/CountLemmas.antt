@@ -1,11 +1,10 @@
 -- Facts on the counts that a log tells.
-use Rattle.std.proofs.Common.{◌≡◌, ◌≢◌, ◌∙◌, ◌++◌, ℕ, zero, suc, ◌+◌, ◌<◌, ◌≤◌, ◌⊎◌, List, [], ◌∷◌, length, map, take, drop, Bool, true, false, cond, Some, inl, inr, refl, sym, ap, subst, arith}
-use Rattle.std.specs.Prelude.{◌==◌, All, Contains, slice_get}
+use Rattle.std.proofs.Common.{◌≡◌, ◌≢◌, ◌∙◌, ◌++◌, ℕ, zero, suc, ◌+◌, ◌<◌, ◌≤◌, ◌⊎◌, List, [], ◌∷◌, length, map, take, drop, Bool, true, cond, Some, inl, inr, refl, sym, ap, subst, arith}
+use Rattle.std.specs.Prelude.{◌==◌, Contains, slice_get}
 use Rattle.std.specs.List.{count_by}
-use Rattle.std.specs.List.Sorted.{IsPermutation}
 use Rattle.std.proofs.lemmas.Bool.{cases_Bool, eq-eqb, eqb-true}
 use Rattle.std.proofs.lemmas.List.{length-map, take-append-drop}
-use Rattle.std.proofs.lemmas.List.Elements.{All-contains, All-contains_itself, All-cons, All-map, All-nil}
+use Rattle.std.proofs.lemmas.List.Elements.{All-contains, All-contains_itself, All-map}
 use Rattle.std.proofs.lemmas.List.Sorted.{Contains-permutation, IsPermutation-sym, IsPermutation-trans}
 use Rattle.std.proofs.lemmas.List.Sums.{sum_by-cons}
 use Rattle.std.proofs.lemmas.Option.{same_Some}
@@ -14,7 +13,6 @@ use Rattle.snb_base.proofs.Laws.{contains_cases, contains_here, contains_there, 
 use Rattle.snb_history.specs.declared.event.Event.{Event}
 use Rattle.snb_history.specs.declared.event.Event.TheVariants.{Start, Finish, Halt}
 use Rattle.snb_history.specs.declared.logged.Logged.{Logged}
-use Rattle.snb_schema.specs.declared.query.Query.{Query}
 use Rattle.snb_schema.specs.declared.row.Row.{Row}
 use Rattle.snb_history.specs.History.{finishes}
 use Rattle.snb_history.specs.Laws.{OnceEach}
@@ -31,7 +29,7 @@ use Rattle.snb_workers_replay.specs.Laws.{IsReplayed, PrefixesAreSound}
 use Rattle.snb_workers_replay.specs.Replay.{IsAfter}
 use Rattle.snb_workers.specs.declared.done.Answered.{Answered}
 use Rattle.snb_workers.specs.Counts.{HasRightCount, IsCount, IsCountOf, TellsCounts, first_rows, logged_by, logged_of, rows_by}
-use Rattle.snb_workers.specs.Laws.{CountsOfARun, OneCount, OneEntry}
+use Rattle.snb_workers.specs.Laws.{CountsOfARun, FinishesAreOfOperations, OneCount, OneEntry}
 use Rattle.snb_workers.specs.Runs.{AreReplies, Asks, IsAnswered}
 
 -- ---- what passes once
@@ -117,16 +115,21 @@ told_in_turn replies [] = refl
 told_in_turn replies (e ∷ h) =
     ap (λ (x : Event). x ∷ map (λ (l : Logged). l.event) (logged_of replies h)) (told_of replies e) ∙ ap (λ (g : List Event). e ∷ g) (told_in_turn replies h)
 
-module _ (base : List Row) (plan : Plan) (workers : ℕ) (h : List Event) (replies : List Answered) (each_once : OnceEach) (legal : IsLegal (schedule_of plan) workers h) (are : AreReplies base plan h h replies) where
-  -- the operation of a Finish
-  operation_of : (op worker at front : ℕ) → Contains h (Finish op worker at front) → (o : Operation) × (slice_get plan.operations op ≡ Some o)
-  operation_of op worker at front c =
-      let k : ℕ = c.0 in
-      let e : Event = Finish op worker at front in
-      let is : IsOperation (schedule_of plan) op = ((legal.fits (take k h) e (drop (k + 1) h) (split_here h k e c.1 (sym c.2))).obeys V1).0 in
-      let size = length-map plan.operations (λ (o : Operation). o.step) in
-      got plan.operations op (omega (arith, is, size))
+-- the operation of a Finish
+finish_within : (plan : Plan) (workers : ℕ) (h : List Event) (op worker at front : ℕ) → IsLegal (schedule_of plan) workers h → Contains h (Finish op worker at front) → op < length plan.operations
+finish_within plan workers h op worker at front legal c =
+    let k : ℕ = c.0 in
+    let e : Event = Finish op worker at front in
+    let is : IsOperation (schedule_of plan) op = ((legal.fits (take k h) e (drop (k + 1) h) (split_here h k e c.1 (sym c.2))).obeys V1).0 in
+    let size = length-map plan.operations (λ (o : Operation). o.step) in
+    omega (arith, is, size)
 
+pub finishes_are_of_operations : FinishesAreOfOperations
+finishes_are_of_operations plan workers h (Start op worker at) legal c = tt
+finishes_are_of_operations plan workers h (Finish op worker at front) legal c = finish_within plan workers h op worker at front legal c
+finishes_are_of_operations plan workers h (Halt worker) legal c = tt
+
+module _ (base : List Row) (plan : Plan) (workers : ℕ) (h : List Event) (replies : List Answered) (each_once : OnceEach) (legal : IsLegal (schedule_of plan) workers h) (are : AreReplies base plan h h replies) where
   -- the rows of an entry are the count of the Finish of its operation
   of_entry : (op worker at front : ℕ) (o : Operation) (b : Answered) → Contains h (Finish op worker at front) → slice_get plan.operations op ≡ Some o → Contains replies b → b.op ≡ op
       → IsCountOf base plan h front o.work b.rows
@@ -151,9 +154,8 @@ module _ (base : List Row) (plan : Plan) (workers : ℕ) (h : List Event) (repli
   right_at (Start op worker at) c = refl
   right_at (Halt worker) c = refl
   right_at (Finish op worker at front) c =
-      let there = operation_of op worker at front c in
-      let o : Operation = there.0 in
-      (
+      let there = got plan.operations op (finish_within plan workers h op worker at front legal c) in
+      let o : Operation = there.0 in (
         rows_by replies op,
         refl,
         (

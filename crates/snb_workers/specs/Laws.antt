@@ -1,5 +1,5 @@
 -- Laws of runs, and of the counts that their logs tell.
-use Rattle.std.specs.Prelude.{◌≡◌, ℕ, List, Option}
+use Rattle.std.specs.Prelude.{◌≡◌, ℕ, ◌<◌, List, Contains, Option, length}
 use Rattle.serde_json.specs.Written.{compact_text}
 use Rattle.snb_history.specs.declared.event.Event.{Event}
 use Rattle.snb_schema.specs.declared.query.Query.{Query}
@@ -14,7 +14,14 @@ use Rattle.snb_validation.specs.ReplyData.{reply_data}
 use Rattle.snb_workers_replay.specs.Laws.{IsReplayed}
 use Rattle.snb_workers.specs.Counts.{IsCount, TellsCounts, first_rows, logged_of}
 use Rattle.snb_workers.specs.declared.done.Answered.{Answered}
+use Rattle.snb_workers.specs.Replicas.{IfFinish}
 use Rattle.snb_workers.specs.Runs.{HasRun, IsReplied}
+
+-- in a legal history of a plan, the operation of each Finish is one of the plan
+abbrev pub FinishesAreOfOperations : Type 0
+FinishesAreOfOperations =
+    (plan : Plan) (workers : ℕ) (h : List Event) (e : Event) → IsLegal (schedule_of plan) workers h → Contains h e
+    → IfFinish e (λ op. op < length plan.operations)
 
 -- what the log of a run tells by the replies to its reads is its history, each Finish with its count
 abbrev pub CountsOfARun : Type 0

@@ -1,12 +1,17 @@
 //! Laws of runs and of the counts that their logs tell. The functions only cite laws of histories, graphs and
 //! replies; their contracts are the laws.
 
-ghost use Rattle.snb_workers.specs.Laws.{CountsOfARun, OneCount, OneEntry};
+ghost use Rattle.snb_workers.specs.Laws.{CountsOfARun, FinishesAreOfOperations, OneCount, OneEntry};
 
 use snb_graph_model::law::graphs_are_their_rows;
 use snb_history::law::once_each;
 use snb_read_replies::law::one_reply;
 use snb_workers_replay::law::replay_is_welcome;
+
+/// In a legal history of a plan, the operation of each Finish is one of the plan.
+pub fn finishes_are_of_operations()
+    ensures { FinishesAreOfOperations }
+{}
 
 /// What the log of a run tells by the replies to its reads is its history, each Finish with its count.
 pub fn counts_of_a_run()

@@ -1,6 +1,6 @@
 //! Replicas of the graph.
 
-ghost use Rattle.std.specs.Prelude.{◌≡◌, ℕ, ◌<◌, ◌∷◌, [], List, length, IfOk, MatchOption, None, OnOk, OnErr, Some};
+ghost use Rattle.std.specs.Prelude.{◌≡◌, ℕ, ◌<◌, ◌≤◌, ◌^◌, ◌∷◌, [], List, length, IfOk, MatchOption, None, OnOk, OnErr, Some};
 ghost use Rattle.snb_history.specs.declared.event.Event.{Event as AnyEvent};
 ghost use Rattle.snb_schema.specs.declared.row.Row.{Row};
 ghost use Rattle.snb_graph_model.specs.Soundness.{Sound};
@@ -74,7 +74,8 @@ impl ReplyText {
 
 /// How many rows the first answer of a reply has. Takes no memory; 2^32 rows or more count as want of it.
 pub fn count_first_rows(reply: &Reply<'_>) -> Result<u32, AllocError>
-    ensures { IfOk result (λ rows. rows ≡ first_rows reply.now) }
+    ensures ok { IfOk result (λ rows. rows ≡ first_rows reply.now) }
+    ensures err { OnErr result (2 ^ 32 ≤ first_rows reply.now) }
 {
     match reply.as_slice() {
         [] => Ok(0),

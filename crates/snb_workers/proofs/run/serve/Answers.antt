@@ -1,4 +1,4 @@
-use Rattle.std.proofs.Common.{◌≡◌, ◌∙◌, refl, sym, subst}
+use Rattle.std.proofs.Common.{◌∙◌, refl, sym, subst}
 use Rattle.snb_workers.specs.declared.done.Answered.{Answered}
 use Rattle.snb_workers.specs.Turns.{IsDone}
 use Rattle.snb_workers.proofs.run.serve.Goals as goal
@@ -14,8 +14,7 @@ returns-clause-served c =
           let same = rw w.in-Ask.is at does in
           let replied = w.in_ok-answer_text-in-Ask.ensures in
           let parts = w.into_parts-rows.ensures in
-          let one : Answered = record { op = c.args.op; front = w.front-front.result; rows = w.into_parts-rows.result.0; text = w.into_parts-rows.result.1 } in
-          (
+          let one : Answered = record { op = c.args.op; front = w.front-front.result; rows = w.into_parts-rows.result.0; text = w.into_parts-rows.result.1 } in (
             o,
             got,
             subst (IsDone c.args.op c.args.replica.now c.args.replies.now c.match-task.replies c.match-task.front) (sym same)
