@@ -1,3 +1,6 @@
+pub mod Counts
+pub mod Laws
+pub mod Miscounts
 pub mod Replicas
 pub mod Replies
 pub mod Runs

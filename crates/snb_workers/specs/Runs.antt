@@ -15,6 +15,7 @@ use Rattle.snb_read_model.specs.Replies.{IsReply}
 use Rattle.snb_workers_replay.specs.Replay.{IsAfter, IsFinal}
 use Rattle.snb_workers_replay.specs.Waiting.{StaysBelow, WaitsForAll}
 use Rattle.snb_validation.specs.ReplyData.{reply_data}
+use Rattle.snb_workers.specs.Counts.{first_rows}
 use Rattle.snb_workers.specs.declared.done.Answered.{Answered}
 
 -- an event's moment, if it has one, is this
@@ -31,9 +32,9 @@ AreAt fixed h = IfSome fixed (λ moment. All (IsAt (min moment MAX_AT)) h)
 abbrev pub Asks : Plan → ℕ → Query → Type 0
 Asks plan op query = (o : Operation) × (slice_get plan.operations op ≡ Some o) × (o.work ≡ Ask query)
 
--- the bytes are the JSON text of a reply to the query on the graph
-abbrev pub IsReplied : List Row → Query → List ℕ → Type 0
-IsReplied graph query text = (reply : List (List (List Cell))) × IsReply graph query reply × (text ≡ compact_text (reply_data reply))
+-- so many rows has the first answer of a reply to the query on the graph, and the bytes are the JSON text of that reply
+abbrev pub IsReplied : List Row → Query → ℕ → List ℕ → Type 0
+IsReplied graph query rows text = (reply : List (List (List Cell))) × IsReply graph query reply × (rows ≡ first_rows reply) × (text ≡ compact_text (reply_data reply))
 
 -- one of these events finishes a read with this front, and the reply is that to its query on the graph of the base and of what had
 -- finished in that front of the history
@@ -45,7 +46,7 @@ pub record IsAnswered (base : List Row) (plan : Plan) (finishes h : List Event) 
   pub asks : Asks plan a.op query
   pub graph : List Row
   pub after : IsAfter base plan (take a.front h) graph
-  pub replies : IsReplied graph query a.text.items
+  pub replies : IsReplied graph query a.rows a.text.items
 
 -- these are the replies to the reads that these events finish, one for each, by rising operation, answered on fronts of the history; the
 -- events are those of the history, or those of one worker's part of it

@@ -61,7 +61,7 @@ IsBehind plan h r base = (g : List Event) × (rest : List Event) × (g ++ rest �
 -- which adds none
 abbrev pub IsDone : ℕ → Taken → List Answered → List Answered → ℕ → Work → Type 0
 IsDone op r old new front (Insert line) = (front ≡ 0) × (new ≡ old)
-IsDone op r old new front (Ask query) = (front ≡ r.front) × ((a : Answered) × (a.op ≡ op) × (a.front ≡ front) × IsReplied r.graph query a.text.items × HasAdded a old new)
+IsDone op r old new front (Ask query) = (front ≡ r.front) × ((a : Answered) × (a.op ≡ op) × (a.front ≡ front) × IsReplied r.graph query a.rows a.text.items × HasAdded a old new)
 
 abbrev pub IsServed : Plan → ℕ → Taken → List Answered → List Answered → ℕ → Type 0
 IsServed plan op r old new front = (o : Operation) × (slice_get plan.operations op ≡ Some o) × IsDone op r old new front o.work

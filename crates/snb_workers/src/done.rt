@@ -8,10 +8,12 @@ use std::alloc::{AllocError, Global};
 use std::marker::Model;
 
 /// What a read was replied: the number of its operation, how many events of the history the replica had
-/// taken that it was answered from, and the compact JSON text of the reply.
+/// taken that it was answered from, how many rows the first answer of the reply has, and the compact JSON
+/// text of the reply.
 pub struct Answered {
     pub op: u32,
     pub front: u32,
+    pub rows: u32,
     pub text: Vec<u8>,
 }
 
@@ -21,6 +23,7 @@ impl Drop for Answered {
         let Answered {
             op: _,
             front: _,
+            rows: _,
             text: _,
         } = self;
     }
