@@ -10,3 +10,5 @@ pub mod WorkLemmas
 pub mod Gathered
 pub mod CrewEvents
 pub mod CrewRuns
+pub mod TallyFacts
+pub mod MiscountFacts

@@ -6,11 +6,12 @@ pub mod done;
 pub mod miscount;
 pub mod replica;
 pub mod run;
+mod tally;
 pub mod threads;
 pub mod work;
 
 pub use done::{Answered, Done};
-pub use miscount::Miscount;
+pub use miscount::{Miscount, first_miscount};
 pub use replica::Replica;
 pub use run::{Outcome, run_alone};
 pub use threads::run_workers;
