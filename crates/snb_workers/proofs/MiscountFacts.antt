@@ -1,9 +1,9 @@
 -- Facts on the counts of a log: a Finish has one count at most, and the first wrong one among some tallies becomes the first of all.
 use Rattle.std.proofs.Common.{append-nil, get_or, ◌≡◌, ◌≢◌, ◌∙◌, ℕ, ◌+◌, ◌-◌, ◌<◌, ◌≤◌, ◌⊎◌, List, [], ◌∷◌, ◌++◌, length, take, drop, Option, Some, None, inl, inr, refl, sym, ap, subst, arith, length-take}
-use Rattle.std.specs.Prelude.{Contains, IfSome, slice_get}
+use Rattle.std.specs.Prelude.{slice_get}
 use Rattle.std.specs.List.Sorted.{IsNonDecreasingBy, IsPermutation}
 use Rattle.std.proofs.lemmas.Bool.{cases_eq}
-use Rattle.std.proofs.lemmas.List.{drop-map, drop-take, get_or_default, length-map, take-append-drop, take-map, take-take, take_more}
+use Rattle.std.proofs.lemmas.List.{drop-map, drop-take, get_or_default, take-append-drop, take-map, take-take}
 use Rattle.std.proofs.lemmas.List.Elements.{Contains-push_cases}
 use Rattle.std.proofs.lemmas.List.Sorted.{Contains-permutation, IsPermutation-refl, IsPermutation-sym, IsPermutation-trans}
 use Rattle.std.proofs.lemmas.Option.{same_Some}
@@ -28,8 +28,7 @@ use Rattle.snb_workers.specs.declared.tally.Tally.{Tally}
 use Rattle.snb_workers.specs.Counts.{IsCount, IsCountOf, first_rows}
 use Rattle.snb_workers.specs.Miscounts.{IsFirstMiscount, IsMiscount, events_of}
 use Rattle.snb_workers.specs.Replicas.{HasTaken, IfFinish, MayTake, StandsFor, Taken}
-use Rattle.snb_workers.specs.Tallies.{CountsRows, HasGone, HasRows, HasTallies, HasTally, IsAlong, IsEarlier, IsFine, IsInsert, IsLeastAmong, IsTally, IsWeighed, miscount_of}
-use Rattle.snb_workers.proofs.TallyFacts.{tally_last, tally_more}
+use Rattle.snb_workers.specs.Tallies.{CountsRows, HasRows, HasTallies, HasTally, IsAlong, IsEarlier, IsInsert, IsLeastAmong, IsTally, IsWeighed, miscount_of}
 
 -- ---- one count
 

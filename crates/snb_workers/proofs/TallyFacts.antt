@@ -1,5 +1,5 @@
 -- Facts on the counts of a log that have to be looked at.
-use Rattle.std.proofs.Common.{◌≡◌, ◌∙◌, ℕ, ◌+◌, ◌<◌, ◌≤◌, ◌⊎◌, List, [], ◌∷◌, ◌++◌, length, take, drop, map, Some, inl, inr, sym, ap, subst, arith}
+use Rattle.std.proofs.Common.{◌≡◌, ◌∙◌, ℕ, ◌+◌, ◌<◌, ◌≤◌, ◌⊎◌, List, [], ◌∷◌, ◌++◌, length, take, drop, Some, inl, inr, sym, ap, subst, arith}
 use Rattle.std.specs.Prelude.{All, Contains, slice_get}
 use Rattle.std.specs.List.Sorted.{IsPermutation}
 use Rattle.std.specs.Option.{option_map}
@@ -82,9 +82,9 @@ module _ (plan : Plan) (logged : List Logged) (tallies : List Tally) (i : ℕ) (
   pub all_more : (t : Tally) → HasTalliesBelow plan logged tallies i → t.event ≡ i → HasTalliesBelow plan logged (tallies ++ t ∷ []) (i + 1)
   all_more t below same k other lt there = elim (cases_lt k i) [
     | inl less ↦ elim (below k other less there) [
-        | inl fine ↦ inl fine
-        | inr has ↦ inr (tally_more tallies t k has)
-      ]
+      | inl fine ↦ inl fine
+      | inr has ↦ inr (tally_more tallies t k has)
+    ]
     | inr not ↦ inr (tally_last tallies t k (omega (arith, same, lt, not)))
   ]
 

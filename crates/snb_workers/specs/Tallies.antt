@@ -1,6 +1,5 @@
 -- How the first wrong count of a log is found: the counts that have to be looked at, and the least wrong one among some of them.
-use Rattle.std.specs.Prelude.{◌≡◌, ◌≢◌, ℕ, ◌≤◌, ◌⊎◌, List, length, take, All, Contains, IfSome, Option, None, Some, slice_get}
-use Rattle.std.specs.List.Sorted.{IsNonDecreasingBy}
+use Rattle.std.specs.Prelude.{◌≡◌, ◌≢◌, ℕ, ◌≤◌, ◌⊎◌, List, length, take, Contains, IfSome, Option, None, Some, slice_get}
 use Rattle.snb_history.specs.declared.event.Event.{Event}
 use Rattle.snb_history.specs.declared.event.Event.TheVariants.{Finish}
 use Rattle.snb_history.specs.declared.logged.Logged.{Logged}

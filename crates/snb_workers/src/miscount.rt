@@ -37,7 +37,7 @@ pub struct Miscount {
     pub found: u32,
 }
 
-// How many rows the first answer of a reply has. A number that is no u32 is want of memory.
+// How many rows the first answer of a reply has. More than the greatest u32 are want of memory.
 fn first_rows(reply: &Reply<'_>) -> Result<u32, AllocError>
     ensures { IfOk result (λ n. n ≡ first_rows reply.now) }
 {
@@ -142,6 +142,9 @@ fn least_among(
     graphs_are_their_rows();
     replay_is_welcome();
     one_reply();
+    if tallies.is_empty() {
+        return Ok(None);
+    }
     let mut replica = Replica::new(base)?;
     let mut best = None;
     for one in tallies {
@@ -159,7 +162,8 @@ fn least_among(
 /// are a legal history of the plan by at most `MAX_WORKERS` workers.
 ///
 /// One replica of the base takes the history once, and each read with a count is answered once, in the order
-/// of the fronts. An answer of more rows than a u32 has is want of memory too.
+/// of the fronts. There is no replica where no count has to be looked at: those of a log without counts, and
+/// the 0 of each insert. An answer of more rows than the greatest u32 is want of memory too.
 pub fn first_miscount(
     alloc: Global,
     plan: &Plan,

@@ -9,6 +9,6 @@ pub returns : goal.returns
 returns c =
     IfOk-weaker c.least_among.result _ _
     (λ best least.
-      first_of_least c.args.base.now c.args.plan.now c.args.logged.now c.in_ok-tallies.tallies.items c.in_ok-tallies.ensures.all best
-      (subst (λ (l : List Tally). IsLeastAmong c.args.base.now c.args.plan.now c.args.logged.now l best) c.deref.ensures.value least))
+    first_of_least c.args.base.now c.args.plan.now c.args.logged.now c.in_ok-tallies.tallies.items c.in_ok-tallies.ensures.all best
+    (subst (λ (l : List Tally). IsLeastAmong c.args.base.now c.args.plan.now c.args.logged.now l best) c.deref.ensures.value least))
     c.least_among.ensures

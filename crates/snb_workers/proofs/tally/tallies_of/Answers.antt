@@ -1,5 +1,5 @@
 use Rattle.std.proofs.Common.{Vec, Global, ◌≡◌, ◌∙◌, ◌∷◌, ◌++◌, ℕ, ◌+◌, List, [], None, ap, get_or, subst, sym}
-use Rattle.std.specs.Prelude.{All, slice_get}
+use Rattle.std.specs.Prelude.{All}
 use Rattle.std.proofs.lemmas.Option.{slice_get-get_or}
 use Rattle.snb_history.specs.declared.event.Event.TheVariants.{Start}
 use Rattle.snb_history.specs.declared.logged.Logged.{Logged}
