@@ -1,5 +1,5 @@
 use Rattle.std.proofs.lemmas.List.{append_assoc}
-use Rattle.snb_auditor_log.proofs.verdict_text.verdict_line.Goals as goal
+use Rattle.snb_auditor_log.proofs.verdict_text.history_line.Goals as goal
 
 pub returns-in_ok-line-in-Violated : goal.returns-in_ok-line-in-Violated
 returns-in_ok-line-in-Violated c =
