@@ -133,7 +133,7 @@ log_ok contents name start known head file_sink used log a e w h =
       a.1,
       t.clean,
       subst (λ (x : Header). IsLogOf (Some a.0) x log.logged.items) (sym (w ∙ same))
-      (subst (λ (xs : List Logged). IsLogOf (Some a.0) t.says.0 xs) (sym (h ∙ t.tells)) t.says.1),
+          (subst (λ (xs : List Logged). IsLogOf (Some a.0) t.says.0 xs) (sym (h ∙ t.tells)) t.says.1),
     )
   where
     same_head : (o : Option Header) (x y : Header) → o ≡ Some x → o ≡ Some y → x ≡ y

@@ -2,6 +2,7 @@
 use Rattle.std.proofs.Common.{◌≡◌, ◌≢◌, ◌∙◌, ◌≤◌, ◌<◌, ◌+◌, ◌++◌, ◌∷◌, ℕ, zero, suc, List, [], All, Option, Some, None, length, map, get_or, take, drop, refl, sym, ap, subst, inl, inr, arith}
 use Rattle.std.specs.Prelude.{◌⊎◌, ◌↔◌, slice_get, IfSome}
 use Rattle.std.specs.Option.{IsSome}
+use Rattle.std.proofs.lemmas.Bool.{cases_eq}
 use Rattle.std.proofs.lemmas.List.{get_or_default, map-append}
 use Rattle.std.proofs.lemmas.Option.{get_or_from_slice_get, slice_get_within}
 use Rattle.snb_base.proofs.Laws.{split_here}
@@ -28,15 +29,6 @@ use Rattle.snb_auditor_log.specs.Laws.{AcceptedInOrder}
 use Rattle.snb_auditor_log.specs.VerdictTexts.{audit_status, verdict_status}
 
 -- ---- the events, one by one
-
--- the events that are logged, and one more
-pub events_more : (xs : List Logged) (i : ℕ) (d : Logged) → i < length xs → events_of (take (i + 1) xs) ≡ events_of (take i xs) ++ (get_or xs i d).event ∷ []
-events_more xs i d lt = ap events_of (take_one xs i lt) ∙ map-append (λ l. l.event) (take i xs) (get_or xs i d ∷ [])
-  where
-    take_one : (xs : List Logged) (i : ℕ) → i < length xs → take (i + 1) xs ≡ take i xs ++ get_or xs i d ∷ []
-    take_one [] i lt = absurd (omega arith)
-    take_one (x ∷ xs) zero lt = refl
-    take_one (x ∷ xs) (suc i) lt = ap (λ ys. x ∷ ys) (take_one xs i (omega arith))
 
 -- a list of events, cut at one of them
 events_split : (xs : List Logged) (i : ℕ) (d : Logged) → i < length xs → events_of (take i xs) ++ (get_or xs i d).event ∷ events_of (drop (i + 1) xs) ≡ events_of xs
@@ -111,15 +103,15 @@ module _ (base : List Row) (plan : Plan) (header : Header) (logged : List Logged
   pub no_counts : HasOperations header → All (HasCount header.version) logged → header.operations ≡ None → IsFirstMiscount base plan logged None
   no_counts operations counts none m wrong =
       let at : HasCount header.version wrong.one =
-          subst (λ (l : Logged). HasCount header.version l) (get_or_from_slice_get logged m.event wrong.one wrong.one wrong.there)
-          (counts m.event wrong.one (slice_get_within logged m.event wrong.one wrong.there)) in
+      subst (λ (l : Logged). HasCount header.version l) (get_or_from_slice_get logged m.event wrong.one wrong.one wrong.there)
+      (counts m.event wrong.one (slice_get_within logged m.event wrong.one wrong.there)) in
       absurd (none_some header.operations none (operations.1 (at.0 (is_some_found wrong.one.rows m.found wrong.found)).0))
     where
       is_some_found : (o : Option ℕ) (n : ℕ) → o ≡ Some n → IsSome o
       is_some_found o n e = rw e refl
 
       none_some : (o : Option ℕ) → o ≡ None → IsSome o → ⊥
-      none_some o e is = absurd (subst IsSome e is)
+      none_some o e is = let none = subst IsSome e is in absurd cc
 
   -- ---- what is accepted
 
@@ -142,10 +134,10 @@ module _ (base : List Row) (plan : Plan) (header : Header) (logged : List Logged
 
     stated : (o : Option ℕ) (n : ℕ) → ((found : ℕ) → o ≡ Some found → found ≢ n → ⊥) → IfSome o (λ k. k ≡ n)
     stated None n h = tt
-    stated (Some k) n h = same k n (h k refl)
-      where
-        same : (k n : ℕ) → (k ≢ n → ⊥) → k ≡ n
-        same k n h = omega arith
+    stated (Some k) n h = elim (cases_eq k n) [
+      | inl same ↦ same
+      | inr other ↦ absurd (h k refl other)
+    ]
 
     in_order : (verdict : AuditVerdict) → IsAuditVerdict base plan header logged verdict → audit_status verdict ≡ 0 → IsInOrder base plan header logged
     in_order verdict (inl wrong) e = absurd (let is = ap audit_status wrong.is in omega arith)

@@ -10,8 +10,8 @@ ghost use Rattle.snb_tool.specs.Outside.{Ends, IsReadOnly, seen};
 
 use crate::input::load_input;
 use crate::show::{refuse, show_as};
-use snb_auditor_log::{AuditVerdict, audit_log};
 use snb_auditor_log::verdict_text::{status_of, verdict_line};
+use snb_auditor_log::{AuditVerdict, audit_log};
 use snb_base::{Outbox, Shelf};
 use snb_input_files::Load;
 use snb_ratio::Ratio;
