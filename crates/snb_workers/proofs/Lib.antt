@@ -10,3 +10,4 @@ pub mod WorkLemmas
 pub mod Gathered
 pub mod CrewEvents
 pub mod CrewRuns
+pub mod CountLemmas

@@ -118,7 +118,7 @@ module _ (base : List Row) (plan : Plan) (finishes h more : List Event) (op work
   works query asks = ap (λ (x : Operation). x.work) (same_Some o asks.0 (sym here ∙ asks.1)) ∙ asks.2
 
   -- the reply to the read
-  one_answered : (query : Query) (a : Answered) → o.work ≡ Ask query → front ≡ r.front → a.op ≡ op → a.front ≡ front → IsReplied r.graph query a.text.items → IsAnswered base plan longer (h ++ more) a
+  one_answered : (query : Query) (a : Answered) → o.work ≡ Ask query → front ≡ r.front → a.op ≡ op → a.front ≡ front → IsReplied r.graph query a.rows a.text.items → IsAnswered base plan longer (h ++ more) a
   one_answered query a asked seen number told reply =
       let holds : StandsFor base plan h r = stands query (o, here, asked) in
       let size : a.front ≡ length h = told ∙ (seen ∙ holds.front) in

@@ -1,5 +1,5 @@
 -- How many rows the reads of a run gave, and what the log of a run tells.
-use Rattle.std.specs.Prelude.{◌≡◌, ◌==◌, ℕ, List, [], ◌∷◌, All, length, map, take, Option, None, Some, slice_get, if◌then◌else◌}
+use Rattle.std.specs.Prelude.{◌≡◌, ◌==◌, ℕ, ◌<◌, List, [], ◌∷◌, All, length, map, take, None, Some, slice_get, slice_index_or, if◌then◌else◌}
 use Rattle.snb_history.specs.declared.event.Event.{Event}
 use Rattle.snb_history.specs.declared.event.Event.TheVariants.{Start, Finish, Halt}
 use Rattle.snb_history.specs.declared.logged.Logged.{Logged}
@@ -56,3 +56,7 @@ logged_by replies (Halt worker) = record { event = Halt worker; rows = None }
 -- what the log of a run tells
 abbrev pub logged_of : List Answered → List Event → List Logged
 logged_of replies h = map (logged_by replies) h
+
+-- these are, by operation, the rows of the replies
+pub record AreCountsOf (replies : List Answered) (counts : List ℕ) : Type 0 where
+  pub each : (k d : ℕ) → k < length counts → slice_index_or counts k d ≡ rows_by replies k

@@ -1,4 +1,5 @@
 pub mod Counts
+pub mod Laws
 pub mod Miscounts
 pub mod Replicas
 pub mod Replies

@@ -2,15 +2,18 @@
 //! finish them.
 #![tactic(auto)]
 
+pub mod counts;
 pub mod done;
+pub mod law;
 pub mod miscount;
 pub mod replica;
 pub mod run;
 pub mod threads;
 pub mod work;
 
+pub use counts::Counts;
 pub use done::{Answered, Done};
 pub use miscount::Miscount;
-pub use replica::Replica;
+pub use replica::{Replica, ReplyText};
 pub use run::{Outcome, run_alone};
 pub use threads::run_workers;

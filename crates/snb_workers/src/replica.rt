@@ -1,12 +1,14 @@
 //! Replicas of the graph.
 
-ghost use Rattle.std.specs.Prelude.{◌≡◌, ℕ, ◌<◌, ◌∷◌, [], List, length, IfOk, MatchOption, None, OnOk, OnErr, Some};
+ghost use Rattle.std.specs.Prelude.{◌≡◌, ℕ, ◌<◌, ◌≤◌, ◌^◌, ◌∷◌, [], List, length, IfOk, MatchOption, None, OnOk, OnErr, Some};
 ghost use Rattle.snb_history.specs.declared.event.Event.{Event as AnyEvent};
 ghost use Rattle.snb_schema.specs.declared.row.Row.{Row};
 ghost use Rattle.snb_graph_model.specs.Soundness.{Sound};
 ghost use Rattle.snb_inserts.specs.Applying.{HasLine};
 ghost use Rattle.snb_plan.specs.Plans.{IsOfStreams};
 ghost use Rattle.snb_workers_replay.specs.Replay.{finished_insert};
+ghost use Rattle.snb_read_model.specs.Replies.{IsReply};
+ghost use Rattle.snb_workers.specs.Counts.{first_rows};
 ghost use Rattle.snb_workers.specs.Replicas.{HasTaken, HasTakenSome, IfFinish, MayTake};
 ghost use Rattle.snb_workers.specs.Runs.{IsReplied};
 
@@ -15,6 +17,7 @@ use snb_history::Event;
 use snb_history::law::{legal_is_short, prefix_is_legal};
 use snb_inserts::apply_welcome;
 use snb_plan::{Plan, Task};
+use snb_read_model::Reply;
 use snb_read_replies::reply::answer;
 use snb_schema::{Line, Query};
 use snb_validation::reply_text;
@@ -44,6 +47,40 @@ impl Model for Replica {
     ghost view = { λ r. record { graph = r.graph; front = r.front } };
 
     ghost invariant = { λ r. Sound r.graph };
+}
+
+/// A reply as it is kept: how many rows its first answer has, and its compact JSON text.
+pub struct ReplyText {
+    pub rows: u32,
+    pub text: Vec<u8>,
+}
+
+impl Drop for ReplyText {
+    fn drop(self) {
+        let ReplyText { rows: _, text: _ } = self;
+    }
+}
+
+impl ReplyText {
+    /// The number and the text, each for itself. Takes no memory.
+    pub fn into_parts(self) -> (u32, Vec<u8>)
+        ensures rows { result.0 ≡ self.rows }
+        ensures text { result.1 ≡ self.text }
+    {
+        let ReplyText { rows, text } = self;
+        (rows, text)
+    }
+}
+
+/// How many rows the first answer of a reply has. Takes no memory; 2^32 rows or more count as want of it.
+pub fn count_first_rows(reply: &Reply<'_>) -> Result<u32, AllocError>
+    ensures ok { IfOk result (λ rows. rows ≡ first_rows reply.now) }
+    ensures err { OnErr result (2 ^ 32 ≤ first_rows reply.now) }
+{
+    match reply.as_slice() {
+        [] => Ok(0),
+        [first, ..] => u32::try_from(first.as_slice().len()).map_err(|_| AllocError),
+    }
 }
 
 // The insert that an event finishes, if it finishes one. The operation of a Finish is in the plan.
@@ -138,15 +175,24 @@ impl Replica {
         Ok(())
     }
 
-    /// The compact JSON text of the reply to a query on its graph, in no more memory than its length.
-    pub fn answer(&self, alloc: Global, query: &Query) -> Result<Vec<u8>, AllocError>
-        ensures { IfOk result (λ text. IsReplied self.now.graph query.now text.items) }
+    /// The reply to a query on its graph.
+    pub fn answer(&self, alloc: Global, query: &Query) -> Result<Reply<'_>, AllocError>
+        ensures { IfOk result (IsReply self.now.graph query.now) }
     {
-        let reply = answer(alloc, &self.graph, query)?;
+        answer(alloc, &self.graph, query)
+    }
+
+    /// How many rows the first answer of the reply to a query on its graph has, and the reply's compact JSON
+    /// text, in no more memory than its length. An answer of 2^32 rows or more counts as want of memory.
+    pub fn answer_text(&self, alloc: Global, query: &Query) -> Result<ReplyText, AllocError>
+        ensures { IfOk result (λ r. IsReplied self.now.graph query.now r.rows r.text.items) }
+    {
+        let reply = self.answer(alloc, query)?;
+        let rows = count_first_rows(&reply)?;
         // Most replies are of some thousand bytes.
         let mut text = Vec::with_capacity(alloc, 4096)?;
         reply_text(&reply, &mut text)?;
         text.shrink_to_fit();
-        Ok(text)
+        Ok(ReplyText { rows, text })
     }
 }

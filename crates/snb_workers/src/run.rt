@@ -78,8 +78,8 @@ pub(crate) fn catch_up(
     replica.advance(alloc, plan, &book.events()[front..])
 }
 
-// Answers the operation from the replica, if it is a read, and keeps the text of its reply. Gives the front
-// of its Finish.
+// Answers the operation from the replica, if it is a read, and keeps the text of its reply and how many
+// rows that has. Gives the front of its Finish.
 pub(crate) fn serve(
     alloc: Global,
     plan: &Plan,
@@ -96,8 +96,13 @@ pub(crate) fn serve(
         Task::Insert { .. } => 0,
         Task::Ask { query } => {
             let front = replica.front();
-            let text = replica.answer(alloc, query)?;
-            replies.add(Answered { op, front, text })?;
+            let (rows, text) = replica.answer_text(alloc, query)?.into_parts();
+            replies.add(Answered {
+                op,
+                front,
+                rows,
+                text,
+            })?;
             front
         }
     };
