@@ -11,3 +11,5 @@ pub mod Gathered
 pub mod CrewEvents
 pub mod CrewRuns
 pub mod CountLemmas
+pub mod TallyFacts
+pub mod MiscountFacts

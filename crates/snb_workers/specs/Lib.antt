@@ -4,6 +4,7 @@ pub mod Miscounts
 pub mod Replicas
 pub mod Replies
 pub mod Runs
+pub mod Tallies
 pub mod Turns
 pub mod Works
 pub mod WorkTurns

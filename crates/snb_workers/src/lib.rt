@@ -8,12 +8,13 @@ pub mod law;
 pub mod miscount;
 pub mod replica;
 pub mod run;
+mod tally;
 pub mod threads;
 pub mod work;
 
 pub use counts::Counts;
 pub use done::{Answered, Done};
-pub use miscount::Miscount;
+pub use miscount::{Miscount, first_miscount};
 pub use replica::{Replica, ReplyText};
 pub use run::{Outcome, run_alone};
 pub use threads::run_workers;
