@@ -1,1 +1,2 @@
 mod LogFacts
+mod VerdictFacts

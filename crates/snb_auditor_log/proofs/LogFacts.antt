@@ -1,6 +1,6 @@
 -- Facts on the file of a log.
 use Rattle.std.proofs.Common.{◌≡◌, ◌∙◌, ◌≤◌, ◌+◌, ◌++◌, ◌∷◌, ℕ, List, [], All, Option, Some, None, Ok, Err, drop, refl, sym, ap, subst, inl, inr, arith}
-use Rattle.std.proofs.lemmas.List.Elements.{All-append, All-cons, All-head, All-nil, All-tail}
+use Rattle.std.proofs.lemmas.List.Elements.{All-append, All-cons, All-nil}
 use Rattle.snb_base.specs.Shelf.{Files}
 use Rattle.snb_history.specs.declared.event.Event.{Event}
 use Rattle.snb_history.specs.declared.event.Event.TheVariants.{Start, Finish, Halt}
@@ -24,11 +24,11 @@ use Rattle.snb_input_files.specs.Loading.{IsKnownAnswer}
 use Rattle.snb_input_files.specs.Places.{Knows, opening}
 use Rattle.snb_input_files.proofs.Laws.{file_one, first_some, says_knows, says_one}
 use Rattle.snb_runlog.specs.Columns.{AreWithin, CanBeHeader, columns, count_numbers, event_numbers, header_columns, header_numbers, kind_of, version_column}
-use Rattle.snb_runlog.specs.Laws.{EventOrColumn, HeaderOrColumn, LogIsExact}
+use Rattle.snb_runlog.specs.Laws.{EventOrColumn, HeaderOrColumn, LogIsExact, WhereCountsAre}
 use Rattle.snb_runlog.specs.Lines.{AreNumbers, IsHeader, IsLogged, log_file, log_language}
 use Rattle.snb_auditor_log.specs.declared.log.Log.{Log}
 use Rattle.snb_auditor_log.specs.Laws.{LogSaysOne, OneLogRefusal, RefusedOrNot}
-use Rattle.snb_auditor_log.specs.LogFiles.{HasHeard, events_of, IsAuditable, IsLogAnswer, IsLogOf, RefusesEvent, TakesEvent, log_checks, log_format}
+use Rattle.snb_auditor_log.specs.LogFiles.{HasHeard, IsAuditable, IsLogAnswer, IsLogOf, RefusesEvent, TakesEvent, log_checks, log_format}
 
 -- ---- the file_sink of a log
 
@@ -41,14 +41,9 @@ log_lawful exact head event = record {
   one_own = λ file done mine x r q a b. absurd a;
 }
 
--- the events of what is told, and then of more
-events_append : (xs ys : List Logged) → events_of (xs ++ ys) ≡ events_of xs ++ events_of ys
-events_append [] ys = refl
-events_append (x ∷ xs) ys = ap (λ (es : List Event). x.event ∷ es) (events_append xs ys)
-
 pub log_hears : Hears TakesEvent RefusesEvent HasHeard (λ (file : FileId) (done : List (List Logged)) (mine : List Logged) (x : Logged) (r : Refusal). ⊥)
 log_hears = record {
-  more = λ old new file x done mine h taken. taken ∙ ap (λ (xs : List Event). xs ++ x.event ∷ []) h ∙ sym (events_append mine (x ∷ []));
+  more = λ old new file x done mine h taken. taken ∙ ap (λ (xs : List Logged). xs ++ x ∷ []) h;
   passes = λ old new file x done mine r h taken own. own;
   bad = λ old file x done mine r h wrong. wrong;
 }
@@ -97,25 +92,22 @@ known_workers (l ∷ ls) head (k, is, e) = few_workers (fields l) head (subst (�
     same : (k head : Header) → Some head ≡ Some k → k ≡ head
     same k head e = cc
 
--- what holds of each event that is told holds of the events
-events_all : (P : Event → Type 0) (xs : List Logged) → All (λ l. P l.event) xs → All P (events_of xs)
-events_all P [] h = All-nil P
-events_all P (x ∷ xs) h = All-cons P x.event (events_of xs) (All-head (λ l. P l.event) x xs h) (events_all P xs (All-tail (λ l. P l.event) x xs h))
-
 -- a log that is told can be audited
-auditable : (held : Option (List ℕ)) (log : Log) → IsLogOf held log.workers log.events.items → IsAuditable log
-auditable None log h = absurd h
-auditable (Some bytes) log (head, logged, says, told, e) =
-    let few = known_workers (filled (lines bytes)) head (says_knows log_language (lines bytes) None (Some head) 0 logged says) in
-    let each = says_all log_language (λ l. moment l.event ≤ MAX_AT) (λ k number line x s. timed k.version line x s) (lines bytes) None (Some head) 0 logged says in
+auditable : WhereCountsAre → (held : Option (List ℕ)) (log : Log) → IsLogOf held log.header log.logged.items → IsAuditable log
+auditable where_counts None log h = absurd h
+auditable where_counts (Some bytes) log says =
+    let few = known_workers (filled (lines bytes)) log.header (says_knows log_language (lines bytes) None (Some log.header) 0 log.logged.items says) in
+    let counts = where_counts bytes log.logged.items log.header says in
     record {
-      some_worker = subst (λ (n : ℕ). 1 ≤ n) e few.0;
-      few_workers = subst (λ (n : ℕ). n ≤ MAX_WORKERS) e few.1;
-      timed = subst (λ (es : List Event). All (λ e. moment e ≤ MAX_AT) es) told (events_all (λ e. moment e ≤ MAX_AT) logged each);
+      some_worker = few.0;
+      few_workers = few.1;
+      timed = says_all log_language (λ l. moment l.event ≤ MAX_AT) (λ k number line x s. timed k.version line x s) (lines bytes) None (Some log.header) 0 log.logged.items says;
+      operations = counts.0;
+      counted = counts.1;
     }
 
-pub answer_auditable : (contents : Option Files) (name : List ℕ) (log : Log) → IsLogAnswer contents name (Ok log) → IsAuditable log
-answer_auditable contents name log a = auditable a.0 log a.3
+pub answer_auditable : WhereCountsAre → (contents : Option Files) (name : List ℕ) (log : Log) → IsLogAnswer contents name (Ok log) → IsAuditable log
+answer_auditable where_counts contents name log a = auditable where_counts a.0 log a.3
 
 -- ---- the reading of a log
 
@@ -123,31 +115,32 @@ answer_auditable contents name log a = auditable a.0 log a.3
 abbrev pub nothing : Used
 nothing = record { bytes = 0; rows = 0 }
 
-pub log_err : (contents : Option Files) (name : List ℕ) (start : List Event) (known : Option Header) (load : Load) → IsKnownAnswer log_format HasHeard contents name log_file nothing [] start known (Err load) → IsLogAnswer contents name (Err load)
+pub log_err : (contents : Option Files) (name : List ℕ) (start : List Logged) (known : Option Header) (load : Load) → IsKnownAnswer log_format HasHeard contents name log_file nothing [] start known (Err load) → IsLogAnswer contents name (Err load)
 log_err contents name start known (Refused r) a = (Some a.0, a.1, a.2)
 log_err contents name start known ReadFault a = tt
 log_err contents name start known Memory a = tt
 
-pub log_absent : (contents : Option Files) (name : List ℕ) (start : List Event) (known : Option Header) (file_sink : List Event) → IsKnownAnswer log_format HasHeard contents name log_file nothing [] start known (Ok (found.Absent file_sink))
+pub log_absent : (contents : Option Files) (name : List ℕ) (start : List Logged) (known : Option Header) (file_sink : List Logged) → IsKnownAnswer log_format HasHeard contents name log_file nothing [] start known (Ok (found.Absent file_sink))
     → IsLogAnswer contents name (Err (Refused (Absent log_file)))
 log_absent contents name start known file_sink a = (None, a.0, inl refl)
 
-pub log_ok : (contents : Option Files) (name : List ℕ) (start : List Event) (known : Option Header) (head : Header) (file_sink : List Event) (used : Used) (log : Log)
-    → IsKnownAnswer log_format HasHeard contents name log_file nothing [] start known (Ok (found.Whole file_sink used)) → known ≡ Some head → log.workers ≡ head.workers → log.events.items ≡ file_sink → IsLogAnswer contents name (Ok log)
+pub log_ok : (contents : Option Files) (name : List ℕ) (start : List Logged) (known : Option Header) (head : Header) (file_sink : List Logged) (used : Used) (log : Log)
+    → IsKnownAnswer log_format HasHeard contents name log_file nothing [] start known (Ok (found.Whole file_sink used)) → known ≡ Some head → log.header ≡ head → log.logged.items ≡ file_sink → IsLogAnswer contents name (Ok log)
 log_ok contents name start known head file_sink used log a e w h =
     let t = a.3.0 in
     let same : head ≡ t.says.0 = same_head known head t.says.0 e a.3.1 in (
       Some a.0,
       a.1,
       t.clean,
-      (t.says.0, t.mine, t.says.1, sym (h ∙ t.tells), sym (w ∙ ap (λ (x : Header). x.workers) same)),
+      subst (λ (x : Header). IsLogOf (Some a.0) x log.logged.items) (sym (w ∙ same))
+          (subst (λ (xs : List Logged). IsLogOf (Some a.0) t.says.0 xs) (sym (h ∙ t.tells)) t.says.1),
     )
   where
     same_head : (o : Option Header) (x y : Header) → o ≡ Some x → o ≡ Some y → x ≡ y
     same_head o x y p q = cc
 
 -- where a file is whole, its header is known
-pub some_known : (contents : Option Files) (name : List ℕ) (start : List Event) (known : Option Header) (file_sink : List Event) (used : Used) → IsKnownAnswer log_format HasHeard contents name log_file nothing [] start known (Ok (found.Whole file_sink used)) → known ≡ None → ⊥
+pub some_known : (contents : Option Files) (name : List ℕ) (start : List Logged) (known : Option Header) (file_sink : List Logged) (used : Used) → IsKnownAnswer log_format HasHeard contents name log_file nothing [] start known (Ok (found.Whole file_sink used)) → known ≡ None → ⊥
 some_known contents name start known file_sink used a none = none_some known a.3.0.says.0 none a.3.1
   where
     none_some : (o : Option Header) (x : Header) → o ≡ None → o ≡ Some x → ⊥
@@ -163,11 +156,10 @@ module _ (lawful : Lawful log_format) where
   one_refusal (Some bytes) r q a b = file_one log_format lawful (opening log_file 0 0 [] bytes) bytes r q a b
 
   pub says_one_log : LogSaysOne
-  says_one_log None w v h g a b = absurd a
-  says_one_log (Some bytes) w v h g a b =
-      let one = says_one log_format lawful log_file (lines bytes) a.1 b.1 (Some a.0) (Some b.0) a.2 b.2 in
-      let same : a.0 ≡ b.0 = same_head a.0 b.0 one.1 in
-      (sym a.4 ∙ ap (λ (x : Header). x.workers) same ∙ b.4, sym a.3 ∙ ap events_of one.0 ∙ b.3)
+  says_one_log None a b g h p q = absurd p
+  says_one_log (Some bytes) a b g h p q =
+      let one = says_one log_format lawful log_file (lines bytes) g h (Some a) (Some b) p q in
+      (same_head a b one.1, one.0)
     where
       same_head : (x y : Header) → Some x ≡ Some y → x ≡ y
       same_head x y p = cc

@@ -1,9 +1,15 @@
--- Laws of what a log is refused for, and of what it says.
-use Rattle.std.specs.Prelude.{◌≡◌, ℕ, List, Option}
-use Rattle.snb_history.specs.declared.event.Event.{Event}
+-- Laws of what a log is refused for, of what it says, and of the verdict on it.
+use Rattle.std.specs.Prelude.{◌≡◌, ◌↔◌, ℕ, List, Option}
+use Rattle.snb_history.specs.declared.logged.Header.{Header}
+use Rattle.snb_history.specs.declared.logged.Logged.{Logged}
 use Rattle.snb_schema.specs.declared.refusal.Refusal.{Refusal}
+use Rattle.snb_schema.specs.declared.row.Row.{Row}
 use Rattle.snb_base.specs.FirstOf.{FirstOf, NoneOf}
+use Rattle.snb_plan.specs.Plans.{Plan}
+use Rattle.snb_auditor_log.specs.declared.verdict.AuditVerdict.{AuditVerdict}
+use Rattle.snb_auditor_log.specs.AuditVerdicts.{IsAuditVerdict, IsInOrder}
 use Rattle.snb_auditor_log.specs.LogFiles.{IsLogOf, log_checks}
+use Rattle.snb_auditor_log.specs.VerdictTexts.{audit_status}
 
 -- a log is refused for one thing at most
 abbrev pub OneLogRefusal : Type 0
@@ -13,6 +19,13 @@ OneLogRefusal = (held : Option (List ℕ)) (r q : Refusal) → FirstOf (log_chec
 abbrev pub RefusedOrNot : Type 0
 RefusedOrNot = (held : Option (List ℕ)) (r : Refusal) → FirstOf (log_checks held) r → ¬ NoneOf (log_checks held)
 
--- a log says one count of workers and one history at most
+-- a log says one header and one list of events with their counts at most
 abbrev pub LogSaysOne : Type 0
-LogSaysOne = (held : Option (List ℕ)) (w v : ℕ) (h g : List Event) → IsLogOf held w h → IsLogOf held v g → (w ≡ v) × (h ≡ g)
+LogSaysOne = (held : Option (List ℕ)) (a b : Header) (g h : List Logged) → IsLogOf held a g → IsLogOf held b h → (a ≡ b) × (g ≡ h)
+
+-- the status is 0 exactly where the history is legal, complete and timely, no count is wrong, and the number of operations that is stated is the
+-- plan's
+abbrev pub AcceptedInOrder : Type 0
+AcceptedInOrder =
+    (base : List Row) (plan : Plan) (header : Header) (logged : List Logged) (verdict : AuditVerdict) →
+    IsAuditVerdict base plan header logged verdict → (audit_status verdict ≡ 0) ↔ IsInOrder base plan header logged

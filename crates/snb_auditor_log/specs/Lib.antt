@@ -1,3 +1,4 @@
+pub mod AuditVerdicts
 pub mod Audited
 pub mod Laws
 pub mod LogFiles

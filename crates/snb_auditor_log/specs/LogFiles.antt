@@ -1,7 +1,6 @@
 -- What the file of a log says, what it is refused for, and what its reading answers.
-use Rattle.std.specs.Prelude.{◌≡◌, ◌++◌, ℕ, ◌≤◌, List, [], ◌∷◌, All, Option, None, Some, Result, Ok, Err, map}
+use Rattle.std.specs.Prelude.{◌≡◌, ◌++◌, ℕ, ◌≤◌, List, [], ◌∷◌, All, Option, None, Some, Result, Ok, Err}
 use Rattle.snb_base.specs.Shelf.{Files}
-use Rattle.snb_history.specs.declared.event.Event.{Event}
 use Rattle.snb_history.specs.declared.logged.Header.{Header}
 use Rattle.snb_history.specs.declared.logged.Logged.{Logged}
 use Rattle.snb_schema.specs.declared.limits.TheConstants.{MAX_AT, MAX_WORKERS}
@@ -16,6 +15,7 @@ use Rattle.snb_base.specs.FirstOf.{FirstOf, NoneOf}
 use Rattle.snb_input_files.specs.Format.{Format, IsFileSink, Rules}
 use Rattle.snb_input_files.specs.Loading.{IsTold}
 use Rattle.snb_input_files.specs.Places.{LinesSay, file_checks, opening}
+use Rattle.snb_runlog.specs.Columns.{HasCount, HasOperations}
 use Rattle.snb_runlog.specs.Lines.{log_file, log_language}
 use Rattle.snb_auditor_log.specs.declared.log.Log.{Log}
 
@@ -32,42 +32,39 @@ abbrev pub log_checks : Option (List ℕ) → List {1} (Refusal → Type 0)
 log_checks None = (λ r. r ≡ Absent log_file) ∷ []
 log_checks (Some bytes) = file_checks log_format (opening log_file 0 0 [] bytes) bytes
 
--- the events of what a log tells
-abbrev pub events_of : List Logged → List Event
-events_of logged = map (λ l. l.event) logged
-
--- a log of either version is held, and its lines say that there are so many workers, and what has this history
-abbrev pub IsLogOf : Option (List ℕ) → ℕ → List Event → Type 0
-IsLogOf None workers history = ⊥
-IsLogOf (Some bytes) workers history =
-    (head : Header) × (logged : List Logged) × LinesSay log_format log_file (lines bytes) logged (Some head)
-    × (events_of logged ≡ history) × (head.workers ≡ workers)
+-- a log of either version is held, and its lines say this header, and what is logged
+abbrev pub IsLogOf : Option (List ℕ) → Header → List Logged → Type 0
+IsLogOf None header logged = ⊥
+IsLogOf (Some bytes) header logged = LinesSay log_format log_file (lines bytes) logged (Some header)
 
 -- what the reading of a log answers: this is held under the name, where the shelf tells what it holds, of which nothing is wrong and this
 -- is what it says, or which is refused so
 abbrev pub IsLogAnswer : Option Files → List ℕ → Result Log Load → Type 0
 IsLogAnswer contents name (Ok log) =
-    (held : Option (List ℕ)) × IsTold contents name held × NoneOf (log_checks held) × IsLogOf held log.workers log.events.items
+    (held : Option (List ℕ)) × IsTold contents name held × NoneOf (log_checks held) × IsLogOf held log.header log.logged.items
 IsLogAnswer contents name (Err (Refused r)) = (held : Option (List ℕ)) × IsTold contents name held × FirstOf (log_checks held) r
 IsLogAnswer contents name (Err ReadFault) = Unit {0}
 IsLogAnswer contents name (Err Memory) = Unit {0}
 
--- a log of one to `MAX_WORKERS` workers, in which no moment is after `MAX_AT`
+-- a log of one to `MAX_WORKERS` workers, in which no moment is after `MAX_AT`; there is a count of operations exactly in version 2, and of rows
+-- exactly at each Finish of version 2
 pub record IsAuditable (log : Log) : Type 0 where
-  pub some_worker : 1 ≤ log.workers
-  pub few_workers : log.workers ≤ MAX_WORKERS
-  pub timed : All (λ e. moment e ≤ MAX_AT) log.events.items
+  pub some_worker : 1 ≤ log.header.workers
+  pub few_workers : log.header.workers ≤ MAX_WORKERS
+  pub timed : All (λ l. moment l.event ≤ MAX_AT) log.logged.items
+  pub operations : HasOperations log.header
+  pub counted : All (HasCount log.header.version) log.logged.items
 
--- the events so far are those of what the file said so far
-abbrev pub HasHeard : List Event → List (List Logged) → List Logged → Type 0
-HasHeard s done mine = s ≡ events_of mine
+-- what is logged so far is what the file said so far
+abbrev pub HasHeard : List Logged → List (List Logged) → List Logged → Type 0
+HasHeard s done mine = s ≡ mine
 
--- an event comes after those before, without its count
-abbrev pub TakesEvent : Takes (List Event) Logged
-TakesEvent old file x new = new ≡ old ++ x.event ∷ []
+-- an event comes after those before, with its count
+abbrev pub TakesEvent : Takes (List Logged) Logged
+TakesEvent old file x new = new ≡ old ++ x ∷ []
 
 -- none is refused
-abbrev pub RefusesEvent : Refuses (List Event) Logged
+abbrev pub RefusesEvent : Refuses (List Logged) Logged
 RefusesEvent old file x r = ⊥
 
 -- what takes the events of a log is a file_sink of its file

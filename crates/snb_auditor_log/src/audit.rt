@@ -1,31 +1,123 @@
 //! The audit of a log.
 
+ghost use Rattle.std.specs.Prelude.{◌≡◌, ◌≤◌, All, IfOk};
 ghost use Rattle.snb_base.specs.Shelf.{IsRead};
+ghost use Rattle.snb_schema.specs.declared.limits.TheConstants.{MAX_AT, MAX_WORKERS};
+ghost use Rattle.snb_history.specs.History.{moment};
 ghost use Rattle.snb_input_files.specs.Loading.{is_read_fault};
+ghost use Rattle.snb_auditor.specs.Verdicts.{IsVerdict};
+ghost use Rattle.snb_plan.specs.Closed.{IsClosed};
+ghost use Rattle.snb_plan.specs.Plans.{schedule_of, updates_in};
+ghost use Rattle.snb_graph_model.specs.Graphs.{HoldsKey};
+ghost use Rattle.snb_graph_model.specs.Soundness.{Sound};
+ghost use Rattle.snb_workers.specs.Miscounts.{events_of};
 ghost use Rattle.snb_auditor_log.specs.Audited.{IsAuditAnswer};
+ghost use Rattle.snb_auditor_log.specs.AuditVerdicts.{IsAuditVerdict, IsMatched};
+ghost use Rattle.snb_auditor_log.specs.LogFiles.{IsAuditable};
 
-use crate::log::load_log;
-use snb_auditor::{Verdict, audit_all};
+use crate::log::{Log, load_log};
+use crate::verdict::AuditVerdict;
+use snb_auditor::Verdict;
+use snb_auditor::auditor::Auditor;
 use snb_base::Shelf;
-use snb_history::Schedule;
+use snb_graph::Graph;
+use snb_history::{Logged, Schedule};
 use snb_input_files::Load;
-use std::alloc::Global;
+use snb_plan::Plan;
+use snb_workers::miscount::first_miscount;
+use std::alloc::{AllocError, Global};
 
-/// The verdict on the log of this path, of version 1 or 2, whose operations are those of the schedule. The
-/// whole log is read before any verdict: with a log that is refused there is none. The counts of a log of
-/// version 2 are read and not judged. The errors are those of
-/// `load_log`.
+// The verdict on the history of what is logged.
+fn judge(
+    alloc: Global,
+    schedule: &Schedule,
+    workers: u32,
+    logged: &[Logged],
+) -> Result<Verdict, AllocError>
+    requires some { 1 ≤ workers }
+    requires few { workers ≤ MAX_WORKERS }
+    requires timed { All (λ l. moment l.event ≤ MAX_AT) logged.now }
+    ensures { IfOk result (λ verdict. IsVerdict schedule.now workers (events_of logged.now) verdict) }
+{
+    let mut auditor = Auditor::new(alloc, schedule, workers)?;
+    for one in logged {
+        if let Err(_) = auditor.step(&one.event) {
+            return Ok(auditor.end());
+        }
+    }
+    Ok(auditor.end())
+}
+
+// The verdict on a log whose history has this one and whose count of operations is the plan's, where it has
+// one.
+fn after_judging(
+    alloc: Global,
+    plan: &Plan,
+    base: &Graph,
+    log: &Log,
+    verdict: Verdict,
+) -> Result<AuditVerdict, AllocError>
+    requires auditable { IsAuditable log.now }
+    requires sound { Sound base.now }
+    requires closed { IsClosed (HoldsKey base.now) (updates_in plan.now) }
+    requires matched { IsMatched plan.now log.now.header }
+    requires judged { IsVerdict (schedule_of plan.now) log.now.header.workers (events_of log.now.logged.items) verdict }
+    ensures { IfOk result (λ found. IsAuditVerdict base.now plan.now log.now.header log.now.logged.items found) }
+{
+    let judged = AuditVerdict::Judged { verdict };
+    if let Verdict::Violated { .. } = verdict {
+        return Ok(judged);
+    }
+    // A log of version 1 has no counts.
+    if log.header.operations.is_none() {
+        return Ok(judged);
+    }
+    match first_miscount(alloc, plan, base, &log.logged)? {
+        Some(miscount) => Ok(AuditVerdict::Miscounted { miscount }),
+        None => Ok(judged),
+    }
+}
+
+// The verdict on a log.
+fn verdict_on(
+    alloc: Global,
+    plan: &Plan,
+    base: &Graph,
+    log: &Log,
+) -> Result<AuditVerdict, AllocError>
+    requires auditable { IsAuditable log.now }
+    requires sound { Sound base.now }
+    requires closed { IsClosed (HoldsKey base.now) (updates_in plan.now) }
+    ensures { IfOk result (λ found. IsAuditVerdict base.now plan.now log.now.header log.now.logged.items found) }
+{
+    let needs = plan.schedule().steps().len() as u32;
+    if let Some(found) = log.header.operations {
+        if found != needs {
+            return Ok(AuditVerdict::Mismatched { needs, found });
+        }
+    }
+    let verdict = judge(alloc, plan.schedule(), log.header.workers, &log.logged)?;
+    after_judging(alloc, plan, base, log, verdict)
+}
+
+/// The verdict on the log of this path, of version 1 or 2, by a plan that is closed over a sound dataset. The
+/// whole log is read before any verdict: with a log that is refused there is none. A log of version 2 is
+/// judged by its counts too: that of operations comes before anything else, and those of rows are looked at
+/// where the history is legal. The errors are those of `load_log`.
 pub fn audit_log<S: Shelf>(
     alloc: Global,
     shelf: &mut S,
-    schedule: &Schedule,
+    plan: &Plan,
+    base: &Graph,
     path: &str,
-) -> Result<Verdict, Load>
-    ensures answer { IsAuditAnswer schedule.now (S.contents shelf.old) path.now result }
+) -> Result<AuditVerdict, Load>
+    requires sound { Sound base.now }
+    requires closed { IsClosed (HoldsKey base.now) (updates_in plan.now) }
+    ensures answer { IsAuditAnswer base.now plan.now (S.contents shelf.old) path.now result }
     ensures read { IsRead (is_read_fault result) (S.contents shelf.old) (S.faults shelf.old) (S.contents shelf.new) (S.faults shelf.new) }
 {
     match load_log(alloc, shelf, path) {
         Err(load) => Err(load),
-        Ok(log) => Ok(audit_all(alloc, schedule, log.workers, &log.events)?),
+        Ok(log) => Ok(verdict_on(alloc, plan, base, &log)?),
     }
 }

@@ -4,7 +4,7 @@ ghost use Rattle.std.specs.Prelude.{◌≡◌, []};
 ghost use Rattle.snb_input_files.specs.Format.{Lawful};
 ghost use Rattle.snb_auditor_log.specs.LogFiles.{IsLogFileSink, log_format};
 
-use snb_history::{Event, Logged};
+use snb_history::Logged;
 use snb_input_files::FileSink;
 use snb_input_lines::Sink;
 use snb_runlog::LogLines;
@@ -13,28 +13,28 @@ use snb_schema::{Fault, FileId, Refusal};
 use std::alloc::{AllocError, Global};
 use std::marker::Model;
 
-/// Takes the events of a log in order, without their counts.
+/// Takes the events of a log in order, with their counts.
 pub(crate) struct LogFileSink {
     alloc: Global,
-    events: Vec<Event>,
+    logged: Vec<Logged>,
 }
 
 impl Drop for LogFileSink {
     fn drop(self) {
         let LogFileSink {
             alloc: _,
-            events: _,
+            logged: _,
         } = self;
     }
 }
 
 impl Model for LogFileSink {
     ghost use Rattle.std.specs.Prelude.{List};
-    ghost use Rattle.snb_history.specs.declared.event.Event.{Event};
+    ghost use Rattle.snb_history.specs.declared.logged.Logged.{Logged as AnyLogged};
 
-    ghost Value = { List Event };
+    ghost Value = { List AnyLogged };
 
-    ghost view = { λ s. s.events.items };
+    ghost view = { λ s. s.logged.items };
 }
 
 impl LogFileSink {
@@ -44,16 +44,16 @@ impl LogFileSink {
     {
         LogFileSink {
             alloc,
-            events: Vec::new(alloc),
+            logged: Vec::new(alloc),
         }
     }
 
-    /// The events.
-    pub(crate) fn into_events(self) -> Vec<Event>
+    /// The events with their counts.
+    pub(crate) fn into_logged(self) -> Vec<Logged>
         ensures { result.items ≡ self }
     {
-        let LogFileSink { alloc: _, events } = self;
-        events
+        let LogFileSink { alloc: _, logged } = self;
+        logged
     }
 }
 
@@ -84,7 +84,7 @@ impl Sink<Logged> for LogFileSink {
     ghost turns = { λ _ new. new ≡ [] };
 
     fn put(&mut self, _file: FileId, item: Logged) -> Result<(), Fault> {
-        self.events.push(item.event)?;
+        self.logged.push(item)?;
         Ok(())
     }
 
@@ -93,7 +93,7 @@ impl Sink<Logged> for LogFileSink {
     }
 
     fn next_file(&mut self) -> Result<(), AllocError> {
-        self.events = Vec::new(self.alloc);
+        self.logged = Vec::new(self.alloc);
         Ok(())
     }
 

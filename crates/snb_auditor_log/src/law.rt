@@ -1,15 +1,26 @@
-//! Laws of what a log is refused for and of what it says, over every log.
+//! Laws of what a log is refused for, of what it says and of the verdict on it, over every log.
 
-ghost use Rattle.snb_auditor_log.specs.Laws.{LogSaysOne, OneLogRefusal, RefusedOrNot};
+ghost use Rattle.snb_auditor_log.specs.Laws.{AcceptedInOrder, LogSaysOne, OneLogRefusal, RefusedOrNot};
 
 use crate::file_sink::log_is_lawful;
+use snb_auditor::law::{accepted_exactly, verdict_is_one};
 
-/// Something is wrong with a log in one first way, or nothing is, and it says one count of workers and
-/// one history.
+/// Something is wrong with a log in one first way, or nothing is, and it says one header and one list of
+/// events with their counts.
 pub fn one_log_refusal()
     ensures one { OneLogRefusal }
     ensures or_not { RefusedOrNot }
     ensures says { LogSaysOne }
 {
     log_is_lawful();
+}
+
+/// The status of a verdict on a log is 0 exactly where the history is legal and complete, at least 95 of 100
+/// operations are on time, no count is wrong, and the number of operations, where the log states it, is the
+/// plan's.
+pub fn accepted_in_order()
+    ensures { AcceptedInOrder }
+{
+    accepted_exactly();
+    verdict_is_one();
 }

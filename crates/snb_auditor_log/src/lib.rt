@@ -1,10 +1,12 @@
-//! The audit of a log: it is read from a shelf, and its history gets a verdict.
+//! The audit of a log: it is read from a shelf, and its history and its counts get a verdict.
 #![tactic(auto)]
 
 pub mod audit;
 mod file_sink;
 pub mod law;
 pub mod log;
+pub mod verdict;
 pub mod verdict_text;
 
 pub use audit::audit_log;
+pub use verdict::AuditVerdict;

@@ -7,33 +7,35 @@ ghost use Rattle.snb_auditor_log.specs.LogFiles.{IsAuditable, IsLogAnswer};
 
 use crate::file_sink::{LogFileSink, log_is_lawful};
 use snb_base::Shelf;
-use snb_history::Event;
+use snb_history::{Header, Logged};
 use snb_input_files::{Found, Load, Used, load_known};
 use snb_input_lines::LineReader;
 use snb_runlog::LogLines;
+use snb_runlog::law::counts_are_in_version_2;
 use snb_schema::{FileId, FileKind, Refusal};
 use std::alloc::Global;
 
 /// What a log says.
 pub struct Log {
-    /// How many workers there were.
-    pub workers: u32,
-    /// What happened.
-    pub events: Vec<Event>,
+    /// Its version, how many workers there were, and, in version 2, how many operations its plan has.
+    pub header: Header,
+    /// What happened, with the counts of rows in version 2.
+    pub logged: Vec<Logged>,
 }
 
 impl Drop for Log {
     fn drop(self) {
         let Log {
-            workers: _,
-            events: _,
+            header: _,
+            logged: _,
         } = self;
     }
 }
 
-/// Reads the log of this path, of version 1 or 2. It is read in pieces, and of what was read the events are
-/// kept alone, without counts: logs of either version with the same events and workers say the same. A log
-/// has 268,435,456 bytes at most, from one to `MAX_WORKERS` workers, and no moment after `MAX_AT`.
+/// Reads the log of this path, of version 1 or 2. It is read in pieces, and of what was read the header and
+/// the events with their counts are kept alone. A log has 268,435,456 bytes at most, from one to
+/// `MAX_WORKERS` workers, and no moment after `MAX_AT`; a count of operations exactly in version 2, and a
+/// count of rows exactly at each Finish of version 2.
 ///
 /// `Refused` is the first thing wrong: it isn't held (`Absent`); the first of its lines that is refused;
 /// no line has a byte (`NoHeader`). A line is refused, where it has a byte, for the first of these: bytes
@@ -47,6 +49,7 @@ pub fn load_log<S: Shelf>(alloc: Global, shelf: &mut S, path: &str) -> Result<Lo
     ensures read { IsRead (is_read_fault result) (S.contents shelf.old) (S.faults shelf.old) (S.contents shelf.new) (S.faults shelf.new) }
 {
     log_is_lawful();
+    counts_are_in_version_2();
     let file = FileId {
         kind: FileKind::Log,
         part: 0,
@@ -69,8 +72,8 @@ pub fn load_log<S: Shelf>(alloc: Global, shelf: &mut S, path: &str) -> Result<Lo
         }),
         Ok(Found::Whole { file_sink, used: _ }) => match reader.known() {
             Some(head) => Ok(Log {
-                workers: head.workers,
-                events: file_sink.into_events(),
+                header: *head,
+                logged: file_sink.into_logged(),
             }),
             None => unreachable!(),
         },

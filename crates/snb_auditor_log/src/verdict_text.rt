@@ -2,8 +2,9 @@
 
 ghost use Rattle.std.specs.Prelude.{◌≡◌, IfOk, string_bytes};
 ghost use Rattle.std.specs.Fmt.{signed_decimal};
-ghost use Rattle.snb_auditor_log.specs.VerdictTexts.{verdict_status, verdict_text};
+ghost use Rattle.snb_auditor_log.specs.VerdictTexts.{audit_status, audit_text, verdict_status, verdict_text};
 
+use crate::verdict::AuditVerdict;
 use snb_auditor::Verdict;
 use std::alloc::{AllocError, Global};
 
@@ -14,8 +15,8 @@ fn signed_text(alloc: Global, number: &i64) -> Result<String, AllocError>
     number.to_string(alloc)
 }
 
-/// The line of a verdict.
-pub fn verdict_line(alloc: Global, verdict: Verdict) -> Result<Vec<u8>, AllocError>
+// The line of a verdict on a history.
+fn history_line(alloc: Global, verdict: Verdict) -> Result<Vec<u8>, AllocError>
     ensures { IfOk result (λ text. text.items ≡ verdict_text verdict) }
 {
     match verdict {
@@ -44,8 +45,27 @@ pub fn verdict_line(alloc: Global, verdict: Verdict) -> Result<Vec<u8>, AllocErr
     }
 }
 
-/// The status of a verdict: 0 where the run is accepted, else 1.
-pub fn status_of(verdict: Verdict) -> u8
+/// The line of a verdict on a log.
+pub fn verdict_line(alloc: Global, verdict: AuditVerdict) -> Result<Vec<u8>, AllocError>
+    ensures { IfOk result (λ text. text.items ≡ audit_text verdict) }
+{
+    match verdict {
+        AuditVerdict::Mismatched { needs, found } => Ok(format!(in alloc;
+            "mismatched operations needs {needs} found {found}\n"
+        )?.into_bytes()),
+        AuditVerdict::Miscounted { miscount } => {
+            let event = miscount.event;
+            let needs = miscount.needs;
+            let found = miscount.found;
+            let line = format!(in alloc; "miscounted event {event} needs {needs} found {found}\n")?;
+            Ok(line.into_bytes())
+        }
+        AuditVerdict::Judged { verdict } => history_line(alloc, verdict),
+    }
+}
+
+// The status of a verdict on a history: 0 where the run is accepted, else 1.
+fn history_status(verdict: Verdict) -> u8
     ensures { result ≡ verdict_status verdict }
 {
     match verdict {
@@ -54,5 +74,15 @@ pub fn status_of(verdict: Verdict) -> u8
         | Verdict::Halted { .. }
         | Verdict::Incomplete { .. }
         | Verdict::TooLate { .. } => 1,
+    }
+}
+
+/// The status of a verdict on a log: 0 where the run is accepted, else 1.
+pub fn status_of(verdict: AuditVerdict) -> u8
+    ensures { result ≡ audit_status verdict }
+{
+    match verdict {
+        AuditVerdict::Mismatched { .. } | AuditVerdict::Miscounted { .. } => 1,
+        AuditVerdict::Judged { verdict } => history_status(verdict),
     }
 }

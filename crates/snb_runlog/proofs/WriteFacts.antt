@@ -5,10 +5,10 @@ use Rattle.std.specs.Fmt.{decimal}
 use Rattle.snb_history.specs.declared.event.Event.{Event}
 use Rattle.snb_history.specs.declared.logged.Header.{Header}
 use Rattle.snb_history.specs.declared.logged.Logged.{Logged}
-use Rattle.snb_history.specs.RunTexts.{first_header, first_log_text, header_line, logged_line, without_count}
+use Rattle.snb_history.specs.RunTexts.{header_line, logged_line}
 use Rattle.snb_runlog.specs.declared.columns.EventKind.{EventKind}
 use Rattle.snb_runlog.specs.Columns.{columns, event_numbers, kind_of, letter_of, log_name}
-use Rattle.snb_runlog.specs.Writing.{AppendsSome, events_text, line_with}
+use Rattle.snb_runlog.specs.Writing.{AppendsSome, line_with}
 use Rattle.snb_runlog.proofs.OwnFacts.{header_with, logged_with}
 
 -- nothing is appended
@@ -93,12 +93,3 @@ logged_text l kind first cs ns is letter columned numbers =
 -- the line of a header, by what it begins with and its numbers
 pub header_text : (head : Header) (first : List ℕ) (version workers : ℕ) → first ≡ log_name → version ≡ head.version → workers ≡ head.workers → line_with first (version ∷ workers ∷ []) head.operations ≡ header_line head
 header_text head first version workers begins v w = (λ i. line_with (begins i) (v i ∷ w i ∷ []) head.operations) ∙ sym (header_with head)
-
--- texts of items one after the other are those of what the items are made to
-pub flat_made : {A B : Type 0} (f : B → List ℕ) (g : A → B) (xs : List A) → flat_map f (map g xs) ≡ flat_map (λ x. f (g x)) xs
-flat_made f g [] = refl
-flat_made f g (x ∷ xs) = ap (λ (t : List ℕ). f (g x) ++ t) (flat_made f g xs)
-
--- a log of version 1 is its header and the lines of its events
-pub first_text : (workers : ℕ) (h : List Event) → first_log_text workers h ≡ header_line (first_header workers) ++ events_text h
-first_text workers h = ap (λ (t : List ℕ). header_line (first_header workers) ++ t) (flat_made logged_line without_count h)

@@ -2,11 +2,10 @@
 use Rattle.std.specs.Prelude.{◌≡◌, ◌≤◌, ◌++◌, ◌∷◌, ℕ, List, All, Option, codes}
 use Rattle.std.specs.Fmt.{decimal}
 use Rattle.std.specs.List.{flat_map}
-use Rattle.snb_history.specs.declared.event.Event.{Event}
 use Rattle.snb_history.specs.declared.logged.Logged.{Logged}
 use Rattle.snb_schema.specs.declared.limits.TheConstants.{MAX_AT}
 use Rattle.snb_history.specs.History.{moment}
-use Rattle.snb_history.specs.RunTexts.{count_text, logged_line, without_count}
+use Rattle.snb_history.specs.RunTexts.{count_text, logged_line}
 use Rattle.snb_runlog.specs.declared.columns.TheConstants.{LAST_VERSION}
 use Rattle.snb_runlog.specs.Columns.{HasCount}
 
@@ -21,14 +20,6 @@ line_with first ns count = first ++ cells_text ns ++ count_text count ++ codes "
 -- the lines of what a log tells
 abbrev pub logged_text : List Logged → List ℕ
 logged_text logged = flat_map logged_line logged
-
--- the lines of events, without counts
-abbrev pub events_text : List Event → List ℕ
-events_text h = flat_map (λ e. logged_line (without_count e)) h
-
--- no moment is above the greatest
-abbrev pub AreTimed : List Event → Type 0
-AreTimed h = All (λ e. moment e ≤ MAX_AT) h
 
 -- no moment is above the greatest, and there is a count of rows exactly at each Finish
 pub record AreCounted (logged : List Logged) : Type 0 where

@@ -51,8 +51,9 @@ pub fn own_line()
 /// so writing what was read gives the canonical text, and doing so twice gives the same.
 ///
 /// What is written again of a log of version 2 is what `write_log` writes (`last`), and of one of version 1
-/// what `write_first_log` writes (`first`). A log of version 1 is one of version 2 without its counts, event
-/// by event: with whatever counts are added, the log of version 2 is read back (`lacks`).
+/// the log of version 1 of its workers and its history (`first`). A log of version 1 is one of version 2
+/// without its counts, event by event: with whatever counts are added, the log of version 2 is read back
+/// (`lacks`).
 pub fn log_reads_back()
     ensures back { LogReadsBack }
     ensures run { RunReadsBack }

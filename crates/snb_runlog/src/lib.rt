@@ -10,4 +10,4 @@ pub mod write;
 
 pub use grammar::LogLines;
 pub use reader::LogReader;
-pub use write::{write_first_log, write_log};
+pub use write::write_log;

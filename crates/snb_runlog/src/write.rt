@@ -4,9 +4,9 @@ ghost use Rattle.std.specs.Prelude.{◌≡◌, ◌++◌, ◌∷◌, ◌≤◌, c
 ghost use Rattle.std.specs.Fmt.{decimal};
 ghost use Rattle.std.specs.List.{flat_map};
 ghost use Rattle.snb_schema.specs.declared.limits.TheConstants.{MAX_WORKERS};
-ghost use Rattle.snb_history.specs.RunTexts.{count_text, first_log_text, header_line, log_text, logged_line as line_text};
+ghost use Rattle.snb_history.specs.RunTexts.{count_text, header_line, log_text, logged_line as line_text};
 ghost use Rattle.snb_runlog.specs.Columns.{CanBeHeader, columns, event_numbers, kind_of, letter_of};
-ghost use Rattle.snb_runlog.specs.Writing.{AppendsSome, AreCounted, AreTimed, cells_text, events_text, line_with, logged_text};
+ghost use Rattle.snb_runlog.specs.Writing.{AppendsSome, AreCounted, cells_text, line_with, logged_text};
 
 use crate::columns::{EventKind, FIRST_VERSION, LAST_VERSION, columns_of};
 use snb_base::put_number;
@@ -152,41 +152,4 @@ pub fn write_log(
     };
     write_header(&header, to)?;
     write_lines(logged, to)
-}
-
-/// Appends the lines of the events, whose moments are at most `MAX_AT`, in a log of version 1. Where
-/// memory runs out, a first part of them is appended.
-pub fn write_events(events: &[Event], to: &mut Vec<u8>) -> Result<(), AllocError>
-    requires timed { AreTimed events.now }
-    ensures ok { OnOk result (to.new.items ≡ to.old.items ++ events_text events.now) }
-    ensures err { OnErr result (AppendsSome to.old.items to.new.items (events_text events.now)) }
-{
-    for event in events {
-        let logged = Logged {
-            event: *event,
-            rows: None,
-        };
-        write_line(&logged, to)?;
-    }
-    Ok(())
-}
-
-/// Appends the log of version 1 of a run of so many workers with these events, whose moments are at most
-/// `MAX_AT`. Where memory runs out, a first part of it is appended.
-///
-/// It is `write_header` and then `write_events`.
-pub fn write_first_log(workers: u32, events: &[Event], to: &mut Vec<u8>) -> Result<(), AllocError>
-    requires some { 1 ≤ workers }
-    requires few { workers ≤ MAX_WORKERS }
-    requires timed { AreTimed events.now }
-    ensures ok { OnOk result (to.new.items ≡ to.old.items ++ first_log_text workers events.now) }
-    ensures err { OnErr result (AppendsSome to.old.items to.new.items (first_log_text workers events.now)) }
-{
-    let header = Header {
-        version: FIRST_VERSION,
-        workers,
-        operations: None,
-    };
-    write_header(&header, to)?;
-    write_events(events, to)
 }

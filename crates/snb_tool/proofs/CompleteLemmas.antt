@@ -21,16 +21,16 @@ use Rattle.snb_validation_check.specs.Checks.{AreRight, Finds}
 use Rattle.snb_validation_check.specs.CheckTexts.{outcome_status, tally_status}
 use Rattle.snb_validation_check.specs.Laws.{FindingIsOne}
 use Rattle.snb_loader.specs.Dataset.{IsDataset}
-use Rattle.snb_auditor_log.specs.VerdictTexts.{verdict_status}
+use Rattle.snb_auditor_log.specs.declared.verdict.AuditVerdict.{AuditVerdict}
+use Rattle.snb_auditor_log.specs.declared.verdict.AuditVerdict.TheVariants.{Judged, Miscounted, Mismatched}
+use Rattle.snb_auditor_log.specs.AuditVerdicts.{IsInOrder}
+use Rattle.snb_auditor_log.specs.Laws.{AcceptedInOrder}
+use Rattle.snb_auditor_log.specs.VerdictTexts.{audit_status, verdict_status}
 use Rattle.snb_auditor.specs.declared.verdict.Verdict.{Verdict}
 use Rattle.snb_auditor.specs.declared.verdict.Verdict.TheVariants.{Violated, Halted, Incomplete, TooLate, Accepted}
-use Rattle.snb_auditor.specs.VerdictLaws.{AcceptedExactly, VerdictIsOne}
-use Rattle.snb_auditor.specs.Verdicts.{IsTimelyRun, IsVerdict}
-use Rattle.snb_plan.specs.Plans.{schedule_of}
-use Rattle.snb_history.specs.declared.event.Event.{Event}
+use Rattle.snb_workers.specs.Counts.{logged_of}
+use Rattle.snb_workers.specs.Laws.{CountsOfARun}
 use Rattle.snb_schema.specs.declared.row.Row.{Row}
-use Rattle.snb_history.specs.Schedule.{Schedule}
-use Rattle.snb_history.specs.Rules.{IsComplete, IsLegal}
 use Rattle.snb_tool.specs.Laws.{AnswersHaveStatus, AuditInShort, IsAuditInShort, IsRunInShort, IsValidateInShort, RefusalIsOne, RefusedOrNot, RunInShort, ValidateInShort}
 use Rattle.snb_tool.specs.Outcome.{IsAnswer, TellsVerdict, IsDone, IsDoneAnswer, IsJudged, IsRefused, IsRun, IsValidated}
 use Rattle.snb_tool.specs.Output.{HasBegun, HasWritten, Wrote}
@@ -38,13 +38,19 @@ use Rattle.snb_tool.specs.Outside.{Ends, IsReadOnly, OutOfMemory, Outside, ReadF
 
 -- ---- statuses
 
--- a verdict's status is 0 or 1
+-- the status of a verdict on a history is 0 or 1
 verdict_low : (verdict : Verdict) → (verdict_status verdict ≡ 0) ⊎ (verdict_status verdict ≡ 1)
 verdict_low (Violated v) = inr refl
 verdict_low (Halted w) = inr refl
 verdict_low (Incomplete op) = inr refl
 verdict_low (TooLate on_time all) = inr refl
 verdict_low (Accepted on_time all) = inl refl
+
+-- and so is that of a verdict on a log
+audit_low : (verdict : AuditVerdict) → (audit_status verdict ≡ 0) ⊎ (audit_status verdict ≡ 1)
+audit_low (Mismatched needs found) = inr refl
+audit_low (Miscounted m) = inr refl
+audit_low (Judged verdict) = verdict_low verdict
 
 -- a status that is equal to one of these
 low_by : (s t : ℕ) → s ≡ t → (t ≡ 0) ⊎ (t ≡ 1) → (s ≡ 0) ⊎ (s ≡ 1) ⊎ (s ≡ 2) ⊎ (s ≡ 3)
@@ -61,7 +67,7 @@ done_low : (command : Command) (found : Found) (fixed : Option ℕ) (status : �
     → (status ≡ 0) ⊎ (status ≡ 1) ⊎ (status ≡ 2) ⊎ (status ≡ 3)
 done_low (Check folder table) found fixed status texts d = inl d.0
 done_low (Run folder workers ratio table) found fixed status texts d = inl d.0
-done_low (Audit folder log ratio table) found fixed status texts d = low_by status (verdict_status d.verdict) d.status_is (verdict_low d.verdict)
+done_low (Audit folder log ratio table) found fixed status texts d = low_by status (audit_status d.verdict) d.status_is (audit_low d.verdict)
 done_low (Expect folder table) found fixed status texts d = inl d.0
 done_low (Validate folder cases) found fixed status texts d = low_by status (tally_status d.tally) d.status_is (outcome_low d.tally.first)
 done_low (Read folder query) found fixed status texts d = inl d.0
@@ -187,10 +193,10 @@ told_files folder files held told = λ i file. told file i
 pub added : (old new texts : Written) → Wrote (Some old) (Some new) texts → new ≡ joined old texts
 added old new texts w = cc
 
-in_short : (files : Files) (fixed : Option ℕ) (folder : List ℕ) (workers ratio : ℕ) (table : FrequencyTable) (old new texts : Written) (found : Found)
+in_short : CountsOfARun → (files : Files) (fixed : Option ℕ) (folder : List ℕ) (workers ratio : ℕ) (table : FrequencyTable) (old new texts : Written) (found : Found)
     → IsFoundTold (Some files) (Run folder workers ratio table) found → IsDone (Run folder workers ratio table) found fixed 0 texts → new ≡ joined old texts
     → IsRunInShort files folder workers ratio table old new
-in_short files fixed folder workers ratio table old new texts found told done e =
+in_short counts files fixed folder workers ratio table old new texts found told done e =
     let run : IsRun (held_in folder files) workers ratio table fixed texts = subst (λ (h : Held). IsRun h workers ratio table fixed texts) (told_files folder files found.held told.0) done.1 in
     record {
       graph = run.graph;
@@ -201,7 +207,10 @@ in_short files fixed folder workers ratio table old new texts found told done e 
       complete = run.left.ran.complete;
       waits = run.left.ran.waits;
       below = run.left.ran.below;
+      logged = logged_of run.left.replies run.left.history;
+      counted = counts workers run.plan fixed run.graph run.left.history run.left.replies run.left.final run.left.ran;
       log = ap (λ (w : Written). w.log) e ∙ ap (λ (w : Written). old.log ++ w.log) run.left.shown;
+      read_back = run.left.read_back;
       replies = run.left.replies;
       answered = run.left.ran.answered;
       answers = ap (λ (w : Written). w.answers) e ∙ ap (λ (w : Written). old.answers ++ w.answers) run.left.shown;
@@ -210,47 +219,30 @@ in_short files fixed folder workers ratio table old new texts found told done e 
       finals = ap (λ (w : Written). w.finals) e ∙ ap (λ (w : Written). old.finals ++ w.finals) run.left.shown;
     }
 
-pub run_in_short : WordsAreOne → RunInShort
-run_in_short one words files fixed folder workers ratio table old new line (texts, inl usage, w) = let e = usage.0 in absurd (omega (arith, e))
-run_in_short one words files fixed folder workers ratio table old new line (texts, inr (c, l, (found, told, inr bad)), w) = let e = bad.2.0 in absurd (omega (arith, e))
-run_in_short one words files fixed folder workers ratio table old new line (texts, inr (c, l, (found, told, inl done)), w) =
+pub run_in_short : WordsAreOne → CountsOfARun → RunInShort
+run_in_short one counts words files fixed folder workers ratio table old new line (texts, inl usage, w) = let e = usage.0 in absurd (omega (arith, e))
+run_in_short one counts words files fixed folder workers ratio table old new line (texts, inr (c, l, (found, told, inr bad)), w) = let e = bad.2.0 in absurd (omega (arith, e))
+run_in_short one counts words files fixed folder workers ratio table old new line (texts, inr (c, l, (found, told, inl done)), w) =
     let same = one words c (Run folder workers ratio table) l line in
-    in_short files fixed folder workers ratio table old new texts found (subst (λ (d : Command). IsFoundTold (Some files) d found) same told)
+    in_short counts files fixed folder workers ratio table old new texts found (subst (λ (d : Command). IsFoundTold (Some files) d found) same told)
     (subst (λ (d : Command). IsDone d found fixed 0 texts) same done.1) (added old new texts w)
 
 -- ---- an audit in short
 
--- the status of a verdict is 0 exactly where what is accepted is
-status_exact : AcceptedExactly → VerdictIsOne → (s : Schedule) (workers : ℕ) (h : List Event) (verdict : Verdict) → IsVerdict s workers h verdict
-    → (verdict_status verdict ≡ 0) ↔ (IsLegal s workers h × IsComplete s h × IsTimelyRun s h)
-status_exact exactly one s workers h verdict is = (to verdict is, from)
-  where
-    to : (v : Verdict) → IsVerdict s workers h v → verdict_status v ≡ 0 → IsLegal s workers h × IsComplete s h × IsTimelyRun s h
-    to (Violated v) j e = absurd (omega (arith, e))
-    to (Halted w) j e = absurd (omega (arith, e))
-    to (Incomplete op) j e = absurd (omega (arith, e))
-    to (TooLate a b) j e = absurd (omega (arith, e))
-    to (Accepted a b) j e = (exactly s workers h).0 (a, b, j)
-
-    from : IsLegal s workers h × IsComplete s h × IsTimelyRun s h → verdict_status verdict ≡ 0
-    from good = let a = (exactly s workers h).1 good in ap verdict_status (one s workers h verdict (Accepted a.0 a.1) is a.2)
-
-audited_short : AcceptedExactly → VerdictIsOne → (files : Files) (folder log : List ℕ) (ratio : ℕ) (table : FrequencyTable) (status : ℕ) (old new texts : Written) (found : Found)
+audited_short : AcceptedInOrder → (files : Files) (folder log : List ℕ) (ratio : ℕ) (table : FrequencyTable) (status : ℕ) (old new texts : Written) (found : Found)
     → IsFoundTold (Some files) (Audit folder log ratio table) found → TellsVerdict found.held found.beside ratio table status texts → new ≡ joined old texts
     → IsAuditInShort files folder log ratio table status old new
-audited_short exactly one files folder log ratio table status old new texts found told done e =
+audited_short in_order files folder log ratio table status old new texts found told done e =
     let j : IsJudged (held_in folder files) found.beside ratio table done.verdict =
     subst (λ (h : Held). IsJudged h found.beside ratio table done.verdict) (told_files folder files found.held told.0) done.judged in
     record {
       graph = j.graph;
       plan = j.plan;
       input = j.input;
-      workers = j.workers;
-      history = j.history;
-      said = subst (λ (b : Option (List ℕ)). IsLogOf b j.workers j.history) told.1 j.log;
-      exactly =
-          subst (λ (n : ℕ). (n ≡ 0) ↔ (IsLegal (schedule_of j.plan) j.workers j.history × IsComplete (schedule_of j.plan) j.history × IsTimelyRun (schedule_of j.plan) j.history))
-          (sym done.status_is) (status_exact exactly one (schedule_of j.plan) j.workers j.history done.verdict j.judged);
+      header = j.header;
+      logged = j.logged;
+      said = subst (λ (b : Option (List ℕ)). IsLogOf b j.header j.logged) told.1 j.log;
+      exactly = subst (λ (n : ℕ). (n ≡ 0) ↔ IsInOrder j.graph j.plan j.header j.logged) (sym done.status_is) (in_order j.graph j.plan j.header j.logged done.verdict j.judged);
       verdict = done.verdict;
       judged = j.judged;
       screen = ap (λ (w : Written). w.screen) e ∙ ap (λ (w : Written). old.screen ++ w.screen) done.shown;
@@ -261,13 +253,13 @@ not_low : {A : Type 0} (s n : ℕ) → (s ≡ 0) ⊎ (s ≡ 1) → s ≡ n → 2
 not_low s n (inl a) b c = absurd (omega (arith, a, b, c))
 not_low s n (inr a) b c = absurd (omega (arith, a, b, c))
 
-pub audit_in_short : WordsAreOne → AcceptedExactly → VerdictIsOne → AuditInShort
-audit_in_short words_one exactly one words files fixed folder log ratio table status old new line low (texts, inl usage, w) = not_low status 2 low usage.0 (omega arith)
-audit_in_short words_one exactly one words files fixed folder log ratio table status old new line low (texts, inr (c, l, (found, told, inr bad)), w) =
+pub audit_in_short : WordsAreOne → AcceptedInOrder → AuditInShort
+audit_in_short words_one in_order words files fixed folder log ratio table status old new line low (texts, inl usage, w) = not_low status 2 low usage.0 (omega arith)
+audit_in_short words_one in_order words files fixed folder log ratio table status old new line low (texts, inr (c, l, (found, told, inr bad)), w) =
     not_low status 3 low bad.2.0 (omega arith)
-audit_in_short words_one exactly one words files fixed folder log ratio table status old new line low (texts, inr (c, l, (found, told, inl done)), w) =
+audit_in_short words_one in_order words files fixed folder log ratio table status old new line low (texts, inr (c, l, (found, told, inl done)), w) =
     let same = words_one words c (Audit folder log ratio table) l line in
-    audited_short exactly one files folder log ratio table status old new texts found
+    audited_short in_order files folder log ratio table status old new texts found
     (subst (λ (d : Command). IsFoundTold (Some files) d found) same told)
     (subst (λ (d : Command). IsDone d found fixed status texts) same done.1) (added old new texts w)
 

@@ -37,10 +37,7 @@ use Rattle.snb_tool_words.specs.declared.command.Command.TheVariants.{Audit, Che
 use Rattle.snb_tool.specs.declared.input.Input.{Input}
 use Rattle.snb_auditor_log.specs.Audited.{IsAuditAnswer}
 use Rattle.snb_auditor_log.specs.LogFiles.{log_checks}
-use Rattle.snb_auditor.specs.declared.verdict.Verdict.{Verdict}
-use Rattle.snb_auditor.specs.Verdicts.{IsVerdict}
-use Rattle.snb_plan.specs.Plans.{schedule_of}
-use Rattle.snb_history.specs.Schedule.{Schedule}
+use Rattle.snb_auditor_log.specs.declared.verdict.AuditVerdict.{AuditVerdict}
 use Rattle.snb_validation_check.specs.declared.text.Tally.{Tally}
 use Rattle.snb_validation_check.specs.CasesFile.{IsCasesAnswer, cases_checks}
 use Rattle.snb_validation_check.specs.Laws.{CasesRefuseOnce, CasesRefusedOrNot}
@@ -374,9 +371,9 @@ module _ (contents : Option Files) (folder log : List ℕ) (ratio : ℕ) (table 
   judged_no_input ReadFault h = tt
   judged_no_input Memory h = tt
 
-  pub judged_by_log : (input : Input) (schedule : Schedule) (result : Result Verdict Load) → schedule ≡ schedule_of input.plan → IsInputAnswer contents folder ratio table (Ok input)
-      → IsAuditAnswer schedule contents log result → IsJudgedAnswer contents folder log ratio table result
-  judged_by_log input schedule (Ok verdict) e h a = (
+  pub judged_by_log : (input : Input) (result : Result AuditVerdict Load) → IsInputAnswer contents folder ratio table (Ok input)
+      → IsAuditAnswer input.graph input.plan contents log result → IsJudgedAnswer contents folder log ratio table result
+  judged_by_log input (Ok verdict) h a = (
     h.0,
     a.0,
     h.1,
@@ -386,16 +383,16 @@ module _ (contents : Option Files) (folder log : List ℕ) (ratio : ℕ) (table 
       graph = input.graph;
       plan = input.plan;
       input = h.2.is;
-      workers = a.2.workers;
-      history = a.2.history;
+      header = a.2.header;
+      logged = a.2.logged;
       log = a.2.says;
-      judged = subst (λ (s : Schedule). IsVerdict s a.2.workers a.2.history verdict) e a.2.judged;
+      judged = a.2.judged;
     },
   )
-  judged_by_log input schedule (Err (Refused r)) e h a =
+  judged_by_log input (Err (Refused r)) h a =
       (h.0, a.0, h.1, a.1, first_later (plan_checks ratio table h.0) (log_checks a.0) r h.2.clean a.2)
-  judged_by_log input schedule (Err ReadFault) e h a = tt
-  judged_by_log input schedule (Err Memory) e h a = tt
+  judged_by_log input (Err ReadFault) h a = tt
+  judged_by_log input (Err Memory) h a = tt
 
 -- ---- of `validate`
 

@@ -1,5 +1,6 @@
 pub mod CompleteLemmas
 pub mod InputLemmas
+pub mod LogLemmas
 pub mod OutcomeLemmas
 pub mod Writing
 pub mod ExpectLemmas

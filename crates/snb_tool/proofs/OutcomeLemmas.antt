@@ -1,13 +1,10 @@
 -- Facts on how a call ends.
-use Rattle.std.proofs.Common.{◌≡◌, ℕ, ◌+◌, ◌⊎◌, ◌≤◌, List, [], ◌∷◌, ◌++◌, length, length-append, append_assoc, Option, None, Some, Ok, Err, Vec, refl, sym, subst, ap, ◌∙◌, inl, inr}
-use Rattle.std.proofs.lemmas.List.Elements.{All-cons, All-nil}
+use Rattle.std.proofs.Common.{◌≡◌, ℕ, ◌+◌, ◌⊎◌, ◌≤◌, List, [], ◌∷◌, ◌++◌, length, length-append, Option, None, Some, Ok, Err, Vec, refl, sym, subst, ap, ◌∙◌, inl, inr}
 use Rattle.std.proofs.lemmas.List.Sorted.{length_permutation}
 use Rattle.std.specs.declared.alloc.Global.{Global}
 use Rattle.snb_base.specs.Outbox.{Rooms, Written}
 use Rattle.snb_base.specs.Shelf.{Files, Rose}
-use Rattle.snb_runlog.specs.Writing.{AreTimed}
-use Rattle.snb_history.specs.declared.event.Event.{Event}
-use Rattle.snb_schema.specs.declared.limits.TheConstants.{MAX_AT}
+use Rattle.snb_runlog.specs.Laws.{ReadsBack}
 use Rattle.snb_schema.specs.declared.query.Query.{Query}
 use Rattle.snb_schema.specs.declared.refusal.Refusal.{Refusal}
 use Rattle.snb_input_files.specs.declared.load.Load.TheVariants.{Refused}
@@ -15,8 +12,7 @@ use Rattle.snb_input_files.specs.Loading.{IsTold}
 use Rattle.std.specs.Prelude.{IfSome}
 use Rattle.snb_schema.specs.declared.row.Row.{Row}
 use Rattle.snb_schema.specs.Frequencies.{FrequencyTable}
-use Rattle.snb_history.specs.History.{moment}
-use Rattle.snb_history.specs.RunTexts.{first_log_text}
+use Rattle.snb_history.specs.RunTexts.{header_of, log_text}
 use Rattle.snb_schema.specs.ScreenTexts.{refusal_text, summary_text}
 use Rattle.snb_graph_model.specs.FinalText.{final_text}
 use Rattle.snb_graph_model.specs.Graphs.{HasGained}
@@ -24,12 +20,12 @@ use Rattle.snb_plan.specs.Plans.{Plan, queries_in, updates_in}
 use Rattle.snb_workers_replay.specs.Replay.{all_rows}
 use Rattle.snb_tool_texts.specs.Answers.{answers_text}
 use Rattle.snb_tool_words.specs.declared.command.Command.TheVariants.{Audit, Check, Run, Read, Trial, Validate}
-use Rattle.snb_workers.specs.declared.done.Answered.{Answered}
+use Rattle.snb_workers.specs.Counts.{logged_of}
 use Rattle.snb_workers.specs.declared.run.Outcome.{Outcome}
 use Rattle.snb_workers.specs.Runs.{HasRun}
 use Rattle.snb_tool.specs.declared.input.Input.{Input}
-use Rattle.snb_auditor.specs.declared.verdict.Verdict.{Verdict}
-use Rattle.snb_auditor_log.specs.VerdictTexts.{verdict_status, verdict_text}
+use Rattle.snb_auditor_log.specs.declared.verdict.AuditVerdict.{AuditVerdict}
+use Rattle.snb_auditor_log.specs.VerdictTexts.{audit_status, audit_text}
 use Rattle.snb_validation_check.specs.declared.text.Tally.{Tally}
 use Rattle.snb_validation_check.specs.CheckTexts.{tally_status, tally_text}
 use Rattle.snb_tool.specs.Endings.{AreTexts, IsInputAnswer, IsJudgedAnswer, IsReplyAnswer, IsTallyAnswer, IsTrialInput, Shows}
@@ -114,28 +110,18 @@ pub trial_done : (contents : Option Files) (size workers : ℕ) (fixed : Option 
 trial_done contents size workers fixed input texts is left =
     (record { held = λ file. None; beside = None }, (tt, tt), inl (tt, (refl, record { plan = input.plan; is_plan = is.is_plan; left = subst (λ (g : List Row). IsLeft workers g input.plan fixed texts) is.same left })))
 
--- what is so of each event of a list, after those of a front, is so of all
-timed : (front h : List Event) → ((g : List Event) (e : Event) (rest : List Event) → g ++ e ∷ rest ≡ front ++ h → moment e ≤ MAX_AT) → AreTimed h
-timed front [] bounded = All-nil (λ e. moment e ≤ MAX_AT)
-timed front (e ∷ h) bounded =
-    All-cons (λ d. moment d ≤ MAX_AT) e h (bounded front e h refl)
-    (timed (front ++ e ∷ []) h (λ g d rest q. bounded g d rest (q ∙ append_assoc front (e ∷ []) h)))
-
--- no moment of a run is above the greatest
-pub run_timed : (workers : ℕ) (plan : Plan) (fixed : Option ℕ) (base : List Row) (h : List Event) (replies : List Answered) (graph : List Row) → HasRun workers plan fixed base h replies graph → AreTimed h
-run_timed workers plan fixed base h replies graph ran = timed [] h ran.legal.bounded
-
 -- the texts of what a run left, where the final graph has the rows of the dataset and of each insert
 pub run_shown : (workers : ℕ) (input : Input) (fixed : Option ℕ) (o : Outcome) (texts : Written) → HasRun workers input.plan fixed input.graph o.events.items o.replies o.graph
-    → AreTexts workers input.plan o texts → IsLeft workers input.graph input.plan fixed texts
-run_shown workers input fixed o texts ran shown = record {
+    → ReadsBack (header_of workers (length input.plan.operations)) (logged_of o.replies o.events.items) → AreTexts workers input.plan o texts → IsLeft workers input.graph input.plan fixed texts
+run_shown workers input fixed o texts ran back shown = record {
   history = o.events.items;
   replies = o.replies;
   final = o.graph;
   ran = ran;
+  read_back = back;
   shown = shown ∙ (λ i. record {
     screen = summary_text (length input.plan.operations) (length (updates_in input.plan)) (length (queries_in input.plan)) (rows_after input.graph (all_rows input.plan) o.graph ran.final i);
-    log = first_log_text workers o.events.items;
+    log = log_text workers (length input.plan.operations) (logged_of o.replies o.events.items);
     answers = answers_text o.replies;
     finals = final_text o.graph;
     cases = [];
@@ -176,8 +162,8 @@ module _ (contents : Option Files) (folder log : List ℕ) (ratio : ℕ) (table 
       → IsCommandAnswer (Audit folder log ratio table) contents fixed 3 (on_screen (refusal_text r))
   audit_refused r h = (record { held = h.0; beside = h.1 }, (h.2, beside_told contents log h.1 h.3), inr (r, h.4, (refl, refl)))
 
-  pub audit_done : (verdict : Verdict) (text : List ℕ) → IsJudgedAnswer contents folder log ratio table (Ok verdict) → text ≡ verdict_text verdict
-      → IsCommandAnswer (Audit folder log ratio table) contents fixed (verdict_status verdict) (on_screen text)
+  pub audit_done : (verdict : AuditVerdict) (text : List ℕ) → IsJudgedAnswer contents folder log ratio table (Ok verdict) → text ≡ audit_text verdict
+      → IsCommandAnswer (Audit folder log ratio table) contents fixed (audit_status verdict) (on_screen text)
   audit_done verdict text h e = (
     record { held = h.0; beside = h.1 },
     (h.2, beside_told contents log h.1 h.3),

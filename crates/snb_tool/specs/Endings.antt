@@ -2,7 +2,7 @@
 use Rattle.std.specs.Prelude.{◌≡◌, ℕ, ◌<◌, ◌≤◌, ◌⊎◌, List, [], ◌∷◌, ◌++◌, length, Option, Result, Ok, Err, Vec}
 use Rattle.std.specs.declared.alloc.Global.{Global}
 use Rattle.snb_auditor_log.specs.LogFiles.{log_checks}
-use Rattle.snb_auditor.specs.declared.verdict.Verdict.{Verdict}
+use Rattle.snb_auditor_log.specs.declared.verdict.AuditVerdict.{AuditVerdict}
 use Rattle.snb_base.specs.Outbox.{Rooms, Written}
 use Rattle.snb_base.specs.Shelf.{Files}
 use Rattle.snb_base.specs.FirstOf.{FirstOf, NoneOf}
@@ -22,7 +22,7 @@ use Rattle.snb_schema.specs.declared.row.Row.{Row}
 use Rattle.snb_schema.specs.Frequencies.{FrequencyTable}
 use Rattle.snb_schema.specs.LineLanes.{LineLanes, update_count}
 use Rattle.snb_schema.specs.QueryLists.{QueryLists}
-use Rattle.snb_history.specs.RunTexts.{first_log_text}
+use Rattle.snb_history.specs.RunTexts.{log_text}
 use Rattle.snb_schema.specs.ScreenTexts.{summary_text}
 use Rattle.snb_graph_model.specs.FinalText.{final_text}
 use Rattle.snb_graph_model.specs.Graphs.{HoldsKey}
@@ -31,6 +31,7 @@ use Rattle.snb_plan.specs.declared.plan.PlanFault.{PlanFault}
 use Rattle.snb_plan.specs.declared.plan.PlanFault.TheVariants as plan_faults
 use Rattle.snb_plan.specs.Closed.{IsClosed, IsFirstWrong}
 use Rattle.snb_plan.specs.Plans.{IsOfStreams, IsPlan, Plan, queries_in, read_count, updates_in}
+use Rattle.snb_workers.specs.Counts.{logged_of}
 use Rattle.snb_workers.specs.declared.run.Outcome.{Outcome as RunOutcome}
 use Rattle.snb_tool.specs.declared.deliver.Output.{Output}
 use Rattle.snb_tool.specs.declared.input.Input.{Input}
@@ -101,7 +102,7 @@ pub record IsTrialInput (size : ℕ) (input : Input) : Type 0 where
 abbrev pub AreTexts : ℕ → Plan → RunOutcome → Written → Type 0
 AreTexts workers plan o texts = texts ≡ record {
   screen = summary_text (length plan.operations) (length (updates_in plan)) (length (queries_in plan)) (length o.graph);
-  log = first_log_text workers o.events.items;
+  log = log_text workers (length plan.operations) (logged_of o.replies o.events.items);
   answers = answers_text o.replies;
   finals = final_text o.graph;
   cases = [];
@@ -145,7 +146,7 @@ audit_checks ratio frequencies held beside = plan_checks ratio frequencies held 
 
 -- what the judging of a log answers: there are files of a plan and a log, which are those that the shelf tells where it tells any, of which
 -- nothing is wrong and this is the verdict, or which are refused so
-abbrev pub IsJudgedAnswer : Option Files → List ℕ → List ℕ → ℕ → FrequencyTable → Result Verdict Load → Type 0
+abbrev pub IsJudgedAnswer : Option Files → List ℕ → List ℕ → ℕ → FrequencyTable → Result AuditVerdict Load → Type 0
 IsJudgedAnswer contents folder log ratio frequencies (Ok verdict) =
     (held : Held)
     × (beside : Option (List ℕ))

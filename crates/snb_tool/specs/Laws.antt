@@ -1,9 +1,9 @@
 -- Laws of what the commands answer.
 use Rattle.std.specs.Prelude.{◌≡◌, ◌≤◌, ℕ, ◌⊎◌, ◌↔◌, ◌++◌, List, length, Option, Some}
 use Rattle.snb_auditor_log.specs.LogFiles.{IsLogOf}
-use Rattle.snb_auditor_log.specs.VerdictTexts.{verdict_text}
-use Rattle.snb_auditor.specs.declared.verdict.Verdict.{Verdict}
-use Rattle.snb_auditor.specs.Verdicts.{IsTimelyRun, IsVerdict}
+use Rattle.snb_auditor_log.specs.declared.verdict.AuditVerdict.{AuditVerdict}
+use Rattle.snb_auditor_log.specs.AuditVerdicts.{IsAuditVerdict, IsInOrder}
+use Rattle.snb_auditor_log.specs.VerdictTexts.{audit_text}
 use Rattle.snb_base.specs.Outbox.{Written}
 use Rattle.snb_validation_cases.specs.declared.case.Case.{Case}
 use Rattle.snb_validation_cases.specs.declared.case.CaseAt.{CaseAt}
@@ -21,18 +21,22 @@ use Rattle.snb_plan.specs.Plans.{Plan, schedule_of}
 use Rattle.snb_workers_replay.specs.Replay.{IsFinal}
 use Rattle.snb_workers_replay.specs.Waiting.{StaysBelow, WaitsForAll}
 use Rattle.snb_history.specs.declared.event.Event.{Event}
+use Rattle.snb_history.specs.declared.logged.Header.{Header}
+use Rattle.snb_history.specs.declared.logged.Logged.{Logged}
 use Rattle.snb_schema.specs.declared.file.FileId.{FileId}
 use Rattle.snb_schema.specs.declared.limits.TheConstants.{MAX_BYTES}
 use Rattle.snb_schema.specs.declared.refusal.Refusal.{Refusal}
 use Rattle.snb_schema.specs.declared.row.Row.{Row}
 use Rattle.snb_schema.specs.Frequencies.{FrequencyTable}
 use Rattle.snb_history.specs.Rules.{IsComplete, IsLegal}
-use Rattle.snb_history.specs.RunTexts.{first_log_text}
+use Rattle.snb_history.specs.RunTexts.{header_of, log_text}
+use Rattle.snb_runlog.specs.Laws.{ReadsBack}
 use Rattle.snb_graph_model.specs.FinalText.{final_text}
 use Rattle.snb_tool_texts.specs.Answers.{answers_text}
 use Rattle.snb_tool_words.specs.declared.command.Command.{Command}
 use Rattle.snb_tool_words.specs.declared.command.Command.TheVariants.{Audit, Expect, Run, Validate}
 use Rattle.snb_tool_words.specs.Commands.{IsLineOf}
+use Rattle.snb_workers.specs.Counts.{TellsCounts}
 use Rattle.snb_workers.specs.declared.done.Answered.{Answered}
 use Rattle.snb_workers.specs.Runs.{AreReplies}
 use Rattle.snb_tool.specs.Inputs.{Found, IsFine, IsInput, at_first, checks_of}
@@ -55,8 +59,8 @@ AnswersHaveStatus =
 
 -- what a run that is done has added to the channels, where the files and the channels are told: the log of a legal, complete history of the plan
 -- of the files, in which no insert that waits starts before every insert of a person or a forum has finished whose t is at most its t_d, and at
--- no time the completion time comes to the t of one that hasn't finished; the replies to its reads, each on the graph of its front; and the
--- rows of the dataset and of each insert, each once
+-- no time the completion time comes to the t of one that hasn't finished, with its count of rows at each Finish, and the log spells that alone;
+-- the replies to its reads, each on the graph of its front; and the rows of the dataset and of each insert, each once
 pub record IsRunInShort (files : Files) (folder : List ℕ) (workers ratio : ℕ) (frequencies : FrequencyTable) (old new : Written) : Type 0 where
   pub graph : List Row
   pub plan : Plan
@@ -66,7 +70,10 @@ pub record IsRunInShort (files : Files) (folder : List ℕ) (workers ratio : ℕ
   pub complete : IsComplete (schedule_of plan) history
   pub waits : WaitsForAll plan history
   pub below : StaysBelow plan history
-  pub log : new.log ≡ old.log ++ first_log_text workers history
+  pub logged : List Logged
+  pub counted : TellsCounts graph plan history logged
+  pub log : new.log ≡ old.log ++ log_text workers (length plan.operations) logged
+  pub read_back : ReadsBack (header_of workers (length plan.operations)) logged
   pub replies : List Answered
   pub answered : AreReplies graph plan history history replies
   pub answers : new.answers ≡ old.answers ++ answers_text replies
@@ -81,20 +88,21 @@ RunInShort =
     → IsLineOf words (Run folder workers ratio frequencies) → HasWritten (Some old) (Some new) (IsAnswer words (Some files) fixed 0)
     → IsRunInShort files folder workers ratio frequencies old new
 
--- what an audit that is done says, where the files and the channels are told: the log of this name says so many workers and one history; the
--- status is 0 exactly where that history is legal and complete on the plan of the files, and at least 95 of 100 operations are on time; and the
--- text of its verdict was added to the screen
+-- what an audit that is done says, where the files and the channels are told: the log of this name says one header and one list of events with
+-- their counts; the status is 0 exactly where its history is legal and complete on the plan of the files, at least 95 of 100 operations are on
+-- time, no count that is stated is wrong, and the number of operations, where it is stated, is the plan's; and the text of its verdict was added
+-- to the screen
 pub record IsAuditInShort (files : Files) (folder log : List ℕ) (ratio : ℕ) (frequencies : FrequencyTable) (status : ℕ) (old new : Written) : Type 0 where
   pub graph : List Row
   pub plan : Plan
   pub input : IsInput (held_in folder files) ratio frequencies graph plan
-  pub workers : ℕ
-  pub history : List Event
-  pub said : IsLogOf (files log) workers history
-  pub exactly : (status ≡ 0) ↔ (IsLegal (schedule_of plan) workers history × IsComplete (schedule_of plan) history × IsTimelyRun (schedule_of plan) history)
-  pub verdict : Verdict
-  pub judged : IsVerdict (schedule_of plan) workers history verdict
-  pub screen : new.screen ≡ old.screen ++ verdict_text verdict
+  pub header : Header
+  pub logged : List Logged
+  pub said : IsLogOf (files log) header logged
+  pub exactly : (status ≡ 0) ↔ IsInOrder graph plan header logged
+  pub verdict : AuditVerdict
+  pub judged : IsAuditVerdict graph plan header logged verdict
+  pub screen : new.screen ≡ old.screen ++ audit_text verdict
 
 -- status 0 or 1 of `audit` says that
 abbrev pub AuditInShort : Type 0

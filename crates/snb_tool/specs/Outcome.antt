@@ -2,9 +2,9 @@
 use Rattle.std.specs.Prelude.{◌≡◌, ℕ, ◌+◌, List, [], ◌∷◌, ◌++◌, length, Option, ◌⊎◌}
 use Rattle.serde_json.specs.Written.{compact_text}
 use Rattle.snb_auditor_log.specs.LogFiles.{IsLogOf}
-use Rattle.snb_auditor_log.specs.VerdictTexts.{verdict_status, verdict_text}
-use Rattle.snb_auditor.specs.declared.verdict.Verdict.{Verdict}
-use Rattle.snb_auditor.specs.Verdicts.{IsVerdict}
+use Rattle.snb_auditor_log.specs.declared.verdict.AuditVerdict.{AuditVerdict}
+use Rattle.snb_auditor_log.specs.AuditVerdicts.{IsAuditVerdict}
+use Rattle.snb_auditor_log.specs.VerdictTexts.{audit_status, audit_text}
 use Rattle.snb_base.specs.Outbox.{Written}
 use Rattle.snb_validation_cases.specs.declared.case.Case.{Case}
 use Rattle.snb_validation_check.specs.declared.text.Tally.{Tally}
@@ -16,22 +16,26 @@ use Rattle.snb_input_files.specs.Walk.{Held}
 use Rattle.snb_loader.specs.Dataset.{IsDataset}
 use Rattle.snb_validation_expect.specs.CaseTexts.{cases_text, count_text}
 use Rattle.snb_validation_expect.specs.Expected.{AreExpected, AreReadBack}
-use Rattle.snb_plan.specs.Plans.{IsOfStreams, IsPlan, Plan, queries_in, schedule_of, updates_in}
+use Rattle.snb_plan.specs.Plans.{IsOfStreams, IsPlan, Plan, queries_in, updates_in}
 use Rattle.snb_read_model.specs.declared.cell.Cell.{Cell}
 use Rattle.snb_read_model.specs.Replies.{IsReply}
 use Rattle.snb_workers_replay.specs.Replay.{all_rows}
 use Rattle.snb_history.specs.declared.event.Event.{Event}
+use Rattle.snb_history.specs.declared.logged.Header.{Header}
+use Rattle.snb_history.specs.declared.logged.Logged.{Logged}
 use Rattle.snb_schema.specs.declared.query.Query.{Query}
 use Rattle.snb_schema.specs.declared.refusal.Refusal.{Refusal}
 use Rattle.snb_schema.specs.declared.row.Row.{Row}
 use Rattle.snb_schema.specs.Frequencies.{FrequencyTable}
-use Rattle.snb_history.specs.RunTexts.{first_log_text}
+use Rattle.snb_history.specs.RunTexts.{header_of, log_text}
+use Rattle.snb_runlog.specs.Laws.{ReadsBack}
 use Rattle.snb_schema.specs.ScreenTexts.{refusal_text, summary_text, usage_text}
 use Rattle.snb_graph_model.specs.FinalText.{final_text}
 use Rattle.snb_tool_texts.specs.Answers.{answers_text}
 use Rattle.snb_tool_texts.specs.Counts.{check_text}
 use Rattle.snb_trial.specs.Trial.{dataset, lanes, least_ratio, lists, read_frequencies}
 use Rattle.snb_validation.specs.ReplyData.{reply_data}
+use Rattle.snb_workers.specs.Counts.{logged_of}
 use Rattle.snb_workers.specs.declared.done.Answered.{Answered}
 use Rattle.snb_workers.specs.Runs.{HasRun}
 use Rattle.snb_tool_words.specs.declared.command.Command.{Command}
@@ -49,11 +53,11 @@ abbrev pub summary_of : List Row → Plan → List ℕ
 summary_of base plan =
     summary_text (length plan.operations) (length (updates_in plan)) (length (queries_in plan)) (length base + length (all_rows plan))
 
--- the four texts of a run of a plan over a dataset, with this history, these replies and this final graph
+-- the four texts of a run of a plan over a dataset, with this history, these replies, whose rows the log counts, and this final graph
 abbrev pub run_texts : ℕ → List Row → Plan → List Event → List Answered → List Row → Written
 run_texts workers base plan h replies final = record {
   screen = summary_of base plan;
-  log = first_log_text workers h;
+  log = log_text workers (length plan.operations) (logged_of replies h);
   answers = answers_text replies;
   finals = final_text final;
   cases = [];
@@ -68,12 +72,13 @@ pub record IsChecked (held : Held) (frequencies : FrequencyTable) (texts : Writt
 
 -- what a run of a plan by so many workers over a dataset leaves: the texts of a legal, complete history, of the replies to its reads, each on
 -- the dataset with what had finished in the read's front, and of the dataset with the rows of each insert once; where the clock tells a fixed
--- moment, each Start and Finish is at it
+-- moment, each Start and Finish is at it. The log is read as what it was written of, and in no other way
 pub record IsLeft (workers : ℕ) (graph : List Row) (plan : Plan) (fixed : Option ℕ) (texts : Written) : Type 0 where
   pub history : List Event
   pub replies : List Answered
   pub final : List Row
   pub ran : HasRun workers plan fixed graph history replies final
+  pub read_back : ReadsBack (header_of workers (length plan.operations)) (logged_of replies history)
   pub shown : texts ≡ run_texts workers graph plan history replies final
 
 -- nothing is wrong with the files, and the texts are what a run of their plan leaves
@@ -89,23 +94,23 @@ pub record IsTried (size workers : ℕ) (fixed : Option ℕ) (texts : Written) :
   pub is_plan : IsPlan (lanes size) (lists size) read_frequencies least_ratio plan
   pub left : IsLeft workers dataset plan fixed texts
 
--- nothing is wrong with the files of a plan, these bytes are a log that says so many workers and a history, and the history has this verdict on
--- the plan
-pub record IsJudged (held : Held) (beside : Option (List ℕ)) (ratio : ℕ) (frequencies : FrequencyTable) (verdict : Verdict) : Type 0 where
+-- nothing is wrong with the files of a plan, these bytes are a log that says a header and events with their counts, and this is the verdict on
+-- it by the plan over the dataset
+pub record IsJudged (held : Held) (beside : Option (List ℕ)) (ratio : ℕ) (frequencies : FrequencyTable) (verdict : AuditVerdict) : Type 0 where
   pub graph : List Row
   pub plan : Plan
   pub input : IsInput held ratio frequencies graph plan
-  pub workers : ℕ
-  pub history : List Event
-  pub log : IsLogOf beside workers history
-  pub judged : IsVerdict (schedule_of plan) workers history verdict
+  pub header : Header
+  pub logged : List Logged
+  pub log : IsLogOf beside header logged
+  pub judged : IsAuditVerdict graph plan header logged verdict
 
--- the status and the text tell a verdict on the history of the log
+-- the status and the text tell a verdict on the log
 pub record TellsVerdict (held : Held) (beside : Option (List ℕ)) (ratio : ℕ) (frequencies : FrequencyTable) (status : ℕ) (texts : Written) : Type 0 where
-  pub verdict : Verdict
+  pub verdict : AuditVerdict
   pub judged : IsJudged held beside ratio frequencies verdict
-  pub status_is : status ≡ verdict_status verdict
-  pub shown : texts ≡ on_screen (verdict_text verdict)
+  pub status_is : status ≡ audit_status verdict
+  pub shown : texts ≡ on_screen (audit_text verdict)
 
 -- the two texts of the cases of a plan: the cases, and how many operations there are
 abbrev pub expected_texts : Plan → List Case → Written

@@ -10,17 +10,16 @@ ghost use Rattle.snb_tool.specs.Outside.{Ends, IsReadOnly, seen};
 
 use crate::input::load_input;
 use crate::show::{refuse, show_as};
-use snb_auditor::Verdict;
-use snb_auditor_log::audit_log;
 use snb_auditor_log::verdict_text::{status_of, verdict_line};
+use snb_auditor_log::{AuditVerdict, audit_log};
 use snb_base::{Outbox, Shelf};
 use snb_input_files::Load;
 use snb_ratio::Ratio;
 use snb_schema::Frequencies;
 use std::alloc::Global;
 
-// Reads the tables, the streams and the parameter files of a folder, and a log, and judges the log's
-// history by their plan.
+// Reads the tables, the streams and the parameter files of a folder, and a log, and judges the log by their
+// plan over their dataset.
 fn verdict_of<S: Shelf>(
     alloc: Global,
     shelf: &mut S,
@@ -28,7 +27,7 @@ fn verdict_of<S: Shelf>(
     log: &str,
     ratio: Ratio,
     frequencies: Frequencies,
-) -> Result<Verdict, Load>
+) -> Result<AuditVerdict, Load>
     ensures answer { IsJudgedAnswer (S.contents shelf.old) folder.now log.now ratio frequencies result }
     ensures read { IsRead (is_read_fault result) (S.contents shelf.old) (S.faults shelf.old) (S.contents shelf.new) (S.faults shelf.new) }
 {
@@ -36,11 +35,11 @@ fn verdict_of<S: Shelf>(
         Ok(input) => input,
         Err(load) => return Err(load),
     };
-    audit_log(alloc, shelf, input.plan.schedule(), log)
+    audit_log(alloc, shelf, &input.plan, &input.graph, log)
 }
 
 /// Reads the tables, the streams and the parameter files of a folder, and a log, shows the verdict on the
-/// log's history by their plan, and gives the status; or shows what is wrong with them first.
+/// log by their plan, and gives the status; or shows what is wrong with them first.
 pub fn audit<S: Shelf, O: Outbox>(
     alloc: Global,
     shelf: &mut S,

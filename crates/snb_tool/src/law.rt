@@ -2,13 +2,13 @@
 
 ghost use Rattle.snb_tool.specs.Laws.{AnswersHaveStatus, AuditInShort, ExpectInShort, ExpectedIsValid, RefusalIsOne, RefusedOrNot, RunInShort, ValidateInShort};
 
-use snb_auditor::law::{accepted_exactly, verdict_is_one};
-use snb_auditor_log::law::one_log_refusal;
+use snb_auditor_log::law::{accepted_in_order, one_log_refusal};
 use snb_loader::law::{one_dataset, one_lanes, one_params};
 use snb_plan::law::plan_is_one;
 use snb_tool_words::law::one_command;
 use snb_validation_check::law::one_cases_refusal;
 use snb_validation_expect::law::expected_cases_are_right;
+use snb_workers::law::counts_of_a_run;
 
 /// What a command finds is refused for one thing at most, and then something is wrong with it.
 pub fn refusal_is_one()
@@ -31,24 +31,26 @@ pub fn answers_have_status()
 /// Where the files and the channels are told, status 0 of `run` says: there is a legal, complete history of
 /// the plan of the files, whose text was added to the log, in which no insert that waits starts before every
 /// insert of a person or a forum has finished whose t is at most its t_d, and at no time the completion time
-/// comes to the t of one that hasn't finished; the replies to its reads, each on the graph of its front, whose
-/// text was added to the answers; and the graph with each row of the dataset and of each insert once, whose
-/// text was added to the final text.
+/// comes to the t of one that hasn't finished; the text has the count of rows at each Finish, and is read as
+/// that history with these counts and in no other way; the replies to its reads, each on the graph of its
+/// front, whose text was added to the answers; and the graph with each row of the dataset and of each insert
+/// once, whose text was added to the final text.
 pub fn run_in_short()
     ensures { RunInShort }
 {
     one_command();
+    counts_of_a_run();
 }
 
-/// Where the files and the screen are told, status 0 or 1 of `audit` says: the log of this name says so many
-/// workers and one history, and the status is 0 exactly if that history is legal and complete on the plan of
-/// the files and at least 95 of 100 operations are on time.
+/// Where the files and the screen are told, status 0 or 1 of `audit` says: the log of this name says one
+/// header and one list of events with their counts, and the status is 0 exactly if the history is legal and
+/// complete on the plan of the files, at least 95 of 100 operations are on time, no count that is stated is
+/// wrong, and the number of operations, where it is stated, is the plan's.
 pub fn audit_in_short()
     ensures { AuditInShort }
 {
     one_command();
-    accepted_exactly();
-    verdict_is_one();
+    accepted_in_order();
 }
 
 /// Where the files and the screen are told, status 0 or 1 of `validate` says: the file of this name says some

@@ -1,11 +1,13 @@
 //! The command `run`.
 
-ghost use Rattle.std.specs.Prelude.{◌≡◌, ◌≤◌, IfOk, ◌≢◌, length};
+ghost use Rattle.std.specs.Prelude.{◌≡◌, ◌≤◌, All, IfOk, ◌≢◌, length};
 ghost use Rattle.snb_plan.specs.Closed.{IsClosed};
-ghost use Rattle.snb_plan.specs.Plans.{queries_in, updates_in};
-ghost use Rattle.snb_runlog.specs.Writing.{AreTimed};
+ghost use Rattle.snb_plan.specs.Plans.{queries_in, schedule_of, updates_in};
+ghost use Rattle.snb_history.specs.Rules.{IsLegal};
+ghost use Rattle.snb_runlog.specs.declared.columns.TheConstants.{MAX_NUMBER as MOST};
+ghost use Rattle.snb_workers.specs.Counts.{logged_of};
 ghost use Rattle.snb_schema.specs.declared.limits.TheConstants.{MAX_WORKERS};
-ghost use Rattle.snb_history.specs.RunTexts.{first_log_text};
+ghost use Rattle.snb_history.specs.RunTexts.{log_text};
 ghost use Rattle.snb_schema.specs.ScreenTexts.{summary_text};
 ghost use Rattle.snb_graph_model.specs.FinalText.{final_text};
 ghost use Rattle.snb_graph_model.specs.Graphs.{HoldsKey};
@@ -20,29 +22,62 @@ use crate::input::{Input, load_input};
 use crate::show::refuse;
 use snb_base::{Clock, Gate, Outbox, Shelf};
 use snb_graph::Graph;
-use snb_history::Event;
+use snb_history::law::legal_is_short;
+use snb_history::{Event, Header};
 use snb_input_files::Load;
 use snb_plan::Plan;
 use snb_ratio::Ratio;
-use snb_runlog::write_first_log;
+use snb_runlog::columns::{LAST_VERSION, MAX_NUMBER};
+use snb_runlog::law::log_reads_back;
+use snb_runlog::write::{write_header, write_lines};
 use snb_schema::Frequencies;
 use snb_tool_texts::answers::answer_pieces;
 use snb_tool_texts::counts::summary_lines;
 use snb_tool_texts::final_lines::final_lines;
-use snb_workers::{Outcome, run_workers};
+use snb_workers::counts::Counts;
+use snb_workers::law::finishes_are_of_operations;
+use snb_workers::{Answered, Done, Outcome, run_workers};
 use std::alloc::{AllocError, Global};
 use std::sync::Wait;
 use std::thread::Threads;
 
-// The log of a run, whose events are let go.
-fn log_of(alloc: Global, workers: u32, events: Vec<Event>) -> Result<Vec<u8>, AllocError>
+// No count of rows is greater than one that a log can have.
+fn known_counts(replies: &[Answered])
+    ensures { All (λ a. a.rows ≤ MOST) replies.now }
+{
+    for one in replies {
+        if u64::from(one.rows) > MAX_NUMBER {
+            unreachable!();
+        }
+    }
+}
+
+// The log of a run of a plan by so many workers, whose events are let go.
+fn log_of(
+    alloc: Global,
+    workers: u32,
+    plan: &Plan,
+    events: Vec<Event>,
+    replies: &Done,
+) -> Result<Vec<u8>, AllocError>
     requires some { 1 ≤ workers }
     requires few { workers ≤ MAX_WORKERS }
-    requires timed { AreTimed events.items }
-    ensures { IfOk result (λ log. log.items ≡ first_log_text workers events.items) }
+    requires legal { IsLegal (schedule_of plan.now) workers events.items }
+    ensures { IfOk result (λ log. log.items ≡ log_text workers (length plan.now.operations) (logged_of replies.now events.items)) }
 {
+    finishes_are_of_operations();
+    let operations = plan.schedule().steps().len();
+    let counts = Counts::of(alloc, operations, replies)?;
+    let header = Header {
+        version: LAST_VERSION,
+        workers,
+        operations: Some(operations as u32),
+    };
     let mut log = Vec::new(alloc);
-    write_first_log(workers, &events, &mut log)?;
+    write_header(&header, &mut log)?;
+    for event in &events {
+        write_lines(&[counts.logged(event)], &mut log)?;
+    }
     Ok(log)
 }
 
@@ -74,11 +109,11 @@ fn texts_of(
 ) -> Result<Output, AllocError>
     requires some { 1 ≤ workers }
     requires few { workers ≤ MAX_WORKERS }
-    requires timed { AreTimed outcome.events.items }
+    requires legal { IsLegal (schedule_of plan.now) workers outcome.events.items }
     ensures { IfOk result (λ output. AreTexts workers plan.now outcome (bytes_of output)) }
 {
     let (events, replies, graph) = outcome.into_parts();
-    let log = log_of(alloc, workers, events)?;
+    let log = log_of(alloc, workers, plan, events, &replies)?;
     let (finals, screen) = graph_texts(alloc, plan, graph)?;
     // The answers last: the short texts of the replies are let go meanwhile, and the long ones are handed on.
     let answers = answer_pieces(alloc, replies)?;
@@ -107,7 +142,12 @@ pub fn run_output<R: Threads + Wait + Sync, C: Clock + Sync, G: Gate + Sync>(
     requires sound { Sound input.graph }
     ensures { IfOk result (λ output. IsLeft workers input.graph input.plan (C.fixed clock.now) (bytes_of output)) }
 {
+    legal_is_short();
+    log_reads_back();
+    // The schedule's steps are no more than there may be.
+    let _ = input.plan.schedule().steps();
     let outcome = run_workers(rt, alloc, &input.plan, &input.graph, workers, clock, gate)?;
+    known_counts(outcome.replies.as_slice());
     texts_of(alloc, workers, &input.plan, outcome)
 }
 

@@ -10,5 +10,5 @@ returns-in-Err-clause-answer g c =
 
 pub returns-clause-answer : goal.returns-clause-answer
 returns-clause-answer g c =
-    judged_by_log (g.S.Shelf.contents c.args.shelf.now) c.args.folder.now c.args.log.now c.args.ratio c.args.frequencies c.in-Ok.input c.schedule.result.now c.audit_log.result c.schedule.ensures c.in-Ok.ensures.answer
-    (subst (λ (o : Option Files). IsAuditAnswer c.schedule.result.now o c.args.log.now c.audit_log.result) c.in-Ok.ensures.read.same c.audit_log.ensures.answer)
+    judged_by_log (g.S.Shelf.contents c.args.shelf.now) c.args.folder.now c.args.log.now c.args.ratio c.args.frequencies c.in-Ok.input c.audit_log.result c.in-Ok.ensures.answer
+    (subst (λ (o : Option Files). IsAuditAnswer c.in-Ok.input.graph c.in-Ok.input.plan o c.args.log.now c.audit_log.result) c.in-Ok.ensures.read.same c.audit_log.ensures.answer)

@@ -1,19 +1,21 @@
+use Rattle.std.proofs.Common.{All, List, ◌≤◌, subst}
 use Rattle.std.proofs.lemmas.Result.{IfOk-weaker}
+use Rattle.snb_history.specs.Schedule.{IsPlanned}
+use Rattle.snb_runlog.specs.declared.columns.TheConstants.{MAX_NUMBER}
+use Rattle.snb_workers.specs.declared.done.Answered.{Answered}
 use Rattle.snb_tool.specs.Endings.{bytes_of}
-use Rattle.snb_tool.proofs.OutcomeLemmas.{run_shown, run_timed}
+use Rattle.snb_tool.proofs.LogLemmas.{run_back}
+use Rattle.snb_tool.proofs.OutcomeLemmas.{run_shown}
 use Rattle.snb_tool.proofs.run.run_output.Goals as goal
 
 pub returns : goal.returns
 returns g c =
-    IfOk-weaker c.texts_of.result _ _
-    (λ output shown. run_shown c.args.workers c.args.input (g.C.Clock.fixed c.args.clock.now) c.in_ok-outcome.outcome (bytes_of output) c.in_ok-outcome.ensures.ran shown)
-    c.texts_of.ensures
+    let outcome = c.in_ok-outcome.outcome in
+    let ran = c.in_ok-outcome.ensures.ran in
+    let back =
+    run_back c.log_reads_back.ensures.run c.legal_is_short.ensures c.args.input.plan c.args.workers outcome.events.items outcome.replies ran.legal c.requires.workers c.requires.few
+    (subst IsPlanned c.schedule.ensures c.steps.ensures.planned) (subst (λ (replies : List Answered). All (λ a. a.rows ≤ MAX_NUMBER) replies) c.as_slice.ensures c.known_counts.ensures) in
+    IfOk-weaker c.texts_of.result _ _ (λ output shown. run_shown c.args.workers c.args.input (g.C.Clock.fixed c.args.clock.now) outcome (bytes_of output) ran back shown) c.texts_of.ensures
 
 pub texts_of-requires : goal.texts_of-requires
-texts_of-requires g c = record {
-  some = c.requires.workers;
-  few = c.requires.few;
-  timed =
-      run_timed c.args.workers c.args.input.plan (g.C.Clock.fixed c.args.clock.now) c.args.input.graph c.in_ok-outcome.outcome.events.items c.in_ok-outcome.outcome.replies c.in_ok-outcome.outcome.graph
-      c.in_ok-outcome.ensures.ran;
-}
+texts_of-requires g c = record { some = c.requires.workers; few = c.requires.few; legal = c.in_ok-outcome.ensures.ran.legal }

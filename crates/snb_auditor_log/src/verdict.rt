@@ -1,0 +1,25 @@
+//! What the audit of a log finds.
+
+use snb_auditor::Verdict;
+use snb_workers::Miscount;
+
+/// The verdict on a log: the first of these that applies. But a history that breaks a rule is judged
+/// before its counts are looked at.
+#[derive(Clone, Copy)]
+pub enum AuditVerdict {
+    /// The header has a count of operations that isn't the plan's.
+    Mismatched {
+        /// How many operations the plan has.
+        needs: u32,
+        /// How many the header says.
+        found: u32,
+    },
+    /// The history is legal, and this is its first Finish with a count of rows that is wrong.
+    Miscounted {
+        miscount: Miscount,
+    },
+    /// The verdict on the history.
+    Judged {
+        verdict: Verdict,
+    },
+}

@@ -1,0 +1,112 @@
+-- Facts on the log of a run.
+use Rattle.std.proofs.Common.{◌≡◌, ◌∙◌, ◌≤◌, ◌<◌, ◌+◌, ◌*◌, ◌++◌, ◌∷◌, ◌==◌, ℕ, zero, suc, List, [], All, Some, None, length, map, get_or, take, refl, sym, ap, subst, cond, arith, append_assoc, length-append}
+use Rattle.std.specs.List.{flat_map}
+use Rattle.std.specs.Prelude.{Contains}
+use Rattle.std.proofs.lemmas.Bool.{cases_Bool}
+use Rattle.std.proofs.lemmas.List.{length-map}
+use Rattle.std.proofs.lemmas.List.Elements.{All-cons, All-contains, All-head, All-map, All-nil, All-tail}
+use Rattle.snb_history.specs.declared.event.Event.{Event}
+use Rattle.snb_history.specs.declared.event.Event.TheVariants.{Start, Finish, Halt}
+use Rattle.snb_history.specs.declared.logged.Logged.{Logged}
+use Rattle.snb_schema.specs.declared.limits.TheConstants.{MAX_AT, MAX_WORKERS}
+use Rattle.snb_schema.specs.declared.row.Row.{Row}
+use Rattle.snb_history.specs.History.{moment}
+use Rattle.snb_history.specs.Laws.{LegalIsShort}
+use Rattle.snb_history.specs.Rules.{IsLegal, V1, V8}
+use Rattle.snb_history.specs.RunTexts.{header_of, logged_line}
+use Rattle.snb_history.specs.Schedule.{IsPlanned, Schedule, max_steps, step_of}
+use Rattle.snb_plan.specs.Plans.{Plan, schedule_of}
+use Rattle.snb_runlog.specs.declared.columns.TheConstants.{LAST_VERSION, MAX_NUMBER}
+use Rattle.snb_runlog.specs.Columns.{CanBeLogged, HasCount}
+use Rattle.snb_runlog.specs.Laws.{ReadsBack, RunReadsBack}
+use Rattle.snb_runlog.specs.Writing.{AreCounted}
+use Rattle.snb_workers.specs.Counts.{logged_by, logged_of, rows_by}
+use Rattle.snb_workers.specs.declared.done.Answered.{Answered}
+
+-- ---- what a log can tell of a run
+
+-- what is so of each event of a list, after those of a front, is so of all
+each_event : (P : Event → Type 0) (front h : List Event) → ((g : List Event) (e : Event) (rest : List Event) → g ++ e ∷ rest ≡ front ++ h → P e) → All P h
+each_event P front [] holds = All-nil P
+each_event P front (e ∷ h) holds = All-cons P e h (holds front e h refl) (each_event P (front ++ e ∷ []) h (λ g d rest q. holds g d rest (q ∙ append_assoc front (e ∷ []) h)))
+
+-- no count is greater than one that a log can have
+small_rows : (replies : List Answered) (op : ℕ) → All (λ a. a.rows ≤ MAX_NUMBER) replies → rows_by replies op ≤ MAX_NUMBER
+small_rows [] op small = omega arith
+small_rows (a ∷ replies) op small =
+    elim (cases_Bool (a.op == op)) [
+      | inl yes ↦ rw yes (All-head (λ (a : Answered). a.rows ≤ MAX_NUMBER) a replies small)
+      | inr no ↦ rw no (small_rows replies op (All-tail (λ (a : Answered). a.rows ≤ MAX_NUMBER) a replies small))
+    ]
+
+module _ (s : Schedule) (workers : ℕ) (h : List Event) (replies : List Answered) (legal : IsLegal s workers h) (few : workers ≤ MAX_WORKERS) (steps : length s.steps ≤ max_steps)
+    (short : length h ≤ 2 * length s.steps + workers) (small : All (λ a. a.rows ≤ MAX_NUMBER) replies) where
+  -- the front of a Finish of a legal history is no greater than the history
+  front_within : (g : List Event) (op worker at front : ℕ) (rest : List Event) → g ++ Finish op worker at front ∷ rest ≡ h → front ≤ MAX_NUMBER
+  front_within g op worker at front rest is =
+      let v8 = (legal.fits g (Finish op worker at front) rest is).obeys V8 in
+      let long : length g ≤ length h = subst (λ (l : List Event). length g ≤ length l) is (omega (arith, length-append g (Finish op worker at front ∷ rest))) in
+      elim (cases_Bool (step_of s op).query) [
+        | inl yes ↦ let f = (v8.of_read yes).1 in omega arith
+        | inr no ↦ let f = v8.of_insert no in omega arith
+      ]
+
+  can_be_logged : (g : List Event) (e : Event) (rest : List Event) → g ++ e ∷ rest ≡ h → CanBeLogged LAST_VERSION (logged_by replies e)
+  can_be_logged g (Start op worker at) rest is =
+      let v1 = (legal.fits g (Start op worker at) rest is).obeys V1 in
+      let op_within = v1.0 in
+      let worker_within = v1.1.known in
+      (omega arith, omega arith, omega arith, omega arith, omega arith, legal.bounded g (Start op worker at) rest is, tt)
+  can_be_logged g (Finish op worker at front) rest is =
+      let v1 = (legal.fits g (Finish op worker at front) rest is).obeys V1 in
+      let op_within = v1.0 in
+      let worker_within = v1.1.known in (
+        omega arith,
+        omega arith,
+        omega arith,
+        omega arith,
+        omega arith,
+        legal.bounded g (Finish op worker at front) rest is,
+        omega arith,
+        front_within g op worker at front rest is,
+        omega arith,
+        small_rows replies op small,
+        tt,
+      )
+  can_be_logged g (Halt worker) rest is =
+      let v1 = (legal.fits g (Halt worker) rest is).obeys V1 in
+      let worker_within = v1.known in
+      (omega arith, omega arith, tt)
+
+-- the log of a run is read as what it was written of
+pub run_back : RunReadsBack → LegalIsShort → (plan : Plan) (workers : ℕ) (h : List Event) (replies : List Answered) → IsLegal (schedule_of plan) workers h → 1 ≤ workers → workers ≤ MAX_WORKERS
+    → IsPlanned (schedule_of plan) → All (λ a. a.rows ≤ MAX_NUMBER) replies → ReadsBack (header_of workers (length plan.operations)) (logged_of replies h)
+run_back back is_short plan workers h replies legal some few planned small =
+    let many : length (schedule_of plan).steps ≡ length plan.operations = length-map _ plan.operations in
+    let steps = planned.few_steps in
+    back workers (length plan.operations) (logged_of replies h) some few (omega arith)
+    (All-map (CanBeLogged LAST_VERSION) (logged_by replies) h
+    (each_event (λ e. CanBeLogged LAST_VERSION (logged_by replies e)) [] h
+    (can_be_logged (schedule_of plan) workers h replies legal few planned.few_steps (is_short (schedule_of plan) workers h legal) small)))
+
+-- ---- the writing of it, line by line
+
+-- an event with its count is one of a log of version 2
+has_count : (replies : List Answered) (e : Event) → HasCount LAST_VERSION (logged_by replies e)
+has_count replies (Start op worker at) = (λ some. absurd cc, λ both. absurd (let kind = both.1 in cc))
+has_count replies (Finish op worker at front) = (λ some. (refl, refl), λ both. refl)
+has_count replies (Halt worker) = (λ some. absurd cc, λ both. absurd (let kind = both.1 in cc))
+
+same_moment : (replies : List Answered) (e : Event) → moment (logged_by replies e).event ≡ moment e
+same_moment replies (Start op worker at) = refl
+same_moment replies (Finish op worker at front) = refl
+same_moment replies (Halt worker) = refl
+
+-- one line can be written
+pub one_counted : (s : Schedule) (workers : ℕ) (h : List Event) (replies : List Answered) (e : Event) (logged : Logged) → IsLegal s workers h → Contains h e → logged ≡ logged_by replies e → AreCounted (logged ∷ [])
+one_counted s workers h replies e logged legal among is = record {
+  timed =
+      All-cons (λ (l : Logged). moment l.event ≤ MAX_AT) logged [] (subst (λ (l : Logged). moment l.event ≤ MAX_AT) (sym is) (rw (same_moment replies e) (All-contains (λ d. moment d ≤ MAX_AT) h e (each_event (λ d. moment d ≤ MAX_AT) [] h legal.bounded) among)))
+      (All-nil (λ (l : Logged). moment l.event ≤ MAX_AT));
+  counted = All-cons (HasCount LAST_VERSION) logged [] (subst (HasCount LAST_VERSION) (sym is) (has_count replies e)) (All-nil (HasCount LAST_VERSION));
+}
