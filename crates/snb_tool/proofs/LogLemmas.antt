@@ -1,10 +1,12 @@
 -- Facts on the log of a run.
-use Rattle.std.proofs.Common.{◌≡◌, ◌∙◌, ◌≤◌, ◌<◌, ◌+◌, ◌*◌, ◌++◌, ◌∷◌, ◌==◌, ℕ, zero, suc, List, [], All, Some, None, length, map, get_or, take, refl, sym, ap, subst, cond, arith, append_assoc, length-append}
+use Rattle.std.proofs.Common.{◌≡◌, ◌∙◌, ◌≤◌, ◌<◌, ◌+◌, ◌*◌, ◌++◌, ◌∷◌, ◌==◌, ℕ, zero, suc, List, [], All, Some, None, length, map, get_or, take, refl, sym, ap, subst, cond, inl, inr, arith, append_assoc, length-append}
 use Rattle.std.specs.List.{flat_map}
 use Rattle.std.specs.Prelude.{Contains}
 use Rattle.std.proofs.lemmas.Bool.{cases_Bool}
-use Rattle.std.proofs.lemmas.List.{length-map}
-use Rattle.std.proofs.lemmas.List.Elements.{All-cons, All-contains, All-head, All-map, All-nil, All-tail}
+use Rattle.std.proofs.lemmas.List.{length-map, map-append}
+use Rattle.std.proofs.lemmas.Grind.{flat_map-append}
+use Rattle.std.proofs.lemmas.List.Elements.{All-cons, All-contains, All-head, All-map, All-nil, All-tail, Contains-get_or}
+use Rattle.std.proofs.Math.Seq.{take-suc}
 use Rattle.snb_history.specs.declared.event.Event.{Event}
 use Rattle.snb_history.specs.declared.event.Event.TheVariants.{Start, Finish, Halt}
 use Rattle.snb_history.specs.declared.logged.Logged.{Logged}
@@ -14,14 +16,17 @@ use Rattle.snb_history.specs.History.{moment}
 use Rattle.snb_history.specs.Laws.{LegalIsShort}
 use Rattle.snb_history.specs.Rules.{IsLegal, V1, V8}
 use Rattle.snb_history.specs.RunTexts.{header_of, logged_line}
+use Rattle.snb_history.specs.declared.step.Step.{Step}
 use Rattle.snb_history.specs.Schedule.{IsPlanned, Schedule, max_steps, step_of}
 use Rattle.snb_plan.specs.Plans.{Plan, schedule_of}
 use Rattle.snb_runlog.specs.declared.columns.TheConstants.{LAST_VERSION, MAX_NUMBER}
 use Rattle.snb_runlog.specs.Columns.{CanBeLogged, HasCount}
 use Rattle.snb_runlog.specs.Laws.{ReadsBack, RunReadsBack}
-use Rattle.snb_runlog.specs.Writing.{AreCounted}
+use Rattle.snb_runlog.specs.Writing.{AreCounted, logged_text}
 use Rattle.snb_workers.specs.Counts.{logged_by, logged_of, rows_by}
 use Rattle.snb_workers.specs.declared.done.Answered.{Answered}
+use Rattle.snb_workers.specs.Laws.{FinishesAreOfOperations}
+use Rattle.snb_workers.specs.Replicas.{IfFinish}
 
 -- ---- what a log can tell of a run
 
@@ -35,8 +40,8 @@ small_rows : (replies : List Answered) (op : ℕ) → All (λ a. a.rows ≤ MAX_
 small_rows [] op small = omega arith
 small_rows (a ∷ replies) op small =
     elim (cases_Bool (a.op == op)) [
-      | inl yes ↦ rw yes (All-head (λ (a : Answered). a.rows ≤ MAX_NUMBER) a replies small)
-      | inr no ↦ rw no (small_rows replies op (All-tail (λ (a : Answered). a.rows ≤ MAX_NUMBER) a replies small))
+      | inl same ↦ rw same (All-head (λ (a : Answered). a.rows ≤ MAX_NUMBER) a replies small)
+      | inr other ↦ rw other (small_rows replies op (All-tail (λ (a : Answered). a.rows ≤ MAX_NUMBER) a replies small))
     ]
 
 module _ (s : Schedule) (workers : ℕ) (h : List Event) (replies : List Answered) (legal : IsLegal s workers h) (few : workers ≤ MAX_WORKERS) (steps : length s.steps ≤ max_steps)
@@ -47,8 +52,8 @@ module _ (s : Schedule) (workers : ℕ) (h : List Event) (replies : List Answere
       let v8 = (legal.fits g (Finish op worker at front) rest is).obeys V8 in
       let long : length g ≤ length h = subst (λ (l : List Event). length g ≤ length l) is (omega (arith, length-append g (Finish op worker at front ∷ rest))) in
       elim (cases_Bool (step_of s op).query) [
-        | inl yes ↦ let f = (v8.of_read yes).1 in omega arith
-        | inr no ↦ let f = v8.of_insert no in omega arith
+        | inl read ↦ let f = (v8.of_read read).1 in omega arith
+        | inr insert ↦ let f = v8.of_insert insert in omega arith
       ]
 
   can_be_logged : (g : List Event) (e : Event) (rest : List Event) → g ++ e ∷ rest ≡ h → CanBeLogged LAST_VERSION (logged_by replies e)
@@ -56,23 +61,12 @@ module _ (s : Schedule) (workers : ℕ) (h : List Event) (replies : List Answere
       let v1 = (legal.fits g (Start op worker at) rest is).obeys V1 in
       let op_within = v1.0 in
       let worker_within = v1.1.known in
-      (omega arith, omega arith, omega arith, omega arith, omega arith, legal.bounded g (Start op worker at) rest is, tt)
+      (omega arith, omega arith, (omega arith, omega arith, (omega arith, legal.bounded g (Start op worker at) rest is, tt)))
   can_be_logged g (Finish op worker at front) rest is =
       let v1 = (legal.fits g (Finish op worker at front) rest is).obeys V1 in
       let op_within = v1.0 in
-      let worker_within = v1.1.known in (
-        omega arith,
-        omega arith,
-        omega arith,
-        omega arith,
-        omega arith,
-        legal.bounded g (Finish op worker at front) rest is,
-        omega arith,
-        front_within g op worker at front rest is,
-        omega arith,
-        small_rows replies op small,
-        tt,
-      )
+      let worker_within = v1.1.known in
+      (omega arith, omega arith, (omega arith, omega arith, (omega arith, legal.bounded g (Finish op worker at front) rest is, (omega arith, front_within g op worker at front rest is, (omega arith, small_rows replies op small, tt)))))
   can_be_logged g (Halt worker) rest is =
       let v1 = (legal.fits g (Halt worker) rest is).obeys V1 in
       let worker_within = v1.known in
@@ -82,7 +76,7 @@ module _ (s : Schedule) (workers : ℕ) (h : List Event) (replies : List Answere
 pub run_back : RunReadsBack → LegalIsShort → (plan : Plan) (workers : ℕ) (h : List Event) (replies : List Answered) → IsLegal (schedule_of plan) workers h → 1 ≤ workers → workers ≤ MAX_WORKERS
     → IsPlanned (schedule_of plan) → All (λ a. a.rows ≤ MAX_NUMBER) replies → ReadsBack (header_of workers (length plan.operations)) (logged_of replies h)
 run_back back is_short plan workers h replies legal some few planned small =
-    let many : length (schedule_of plan).steps ≡ length plan.operations = length-map _ plan.operations in
+    let many : length (schedule_of plan).steps ≡ length plan.operations = length-map plan.operations _ in
     let steps = planned.few_steps in
     back workers (length plan.operations) (logged_of replies h) some few (omega arith)
     (All-map (CanBeLogged LAST_VERSION) (logged_by replies) h
@@ -102,11 +96,40 @@ same_moment replies (Start op worker at) = refl
 same_moment replies (Finish op worker at front) = refl
 same_moment replies (Halt worker) = refl
 
--- one line can be written
-pub one_counted : (s : Schedule) (workers : ℕ) (h : List Event) (replies : List Answered) (e : Event) (logged : Logged) → IsLegal s workers h → Contains h e → logged ≡ logged_by replies e → AreCounted (logged ∷ [])
-one_counted s workers h replies e logged legal among is = record {
-  timed =
-      All-cons (λ (l : Logged). moment l.event ≤ MAX_AT) logged [] (subst (λ (l : Logged). moment l.event ≤ MAX_AT) (sym is) (rw (same_moment replies e) (All-contains (λ d. moment d ≤ MAX_AT) h e (each_event (λ d. moment d ≤ MAX_AT) [] h legal.bounded) among)))
-      (All-nil (λ (l : Logged). moment l.event ≤ MAX_AT));
-  counted = All-cons (HasCount LAST_VERSION) logged [] (subst (HasCount LAST_VERSION) (sym is) (has_count replies e)) (All-nil (HasCount LAST_VERSION));
-}
+module _ (plan : Plan) (workers : ℕ) (h xs : List Event) (legal : IsLegal (schedule_of plan) workers h) (are : xs ≡ h) (i : ℕ) (d : Event) (lt : i < length xs) where
+  among : Contains h (get_or xs i d)
+  among = subst (λ (l : List Event). Contains l (get_or xs i d)) are (Contains-get_or xs i d lt)
+
+  -- there is a number of what an event finishes
+  pub finish_counted : FinishesAreOfOperations → (steps : List Step) (schedule : Schedule) (n : ℕ) → schedule ≡ schedule_of plan → steps ≡ schedule.steps → n ≡ length steps
+      → IfFinish (get_or xs i d) (λ op. op < n)
+  finish_counted law steps schedule n schedule_is steps_are many =
+      let same : n ≡ length plan.operations = many ∙ ap length steps_are ∙ ap (λ (s : Schedule). length s.steps) schedule_is ∙ length-map plan.operations _ in
+      subst (λ (k : ℕ). IfFinish (get_or xs i d) (λ op. op < k)) (sym same) (law plan workers h (get_or xs i d) legal among)
+
+  -- a line can be written
+  pub one_counted : (replies : List Answered) (logged : Logged) → logged ≡ logged_by replies (get_or xs i d) → AreCounted (logged ∷ [])
+  one_counted replies logged is =
+      let e = get_or xs i d in
+      record {
+        timed =
+            All-cons (λ (l : Logged). moment l.event ≤ MAX_AT) logged []
+            (subst (λ (l : Logged). moment l.event ≤ MAX_AT) (sym is) (subst (λ (m : ℕ). m ≤ MAX_AT) (sym (same_moment replies e)) (All-contains (λ d. moment d ≤ MAX_AT) h e (each_event (λ d. moment d ≤ MAX_AT) [] h legal.bounded) among)))
+            (All-nil (λ (l : Logged). moment l.event ≤ MAX_AT));
+        counted = All-cons (HasCount LAST_VERSION) logged [] (subst (HasCount LAST_VERSION) (sym is) (has_count replies e)) (All-nil (HasCount LAST_VERSION));
+      }
+
+-- the lines so far, and one more
+pub one_more : (replies : List Answered) (xs : List Event) (i : ℕ) (d : Event) (head old new : List ℕ) (logged : Logged) → i < length xs → old ≡ head ++ logged_text (logged_of replies (take i xs))
+    → logged ≡ logged_by replies (get_or xs i d) → new ≡ old ++ logged_text (logged ∷ []) → new ≡ head ++ logged_text (logged_of replies (take (i + 1) xs))
+one_more replies xs i d head old new logged lt was is more =
+    more ∙ ap (λ (t : List ℕ). t ++ logged_text (logged ∷ [])) was ∙ append_assoc head (logged_text (logged_of replies (take i xs))) (logged_text (logged ∷ [])) ∙ ap (λ (t : List ℕ). head ++ t) (sym text)
+  where
+    taken : take (i + 1) xs ≡ take i xs ++ get_or xs i d ∷ []
+    taken = let on : i + 1 ≡ suc i = omega arith in ap (λ (n : ℕ). take n xs) on ∙ take-suc xs i d lt
+
+    text : logged_text (logged_of replies (take (i + 1) xs)) ≡ logged_text (logged_of replies (take i xs)) ++ logged_text (logged ∷ [])
+    text =
+        ap (λ (ys : List Event). logged_text (logged_of replies ys)) taken ∙ ap logged_text (map-append (logged_by replies) (take i xs) (get_or xs i d ∷ []))
+        ∙ flat_map-append logged_line (logged_of replies (take i xs)) (logged_by replies (get_or xs i d) ∷ [])
+        ∙ ap (λ (l : Logged). logged_text (logged_of replies (take i xs)) ++ logged_text (l ∷ [])) (sym is)

@@ -7,4 +7,5 @@ use Rattle.snb_tool.proofs.run.log_of.Given as goal
 -- the header and the lines of the events so far are written
 abbrev pub invariant-loop-event : goal.invariant-loop-event
 invariant-loop-event l =
-    l.log.items ≡ header_line (header_of l.workers (length l.plan.operations)) ++ logged_text (logged_of l.replies (take l.event-index l.events.items))
+    (l.event-items ≡ l.fn.events.items)
+    × (l.log.items ≡ header_line (header_of l.workers (length l.plan.operations)) ++ logged_text (logged_of l.replies (take l.event-index l.event-items)))
