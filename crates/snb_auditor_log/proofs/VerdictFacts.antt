@@ -4,7 +4,7 @@ use Rattle.std.specs.Prelude.{◌⊎◌, ◌↔◌, slice_get, IfSome}
 use Rattle.std.specs.Option.{IsSome}
 use Rattle.std.proofs.lemmas.Bool.{cases_eq}
 use Rattle.std.proofs.lemmas.List.{get_or_default, map-append}
-use Rattle.std.proofs.lemmas.Option.{get_or_from_slice_get, slice_get_within}
+use Rattle.std.proofs.lemmas.Option.{get_or_from_slice_get, same_Some, slice_get_within}
 use Rattle.snb_base.proofs.Laws.{split_here}
 use Rattle.snb_history.specs.declared.event.Event.{Event}
 use Rattle.snb_history.specs.declared.logged.Header.{Header}
@@ -19,13 +19,18 @@ use Rattle.snb_auditor.specs.declared.verdict.Verdict.TheVariants.{Violated, Hal
 use Rattle.snb_auditor.specs.Verdicts.{IsTimelyRun, IsVerdict, IsViolation}
 use Rattle.snb_auditor.specs.VerdictLaws.{AcceptedExactly, VerdictIsOne}
 use Rattle.snb_auditor.specs.Audits.{Audit, HasHeard, IsRefused}
+use Rattle.snb_graph_model.specs.Graphs.{IsGraph}
+use Rattle.snb_graph_model.specs.Soundness.{Sound}
 use Rattle.snb_plan.specs.Plans.{Plan, schedule_of}
+use Rattle.snb_workers_replay.specs.Laws.{IsReplayed}
+use Rattle.snb_workers.specs.Counts.{IsCount}
+use Rattle.snb_workers.specs.Laws.{OneCount}
 use Rattle.snb_workers.specs.declared.miscount.Miscount.{Miscount}
 use Rattle.snb_workers.specs.Miscounts.{IsFirstMiscount, IsMiscount, events_of}
 use Rattle.snb_auditor_log.specs.declared.verdict.AuditVerdict.{AuditVerdict}
 use Rattle.snb_auditor_log.specs.declared.verdict.AuditVerdict.TheVariants.{Judged, Miscounted, Mismatched}
 use Rattle.snb_auditor_log.specs.AuditVerdicts.{IsAuditVerdict, IsInOrder, IsJudged, IsMatched, IsMiscounted, IsMismatched, IsViolated}
-use Rattle.snb_auditor_log.specs.Laws.{AcceptedInOrder}
+use Rattle.snb_auditor_log.specs.Laws.{AcceptedInOrder, AuditVerdictIsOne}
 use Rattle.snb_auditor_log.specs.VerdictTexts.{audit_status, verdict_status}
 
 -- ---- the events, one by one
@@ -168,3 +173,35 @@ module _ (base : List Row) (plan : Plan) (header : Header) (logged : List Logged
 pub accepted_in_order : AcceptedExactly → VerdictIsOne → AcceptedInOrder
 accepted_in_order exactly one base plan header logged verdict is =
     (in_order base plan header logged exactly one verdict is, accepts base plan header logged exactly one verdict is)
+
+-- ---- one verdict
+
+module _ (base : List Row) (plan : Plan) (header : Header) (logged : List Logged) (verdict_one : VerdictIsOne) (count_one : OneCount) (graph : IsGraph base) (sound : Sound base) (replayed : IsReplayed base plan) where
+  same_miscount : (a b : Miscount) → IsLegal (schedule_of plan) header.workers (events_of logged) → IsFirstMiscount base plan logged (Some a) → IsFirstMiscount base plan logged (Some b) → a ≡ b
+  same_miscount a b legal p q =
+      let event : a.event ≡ b.event = omega (arith, p.1 b q.0, q.1 a p.0) in
+      let one : p.0.one ≡ q.0.one = same_Some _ _ (sym p.0.there ∙ ap (slice_get logged) event ∙ q.0.there) in
+      let found : a.found ≡ b.found = same_Some _ _ (sym p.0.found ∙ ap (λ (l : Logged). l.rows) one ∙ q.0.found) in
+      let needs : a.needs ≡ b.needs =
+      count_one base plan header.workers (events_of logged) q.0.one.event a.needs b.needs graph sound replayed legal (subst (λ (l : Logged). IsCount base plan (events_of logged) l.event a.needs) one p.0.needs) q.0.needs in
+      λ i. record { event = event i; needs = needs i; found = found i }
+
+  one_verdict : (a b : AuditVerdict) → IsAuditVerdict base plan header logged a → IsAuditVerdict base plan header logged b → a ≡ b
+  one_verdict a b (inl p) (inl q) = p.is ∙ ap (λ (n : ℕ). Mismatched (length plan.operations) n) (same_Some _ _ (sym p.stated ∙ q.stated)) ∙ sym q.is
+  one_verdict a b (inl p) (inr q) = absurd (q.0 a p)
+  one_verdict a b (inr p) (inl q) = absurd (p.0 b q)
+  one_verdict a b (inr (m, inl p)) (inr (n, inl q)) =
+      p.is ∙ ap Judged (verdict_one (schedule_of plan) header.workers (events_of logged) (Violated p.violation) (Violated q.violation) p.judged q.judged) ∙ sym q.is
+  one_verdict a b (inr (m, inl p)) (inr (n, inr q)) = absurd (q.0 a p)
+  one_verdict a b (inr (m, inr p)) (inr (n, inl q)) = absurd (p.0 b q)
+  one_verdict a b (inr (m, inr (u, inl p))) (inr (n, inr (v, inl q))) = p.is ∙ ap Miscounted (same_miscount p.miscount q.miscount p.legal p.first q.first) ∙ sym q.is
+  one_verdict a b (inr (m, inr (u, inl p))) (inr (n, inr (v, inr q))) = absurd (q.0 a p)
+  one_verdict a b (inr (m, inr (u, inr p))) (inr (n, inr (v, inl q))) = absurd (p.0 b q)
+  one_verdict a b (inr (m, inr (u, inr (k, inl p)))) (inr (n, inr (v, inr (l, inl q)))) =
+      p.is ∙ ap Judged (verdict_one (schedule_of plan) header.workers (events_of logged) p.history q.history p.judged q.judged) ∙ sym q.is
+  one_verdict a b (inr (m, inr (u, inr (k, inl p)))) (inr (n, inr (v, inr (l, inr q)))) = absurd q.1
+  one_verdict a b (inr (m, inr (u, inr (k, inr p)))) (inr (n, inr (v, inr q))) = absurd p.1
+
+pub audit_verdict_is_one : VerdictIsOne → OneCount → AuditVerdictIsOne
+audit_verdict_is_one verdict_one count_one base plan header logged one other graph sound replayed p q =
+    one_verdict base plan header logged verdict_one count_one graph sound replayed one other p q

@@ -5,7 +5,10 @@ use Rattle.snb_history.specs.declared.logged.Logged.{Logged}
 use Rattle.snb_schema.specs.declared.refusal.Refusal.{Refusal}
 use Rattle.snb_schema.specs.declared.row.Row.{Row}
 use Rattle.snb_base.specs.FirstOf.{FirstOf, NoneOf}
+use Rattle.snb_graph_model.specs.Graphs.{IsGraph}
+use Rattle.snb_graph_model.specs.Soundness.{Sound}
 use Rattle.snb_plan.specs.Plans.{Plan}
+use Rattle.snb_workers_replay.specs.Laws.{IsReplayed}
 use Rattle.snb_auditor_log.specs.declared.verdict.AuditVerdict.{AuditVerdict}
 use Rattle.snb_auditor_log.specs.AuditVerdicts.{IsAuditVerdict, IsInOrder}
 use Rattle.snb_auditor_log.specs.LogFiles.{IsLogOf, log_checks}
@@ -22,6 +25,12 @@ RefusedOrNot = (held : Option (List ℕ)) (r : Refusal) → FirstOf (log_checks 
 -- a log says one header and one list of events with their counts at most
 abbrev pub LogSaysOne : Type 0
 LogSaysOne = (held : Option (List ℕ)) (a b : Header) (g h : List Logged) → IsLogOf held a g → IsLogOf held b h → (a ≡ b) × (g ≡ h)
+
+-- a log has one verdict at most, by a plan of streams that is closed over a sound graph
+abbrev pub AuditVerdictIsOne : Type 0
+AuditVerdictIsOne =
+    (base : List Row) (plan : Plan) (header : Header) (logged : List Logged) (one other : AuditVerdict) → IsGraph base → Sound base → IsReplayed base plan
+    → IsAuditVerdict base plan header logged one → IsAuditVerdict base plan header logged other → one ≡ other
 
 -- the status is 0 exactly where the history is legal, complete and timely, no count is wrong, and the number of operations that is stated is the
 -- plan's

@@ -1,9 +1,10 @@
 //! Laws of what a log is refused for, of what it says and of the verdict on it, over every log.
 
-ghost use Rattle.snb_auditor_log.specs.Laws.{AcceptedInOrder, LogSaysOne, OneLogRefusal, RefusedOrNot};
+ghost use Rattle.snb_auditor_log.specs.Laws.{AcceptedInOrder, AuditVerdictIsOne, LogSaysOne, OneLogRefusal, RefusedOrNot};
 
 use crate::file_sink::log_is_lawful;
 use snb_auditor::law::{accepted_exactly, verdict_is_one};
+use snb_workers::law::one_count;
 
 /// Something is wrong with a log in one first way, or nothing is, and it says one header and one list of
 /// events with their counts.
@@ -13,6 +14,14 @@ pub fn one_log_refusal()
     ensures says { LogSaysOne }
 {
     log_is_lawful();
+}
+
+/// A log has one verdict at most, by a plan of streams whose updates are closed over a sound graph.
+pub fn audit_verdict_is_one()
+    ensures { AuditVerdictIsOne }
+{
+    verdict_is_one();
+    one_count();
 }
 
 /// The status of a verdict on a log is 0 exactly where the history is legal and complete, at least 95 of 100
