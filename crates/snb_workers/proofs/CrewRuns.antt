@@ -36,7 +36,7 @@ use Rattle.snb_workers.specs.Works.{AreTimely, HasWorked, IsFollowing, IsFree}
 use Rattle.snb_workers.proofs.CrewEvents.{all_at, any_prefix, none_of, seen_there}
 use Rattle.snb_base.proofs.Laws.{contains_cases, contains_here}
 use Rattle.snb_workers.proofs.Gathered.{all_from, of_all}
-use Rattle.snb_workers.proofs.TurnEvents.{all_done, front_within}
+use Rattle.snb_workers.proofs.TurnEvents.{all_done, front_within, of_more}
 use Rattle.snb_workers.proofs.WorkEvents.{prefix-trans}
 use Rattle.snb_graph_model.proofs.Laws.{in_filter}
 
@@ -80,6 +80,45 @@ crew_is plan fixed base z workers seats all some few schedule same graph closed 
   seats = seats;
   made = made;
   all = left;
+}
+
+-- ---- a crew of one
+
+only_one : (seats rest : List Sitting) (s : Sitting) → seats ≡ rest ++ s ∷ [] → length seats ≡ 1 → seats ≡ s ∷ []
+only_one seats [] s are one = are
+only_one seats (x ∷ rest) s are one = absurd (let n : length seats ≡ suc (length (rest ++ s ∷ [])) = ap length are in let m = length-append rest (s ∷ []) in omega arith)
+
+one_leaves : {E : Type 0} (plan : Plan) (fixed : Option ℕ) (base : List Row) (seat : Sitting) (left : Result Worker E) → IfOk left (Leaves plan fixed base seat) → AllLeave plan fixed base (seat ∷ []) (left ∷ [])
+one_leaves {E} plan fixed base seat left is = record { many = refl; each = at }
+  where
+    at : (k : ℕ) (d : Sitting) (e : Result Worker E) → k < 1 → IfOk (get_or (left ∷ []) k e) (Leaves plan fixed base (get_or (seat ∷ []) k d))
+    at zero d e lt = is
+    at (suc k) d e lt = absurd (omega (arith, lt))
+
+module _ (z : Site) (seats rest : List Sitting) (seat : Sitting) (made : AreSeats z seats) (one : z.workers ≡ 1) (are : seats ≡ rest ++ seat ∷ []) where
+  alone : seats ≡ seat ∷ []
+  alone = only_one seats rest seat are (made.0 ∙ one)
+
+  pub alone_ready : IsReady z seat
+  alone_ready = subst (λ (l : List Sitting). IsReady z (get_or l 0 seat)) alone (all_ready z seats made 0 seat (let n = made.0 in omega arith))
+
+  pub crew_of_one : {E : Type 0} (plan : Plan) (fixed : Option ℕ) (base : List Row) (left : Result Worker E) (all : List (Result Worker E)) → z.schedule ≡ schedule_of plan → IsGraph base → IsClosed (HoldsKey base) (updates_in plan) →
+      IfOk left (Leaves plan fixed base seat) → all ≡ left ∷ [] → IsCrew plan fixed base z all
+  crew_of_one {E} plan fixed base left all schedule graph closed leaves is =
+      crew_is plan fixed base z 1 seats all (omega arith) (omega arith) schedule one graph closed made
+      (subst (λ (x : List Sitting × List (Result Worker E)). AllLeave plan fixed base x.0 x.1) (λ i. (sym alone i, sym is i)) (one_leaves plan fixed base seat left leaves))
+
+-- a run of one worker is one of any number of workers
+pub run_of_more : (plan : Plan) (fixed : Option ℕ) (base : List Row) (h : List Event) (replies : List Answered) (graph : List Row) (one workers : ℕ) → one ≡ 1 → 1 ≤ workers → HasRun one plan fixed base h replies graph → HasRun workers plan fixed base h replies graph
+run_of_more plan fixed base h replies graph one workers same some run = record {
+  legal = of_more (schedule_of plan) workers h some (subst (λ (n : ℕ). IsLegal (schedule_of plan) n h) same run.legal);
+  complete = run.complete;
+  waits = run.waits;
+  below = run.below;
+  moments = run.moments;
+  answered = run.answered;
+  final = run.final;
+  sound = run.sound;
 }
 
 contains_pieces : (crew : List Worker) (w : Worker) (a : Answered) → Contains crew w → Contains w.replies a → Contains (flat_map (λ (w : Worker). w.replies) crew) a

@@ -1,20 +1,23 @@
 //! What a worker of a run does, and what it leaves.
 
-ghost use Rattle.std.specs.Prelude.{◌≡◌, ◌⊎◌, ℕ, ◌<◌, List, IfOk, Option, Some, length};
+ghost use Rattle.std.specs.Prelude.{◌≡◌, ◌⊎◌, ℕ, ◌<◌, List, IfOk, OnOk, Option, Some, length};
 ghost use Rattle.snb_schema.specs.declared.row.Row.{Row};
 ghost use Rattle.snb_graph_model.specs.Graphs.{HoldsKey};
 ghost use Rattle.snb_graph_model.specs.Soundness.{Sound};
 ghost use Rattle.snb_plan.specs.Closed.{IsClosed};
 ghost use Rattle.snb_plan.specs.Plans.{schedule_of, updates_in};
 ghost use Rattle.snb_workers.specs.Crews.{ArePartsOf, IsCrew, IsReady, Leaves};
+ghost use Rattle.snb_workers.specs.Replicas.{StandsFor};
 ghost use Rattle.snb_workers.specs.Runs.{HasRun};
+ghost use Rattle.snb_workers.specs.Turns.{IsBehind};
 
 use crate::done::{Answered, Done};
 use crate::replica::Replica;
-use crate::run::{Outcome, catch_up};
+use crate::run::Outcome;
 use crate::work::work;
 use snb_base::{Clock, Gate};
 use snb_board::{Board, Seat};
+use snb_book::Book;
 use snb_graph::Graph;
 use snb_history::law::{hand_is_own, prefix_is_legal};
 use snb_plan::Plan;
@@ -123,6 +126,20 @@ fn parts_of(
         Some(replica) => Ok((seats, all, replica)),
         None => unreachable!(),
     }
+}
+
+// The replica takes what has happened in the book since.
+fn catch_up(
+    alloc: Global,
+    plan: &Plan,
+    book: &Book,
+    replica: &mut Replica,
+) -> Result<(), AllocError>
+    requires behind { (base : List Row) × IsBehind plan.now book.now.history replica.old base }
+    ensures { OnOk result ((base : List Row) → IsBehind plan.now book.now.history replica.old base → StandsFor base plan.now book.now.history replica.new) }
+{
+    let front = replica.front() as usize;
+    replica.advance(alloc, plan, &book.events()[front..])
 }
 
 /// What the crew of a board has done, where all had memory.

@@ -1,17 +1,17 @@
 //! What one of several workers does, who share a board.
 
-ghost use Rattle.std.specs.Prelude.{◌≡◌, List, IfOk, IfSome, OnErr, OnOk, length};
+ghost use Rattle.std.specs.Prelude.{◌≡◌, ◌≢◌, ◌<◌, All, AllPairs, List, IfOk, IfSome, OnErr, OnOk, length};
 ghost use Rattle.snb_schema.specs.declared.row.Row.{Row};
 ghost use Rattle.snb_history.specs.Schedule.{IsOperation};
 ghost use Rattle.snb_board.specs.Boards.{HasLearned, Sitting};
 ghost use Rattle.snb_plan.specs.Plans.{schedule_of};
 ghost use Rattle.snb_workers.specs.Replicas.{Taken};
+ghost use Rattle.snb_workers.specs.Turns.{IsServed};
 ghost use Rattle.snb_workers.specs.WorkTurns.{HasCome, HasFollowed, IsAbreast, IsAtWork, IsHolding, IsReadyFor, TurnsOn};
 ghost use Rattle.snb_workers.specs.Works.{AreTimely, HasStopped, HasWorked, IsFollowing, IsFree, IsLater};
 
-use crate::done::Done;
+use crate::done::{Answered, Done};
 use crate::replica::Replica;
-use crate::run::{Turn, serve};
 use snb_base::{Clock, Gate, Phase};
 use snb_board::{Board, Seat};
 use snb_book::{Claim, Ticket};
@@ -19,6 +19,13 @@ use snb_history::law::{hand_is_own, prefix_is_legal};
 use snb_plan::{Plan, Task};
 use std::alloc::{AllocError, Global};
 use std::sync::Wait;
+
+// Whether there may be more to do.
+#[derive(Clone, Copy)]
+enum Turn {
+    More,
+    Over,
+}
 
 // The replica takes what has happened at the board since.
 fn follow<R: Wait>(
@@ -63,6 +70,38 @@ fn make_ready<R: Wait>(
         Task::Insert { .. } => Ok(()),
         Task::Ask { .. } => follow(rt, alloc, board, seat, plan, replica),
     }
+}
+
+// Answers the operation from the replica, if it is a read, and keeps the text of its reply and how many
+// rows that has. Gives the front of its Finish.
+fn serve(
+    alloc: Global,
+    plan: &Plan,
+    replica: &Replica,
+    replies: &mut Done,
+    op: u32,
+) -> Result<u32, AllocError>
+    requires there { IsOperation (schedule_of plan.now) op }
+    requires new { All (λ other. other.op ≢ op) replies.old }
+    ensures served { IfOk result (IsServed plan.now op replica.now replies.old replies.new) }
+    ensures rise { OnOk result (AllPairs (λ one other. one.op < other.op) replies.new) }
+{
+    let front = match plan.task(op) {
+        Task::Insert { .. } => 0,
+        Task::Ask { query } => {
+            let front = replica.front();
+            let (rows, text) = replica.answer_text(alloc, query)?.into_parts();
+            replies.add(Answered {
+                op,
+                front,
+                rows,
+                text,
+            })?;
+            front
+        }
+    };
+    replies.known();
+    Ok(front)
 }
 
 // Does the operation of a ticket that was claimed just now, and finishes it.
