@@ -1,4 +1,4 @@
-use Rattle.std.proofs.Common.{◌≡◌, ◌∙◌, ℕ, List, [], subst, sym}
+use Rattle.std.proofs.Common.{◌∙◌, ℕ, List, [], subst, sym}
 use Rattle.snb_history.specs.declared.event.Event.{Event}
 use Rattle.snb_history.specs.Rules.{IsLegal}
 use Rattle.snb_history.specs.Schedule.{Schedule}
