@@ -1,10 +1,10 @@
 -- What a run of several workers comes to.
 use Rattle.std.proofs.Common.{◌≡◌, ◌∙◌, ℕ, zero, suc, ◌<◌, ◌≤◌, List, [], ◌∷◌, ◌++◌, length, map, take, get_or, true, false, Option, Some, None, inl, inr, refl, sym, ap, subst, arith, append-nil, length-append}
-use Rattle.std.specs.Prelude.{All, AllPairs, Any, Contains, Result, Ok, Err, slice_get}
+use Rattle.std.specs.Prelude.{All, AllPairs, Any, Contains, Result, Ok, slice_get}
 use Rattle.std.specs.List.{flat_map}
 use Rattle.std.specs.List.Sorted.{IsPermutation}
 use Rattle.std.specs.Option.{IfSome}
-use Rattle.std.specs.Result.{IfOk, IsOk}
+use Rattle.std.specs.Result.{IfOk}
 use Rattle.std.proofs.lemmas.Bool.{cases_lt}
 use Rattle.std.proofs.lemmas.List.{get_or-map, get_or_default, length-map, take-append-le}
 use Rattle.std.proofs.lemmas.List.Sorted.{IsPermutation-refl}
@@ -68,10 +68,10 @@ all_ready z seats made k d lt =
     let is : get_or seats k d ≡ fresh z k = seat_at seats k d (fresh z k) (made.1 k (let n = made.0 in omega arith)) in
     subst (IsReady z) (sym is) record { site = refl; seen = refl }
 
--- the crew of a board that was made for so many workers
-pub crew_is : {E : Type 0} (plan : Plan) (fixed : Option ℕ) (base : List Row) (z : Site) (workers : ℕ) (seats : List Sitting) (all : List (Result Worker E)) → 1 ≤ workers → workers ≤ MAX_WORKERS → z.schedule ≡ schedule_of plan →
-    z.workers ≡ workers → IsGraph base → IsClosed (HoldsKey base) (updates_in plan) → AreSeats z seats → AllLeave plan fixed base seats all → IsCrew plan fixed base z all
-crew_is plan fixed base z workers seats all some few schedule same graph closed made left = record {
+-- the crew of a board that was made for so many workers, each of which began with a replica of a copy of the base
+pub crew_is : {E : Type 0} (plan : Plan) (fixed : Option ℕ) (base copy : List Row) (z : Site) (workers : ℕ) (seats : List Sitting) (all : List (Result Worker E)) → copy ≡ base → 1 ≤ workers → workers ≤ MAX_WORKERS →
+    z.schedule ≡ schedule_of plan → z.workers ≡ workers → IsGraph base → IsClosed (HoldsKey base) (updates_in plan) → AreSeats z seats → AllLeave plan fixed copy seats all → IsCrew plan fixed base z all
+crew_is plan fixed base copy z workers seats all copied some few schedule same graph closed made left = record {
   some = subst (λ (n : ℕ). 0 < n) (sym same) some;
   few = subst (λ (n : ℕ). n ≤ MAX_WORKERS) (sym same) few;
   schedule = schedule;
@@ -79,7 +79,7 @@ crew_is plan fixed base z workers seats all some few schedule same graph closed 
   closed = closed;
   seats = seats;
   made = made;
-  all = left;
+  all = subst (λ (b : List Row). AllLeave plan fixed b seats all) copied left;
 }
 
 -- ---- a crew of one
@@ -105,7 +105,7 @@ module _ (z : Site) (seats rest : List Sitting) (seat : Sitting) (made : AreSeat
   pub crew_of_one : {E : Type 0} (plan : Plan) (fixed : Option ℕ) (base : List Row) (left : Result Worker E) (all : List (Result Worker E)) → z.schedule ≡ schedule_of plan → IsGraph base → IsClosed (HoldsKey base) (updates_in plan) →
       IfOk left (Leaves plan fixed base seat) → all ≡ left ∷ [] → IsCrew plan fixed base z all
   crew_of_one {E} plan fixed base left all schedule graph closed leaves is =
-      crew_is plan fixed base z 1 seats all (omega arith) (omega arith) schedule one graph closed made
+      crew_is plan fixed base base z 1 seats all refl (omega arith) (omega arith) schedule one graph closed made
       (subst (λ (x : List Sitting × List (Result Worker E)). AllLeave plan fixed base x.0 x.1) (λ i. (sym alone i, sym is i)) (one_leaves plan fixed base seat left leaves))
 
 -- a run of one worker is one of any number of workers

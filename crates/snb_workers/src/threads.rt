@@ -20,6 +20,15 @@ use std::sync::Wait;
 use std::thread;
 use std::thread::Threads;
 
+// A copy of the graph whose rows are frozen, so that its own copies share them.
+fn frozen_copy(graph: &Graph) -> Result<Graph, AllocError>
+    ensures { IfOk result (λ copy. copy ≡ graph.now) }
+{
+    let mut copy = graph.try_copy()?;
+    copy.freeze()?;
+    Ok(copy)
+}
+
 // Lets a worker work at each seat, in a thread of its own.
 fn work_all<R: Threads + Wait + Sync, C: Clock + Sync, G: Gate + Sync>(
     rt: &R,
@@ -69,6 +78,7 @@ pub fn run_workers<R: Threads + Wait + Sync, C: Clock + Sync, G: Gate + Sync>(
 {
     base.known();
     let (board, seats) = Board::make(alloc, plan.schedule(), workers)?;
-    let crew = work_all(rt, alloc, &board, seats, plan, base, clock, gate)?;
+    let base = frozen_copy(base)?;
+    let crew = work_all(rt, alloc, &board, seats, plan, &base, clock, gate)?;
     outcome_of(alloc, plan, board, crew)
 }

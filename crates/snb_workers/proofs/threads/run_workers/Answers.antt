@@ -11,14 +11,14 @@ pub outcome_of-requires : goal.outcome_of-requires
 outcome_of-requires g c = (
   g.C.Clock.fixed c.args.clock.now,
   c.args.base.now,
-  crew_is c.args.plan.now (g.C.Clock.fixed c.args.clock.now) c.args.base.now c.in_ok-board.board c.args.workers c.in_ok-board.seats.items c.in_ok-crew.crew.items c.requires.some c.requires.few
+  crew_is c.args.plan.now (g.C.Clock.fixed c.args.clock.now) c.args.base.now c.in_ok-base.base c.in_ok-board.board c.args.workers c.in_ok-board.seats.items c.in_ok-crew.crew.items c.in_ok-base.ensures c.requires.some c.requires.few
       (c.in_ok-board.ensures.board.0 ∙ c.schedule.ensures) c.in_ok-board.ensures.board.1 c.known.ensures c.requires.closed c.in_ok-board.ensures.seats c.in_ok-crew.ensures,
 )
 
 pub returns : goal.returns
 returns g c =
     let crew =
-    crew_is c.args.plan.now (g.C.Clock.fixed c.args.clock.now) c.args.base.now c.in_ok-board.board c.args.workers c.in_ok-board.seats.items c.in_ok-crew.crew.items c.requires.some c.requires.few
+    crew_is c.args.plan.now (g.C.Clock.fixed c.args.clock.now) c.args.base.now c.in_ok-base.base c.in_ok-board.board c.args.workers c.in_ok-board.seats.items c.in_ok-crew.crew.items c.in_ok-base.ensures c.requires.some c.requires.few
     (c.in_ok-board.ensures.board.0 ∙ c.schedule.ensures) c.in_ok-board.ensures.board.1 c.known.ensures c.requires.closed c.in_ok-board.ensures.seats c.in_ok-crew.ensures in
     record {
       ran = IfOk-weaker c.outcome_of.result _ _
