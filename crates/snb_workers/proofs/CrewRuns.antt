@@ -1,10 +1,10 @@
 -- What a run of several workers comes to.
 use Rattle.std.proofs.Common.{◌≡◌, ◌∙◌, ℕ, zero, suc, ◌<◌, ◌≤◌, List, [], ◌∷◌, ◌++◌, length, map, take, get_or, true, false, Option, Some, None, inl, inr, refl, sym, ap, subst, arith, append-nil, length-append}
-use Rattle.std.specs.Prelude.{All, AllPairs, Any, Contains, Result, Ok, Err, slice_get}
+use Rattle.std.specs.Prelude.{All, AllPairs, Any, Contains, Result, Ok, slice_get}
 use Rattle.std.specs.List.{flat_map}
 use Rattle.std.specs.List.Sorted.{IsPermutation}
 use Rattle.std.specs.Option.{IfSome}
-use Rattle.std.specs.Result.{IfOk, IsOk}
+use Rattle.std.specs.Result.{IfOk}
 use Rattle.std.proofs.lemmas.Bool.{cases_lt}
 use Rattle.std.proofs.lemmas.List.{get_or-map, get_or_default, length-map, take-append-le}
 use Rattle.std.proofs.lemmas.List.Sorted.{IsPermutation-refl}
@@ -26,10 +26,9 @@ use Rattle.snb_plan.specs.Plans.{IsOfStreams, Plan, schedule_of, updates_in}
 use Rattle.snb_workers_replay.specs.Laws.{CompleteIsFinal}
 use Rattle.snb_workers_replay.specs.Waiting.{RunsWait}
 use Rattle.snb_workers_replay.specs.Replay.{IsAfter, IsFinal}
-use Rattle.snb_workers.specs.declared.threads.Left.{Left}
-use Rattle.snb_workers.specs.declared.threads.Post.{Post}
+use Rattle.snb_workers.specs.declared.crew.Worker.{Worker}
 use Rattle.snb_workers.specs.declared.done.Answered.{Answered}
-use Rattle.snb_workers.specs.Crews.{AllLeave, IsReady, Leaves, replies_in, replies_of}
+use Rattle.snb_workers.specs.Crews.{AllLeave, AreReady, IsCrew, IsReady, Leaves, opening}
 use Rattle.snb_workers.specs.Replicas.{StandsFor, Taken}
 use Rattle.snb_workers.specs.Runs.{AreAt, AreReplies, HasRun, IsAnswered}
 use Rattle.snb_workers.specs.Turns.{IsBehind}
@@ -37,22 +36,16 @@ use Rattle.snb_workers.specs.Works.{AreTimely, HasWorked, IsFollowing, IsFree}
 use Rattle.snb_workers.proofs.CrewEvents.{all_at, any_prefix, none_of, seen_there}
 use Rattle.snb_base.proofs.Laws.{contains_cases, contains_here}
 use Rattle.snb_workers.proofs.Gathered.{all_from, of_all}
-use Rattle.snb_workers.proofs.TurnEvents.{all_done, front_within}
+use Rattle.snb_workers.proofs.TurnEvents.{all_done, front_within, of_more}
 use Rattle.snb_workers.proofs.WorkEvents.{prefix-trans}
 use Rattle.snb_graph_model.proofs.Laws.{in_filter}
 
--- a worker's seat and replica at first
-abbrev pub fresh : Site → ℕ → Sitting
+-- a worker's seat at first
+abbrev fresh : Site → ℕ → Sitting
 fresh z k = sitting z k [] (time_below 0)
 
-abbrev pub opening : List Row → Taken
-opening base = record { graph = base; front = 0 }
-
-abbrev pub post_of : Site → List Row → ℕ → Post
-post_of z base k = record { seat = fresh z k; replica = opening base }
-
 -- a replica of the base follows what nobody has seen
-pub follows_at_first : (base : List Row) (plan : Plan) → IsGraph base → IsClosed (HoldsKey base) (updates_in plan) → IsFollowing base plan [] (opening base)
+follows_at_first : (base : List Row) (plan : Plan) → IsGraph base → IsClosed (HoldsKey base) (updates_in plan) → IsFollowing base plan [] (opening base)
 follows_at_first base plan graph closed = record {
   closed = closed;
   taken = [];
@@ -60,43 +53,86 @@ follows_at_first base plan graph closed = record {
   stands = record { after = record { graph = graph; rows = subst (IsPermutation base) (sym (append-nil base)) (IsPermutation-refl base) }; front = refl };
 }
 
-seat_at : (posts : List Post) (k : ℕ) (d : Post) (s : Sitting) → slice_get (map (λ (p : Post). p.seat) posts) k ≡ Some s → (get_or posts k d).seat ≡ s
+-- so does one at a seat that has seen nothing
+pub follows_here : (base : List Row) (plan : Plan) (s : Sitting) (r : Taken) → s.seen ≡ [] → r ≡ opening base → IsGraph base → IsClosed (HoldsKey base) (updates_in plan) → IsFollowing base plan s.seen r
+follows_here base plan s r none is graph closed = subst (λ (x : List Event × Taken). IsFollowing base plan x.0 x.1) (λ i. (sym none i, sym is i)) (follows_at_first base plan graph closed)
+
+seat_at : (seats : List Sitting) (k : ℕ) (d s : Sitting) → slice_get seats k ≡ Some s → get_or seats k d ≡ s
 seat_at [] k d s e = absurd (cc)
 seat_at (p ∷ ps) zero d s e = cc
 seat_at (p ∷ ps) (suc k) d s e = seat_at ps k d s e
 
-module _ (z : Site) (base : List Row) (posts : List Post) (seats : List Sitting) (made : AreSeats z seats) (theirs : map (λ (p : Post). p.seat) posts ≡ seats) (replicas : All (λ (p : Post). p.replica ≡ opening base) posts) where
-  pub many_posts : length posts ≡ z.workers
-  many_posts = sym (length-map posts (λ (p : Post). p.seat)) ∙ ap length theirs ∙ made.0
+-- at first all may work
+pub all_ready : (z : Site) (seats : List Sitting) → AreSeats z seats → AreReady z seats
+all_ready z seats made k d lt =
+    let is : get_or seats k d ≡ fresh z k = seat_at seats k d (fresh z k) (made.1 k (let n = made.0 in omega arith)) in
+    subst (IsReady z) (sym is) record { site = refl; seen = refl }
 
-  pub post_is : (k : ℕ) (d : Post) → k < z.workers → get_or posts k d ≡ post_of z base k
-  post_is k d lt =
-      let seat : (get_or posts k d).seat ≡ fresh z k = seat_at posts k d (fresh z k) (ap (λ l. slice_get l k) theirs ∙ made.1 k lt) in
-      let replica : (get_or posts k d).replica ≡ opening base = replicas k d (let n = many_posts in omega arith) in
-      λ i. record { seat = seat i; replica = replica i }
+-- the crew of a board that was made for so many workers, each of which began with a replica of a copy of the base
+pub crew_is : {E : Type 0} (plan : Plan) (fixed : Option ℕ) (base copy : List Row) (z : Site) (workers : ℕ) (seats : List Sitting) (all : List (Result Worker E)) → copy ≡ base → 1 ≤ workers → workers ≤ MAX_WORKERS →
+    z.schedule ≡ schedule_of plan → z.workers ≡ workers → IsGraph base → IsClosed (HoldsKey base) (updates_in plan) → AreSeats z seats → AllLeave plan fixed copy seats all → IsCrew plan fixed base z all
+crew_is plan fixed base copy z workers seats all copied some few schedule same graph closed made left = record {
+  some = subst (λ (n : ℕ). 0 < n) (sym same) some;
+  few = subst (λ (n : ℕ). n ≤ MAX_WORKERS) (sym same) few;
+  schedule = schedule;
+  graph = graph;
+  closed = closed;
+  seats = seats;
+  made = made;
+  all = subst (λ (b : List Row). AllLeave plan fixed b seats all) copied left;
+}
 
-  pub ready : (plan : Plan) → IsGraph base → IsClosed (HoldsKey base) (updates_in plan) → (k : ℕ) (d : Post) → k < length posts → IsReady plan z (get_or posts k d)
-  ready plan graph closed k d lt =
-      subst (IsReady plan z) (sym (post_is k d (let n = many_posts in omega arith)))
-      record { site = refl; free = record { empty = refl; running = refl }; base = base; follows = follows_at_first base plan graph closed }
+-- ---- a crew of one
 
--- what an answer that is Ok has
-of_ok : {E : Type 0} (r : Result (List Answered) E) (P : List Answered → Type 0) → IsOk r → IfOk r P → P (replies_of r)
-of_ok (Ok replies) P is p = p
-of_ok (Err e) P is p = absurd (cc)
+only_one : (seats rest : List Sitting) (s : Sitting) → seats ≡ rest ++ s ∷ [] → length seats ≡ 1 → seats ≡ s ∷ []
+only_one seats [] s are one = are
+only_one seats (x ∷ rest) s are one = absurd (let n : length seats ≡ suc (length (rest ++ s ∷ [])) = ap length are in let m = length-append rest (s ∷ []) in omega arith)
 
-contains_pieces : (lefts : List Left) (left : Left) (a : Answered) → Contains lefts left → Contains (replies_in left) a → Contains (flat_map replies_in lefts) a
-contains_pieces [] left a c there = absurd (let lt : c.0 < 0 = c.1 in omega arith)
-contains_pieces (x ∷ lefts) left a c there = elim (contains_cases x lefts left c) [
-  | inl same ↦ Contains-append_left (replies_in x) (flat_map replies_in lefts) a (subst (λ (l : Left). Contains (replies_in l) a) (sym same) there)
-  | inr later ↦ Contains-append_right (replies_in x) (flat_map replies_in lefts) a (contains_pieces lefts left a later there)
+one_leaves : {E : Type 0} (plan : Plan) (fixed : Option ℕ) (base : List Row) (seat : Sitting) (left : Result Worker E) → IfOk left (Leaves plan fixed base seat) → AllLeave plan fixed base (seat ∷ []) (left ∷ [])
+one_leaves {E} plan fixed base seat left is = record { many = refl; each = at }
+  where
+    at : (k : ℕ) (d : Sitting) (e : Result Worker E) → k < 1 → IfOk (get_or (left ∷ []) k e) (Leaves plan fixed base (get_or (seat ∷ []) k d))
+    at zero d e lt = is
+    at (suc k) d e lt = absurd (omega (arith, lt))
+
+module _ (z : Site) (seats rest : List Sitting) (seat : Sitting) (made : AreSeats z seats) (one : z.workers ≡ 1) (are : seats ≡ rest ++ seat ∷ []) where
+  alone : seats ≡ seat ∷ []
+  alone = only_one seats rest seat are (made.0 ∙ one)
+
+  pub alone_ready : IsReady z seat
+  alone_ready = subst (λ (l : List Sitting). IsReady z (get_or l 0 seat)) alone (all_ready z seats made 0 seat (let n = made.0 in omega arith))
+
+  pub crew_of_one : {E : Type 0} (plan : Plan) (fixed : Option ℕ) (base : List Row) (left : Result Worker E) (all : List (Result Worker E)) → z.schedule ≡ schedule_of plan → IsGraph base → IsClosed (HoldsKey base) (updates_in plan) →
+      IfOk left (Leaves plan fixed base seat) → all ≡ left ∷ [] → IsCrew plan fixed base z all
+  crew_of_one {E} plan fixed base left all schedule graph closed leaves is =
+      crew_is plan fixed base base z 1 seats all refl (omega arith) (omega arith) schedule one graph closed made
+      (subst (λ (x : List Sitting × List (Result Worker E)). AllLeave plan fixed base x.0 x.1) (λ i. (sym alone i, sym is i)) (one_leaves plan fixed base seat left leaves))
+
+-- a run of one worker is one of any number of workers
+pub run_of_more : (plan : Plan) (fixed : Option ℕ) (base : List Row) (h : List Event) (replies : List Answered) (graph : List Row) (one workers : ℕ) → one ≡ 1 → 1 ≤ workers → HasRun one plan fixed base h replies graph → HasRun workers plan fixed base h replies graph
+run_of_more plan fixed base h replies graph one workers same some run = record {
+  legal = of_more (schedule_of plan) workers h some (subst (λ (n : ℕ). IsLegal (schedule_of plan) n h) same run.legal);
+  complete = run.complete;
+  waits = run.waits;
+  below = run.below;
+  moments = run.moments;
+  answered = run.answered;
+  final = run.final;
+  sound = run.sound;
+}
+
+contains_pieces : (crew : List Worker) (w : Worker) (a : Answered) → Contains crew w → Contains w.replies a → Contains (flat_map (λ (w : Worker). w.replies) crew) a
+contains_pieces [] w a c there = absurd (let lt : c.0 < 0 = c.1 in omega arith)
+contains_pieces (x ∷ crew) w a c there = elim (contains_cases x crew w c) [
+  | inl same ↦ Contains-append_left x.replies (flat_map (λ (w : Worker). w.replies) crew) a (subst (λ (l : Worker). Contains l.replies a) (sym same) there)
+  | inr later ↦ Contains-append_right x.replies (flat_map (λ (w : Worker). w.replies) crew) a (contains_pieces crew w a later there)
 ]
 
-in_piece : (lefts : List Left) (a : Answered) → Contains (flat_map replies_in lefts) a → (k : ℕ) × (k < length lefts) × ((d : Left) → Contains (replies_in (get_or lefts k d)) a)
+in_piece : (crew : List Worker) (a : Answered) → Contains (flat_map (λ (w : Worker). w.replies) crew) a → (k : ℕ) × (k < length crew) × ((d : Worker) → Contains (get_or crew k d).replies a)
 in_piece [] a c = absurd (let lt : c.0 < 0 = c.1 in omega arith)
-in_piece (x ∷ lefts) a c = elim (Contains-append_cases (replies_in x) (flat_map replies_in lefts) a c) [
+in_piece (x ∷ crew) a c = elim (Contains-append_cases x.replies (flat_map (λ (w : Worker). w.replies) crew) a c) [
   | inl here ↦ (0, omega arith, λ d. here)
-  | inr there ↦ (let p = in_piece lefts a there in (suc p.0, omega (arith, p.1), p.2))
+  | inr there ↦ (let p = in_piece crew a there in (suc p.0, omega (arith, p.1), p.2))
 ]
 
 -- a reply on a beginning of a history is one on the whole
@@ -117,41 +153,42 @@ answered_whole base plan workers finishes seen h a pre legal within is =
       replies = is.replies;
     }
 
-module _
-    (plan : Plan) (fixed : Option ℕ) (base : List Row) (z : Site) (posts : List Post) (seats : List Sitting) (lefts : List Left) (h : List Event)
-    (made : AreSeats z seats) (theirs : map (λ (p : Post). p.seat) posts ≡ seats) (replicas : All (λ (p : Post). p.replica ≡ opening base) posts)
-    (graph : IsGraph base) (closed : IsClosed (HoldsKey base) (updates_in plan)) (planned : z.schedule ≡ schedule_of plan)
-    (all : AllLeave plan fixed posts lefts) (had : All (λ (left : Left). IsOk left.replies) lefts)
+module _ {E : Type 0}
+    (plan : Plan) (fixed : Option ℕ) (base : List Row) (z : Site) (all : List (Result Worker E)) (h : List Event)
+    (is_crew : IsCrew plan fixed base z all) (crew : List Worker) (had : all ≡ map Ok crew)
   where
-    pub many_lefts : length lefts ≡ z.workers
-    many_lefts = all.many ∙ many_posts z base posts seats made theirs replicas
+    many_crew : length crew ≡ z.workers
+    many_crew = sym (length-map crew (λ (w : Worker). Ok w)) ∙ ap length (sym had) ∙ is_crew.all.many ∙ is_crew.made.0
 
-    leaves : (k : ℕ) (e : Left) → k < z.workers → Leaves plan fixed (post_of z base k) (get_or lefts k e)
+    leaves : (k : ℕ) (e : Worker) → k < z.workers → Leaves plan fixed base (fresh z k) (get_or crew k e)
     leaves k e lt =
-        let d : Post = post_of z base k in
-        subst (λ (p : Post). Leaves plan fixed p (get_or lefts k e)) (post_is z base posts seats made theirs replicas k d lt) (all.each k d e (let n = many_posts z base posts seats made theirs replicas in omega arith))
+        let n = many_crew in
+        let m = is_crew.made.0 in
+        let seat : get_or is_crew.seats k (fresh z k) ≡ fresh z k = seat_at is_crew.seats k (fresh z k) (fresh z k) (is_crew.made.1 k lt) in
+        let one : get_or all k (Ok e) ≡ Ok (get_or crew k e) = ap (λ (l : List (Result Worker E)). get_or l k (Ok e)) had ∙ get_or-map (λ (w : Worker). Ok w) crew k e (Ok e) (omega arith) in
+        subst (λ (x : Sitting × Result Worker E). IfOk x.1 (Leaves plan fixed base x.0)) (λ i. (seat i, one i)) (is_crew.all.each k (fresh z k) (Ok e) (omega arith))
 
-    worked : (k : ℕ) (e : Left) → k < z.workers → HasWorked plan (fresh z k) (get_or lefts k e).seat (opening base) (get_or lefts k e).replica (replies_in (get_or lefts k e))
-    worked k e lt = of_ok (get_or lefts k e).replies (HasWorked plan (fresh z k) (get_or lefts k e).seat (opening base) (get_or lefts k e).replica) (had k e (let n = many_lefts in omega arith)) (leaves k e lt).ok
+    worked : (k : ℕ) (e : Worker) → k < z.workers → HasWorked plan (fresh z k) (get_or crew k e).seat (opening base) (get_or crew k e).replica (get_or crew k e).replies
+    worked k e lt = (leaves k e lt).worked
 
     -- what stands for a worker that there is not
-    abbrev nobody : Left
-    nobody = record { seat = fresh z 0; replica = opening base; replies = Ok [] }
+    abbrev nobody : Worker
+    nobody = record { seat = fresh z 0; replica = opening base; replies = [] }
 
     -- what worker k has left
-    abbrev left : ℕ → Left
-    left k = get_or lefts k nobody
+    abbrev left : ℕ → Worker
+    left k = get_or crew k nobody
 
-    seat_is : (given : List Sitting) → given ≡ map (λ (l : Left). l.seat) lefts → (k : ℕ) (d : Sitting) → k < z.workers → get_or given k d ≡ (left k).seat
+    seat_is : (given : List Sitting) → given ≡ map (λ (w : Worker). w.seat) crew → (k : ℕ) (d : Sitting) → k < z.workers → get_or given k d ≡ (left k).seat
     seat_is given is k d low =
-        let n = many_lefts in
-        ap (λ (xs : List Sitting). get_or xs k d) is ∙ get_or-map (λ (l : Left). l.seat) lefts k nobody d (omega arith)
+        let n = many_crew in
+        ap (λ (xs : List Sitting). get_or xs k d) is ∙ get_or-map (λ (w : Worker). w.seat) crew k nobody d (omega arith)
 
-    many_seats : (given : List Sitting) → given ≡ map (λ (l : Left). l.seat) lefts → length given ≡ z.workers
-    many_seats given is = ap length is ∙ (length-map lefts (λ (l : Left). l.seat) ∙ many_lefts)
+    many_seats : (given : List Sitting) → given ≡ map (λ (w : Worker). w.seat) crew → length given ≡ z.workers
+    many_seats given is = ap length is ∙ (length-map crew (λ (w : Worker). w.seat) ∙ many_crew)
 
     -- the seats of all workers are among them
-    pub are_all : (given : List Sitting) → given ≡ map (λ (l : Left). l.seat) lefts → AreAll z given
+    pub are_all : (given : List Sitting) → given ≡ map (λ (w : Worker). w.seat) crew → AreAll z given
     are_all given is = record {
       theirs = λ k d lt.
           let low : k < z.workers = (let n = many_seats given is in omega arith) in
@@ -166,8 +203,8 @@ module _
     }
 
     module _
-        (given : List Sitting) (is : given ≡ map (λ (l : Left). l.seat) lefts) (hand_own : HandIsOwn) (prefix : PrefixIsLegal) (legal : IsLegal (schedule_of plan) z.workers h)
-        (parts : All (IsPartOf z.schedule h) given) (by_them : AreMadeBy given h) (some : 0 < z.workers)
+        (given : List Sitting) (is : given ≡ map (λ (w : Worker). w.seat) crew) (hand_own : HandIsOwn) (prefix : PrefixIsLegal) (legal : IsLegal (schedule_of plan) z.workers h)
+        (parts : All (IsPartOf z.schedule h) given) (by_them : AreMadeBy given h)
       where
         part : (k : ℕ) → k < z.workers → IsPartOf z.schedule h (left k).seat
         part k low = subst (IsPartOf z.schedule h) (seat_is given is k (left k).seat low) (parts k (left k).seat (let n = many_seats given is in omega arith))
@@ -203,11 +240,11 @@ module _
         ]
 
         all_started : (k : ℕ) → IsOperation (schedule_of plan) k → started h k ≡ true
-        all_started k within = elim ((worked 0 nobody some).over) [
+        all_started k within = elim ((worked 0 nobody is_crew.some).over) [
           | inl each ↦ (
-              let here : IsOperation (left 0).seat.site.schedule k = subst (λ (s : Schedule). IsOperation s k) (sym planned ∙ sym (ap (λ (x : Site). x.schedule) (leaves 0 nobody some).later.site)) within in
-              any_prefix (starts k) (left 0).seat.seen h (part 0 some).seen (each k here))
-          | inr (w, off, stopped) ↦ absurd (let at = any_prefix (halts w) (left 0).seat.seen h (part 0 some).seen stopped in let runs = running w in cc)
+              let here : IsOperation (left 0).seat.site.schedule k = subst (λ (s : Schedule). IsOperation s k) (sym is_crew.schedule ∙ sym (ap (λ (x : Site). x.schedule) (leaves 0 nobody is_crew.some).later.site)) within in
+              any_prefix (starts k) (left 0).seat.seen h (part 0 is_crew.some).seen (each k here))
+          | inr (w, off, stopped) ↦ absurd (let at = any_prefix (halts w) (left 0).seat.seen h (part 0 is_crew.some).seen stopped in let runs = running w in cc)
         ]
 
         pub complete : IsComplete (schedule_of plan) h
@@ -237,11 +274,11 @@ module _
                 let there = in_seat g rest e at in
                 timely there.0 there.1 g there.3.0 e there.3.1 (omega arith) there.2 has)
 
-        module _ (base_follows : IsFollowing base plan [] (opening base)) (replies all_replies : List Answered) (gathered : all_replies ≡ flat_map replies_in lefts)
+        module _ (replies all_replies : List Answered) (gathered : all_replies ≡ flat_map (λ (w : Worker). w.replies) crew)
             (each : All (λ (a : Answered). Contains all_replies a) replies) (every : All (λ (a : Answered). Any (λ (other : Answered). other.op ≡ a.op) replies) all_replies) (rise : AllPairs (λ (one other : Answered). one.op < other.op) replies)
           where
-            seat_replies : (k : ℕ) (low : k < z.workers) → AreReplies base plan (mine (left k).seat) (left k).seat.seen (replies_in (left k))
-            seat_replies k low = (worked k nobody low).answered base base_follows
+            seat_replies : (k : ℕ) (low : k < z.workers) → AreReplies base plan (mine (left k).seat) (left k).seat.seen (left k).replies
+            seat_replies k low = (worked k nobody low).answered base (follows_at_first base plan is_crew.graph is_crew.closed)
 
             seen_legal : (k : ℕ) (low : k < z.workers) → IsLegal (schedule_of plan) z.workers (left k).seat.seen
             seen_legal k low = prefix (schedule_of plan) z.workers (left k).seat.seen (part k low).seen.0 (subst (IsLegal (schedule_of plan) z.workers) (sym (part k low).seen.1) legal)
@@ -250,10 +287,10 @@ module _
             answered = record {
               rise = rise;
               each = all_from (IsAnswered base plan h h) replies (λ a c.
-                  let there : Contains (flat_map replies_in lefts) a = subst (λ (xs : List Answered). Contains xs a) gathered (of_all (λ (x : Answered). Contains all_replies x) replies a each c) in
-                  let piece = in_piece lefts a there in
-                  let low : piece.0 < z.workers = (let n = many_lefts in let m : piece.0 < length lefts = piece.1 in omega arith) in
-                  let own = of_all (IsAnswered base plan (mine (left piece.0).seat) (left piece.0).seat.seen) (replies_in (left piece.0)) a (seat_replies piece.0 low).each (piece.2 nobody) in
+                  let there : Contains (flat_map (λ (w : Worker). w.replies) crew) a = subst (λ (xs : List Answered). Contains xs a) gathered (of_all (λ (x : Answered). Contains all_replies x) replies a each c) in
+                  let piece = in_piece crew a there in
+                  let low : piece.0 < z.workers = (let n = many_crew in let m : piece.0 < length crew = piece.1 in omega arith) in
+                  let own = of_all (IsAnswered base plan (mine (left piece.0).seat) (left piece.0).seat.seen) (left piece.0).replies a (seat_replies piece.0 low).each (piece.2 nobody) in
                   answered_whole base plan z.workers (mine (left piece.0).seat) (left piece.0).seat.seen h a (part piece.0 low).seen (seen_legal piece.0 low)
                   (λ e c. ((in_filter (is_by (left piece.0).seat.worker) (left piece.0).seat.seen e).0 c).0) own);
               all = λ op worker at front query c asks.
@@ -266,7 +303,7 @@ module _
                   let own : Contains (mine (left k).seat) e = (in_filter (is_by (left k).seat.worker) (left k).seat.seen e).1 (seen, subst (λ (w : ℕ). is_by w e ≡ true) (sym (leaves k nobody low).later.worker) there.2) in
                   let found = (seat_replies k low).all op worker at front query own asks in
                   let whole : Contains all_replies found.0 = subst (λ (xs : List Answered). Contains xs found.0) (sym gathered)
-                  (contains_pieces lefts (left k) found.0 (k, (let n = many_lefts in omega arith), get_or_default lefts k (left k) nobody (let n = many_lefts in omega arith)) found.1) in
+                  (contains_pieces crew (left k) found.0 (k, (let n = many_crew in omega arith), get_or_default crew k (left k) nobody (let n = many_crew in omega arith)) found.1) in
                   let one = of_all (λ (a : Answered). Any (λ (other : Answered). other.op ≡ a.op) replies) all_replies found.0 every whole in
                   (one.1, (one.0, one.2, one.3), one.4 ∙ found.2);
             }
@@ -277,21 +314,21 @@ module _
                 split_here (x ∷ h) (suc k) e lt is = let s = split_here h k e (omega arith) is in (s.0, ap (λ (l : List Event). x ∷ l) s.1)
 
             -- the replica of one of them is behind the whole history
-            pub behind : (one : Taken) → Any (λ (l : Left). l.replica ≡ one) lefts → z.workers ≤ MAX_WORKERS → IsBehind plan h one base
-            behind one any few =
+            pub behind : (one : Taken) → Any (λ (w : Worker). w.replica ≡ one) crew → IsBehind plan h one base
+            behind one any =
                 let k : ℕ = any.0 in
-                let low : k < z.workers = (let n = many_lefts in let m : k < length lefts = any.2 in omega arith) in
-                let same : left k ≡ any.1 = get_or_default lefts k nobody any.1 any.2 ∙ any.3 in
-                let follows = (leaves k nobody low).follows base base_follows in
+                let low : k < z.workers = (let n = many_crew in let m : k < length crew = any.2 in omega arith) in
+                let same : left k ≡ any.1 = get_or_default crew k nobody any.1 any.2 ∙ any.3 in
+                let follows = (leaves k nobody low).follows in
                 let pre = prefix-trans follows.taken (left k).seat.seen h follows.begins (part k low).seen in (
                   follows.taken,
                   pre.0,
                   pre.1,
                   record {
-                    stands = subst (StandsFor base plan follows.taken) (ap (λ (l : Left). l.replica) same ∙ any.4) follows.stands;
-                    closed = closed;
+                    stands = subst (StandsFor base plan follows.taken) (ap (λ (w : Worker). w.replica) same ∙ any.4) follows.stands;
+                    closed = is_crew.closed;
                     workers = z.workers;
-                    few = few;
+                    few = is_crew.few;
                     legal = subst (IsLegal (schedule_of plan) z.workers) (sym pre.1) legal;
                   },
                 )

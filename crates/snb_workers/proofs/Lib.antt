@@ -1,7 +1,6 @@
 pub mod Following
 pub mod PlanSteps
 pub mod TurnEvents
-pub mod TurnLemmas
 pub mod TurnReplies
 pub mod WorkCalls
 pub mod WorkEvents

@@ -6,9 +6,9 @@ use Rattle.std.proofs.lemmas.List.{take-append-le}
 use Rattle.std.proofs.lemmas.List.Elements.{All-append, All-cons, All-drop, All-take, Contains-append_cases, Contains-append_left, Contains-append_right, Contains-push, Contains-push_cases}
 use Rattle.std.proofs.lemmas.Option.{same_Some}
 use Rattle.std.proofs.Math.Seq.{drop-append_seam, take-append_seam}
-use Rattle.snb_base.proofs.Laws.{contains_cases, contains_here, contains_there}
+use Rattle.snb_base.proofs.Laws.{contains_here, contains_there}
 use Rattle.snb_history.specs.declared.event.Event.{Event}
-use Rattle.snb_history.specs.declared.event.Event.TheVariants.{Start, Finish}
+use Rattle.snb_history.specs.declared.event.Event.TheVariants.{Finish}
 use Rattle.snb_schema.specs.declared.query.Query.{Query}
 use Rattle.snb_schema.specs.declared.row.Row.{Row}
 use Rattle.snb_history.specs.History.{started, starts}
@@ -21,7 +21,7 @@ use Rattle.snb_workers.specs.Replicas.{StandsFor, Taken}
 use Rattle.snb_workers.specs.Runs.{AreReplies, Asks, IsAnswered, IsReplied}
 use Rattle.snb_workers.specs.Turns.{IsDone, IsServed}
 use Rattle.snb_workers.proofs.PlanSteps.{ask_is_query, insert_is_no_query}
-use Rattle.snb_workers.proofs.TurnEvents.{front_within, was_started}
+use Rattle.snb_workers.proofs.TurnEvents.{was_started}
 
 -- ---- one reply more
 
@@ -71,10 +71,6 @@ all_stay : (base : List Row) (plan : Plan) (finishes h events more : List Event)
     All (IsAnswered base plan (finishes ++ events) (h ++ more)) replies
 all_stay base plan finishes h events more replies within each k d lt = stays_answered base plan finishes h events more _ (within k d lt) (each k d lt)
 
--- so it is where all the events of a legal history are meant
-pub fronts_within : (base : List Row) (plan : Plan) (h : List Event) (replies : List Answered) → IsLegal (schedule_of plan) 1 h → AreReplies base plan h h replies → AreWithin h replies
-fronts_within base plan h replies legal are k d lt = (let is = are.each k d lt in front_within (schedule_of plan) 1 h legal _ is.worker is.at _ is.finished)
-
 -- events without a Finish change no replies
 pub answered_more : (base : List Row) (plan : Plan) (finishes h events more : List Event) (replies : List Answered) → AreWithin h replies →
     ((k w moment front : ℕ) → ¬ Contains events (Finish k w moment front)) → AreReplies base plan finishes h replies → AreReplies base plan (finishes ++ events) (h ++ more) replies
@@ -87,14 +83,6 @@ answered_more base plan finishes h events more replies within none are =
         | inr late ↦ absurd (none k w moment front late)
       ];
     }
-
--- a Start changes no replies
-pub answered_at_start : (base : List Row) (plan : Plan) (finishes h more : List Event) (op worker at : ℕ) (replies : List Answered) → AreWithin h replies → AreReplies base plan finishes h replies →
-    AreReplies base plan (finishes ++ Start op worker at ∷ []) (h ++ more) replies
-answered_at_start base plan finishes h more op worker at replies within are = answered_more base plan finishes h (Start op worker at ∷ []) more replies within none are
-  where
-    none : (k w moment front : ℕ) → ¬ Contains (Start op worker at ∷ []) (Finish k w moment front)
-    none k w moment front c = elim (contains_cases (Start op worker at) [] (Finish k w moment front) c) [ inl same ↦ absurd cc | inr past ↦ (let l = past.1 in absurd (omega arith)) ]
 
 -- no reply is to an operation that hasn't started
 pub none_replied : (base : List Row) (plan : Plan) (workers : ℕ) (finishes g h : List Event) (op : ℕ) (replies : List Answered) → IsLegal (schedule_of plan) workers h → ((e : Event) → Contains finishes e → Contains h e) →

@@ -3,6 +3,7 @@
 #![tactic(auto)]
 
 pub mod counts;
+mod crew;
 pub mod done;
 pub mod law;
 pub mod miscount;

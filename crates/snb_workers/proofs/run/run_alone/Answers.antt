@@ -1,27 +1,28 @@
-use Rattle.std.proofs.Common.{[], ◌∙◌, ap, subst}
-use Rattle.snb_history.specs.Schedule.{Schedule}
-use Rattle.snb_workers.specs.declared.run.Turn.{Turn}
-use Rattle.snb_workers.specs.Turns.{TurnsTo}
-use Rattle.snb_workers.proofs.TurnLemmas.{begins, has_run}
+use Rattle.std.proofs.Common.{◌∙◌, ◌++◌, ◌∷◌, []}
+use Rattle.std.proofs.lemmas.Result.{IfOk-weaker}
+use Rattle.snb_workers.proofs.CrewRuns.{alone_ready, crew_of_one, run_of_more}
 use Rattle.snb_workers.proofs.run.run_alone.Goals as goal
 
-pub loop-init : goal.loop-init
-loop-init g c =
-    begins c.args.plan.now (g.C.Clock.fixed c.args.clock.now) c.args.base.now c.in_ok-book.book c.in_ok-replica.replica c.new-replies.result c.known-2.ensures c.known.ensures c.requires.closed
-    (c.in_ok-book.ensures ∙ ap (λ (s : Schedule). record { schedule = s; workers = 1; history = [] }) c.schedule.ensures) c.in_ok-replica.ensures c.new-replies.ensures
+pub run-requires-clause-ready : goal.run-requires-clause-ready
+run-requires-clause-ready g c = alone_ready c.in_ok-board.board c.in_ok-board.seats.items c.pop.new.self.items c.in-Some.seat c.in_ok-board.ensures.seats c.in_ok-board.ensures.board.1 c.in-Some.ensures.items
 
-pub loop-preserved : goal.loop-preserved
-loop-preserved g c =
-    subst (λ (turn : Turn). TurnsTo c.args.plan.now (g.C.Clock.fixed c.args.clock.now) c.args.base.now c.take_turn.new.book c.take_turn.new.replica c.take_turn.new.replies turn) c.in-More.is
-    (c.in_ok-take_turn.ensures c.args.base.now c.loop.invariant)
+pub outcome_of-requires : goal.outcome_of-requires
+outcome_of-requires g c = (
+  g.C.Clock.fixed c.args.clock.now,
+  c.args.base.now,
+  crew_of_one c.in_ok-board.board c.in_ok-board.seats.items c.pop.new.self.items c.in-Some.seat c.in_ok-board.ensures.seats c.in_ok-board.ensures.board.1 c.in-Some.ensures.items c.args.plan.now (g.C.Clock.fixed c.args.clock.now)
+      c.args.base.now c.run.result c.push.new.self.items (c.in_ok-board.ensures.board.0 ∙ c.schedule.ensures) c.known.ensures c.requires.closed c.run.ensures
+      (c.in_ok-push.ensures.items ∙ (λ i. c.in_ok-crew.ensures.items i ++ c.run.result ∷ [])),
+)
 
-pub returns-in-Over : goal.returns-in-Over
-returns-in-Over g c =
-    let over =
-    subst (λ (turn : Turn). TurnsTo c.args.plan.now (g.C.Clock.fixed c.args.clock.now) c.args.base.now c.take_turn.new.book c.take_turn.new.replica c.take_turn.new.replies turn) c.in-Over.is
-    (c.in_ok-take_turn.ensures c.args.base.now c.loop.invariant) in
+pub returns : goal.returns
+returns g c =
+    let crew =
+    crew_of_one c.in_ok-board.board c.in_ok-board.seats.items c.pop.new.self.items c.in-Some.seat c.in_ok-board.ensures.seats c.in_ok-board.ensures.board.1 c.in-Some.ensures.items c.args.plan.now (g.C.Clock.fixed c.args.clock.now)
+    c.args.base.now c.run.result c.push.new.self.items (c.in_ok-board.ensures.board.0 ∙ c.schedule.ensures) c.known.ensures c.requires.closed c.run.ensures
+    (c.in_ok-push.ensures.items ∙ (λ i. c.in_ok-crew.ensures.items i ++ c.run.result ∷ [])) in
     record {
-      ran = λ workers some.
-          has_run c.args.plan.now (g.C.Clock.fixed c.args.clock.now) c.args.base.now c.take_turn.new.book c.take_turn.new.replica c.take_turn.new.replies workers c.into_events.result.items c.into_graph.result
-          c.replay_is_welcome.ensures.last c.runs_wait.ensures over.0 over.1 c.into_events.ensures c.into_graph.ensures.value c.into_graph.ensures.sound some;
+      ran = IfOk-weaker c.outcome_of.result _ _
+          (λ o ran workers some. run_of_more c.args.plan.now (g.C.Clock.fixed c.args.clock.now) c.args.base.now o.events.items o.replies o.graph c.in_ok-board.board.workers workers c.in_ok-board.ensures.board.1 some
+          (ran (g.C.Clock.fixed c.args.clock.now) c.args.base.now crew)) c.outcome_of.ensures;
     }

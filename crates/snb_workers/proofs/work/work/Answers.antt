@@ -1,5 +1,5 @@
 use Rattle.std.proofs.Common.{◌∙◌, subst}
-use Rattle.snb_workers.specs.declared.run.Turn.{Turn}
+use Rattle.snb_workers.specs.declared.work.Turn.{Turn}
 use Rattle.snb_workers.specs.WorkTurns.{TurnsOn}
 use Rattle.snb_workers.proofs.WorkLemmas.{follows_halted, has_worked, later_halted, stopped, timely_halted}
 use Rattle.snb_workers.proofs.work.work.Goals as goal

@@ -1,7 +1,7 @@
 -- The replica has taken the events after those that it stood for.
 use Rattle.std.proofs.lemmas.Result.{on_ok_weaker}
 use Rattle.snb_workers.proofs.TurnEvents.{caught_up}
-use Rattle.snb_workers.proofs.run.catch_up.Goals as goal
+use Rattle.snb_workers.proofs.crew.catch_up.Goals as goal
 
 pub returns : goal.returns
 returns c =

@@ -1,8 +1,8 @@
 use Rattle.std.proofs.Common.{◌∙◌, refl, sym, subst}
 use Rattle.snb_workers.specs.declared.done.Answered.{Answered}
 use Rattle.snb_workers.specs.Turns.{IsDone}
-use Rattle.snb_workers.proofs.run.serve.Goals as goal
-use Rattle.snb_workers.proofs.run.serve.Goals.{in-Insert, in-Ask+in_ok-answer_text-in-Ask+in_ok-add-in-Ask}
+use Rattle.snb_workers.proofs.work.serve.Goals as goal
+use Rattle.snb_workers.proofs.work.serve.Goals.{in-Insert, in-Ask+in_ok-answer_text-in-Ask+in_ok-add-in-Ask}
 
 pub returns-clause-served : goal.returns-clause-served
 returns-clause-served c =
