@@ -1,7 +1,7 @@
 -- Facts on what a folder is refused for, and on what is read of it.
 use Rattle.std.proofs.Common.{◌≡◌, ℕ, false, ◌<◌, ◌≤◌, List, [], ◌∷◌, ◌++◌, Option, None, Some, Result, Ok, Err, Vec, refl, inl, inr, sym, subst, ap, ◌∙◌, arith}
 use Rattle.std.specs.declared.alloc.Global.{Global}
-use Rattle.std.specs.Result.{IfOk}
+use Rattle.std.specs.Result.{IfOk, IsErrAnd}
 use Rattle.snb_base.specs.Shelf.{Files}
 use Rattle.snb_input_files.specs.declared.load.Load.{Load}
 use Rattle.snb_input_files.specs.declared.load.Load.TheVariants.{Refused, ReadFault, Memory}
@@ -43,6 +43,11 @@ use Rattle.snb_validation_check.specs.CasesFile.{IsCasesAnswer, cases_checks}
 use Rattle.snb_validation_check.specs.Laws.{CasesRefuseOnce, CasesRefusedOrNot}
 use Rattle.snb_tool.specs.Endings.{IsTallyAnswer, IsInputAnswer, IsJudgedAnswer, IsMade, IsMadeAnswer, IsOpen, IsReplyAnswer, IsReplyLine}
 use Rattle.snb_tool.specs.Inputs.{AreBadCases, ArePlanned, AreTooMany, Found, IsNotClosed, after_dataset, after_streams, at_first, checks_of, plan_checks}
+
+-- what is so of a fault is so of the answer that passes it on
+pub passed : {A : Type 0} (P : Result A Load → Type 0) (answer : Result A Load) (load : Load) → IsErrAnd answer (λ e. e ≡ load) → P (Err load) → P answer
+passed P (Ok a) load same h = absurd same
+passed P (Err other) load same h = subst (λ (l : Load). P (Err l)) (sym same) h
 
 -- what is read of the files of one folder is one thing
 pub record AreOne : Type 0 where

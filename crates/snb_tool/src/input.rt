@@ -112,17 +112,8 @@ pub fn load_input<S: Shelf>(
     one_params();
     plan_is_one();
     let mut used = Used { bytes: 0, rows: 0 };
-    let graph = match load_dataset(alloc, shelf, folder, &mut used) {
-        Ok(graph) => graph,
-        Err(load) => return Err(load),
-    };
-    let lanes = match load_lanes(alloc, shelf, folder, &mut used) {
-        Ok(lanes) => lanes,
-        Err(load) => return Err(load),
-    };
-    let lists = match load_params(alloc, shelf, folder, &frequencies, &mut used) {
-        Ok(lists) => lists,
-        Err(load) => return Err(load),
-    };
+    let graph = load_dataset(alloc, shelf, folder, &mut used)?;
+    let lanes = load_lanes(alloc, shelf, folder, &mut used)?;
+    let lists = load_params(alloc, shelf, folder, &frequencies, &mut used)?;
     input_of(alloc, graph, lanes, lists, frequencies, ratio)
 }
