@@ -4,4 +4,3 @@ pub mod Laws
 pub mod Outcome
 pub mod Output
 pub mod Outside
-pub mod Calls

@@ -6,9 +6,8 @@ ghost use Rattle.snb_input_files.specs.Loading.{is_read_fault};
 ghost use Rattle.snb_tool_words.specs.declared.command.Command.{Command as AnyCommand};
 ghost use Rattle.snb_tool_words.specs.Commands.{IsLineOf, IsOtherLine, IsRunnable, folder_of};
 ghost use Rattle.snb_tool_words.specs.Words.{texts_of};
-ghost use Rattle.snb_tool.specs.Calls.{HasAnswered, IsComplete, IsCut, Refuses};
 ghost use Rattle.snb_tool.specs.Endings.{IsFinished};
-ghost use Rattle.snb_tool.specs.Outcome.{IsAnswer};
+ghost use Rattle.snb_tool.specs.Outcome.{HasAnswered, IsAnswer, Completes, IsCut, Refuses};
 ghost use Rattle.snb_tool.specs.Outside.{EndsAs, IsReadOnly, seen};
 
 use crate::audit::audit;
@@ -186,7 +185,7 @@ pub fn snb<
         ⊎ ((result ≡ 4) ⊎ ((result ≡ 5) ⊎ (result ≡ 6))) }
     ensures unwritten { ((result ≡ 4) ⊎ (result ≡ 6)) → O.written out.new ≡ O.written out.old }
     ensures cut { result ≡ 5 → IsCut (texts_of words.now) (seen S.Shelf O.Outbox C.Clock shelf.old shelf.new out.old out.new clock.now) }
-    ensures complete { IsComplete (texts_of words.now) (seen S.Shelf O.Outbox C.Clock shelf.old shelf.new out.old out.new clock.now) result }
+    ensures complete { Completes (texts_of words.now) (seen S.Shelf O.Outbox C.Clock shelf.old shelf.new out.old out.new clock.now) result }
     ensures refuses { Refuses (texts_of words.now) (seen S.Shelf O.Outbox C.Clock shelf.old shelf.new out.old out.new clock.now) result }
     ensures other_line { IsOtherLine (texts_of words.now) → ((result ≡ 2) ⊎ (result ≡ 5)) × (shelf.new ≡ shelf.old) }
     ensures unread { (command : AnyCommand) → IsLineOf (texts_of words.now) command → folder_of command ≡ None → shelf.new ≡ shelf.old }

@@ -21,5 +21,5 @@ pub loop-event-preserved : goal.loop-event-preserved
 loop-event-preserved c = (
   c.loop-event.invariant.0,
   one_more c.args.replies.now c.deref-event-items.result.now c.loop-event.event-index _ (header_line (header_of c.args.workers (length c.args.plan.now.operations))) _ _ c.logged.result c.loop-event-test.true
-  c.loop-event.invariant.1 (c.logged.ensures c.args.replies.now c.in_ok-counts.ensures.each) c.in_ok-write_lines.ensures.ok,
+      c.loop-event.invariant.1 (c.logged.ensures c.args.replies.now c.in_ok-counts.ensures.each) c.in_ok-write_lines.ensures.ok,
 )
