@@ -7,7 +7,6 @@ use Rattle.snb_base.specs.Outbox.{Written}
 use Rattle.snb_base.specs.Shelf.{Files}
 use Rattle.snb_schema.specs.declared.query.Query.{Query}
 use Rattle.snb_schema.specs.declared.query.Query.TheVariants as queries
-use Rattle.snb_schema.specs.declared.refusal.Refusal.{Refusal}
 use Rattle.snb_schema.specs.declared.row.Row.{Row}
 use Rattle.snb_schema.specs.Columns.{SpellsAll}
 use Rattle.snb_schema.specs.Frequencies.{FrequencyTable, frequency_at}
@@ -15,10 +14,8 @@ use Rattle.snb_schema.specs.Lines.{fields}
 use Rattle.snb_schema.specs.ParameterLines.{IsParams, query_columns, query_values}
 use Rattle.snb_schema.specs.Queries.{number_of_query}
 use Rattle.snb_schema.specs.QueryLists.{QueryLists, list_of}
-use Rattle.snb_schema.specs.ScreenTexts.{refusal_text}
 use Rattle.snb_input_lines.specs.Files.{AreEach}
 use Rattle.snb_streams.specs.FileLaws.{ParamsFiles}
-use Rattle.snb_input_files.specs.declared.load.Load.TheVariants.{Refused}
 use Rattle.snb_input_files.specs.Walk.{Before, Held}
 use Rattle.snb_loader.specs.Params.{AreParams}
 use Rattle.snb_plan.specs.Plans.{IsOfStreams, IsRead, IsUpdate, Operation, Plan, first_t, queries_in, query_from}
@@ -27,10 +24,8 @@ use Rattle.snb_tool_words.specs.declared.command.Command.TheVariants.{Expect}
 use Rattle.snb_validation_expect.specs.CaseTexts.{count_text}
 use Rattle.snb_validation_expect.specs.Expected.{HasExpected, HasWords, HaveWords}
 use Rattle.snb_tool.specs.declared.input.Input.{Input}
-use Rattle.snb_tool.specs.Endings.{AreCasesOf, IsInputAnswer}
+use Rattle.snb_tool.specs.Endings.{AreCasesOf, IsDoneWith, IsInputAnswer}
 use Rattle.snb_tool.specs.Inputs.{ArePlanned, after_streams}
-use Rattle.snb_tool.specs.Outcome.{IsCommandAnswer}
-use Rattle.snb_tool.specs.Output.{on_screen}
 
 -- ---- a parameter file
 
@@ -107,32 +102,24 @@ has_cases input graph plan n old texts same_graph same_plan streams start has si
 
 -- ---- what the command answers
 
-module _ (contents : Option Files) (folder : List ℕ) (ratio : ℕ) (table : FrequencyTable) (fixed : Option ℕ) (one : ratio ≡ 1000000) where
-  pub expect_refused : (r : Refusal) → IsInputAnswer contents folder ratio table (Err (Refused r)) → IsCommandAnswer (Expect folder table) contents fixed 3 (on_screen (refusal_text r))
-  expect_refused r h =
-      let k : IsInputAnswer contents folder 1000000 table (Err (Refused r)) = subst (λ (n : ℕ). IsInputAnswer contents folder n table (Err (Refused r))) one h in
-      (record { held = k.0; beside = None }, (k.1, tt), inr (r, k.2, (refl, refl)))
-
-  pub expect_done : ParamsFiles → (input : Input) (texts : Written) → IsInputAnswer contents folder ratio table (Ok input) → AreCasesOf input texts
-      → IsCommandAnswer (Expect folder table) contents fixed 0 texts
-  expect_done files input texts h are =
-      let k : IsInputAnswer contents folder 1000000 table (Ok input) = subst (λ (n : ℕ). IsInputAnswer contents folder n table (Ok input)) one h in (
-        record { held = k.0; beside = None },
-        (k.1, tt),
-        inl (
-          k.2.clean,
-          (
-            refl,
-            record {
-              graph = input.graph;
-              plan = input.plan;
-              input = k.2.is;
-              streams = are.streams;
-              cases = are.cases;
-              are = are.are;
-              read_back = are.read_back (planned_words files k.0 1000000 table input.plan k.2.is.planned);
-              shown = are.shown;
-            },
-          ),
-        ),
-      )
+pub expect_done : (contents : Option Files) (folder : List ℕ) (ratio : ℕ) (table : FrequencyTable) (fixed : Option ℕ) → ratio ≡ 1000000 → ParamsFiles → (input : Input) (texts : Written)
+    → IsInputAnswer contents folder ratio table (Ok input) → AreCasesOf input texts → IsDoneWith (Expect folder table) contents fixed 0 texts
+expect_done contents folder ratio table fixed one files input texts h are =
+    let k : IsInputAnswer contents folder 1000000 table (Ok input) = subst (λ (n : ℕ). IsInputAnswer contents folder n table (Ok input)) one h in (
+      record { held = k.0; beside = None },
+      (k.1, tt),
+      k.2.clean,
+      (
+        refl,
+        record {
+          graph = input.graph;
+          plan = input.plan;
+          input = k.2.is;
+          streams = are.streams;
+          cases = are.cases;
+          are = are.are;
+          read_back = are.read_back (planned_words files k.0 1000000 table input.plan k.2.is.planned);
+          shown = are.shown;
+        },
+      ),
+    )

@@ -1,7 +1,7 @@
 -- Facts on what a folder is refused for, and on what is read of it.
 use Rattle.std.proofs.Common.{◌≡◌, ℕ, false, ◌<◌, ◌≤◌, List, [], ◌∷◌, ◌++◌, Option, None, Some, Result, Ok, Err, Vec, refl, inl, inr, sym, subst, ap, ◌∙◌, arith}
 use Rattle.std.specs.declared.alloc.Global.{Global}
-use Rattle.std.specs.Result.{IfOk}
+use Rattle.std.specs.Result.{IfOk, IsErrAnd, MatchResult, OnOk}
 use Rattle.snb_base.specs.Shelf.{Files}
 use Rattle.snb_input_files.specs.declared.load.Load.{Load}
 use Rattle.snb_input_files.specs.declared.load.Load.TheVariants.{Refused, ReadFault, Memory}
@@ -19,7 +19,9 @@ use Rattle.snb_loader.specs.Params.{AreParams, IsParamsAnswer, params_checks}
 use Rattle.snb_loader.proofs.Laws.{SameLanes, SameParams, dataset_below, lanes_below, lanes_from, once_append, once_single, params_from}
 use Rattle.snb_plan.specs.Closed.{IsClosed, IsFirstWrong}
 use Rattle.snb_plan.specs.PlanLaws.{PlanIsOne}
-use Rattle.snb_plan.specs.Plans.{IsPlan, Plan, read_count, updates_in}
+use Rattle.snb_plan.specs.declared.plan.PlanFault.{PlanFault}
+use Rattle.snb_plan.specs.declared.plan.PlanFault.TheVariants as plan_faults
+use Rattle.snb_plan.specs.Plans.{IsPlan, OnRefused, Plan, read_count, updates_in}
 use Rattle.snb_plan.proofs.Laws.{closed_is_one}
 use Rattle.snb_schema.specs.declared.limits.TheConstants.{MAX_READS}
 use Rattle.snb_schema.specs.declared.query.Query.{Query}
@@ -41,8 +43,13 @@ use Rattle.snb_auditor_log.specs.declared.verdict.AuditVerdict.{AuditVerdict}
 use Rattle.snb_validation_check.specs.declared.text.Tally.{Tally}
 use Rattle.snb_validation_check.specs.CasesFile.{IsCasesAnswer, cases_checks}
 use Rattle.snb_validation_check.specs.Laws.{CasesRefuseOnce, CasesRefusedOrNot}
-use Rattle.snb_tool.specs.Endings.{IsTallyAnswer, IsInputAnswer, IsJudgedAnswer, IsMade, IsMadeAnswer, IsOpen, IsReplyAnswer, IsReplyLine}
+use Rattle.snb_tool.specs.Endings.{IsTallyAnswer, IsInputAnswer, IsJudgedAnswer, IsMade, IsMadeAnswer, IsOpen, IsReplyAnswer, IsReplyLine, load_for}
 use Rattle.snb_tool.specs.Inputs.{AreBadCases, ArePlanned, AreTooMany, Found, IsNotClosed, after_dataset, after_streams, at_first, checks_of, plan_checks}
+
+-- what is so of a fault is so of the answer that passes it on
+pub passed : {A : Type 0} (P : Result A Load → Type 0) (answer : Result A Load) (load : Load) → IsErrAnd answer (λ e. e ≡ load) → P (Err load) → P answer
+passed P (Ok a) load same h = absurd same
+passed P (Err other) load same h = subst (λ (l : Load). P (Err l)) (sym same) h
 
 -- what is read of the files of one folder is one thing
 pub record AreOne : Type 0 where
@@ -329,7 +336,25 @@ module _ (stages : StagesJoin) (contents : Option Files) (folder : List ℕ) whe
 
 -- ---- of an input that was made
 
+-- what is so of a plan that was made
+pub made_plan : (P : Plan → Type 0) (made : Result Plan PlanFault) (plan : Plan) → MatchResult made (λ x. ◌≡◌ {A = Result Plan Load} (Ok plan) (Ok x)) (λ e. ⊥) → IfOk made P → P plan
+made_plan P (Ok x) plan same p = (let e : x ≡ plan = cc in subst P e p)
+made_plan P (Err e) plan same p = absurd same
+
+pub made_few : {Q : Type 0} (made : Result Plan PlanFault) (plan : Plan) → MatchResult made (λ x. ◌≡◌ {A = Result Plan Load} (Ok plan) (Ok x)) (λ e. ⊥) → OnOk made Q → Q
+made_few (Ok x) plan same q = q
+made_few (Err e) plan same q = absurd same
+
 module _ (graph : List Row) (lanes : LineLanes) (lists : QueryLists) (table : FrequencyTable) (ratio : ℕ) where
+  -- or isn't, since the plan isn't closed
+  pub open_made : (plan : Plan) (closed : Result (Unit {0}) PlanFault) (load : Load) → IsPlan lanes lists table ratio plan → read_count table (update_count lanes) ≤ MAX_READS
+      → OnRefused closed (IsFirstWrong (HoldsKey graph) (updates_in plan)) → MatchResult closed (λ x. ◌≡◌ {A = Result (Unit {0}) Load} (Err load) (Ok x)) (λ e. load ≡ load_for e) → IsMadeAnswer graph lanes lists table ratio (Err load)
+  open_made plan (Ok x) load is few wrong same = absurd cc
+  open_made plan (Err (plan_faults.Refused r)) load is few wrong same =
+      subst (λ (l : Load). IsMadeAnswer graph lanes lists table ratio (Err l)) (sym same) (inr (record { plan = plan; is_plan = is; few = few; wrong = wrong }))
+  open_made plan (Err plan_faults.Memory) load is few wrong same =
+      subst (λ (l : Load). IsMadeAnswer graph lanes lists table ratio (Err l)) (sym same) tt
+
   pub made_closed : (result : Result Input Load) → IsMadeAnswer graph lanes lists table ratio result → IfOk result (λ i. IsClosed (HoldsKey i.graph) (updates_in i.plan))
   made_closed (Ok input) h = subst (λ (g : List Row). IsClosed (HoldsKey g) (updates_in input.plan)) (sym h.same) h.closed
   made_closed (Err load) h = tt

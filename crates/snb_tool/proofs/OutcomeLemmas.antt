@@ -3,13 +3,14 @@ use Rattle.std.proofs.Common.{◌≡◌, ℕ, ◌+◌, ◌⊎◌, ◌≤◌, Lis
 use Rattle.std.proofs.lemmas.List.Sorted.{length_permutation}
 use Rattle.std.specs.declared.alloc.Global.{Global}
 use Rattle.snb_base.specs.Outbox.{Rooms, Written}
-use Rattle.snb_base.specs.Shelf.{Files, Rose}
+use Rattle.snb_base.specs.Shelf.{Counts, Files, Rose}
 use Rattle.snb_runlog.specs.Laws.{ReadsBack}
 use Rattle.snb_schema.specs.declared.query.Query.{Query}
 use Rattle.snb_schema.specs.declared.refusal.Refusal.{Refusal}
-use Rattle.snb_input_files.specs.declared.load.Load.TheVariants.{Refused}
-use Rattle.snb_input_files.specs.Loading.{IsTold}
-use Rattle.std.specs.Prelude.{IfSome}
+use Rattle.snb_input_files.specs.declared.load.Load.{Load}
+use Rattle.snb_input_files.specs.declared.load.Load.TheVariants as loads
+use Rattle.snb_input_files.specs.Loading.{IsTold, is_read_fault}
+use Rattle.std.specs.Prelude.{IfSome, ◌≢◌, Result}
 use Rattle.snb_schema.specs.declared.row.Row.{Row}
 use Rattle.snb_schema.specs.Frequencies.{FrequencyTable}
 use Rattle.snb_history.specs.RunTexts.{header_of, log_text}
@@ -19,51 +20,35 @@ use Rattle.snb_graph_model.specs.Graphs.{HasGained}
 use Rattle.snb_plan.specs.Plans.{Plan, queries_in, updates_in}
 use Rattle.snb_workers_replay.specs.Replay.{all_rows}
 use Rattle.snb_tool_texts.specs.Answers.{answers_text}
-use Rattle.snb_tool_words.specs.declared.command.Command.TheVariants.{Audit, Check, Run, Read, Trial, Validate}
+use Rattle.snb_tool_words.specs.declared.command.Command.{Command}
+use Rattle.snb_tool_words.specs.declared.command.Command.TheVariants.{Audit, Check, Expect, Run, Read, Trial, Validate}
 use Rattle.snb_workers.specs.Counts.{logged_of}
 use Rattle.snb_workers.specs.declared.run.Outcome.{Outcome}
 use Rattle.snb_workers.specs.Runs.{HasRun}
+use Rattle.snb_tool.specs.declared.deliver.Finished.{Finished}
 use Rattle.snb_tool.specs.declared.input.Input.{Input}
 use Rattle.snb_auditor_log.specs.declared.verdict.AuditVerdict.{AuditVerdict}
 use Rattle.snb_auditor_log.specs.VerdictTexts.{audit_status, audit_text}
 use Rattle.snb_validation_check.specs.declared.text.Tally.{Tally}
 use Rattle.snb_validation_check.specs.CheckTexts.{tally_status, tally_text}
-use Rattle.snb_tool.specs.Endings.{AreTexts, IsInputAnswer, IsJudgedAnswer, IsReplyAnswer, IsTallyAnswer, IsTrialInput, Shows}
+use Rattle.snb_tool.specs.Endings.{AreTexts, Delivers, Finishes, IsDoneWith, IsFinished, IsInputAnswer, IsJudgedAnswer, IsReplyAnswer, IsTallyAnswer, IsTrialInput, bytes_of}
 use Rattle.snb_tool.specs.Outcome.{IsCommandAnswer, IsLeft, check_of}
-use Rattle.snb_tool.specs.Output.{Fit, HasBegun, IsWrittenSoFar, Wrote, on_screen}
+use Rattle.snb_tool.specs.Output.{HasBegun, on_screen}
 use Rattle.snb_tool.specs.Outside.{Ends, OutOfMemory, Outside, ReadFault, Whole, WriteFault}
-
--- a text that was cut
-pub show_cut : (text : List ℕ) (ready : Rooms → Type 0) (old new : Option Written) → (part : Written) × IsWrittenSoFar part (on_screen text) × Wrote old new part
-    → ((rooms : Rooms) → ready rooms → Fit (on_screen text) rooms → ⊥) → HasBegun ready old new (λ texts. texts ≡ on_screen text)
-show_cut text ready old new p sure = record {
-  texts = on_screen text;
-  part = p.0;
-  are = refl;
-  front = p.1;
-  wrote = p.2;
-  unsure = sure;
-}
 
 -- a front of texts of which this holds is one of texts of which that holds, where the first gives the second
 begun_weaker : (ready : Rooms → Type 0) (old new : Option Written) (P Q : Written → Type 0) → ((texts : Written) → P texts → Q texts) → HasBegun ready old new P → HasBegun ready old new Q
 begun_weaker ready old new P Q f b = record { texts = b.texts; part = b.part; are = f b.texts b.are; front = b.front; wrote = b.wrote; unsure = b.unsure }
 
 module _ (P : Option Files → Option ℕ → ℕ → Written → Type 0) (old new : Outside) where
-  -- a call that shows a text that belongs to its status
-  pub shows_ends : (status : ℕ) (text : List ℕ) (result : ℕ) → P old.contents old.fixed status (on_screen text)
-      → Shows status text (Rose old.write_faults new.write_faults) old.ready old.written new.written result → Ends P old new result
-  shows_ends status text result b (inl h) = subst (λ (r : ℕ). Ends P old new r) (sym h.0) (Whole (on_screen text, b, h.1))
-  shows_ends status text result b (inr h) =
+  -- a call that delivers texts that belong to its status
+  pub delivers_ends : (status : ℕ) (texts : Written) (result : ℕ) → P old.contents old.fixed status texts
+      → Delivers status texts (Rose old.write_faults new.write_faults) old.ready old.written new.written result → Ends P old new result
+  delivers_ends status texts result b (inl h) = subst (λ (r : ℕ). Ends P old new r) (sym h.0) (Whole (texts, b, h.1))
+  delivers_ends status texts result b (inr h) =
       WriteFault status h.0 h.1
-      (begun_weaker old.ready old.written new.written (λ texts. texts ≡ on_screen text) (P old.contents old.fixed status)
-      (λ texts e. subst (λ (t : Written). P old.contents old.fixed status t) (sym e) b) h.2)
-
-  -- a call that shows it, where memory suffices
-  pub shows_or_not : (status : ℕ) (text : List ℕ) (result : ℕ) → P old.contents old.fixed status (on_screen text)
-      → Shows status text (Rose old.write_faults new.write_faults) old.ready old.written new.written result ⊎ ((result ≡ 6) × (new.written ≡ old.written)) → Ends P old new result
-  shows_or_not status text result b (inl h) = shows_ends status text result b h
-  shows_or_not status text result b (inr h) = OutOfMemory h.0 h.1
+      (begun_weaker old.ready old.written new.written (λ all. all ≡ texts) (P old.contents old.fixed status)
+      (λ all e. subst (λ (t : Written). P old.contents old.fixed status t) (sym e) b) h.2)
 
   -- what belongs to a status by one rule may by another
   pub ends_weaker : (Q : Option Files → Option ℕ → ℕ → Written → Type 0) (result : ℕ)
@@ -73,10 +58,56 @@ module _ (P : Option Files → Option ℕ → ℕ → Written → Type 0) (old n
   ends_weaker Q result f (WriteFault s e r h) = WriteFault s e r (begun_weaker old.ready old.written new.written (P old.contents old.fixed s) (Q old.contents old.fixed s) (f s) h)
   ends_weaker Q result f (OutOfMemory e n) = OutOfMemory e n
 
-  -- texts that were written up to a failed write
-  pub run_cut : (texts : Written) → P old.contents old.fixed 0 texts → Rose old.write_faults new.write_faults
-      → (part : Written) × IsWrittenSoFar part texts × Wrote old.written new.written part → ((rooms : Rooms) → old.ready rooms → Fit texts rooms → ⊥) → Ends P old new 5
-  run_cut texts b failed p sure = WriteFault 0 refl failed (record { texts = texts; part = p.0; are = b; front = p.1; wrote = p.2; unsure = sure })
+-- a call that delivers what a command answers
+module _ (command : Command) (old new : Outside) where
+  pub finished_ends : (answer : Result Finished Load) (result : ℕ) → IsFinished command old.contents old.fixed answer → Counts (is_read_fault answer) old.read_faults new.read_faults
+      → Finishes answer (Rose old.write_faults new.write_faults) old.ready old.written new.written result → Ends (IsCommandAnswer command) old new result
+  finished_ends (Ok f) result is counts d =
+      delivers_ends (IsCommandAnswer command) old new f.status (bytes_of f.output) result (is.0, is.1, inl (is.2, is.3)) d
+  finished_ends (Err (loads.Refused r)) result is counts (inl d) =
+      delivers_ends (IsCommandAnswer command) old new 3 (on_screen (refusal_text r)) result (is.0, is.1, inr (r, is.2, (refl, refl))) d
+  finished_ends (Err (loads.Refused r)) result is counts (inr d) = OutOfMemory d.0 d.1
+  finished_ends (Err loads.ReadFault) result is counts d = ReadFault d.0 counts d.1
+  finished_ends (Err loads.Memory) result is counts d = OutOfMemory d.0 d.1
+
+-- it counts a failed read by status 4 alone
+pub finished_calm : (answer : Result Finished Load) (wrote : Type 0) (ready : Rooms → Type 0) (old new : Option Written) (result faults faults_after : ℕ) → Finishes answer wrote ready old new result
+    → Counts (is_read_fault answer) faults faults_after → result ≢ 4 → faults_after ≡ faults
+finished_calm (Ok f) wrote ready old new result faults faults_after d counts other = counts
+finished_calm (Err (loads.Refused r)) wrote ready old new result faults faults_after d counts other = counts
+finished_calm (Err loads.ReadFault) wrote ready old new result faults faults_after d counts other = absurd (other d.0)
+finished_calm (Err loads.Memory) wrote ready old new result faults faults_after d counts other = counts
+
+-- ---- what a command answers where it isn't done
+
+-- a command whose files are those of a plan answers what the loading of its input does
+module _ (contents : Option Files) (folder : List ℕ) (table : FrequencyTable) (fixed : Option ℕ) where
+  pub run_not : (workers ratio : ℕ) (load : Load) → IsInputAnswer contents folder ratio table (Err load) → IsFinished (Run folder workers ratio table) contents fixed (Err load)
+  run_not workers ratio (loads.Refused r) h = (record { held = h.0; beside = None }, (h.1, tt), h.2)
+  run_not workers ratio loads.ReadFault h = tt
+  run_not workers ratio loads.Memory h = tt
+
+  check_by : (load : Load) → IsInputAnswer contents folder 1000000 table (Err load) → IsFinished (Check folder table) contents fixed (Err load)
+  check_by (loads.Refused r) h = (record { held = h.0; beside = None }, (h.1, tt), h.2)
+  check_by loads.ReadFault h = tt
+  check_by loads.Memory h = tt
+
+  expect_by : (load : Load) → IsInputAnswer contents folder 1000000 table (Err load) → IsFinished (Expect folder table) contents fixed (Err load)
+  expect_by (loads.Refused r) h = (record { held = h.0; beside = None }, (h.1, tt), h.2)
+  expect_by loads.ReadFault h = tt
+  expect_by loads.Memory h = tt
+
+  pub check_not : (ratio : ℕ) → ratio ≡ 1000000 → (load : Load) → IsInputAnswer contents folder ratio table (Err load) → IsFinished (Check folder table) contents fixed (Err load)
+  check_not ratio one load h = check_by load (subst (λ (n : ℕ). IsInputAnswer contents folder n table (Err load)) one h)
+
+  pub expect_not : (ratio : ℕ) → ratio ≡ 1000000 → (load : Load) → IsInputAnswer contents folder ratio table (Err load) → IsFinished (Expect folder table) contents fixed (Err load)
+  expect_not ratio one load h = expect_by load (subst (λ (n : ℕ). IsInputAnswer contents folder n table (Err load)) one h)
+
+pub read_not : (contents : Option Files) (folder : List ℕ) (query : Query) (fixed : Option ℕ) (load : Load) → IsReplyAnswer contents folder query (Err load)
+    → IsFinished (Read folder query) contents fixed (Err load)
+read_not contents folder query fixed (loads.Refused r) h = (record { held = h.0; beside = None }, (h.1, tt), h.2)
+read_not contents folder query fixed loads.ReadFault h = tt
+read_not contents folder query fixed loads.Memory h = tt
 
 -- ---- the texts of a command
 
@@ -84,31 +115,21 @@ module _ (P : Option Files → Option ℕ → ℕ → Written → Type 0) (old n
 rows_after : (old more new : List Row) → HasGained old more new → length new ≡ length old + length more
 rows_after old more new gained = sym (length_permutation new (old ++ more) gained.rows) ∙ length-append old more
 
-pub check_refused : (contents : Option Files) (folder : List ℕ) (ratio : ℕ) (table : FrequencyTable) (fixed : Option ℕ) (r : Refusal) → ratio ≡ 1000000
-    → IsInputAnswer contents folder ratio table (Err (Refused r)) → IsCommandAnswer (Check folder table) contents fixed 3 (on_screen (refusal_text r))
-check_refused contents folder ratio table fixed r one h =
-    let k : IsInputAnswer contents folder 1000000 table (Err (Refused r)) = subst (λ (n : ℕ). IsInputAnswer contents folder n table (Err (Refused r))) one h in
-    (record { held = k.0; beside = None }, (k.1, tt), inr (r, k.2, (refl, refl)))
-
-pub check_done : (contents : Option Files) (folder : List ℕ) (ratio : ℕ) (table : FrequencyTable) (fixed : Option ℕ) (input : Input) (text : List ℕ) → ratio ≡ 1000000
-    → IsInputAnswer contents folder ratio table (Ok input) → text ≡ check_of input.graph input.plan → IsCommandAnswer (Check folder table) contents fixed 0 (on_screen text)
-check_done contents folder ratio table fixed input text one h e =
+pub check_done : (contents : Option Files) (folder : List ℕ) (ratio : ℕ) (table : FrequencyTable) (fixed : Option ℕ) (input : Input) (status : ℕ) (texts : Written) → ratio ≡ 1000000
+    → IsInputAnswer contents folder ratio table (Ok input) → status ≡ 0 → texts ≡ on_screen (check_of input.graph input.plan) → IsDoneWith (Check folder table) contents fixed status texts
+check_done contents folder ratio table fixed input status texts one h s e =
     let k : IsInputAnswer contents folder 1000000 table (Ok input) = subst (λ (n : ℕ). IsInputAnswer contents folder n table (Ok input)) one h in
-    (record { held = k.0; beside = None }, (k.1, tt), inl (k.2.clean, (refl, record { graph = input.graph; plan = input.plan; input = k.2.is; shown = ap on_screen e })))
-
-pub run_refused : (contents : Option Files) (folder : List ℕ) (workers ratio : ℕ) (table : FrequencyTable) (fixed : Option ℕ) (r : Refusal) → IsInputAnswer contents folder ratio table (Err (Refused r))
-    → IsCommandAnswer (Run folder workers ratio table) contents fixed 3 (on_screen (refusal_text r))
-run_refused contents folder workers ratio table fixed r h = (record { held = h.0; beside = None }, (h.1, tt), inr (r, h.2, (refl, refl)))
+    (record { held = k.0; beside = None }, (k.1, tt), k.2.clean, (s, record { graph = input.graph; plan = input.plan; input = k.2.is; shown = e }))
 
 pub run_done : (contents : Option Files) (folder : List ℕ) (workers ratio : ℕ) (table : FrequencyTable) (fixed : Option ℕ) (input : Input) (texts : Written) → IsInputAnswer contents folder ratio table (Ok input)
-    → IsLeft workers input.graph input.plan fixed texts → IsCommandAnswer (Run folder workers ratio table) contents fixed 0 texts
+    → IsLeft workers input.graph input.plan fixed texts → IsDoneWith (Run folder workers ratio table) contents fixed 0 texts
 run_done contents folder workers ratio table fixed input texts h left =
-    (record { held = h.0; beside = None }, (h.1, tt), inl (h.2.clean, (refl, record { graph = input.graph; plan = input.plan; input = h.2.is; left = left })))
+    (record { held = h.0; beside = None }, (h.1, tt), h.2.clean, (refl, record { graph = input.graph; plan = input.plan; input = h.2.is; left = left }))
 
 pub trial_done : (contents : Option Files) (size workers : ℕ) (fixed : Option ℕ) (input : Input) (texts : Written) → IsTrialInput size input → IsLeft workers input.graph input.plan fixed texts
-    → IsCommandAnswer (Trial size workers) contents fixed 0 texts
+    → IsDoneWith (Trial size workers) contents fixed 0 texts
 trial_done contents size workers fixed input texts is left =
-    (record { held = λ file. None; beside = None }, (tt, tt), inl (tt, (refl, record { plan = input.plan; is_plan = is.is_plan; left = subst (λ (g : List Row). IsLeft workers g input.plan fixed texts) is.same left })))
+    (record { held = λ file. None; beside = None }, (tt, tt), tt, (refl, record { plan = input.plan; is_plan = is.is_plan; left = subst (λ (g : List Row). IsLeft workers g input.plan fixed texts) is.same left }))
 
 -- the texts of what a run left, where the final graph has the rows of the dataset and of each insert
 pub run_shown : (workers : ℕ) (input : Input) (fixed : Option ℕ) (o : Outcome) (texts : Written) → HasRun workers input.plan fixed input.graph o.events.items o.replies o.graph
@@ -128,27 +149,21 @@ run_shown workers input fixed o texts ran back shown = record {
   });
 }
 
-pub read_refused : (contents : Option Files) (folder : List ℕ) (query : Query) (fixed : Option ℕ) (r : Refusal) → IsReplyAnswer contents folder query (Err (Refused r))
-    → IsCommandAnswer (Read folder query) contents fixed 3 (on_screen (refusal_text r))
-read_refused contents folder query fixed r h = (record { held = h.0; beside = None }, (h.1, tt), inr (r, h.2, (refl, refl)))
-
-pub read_done : (contents : Option Files) (folder : List ℕ) (query : Query) (fixed : Option ℕ) (line : Vec ℕ Global) (text : List ℕ) → IsReplyAnswer contents folder query (Ok line) → text ≡ line.items
-    → IsCommandAnswer (Read folder query) contents fixed 0 (on_screen text)
-read_done contents folder query fixed line text h e = (
+pub read_done : (contents : Option Files) (folder : List ℕ) (query : Query) (fixed : Option ℕ) (line : Vec ℕ Global) (status : ℕ) (texts : Written) → IsReplyAnswer contents folder query (Ok line)
+    → status ≡ 0 → texts ≡ on_screen line.items → IsDoneWith (Read folder query) contents fixed status texts
+read_done contents folder query fixed line status texts h s e = (
   record { held = h.0; beside = None },
   (h.1, tt),
-  inl (
-    h.2.dataset.clean,
-    (
-      refl,
-      record {
-        graph = h.2.graph;
-        reply = h.2.shown.reply;
-        dataset = h.2.dataset;
-        replies = h.2.shown.replies;
-        shown = ap on_screen (e ∙ h.2.shown.shown);
-      },
-    ),
+  h.2.dataset.clean,
+  (
+    s,
+    record {
+      graph = h.2.graph;
+      reply = h.2.shown.reply;
+      dataset = h.2.dataset;
+      replies = h.2.shown.replies;
+      shown = e ∙ ap on_screen h.2.shown.shown;
+    },
   ),
 )
 
@@ -158,26 +173,31 @@ beside_told None name held told = tt
 beside_told (Some files) name held told = sym told
 
 module _ (contents : Option Files) (folder log : List ℕ) (ratio : ℕ) (table : FrequencyTable) (fixed : Option ℕ) where
-  pub audit_refused : (r : Refusal) → IsJudgedAnswer contents folder log ratio table (Err (Refused r))
-      → IsCommandAnswer (Audit folder log ratio table) contents fixed 3 (on_screen (refusal_text r))
-  audit_refused r h = (record { held = h.0; beside = h.1 }, (h.2, beside_told contents log h.1 h.3), inr (r, h.4, (refl, refl)))
+  pub audit_not : (load : Load) → IsJudgedAnswer contents folder log ratio table (Err load) → IsFinished (Audit folder log ratio table) contents fixed (Err load)
+  audit_not (loads.Refused r) h = (record { held = h.0; beside = h.1 }, (h.2, beside_told contents log h.1 h.3), h.4)
+  audit_not loads.ReadFault h = tt
+  audit_not loads.Memory h = tt
 
-  pub audit_done : (verdict : AuditVerdict) (text : List ℕ) → IsJudgedAnswer contents folder log ratio table (Ok verdict) → text ≡ audit_text verdict
-      → IsCommandAnswer (Audit folder log ratio table) contents fixed (audit_status verdict) (on_screen text)
-  audit_done verdict text h e = (
+  pub audit_done : (verdict : AuditVerdict) (status : ℕ) (texts : Written) → IsJudgedAnswer contents folder log ratio table (Ok verdict) → status ≡ audit_status verdict
+      → texts ≡ on_screen (audit_text verdict) → IsDoneWith (Audit folder log ratio table) contents fixed status texts
+  audit_done verdict status texts h s e = (
     record { held = h.0; beside = h.1 },
     (h.2, beside_told contents log h.1 h.3),
-    inl (h.4, record { verdict = verdict; judged = h.5; status_is = refl; shown = ap on_screen e }),
+    h.4,
+    record { verdict = verdict; judged = h.5; status_is = s; shown = e },
   )
 
 module _ (contents : Option Files) (folder cases : List ℕ) (fixed : Option ℕ) where
-  pub validate_refused : (r : Refusal) → IsTallyAnswer contents folder cases (Err (Refused r)) → IsCommandAnswer (Validate folder cases) contents fixed 3 (on_screen (refusal_text r))
-  validate_refused r h = (record { held = h.0; beside = h.1 }, (h.2, beside_told contents cases h.1 h.3), inr (r, h.4, (refl, refl)))
+  pub validate_not : (load : Load) → IsTallyAnswer contents folder cases (Err load) → IsFinished (Validate folder cases) contents fixed (Err load)
+  validate_not (loads.Refused r) h = (record { held = h.0; beside = h.1 }, (h.2, beside_told contents cases h.1 h.3), h.4)
+  validate_not loads.ReadFault h = tt
+  validate_not loads.Memory h = tt
 
-  pub validate_done : (tally : Tally) (text : List ℕ) → IsTallyAnswer contents folder cases (Ok tally) → text ≡ tally_text tally
-      → IsCommandAnswer (Validate folder cases) contents fixed (tally_status tally) (on_screen text)
-  validate_done tally text h e = (
+  pub validate_done : (tally : Tally) (status : ℕ) (texts : Written) → IsTallyAnswer contents folder cases (Ok tally) → status ≡ tally_status tally → texts ≡ on_screen (tally_text tally)
+      → IsDoneWith (Validate folder cases) contents fixed status texts
+  validate_done tally status texts h s e = (
     record { held = h.0; beside = h.1 },
     (h.2, beside_told contents cases h.1 h.3),
-    inl (h.4.clean, record { graph = h.4.graph; dataset = h.4.dataset; tally = tally; found = h.4.found; status_is = refl; shown = ap on_screen e }),
+    h.4.clean,
+    record { graph = h.4.graph; dataset = h.4.dataset; tally = tally; found = h.4.found; status_is = s; shown = e },
   )

@@ -23,7 +23,7 @@ use Rattle.snb_schema.specs.Frequencies.{FrequencyTable}
 use Rattle.snb_schema.specs.LineLanes.{LineLanes, update_count}
 use Rattle.snb_schema.specs.QueryLists.{QueryLists}
 use Rattle.snb_history.specs.RunTexts.{log_text}
-use Rattle.snb_schema.specs.ScreenTexts.{summary_text}
+use Rattle.snb_schema.specs.ScreenTexts.{refusal_text, summary_text}
 use Rattle.snb_graph_model.specs.FinalText.{final_text}
 use Rattle.snb_graph_model.specs.Graphs.{HoldsKey}
 use Rattle.snb_tool_texts.specs.Answers.{answers_text, bytes_in}
@@ -33,6 +33,8 @@ use Rattle.snb_plan.specs.Closed.{IsClosed, IsFirstWrong}
 use Rattle.snb_plan.specs.Plans.{IsOfStreams, IsPlan, Plan, queries_in, read_count, updates_in}
 use Rattle.snb_workers.specs.Counts.{logged_of}
 use Rattle.snb_workers.specs.declared.run.Outcome.{Outcome as RunOutcome}
+use Rattle.snb_tool_words.specs.declared.command.Command.{Command}
+use Rattle.snb_tool.specs.declared.deliver.Finished.{Finished}
 use Rattle.snb_tool.specs.declared.deliver.Output.{Output}
 use Rattle.snb_tool.specs.declared.input.Input.{Input}
 use Rattle.snb_validation_cases.specs.declared.case.Case.{Case}
@@ -41,15 +43,42 @@ use Rattle.snb_validation_expect.specs.Expected.{AreExpected, AreReadBack, HaveW
 use Rattle.snb_validation_check.specs.CasesFile.{IsTally}
 use Rattle.snb_graph_model.specs.Soundness.{Sound}
 use Rattle.snb_trial.specs.Trial.{dataset, lanes, least_ratio, lists, read_frequencies}
-use Rattle.snb_tool.specs.Inputs.{AreBadCases, IsInput, at_first, plan_checks}
-use Rattle.snb_tool.specs.Outcome.{IsJudged, expected_texts, reply_line}
+use Rattle.snb_tool.specs.Inputs.{AreBadCases, Found, IsFoundTold, IsInput, at_first, checks_of, plan_checks}
+use Rattle.snb_tool.specs.Outcome.{IsDone, IsJudged, expected_texts, reply_line}
 use Rattle.snb_tool.specs.Output.{HasBegun, Wrote, on_screen}
 
--- a text is shown whole, with this status; or a front of it, where the outbox failed, which wasn't sure of all of it
-abbrev pub Shows : ℕ → List ℕ → Type 0 → (Rooms → Type 0) → Option Written → Option Written → ℕ → Type 0
-Shows status text wrote ready old new result =
-    ((result ≡ status) × Wrote old new (on_screen text))
-    ⊎ ((result ≡ 5) × wrote × HasBegun ready old new (λ texts. texts ≡ on_screen text))
+-- the bytes of each channel
+abbrev pub bytes_of : Output → Written
+bytes_of o = record { screen = o.screen.items; log = o.log.items; answers = bytes_in o.answers.items; finals = o.finals.items; cases = o.cases.items }
+
+-- texts are written whole, with this status; or a front of them, where the outbox failed, which wasn't sure of all of them
+abbrev pub Delivers : ℕ → Written → Type 0 → (Rooms → Type 0) → Option Written → Option Written → ℕ → Type 0
+Delivers status texts wrote ready old new result =
+    ((result ≡ status) × Wrote old new texts)
+    ⊎ ((result ≡ 5) × wrote × HasBegun ready old new (λ all. all ≡ texts))
+
+-- how what a command answers is delivered: the texts of one that is done with its status; what is wrong first with 3, where memory suffices; and
+-- nothing after a failed read, with 4, and for want of memory, with 6
+abbrev pub Finishes : Result Finished Load → Type 0 → (Rooms → Type 0) → Option Written → Option Written → ℕ → Type 0
+Finishes (Ok f) wrote ready old new result = Delivers f.status (bytes_of f.output) wrote ready old new result
+Finishes (Err (Refused r)) wrote ready old new result =
+    Delivers 3 (on_screen (refusal_text r)) wrote ready old new result ⊎ ((result ≡ 6) × (new ≡ old))
+Finishes (Err ReadFault) wrote ready old new result = (result ≡ 4) × (new ≡ old)
+Finishes (Err Memory) wrote ready old new result = (result ≡ 6) × (new ≡ old)
+
+-- there are files, which are those that the shelf tells where it tells any, of which nothing is wrong, and the command is done with this status
+-- and these texts
+abbrev pub IsDoneWith : Command → Option Files → Option ℕ → ℕ → Written → Type 0
+IsDoneWith command contents fixed status texts =
+    (found : Found) × IsFoundTold contents command found × NoneOf (checks_of command found) × IsDone command found fixed status texts
+
+-- what a command answers: its status and texts, where it is done; or what is wrong first with files, which are those that the shelf tells where it
+-- tells any
+abbrev pub IsFinished : Command → Option Files → Option ℕ → Result Finished Load → Type 0
+IsFinished command contents fixed (Ok f) = IsDoneWith command contents fixed f.status (bytes_of f.output)
+IsFinished command contents fixed (Err (Refused r)) = (found : Found) × IsFoundTold contents command found × FirstOf (checks_of command found) r
+IsFinished command contents fixed (Err ReadFault) = Unit {0}
+IsFinished command contents fixed (Err Memory) = Unit {0}
 
 -- nothing is wrong with the files of a plan, and these are their dataset and the plan
 pub record IsLoaded (held : Held) (ratio : ℕ) (frequencies : FrequencyTable) (input : Input) : Type 0 where
@@ -107,10 +136,6 @@ AreTexts workers plan o texts = texts ≡ record {
   finals = final_text o.graph;
   cases = [];
 }
-
--- the bytes of each channel
-abbrev pub bytes_of : Output → Written
-bytes_of o = record { screen = o.screen.items; log = o.log.items; answers = bytes_in o.answers.items; finals = o.finals.items; cases = o.cases.items }
 
 -- the texts are those of the cases of the input's plan over its dataset; where words spell the parameters of the plan's queries, each case is
 -- read from its line

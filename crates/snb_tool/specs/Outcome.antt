@@ -41,8 +41,9 @@ use Rattle.snb_workers.specs.Runs.{HasRun}
 use Rattle.snb_tool_words.specs.declared.command.Command.{Command}
 use Rattle.snb_tool_words.specs.declared.command.Command.TheVariants.{Audit, Check, Expect, Run, Read, Trial, Validate}
 use Rattle.snb_tool_words.specs.Commands.{IsLineOf, IsOtherLine}
-use Rattle.snb_tool.specs.Inputs.{Found, IsFoundTold, IsInput, at_first, checks_of}
-use Rattle.snb_tool.specs.Output.{on_screen}
+use Rattle.snb_tool.specs.Inputs.{Found, IsFine, IsFoundTold, IsInput, IsWrong, at_first, checks_of}
+use Rattle.snb_tool.specs.Output.{HasBegun, HasWritten, on_screen}
+use Rattle.snb_tool.specs.Outside.{Call, EndsAs}
 
 -- what `check` shows of a dataset and a plan: how many rows, updates and reads there are
 abbrev pub check_of : List Row → Plan → List ℕ
@@ -185,3 +186,26 @@ abbrev pub IsAnswer : List (List ℕ) → Option Files → Option ℕ → ℕ �
 IsAnswer words contents fixed status texts =
     ((status ≡ 2) × IsOtherLine words × (texts ≡ on_screen usage_text))
     ⊎ ((command : Command) × IsLineOf words command × IsCommandAnswer command contents fixed status texts)
+
+-- texts that belong to the words and this status were added to the channels
+abbrev pub HasAnswered : List (List ℕ) → Call → ℕ → Type 0
+HasAnswered words call status = HasWritten call.before.written call.after.written (IsAnswer words call.before.contents call.before.fixed status)
+
+-- a front of texts that belong to the words and some status was
+abbrev pub IsCut : List (List ℕ) → Call → Type 0
+IsCut words call =
+    (status : ℕ) × HasBegun call.before.ready call.before.written call.after.written (IsAnswer words call.before.contents call.before.fixed status)
+
+-- where the words are a command's line, and nothing is wrong with what the command finds, the call ends with the command done
+abbrev pub Completes : List (List ℕ) → Call → ℕ → Type 0
+Completes words call status =
+    (command : Command) → IsLineOf words command → IsFine call.before.contents command → EndsAs (IsDoneAnswer command) call status
+
+-- where they are, and something is wrong with it, the call ends with what is wrong first
+abbrev pub Refuses : List (List ℕ) → Call → ℕ → Type 0
+Refuses words call status =
+    (command : Command)
+    → IsLineOf words command
+    → (r : Refusal)
+    → IsWrong call.before.contents command r
+    → EndsAs (λ contents fixed. IsRefused r) call status

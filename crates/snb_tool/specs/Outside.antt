@@ -1,5 +1,8 @@
 -- What a call sees of the world outside it.
 use Rattle.std.specs.Prelude.{◌≡◌, ℕ, ◌≤◌, Option}
+use Rattle.snb_base.specs.declared.clock.Clock.{Ghosts as Clocks}
+use Rattle.snb_base.specs.declared.outbox.Outbox.{Ghosts as Outboxes}
+use Rattle.snb_base.specs.declared.shelf.Shelf.{Ghosts as Shelves}
 use Rattle.snb_base.specs.Outbox.{Rooms, Written}
 use Rattle.snb_base.specs.Shelf.{Files, Rose}
 use Rattle.snb_tool.specs.Output.{HasBegun, HasWritten}
@@ -14,9 +17,26 @@ pub record Outside : Type 1 where
   pub written : Option Written
   pub ready : Rooms → Type 0
 
-abbrev pub seen : Option Files → Option ℕ → ℕ → ℕ → Option Written → (Rooms → Type 0) → Outside
-seen contents fixed read_faults write_faults written ready =
-    record { contents = contents; fixed = fixed; read_faults = read_faults; write_faults = write_faults; written = written; ready = ready }
+-- the world outside, as a shelf, an outbox and a clock tell it
+abbrev pub outside : {S O C : Type 0} → Shelves S → Outboxes O → Clocks C → S → O → C → Outside
+outside shelves outboxes clocks shelf out clock = record {
+  contents = shelves.contents shelf;
+  fixed = clocks.fixed clock;
+  read_faults = shelves.faults shelf;
+  write_faults = outboxes.faults out;
+  written = outboxes.written out;
+  ready = outboxes.ready out;
+}
+
+-- the world outside before a call and after it
+pub record Call : Type 1 where
+  pub before : Outside
+  pub after : Outside
+
+-- that of a call, by its shelf, its outbox and its clock
+abbrev pub seen : {S O C : Type 0} → Shelves S → Outboxes O → Clocks C → S → S → O → O → C → Call
+seen shelves outboxes clocks shelf shelf_after out out_after clock =
+    record { before = outside shelves outboxes clocks shelf out clock; after = outside shelves outboxes clocks shelf_after out_after clock }
 
 -- the shelf was read and not changed: it tells what it told, and forgets no fault
 abbrev pub IsReadOnly : Option Files → ℕ → Option Files → ℕ → Type 0
@@ -30,3 +50,7 @@ pub data Ends (belongs : Option Files → Option ℕ → ℕ → Written → Typ
   WriteFault : (s : ℕ) → status ≡ 5 → Rose old.write_faults new.write_faults → HasBegun old.ready old.written new.written (belongs old.contents old.fixed s)
       → Ends belongs old new status
   OutOfMemory : status ≡ 6 → new.written ≡ old.written → Ends belongs old new status
+
+-- how a call ends, by what it sees of the world outside
+abbrev pub EndsAs : (Option Files → Option ℕ → ℕ → Written → Type 0) → Call → ℕ → Type 0
+EndsAs belongs call status = Ends belongs call.before call.after status

@@ -1,13 +1,15 @@
 //! The command `check`.
 
-ghost use Rattle.std.specs.Prelude.{◌≡◌, ℕ, ◌≤◌, IfOk, Option, ◌≢◌};
+ghost use Rattle.std.specs.Prelude.{◌≡◌, ℕ, IfOk, Option};
+ghost use Rattle.snb_base.specs.Shelf.{IsRead};
+ghost use Rattle.snb_input_files.specs.Loading.{is_read_fault};
 ghost use Rattle.snb_tool_words.specs.declared.command.Command.TheVariants.{Check};
-ghost use Rattle.snb_tool.specs.Outcome.{IsCommandAnswer, check_of};
-ghost use Rattle.snb_tool.specs.Outside.{Ends, IsReadOnly, seen};
+ghost use Rattle.snb_tool.specs.Endings.{IsFinished};
+ghost use Rattle.snb_tool.specs.Outcome.{check_of};
 
+use crate::deliver::Finished;
 use crate::input::{Input, load_input};
-use crate::show::{refuse, show_as};
-use snb_base::{Outbox, Shelf};
+use snb_base::Shelf;
 use snb_input_files::Load;
 use snb_ratio::Ratio;
 use snb_schema::Frequencies;
@@ -26,30 +28,18 @@ fn counts_of(alloc: Global, input: Input) -> Result<Vec<u8>, AllocError>
     )
 }
 
-/// Reads the tables, the streams and the parameter files of a folder, shows how many rows, updates and
-/// reads they have, and gives the status; or shows what is wrong with them first.
-pub fn check<S: Shelf, O: Outbox>(
+/// Reads the tables, the streams and the parameter files of a folder, and counts the rows, updates and reads
+/// that they have.
+pub fn check<S: Shelf>(
     alloc: Global,
     shelf: &mut S,
     folder: &str,
     frequencies: Frequencies,
-    out: &mut O,
-) -> u8
-    ensures ends { (fixed : Option ℕ) → Ends (IsCommandAnswer (Check folder.now frequencies))
-        (seen (S.contents shelf.old) fixed (S.faults shelf.old) (O.faults out.old) (O.written out.old) (O.ready out.old))
-        (seen (S.contents shelf.new) fixed (S.faults shelf.new) (O.faults out.new) (O.written out.new) (O.ready out.new)) result }
-    ensures read_only { IsReadOnly (S.contents shelf.old) (S.faults shelf.old) (S.contents shelf.new) (S.faults shelf.new) }
-    ensures reads_calm { result ≢ 4 → S.faults shelf.new ≡ S.faults shelf.old }
-    ensures writes_later { O.faults out.old ≤ O.faults out.new }
-    ensures writes_calm { result ≢ 5 → O.faults out.new ≡ O.faults out.old }
+) -> Result<Finished, Load>
+    ensures answer { (fixed : Option ℕ) → IsFinished (Check folder.now frequencies) (S.contents shelf.old) fixed result }
+    ensures read { IsRead (is_read_fault result) (S.contents shelf.old) (S.faults shelf.old) (S.contents shelf.new) (S.faults shelf.new) }
 {
-    match load_input(alloc, shelf, folder, Ratio::one(), frequencies) {
-        Ok(input) => match counts_of(alloc, input) {
-            Ok(text) => show_as(out, &text, 0),
-            Err(_) => 6,
-        },
-        Err(Load::Refused { refusal }) => refuse(alloc, refusal, out),
-        Err(Load::ReadFault) => 4,
-        Err(Load::Memory) => 6,
-    }
+    let input = load_input(alloc, shelf, folder, Ratio::one(), frequencies)?;
+    let text = counts_of(alloc, input)?;
+    Ok(Finished::shown(alloc, text, 0))
 }

@@ -1,4 +1,4 @@
-//! Texts on their channels.
+//! What a command answers, and texts on their channels.
 
 ghost use Rattle.std.specs.Prelude.{◌≡◌, ℕ, ◌-◌, ◌<◌, ◌≤◌, length, take, OnOk, OnErr};
 ghost use Rattle.std.specs.Option.{option_map};
@@ -10,6 +10,7 @@ ghost use Rattle.snb_tool.specs.Output.{Fit, IsWrittenSoFar, on_screen};
 ghost use Rattle.snb_tool.specs.Endings.{bytes_of};
 
 use snb_base::{Channel, Outbox, Put};
+use std::alloc::Global;
 
 /// The texts that a call writes.
 pub struct Output {
@@ -29,6 +30,38 @@ impl Drop for Output {
             cases: _,
             screen: _,
         } = self;
+    }
+}
+
+/// What a command that is done answers: its texts, and its status.
+pub struct Finished {
+    pub output: Output,
+    pub status: u8,
+}
+
+impl Drop for Finished {
+    fn drop(self) {
+        let Finished {
+            output: _,
+            status: _,
+        } = self;
+    }
+}
+
+impl Finished {
+    /// A text on the screen alone, with this status.
+    pub fn shown(alloc: Global, screen: Vec<u8>, status: u8) -> Finished
+        ensures status { result.status ≡ status }
+        ensures texts { bytes_of result.output ≡ on_screen screen.items }
+    {
+        let output = Output {
+            log: Vec::new(alloc),
+            answers: Vec::new(alloc),
+            finals: Vec::new(alloc),
+            cases: Vec::new(alloc),
+            screen,
+        };
+        Finished { output, status }
     }
 }
 

@@ -57,17 +57,6 @@ fn load_of(fault: PlanFault) -> Load
     }
 }
 
-// The plan, with the dataset, over which it must be closed.
-fn closed_over(alloc: Global, graph: Graph, plan: Plan) -> Result<Input, PlanFault>
-    ensures ok { IfOk result (λ i. (i.graph ≡ graph) × (i.plan ≡ plan) × IsClosed (HoldsKey graph) (updates_in plan)) }
-    ensures refused { OnRefused result (IsFirstWrong (HoldsKey graph) (updates_in plan)) }
-{
-    match plan.closed(alloc, &graph) {
-        Ok(()) => Ok(Input { graph, plan }),
-        Err(fault) => Err(fault),
-    }
-}
-
 // Makes the plan of what was read of a folder, which must be closed over the dataset.
 fn input_of(
     alloc: Global,
@@ -82,14 +71,9 @@ fn input_of(
     requires parameters { HaveParameters lists frequencies }
     ensures { IsMadeAnswer graph lanes lists frequencies ratio result }
 {
-    let plan = match Plan::make(alloc, lanes, lists, frequencies, ratio) {
-        Ok(plan) => plan,
-        Err(fault) => return Err(load_of(fault)),
-    };
-    match closed_over(alloc, graph, plan) {
-        Ok(input) => Ok(input),
-        Err(fault) => Err(load_of(fault)),
-    }
+    let plan = Plan::make(alloc, lanes, lists, frequencies, ratio).map_err(load_of)?;
+    plan.closed(alloc, &graph).map_err(load_of)?;
+    Ok(Input { graph, plan })
 }
 
 /// Reads the tables of a folder, its streams, and the parameter files of the queries with a frequency, and
@@ -112,17 +96,8 @@ pub fn load_input<S: Shelf>(
     one_params();
     plan_is_one();
     let mut used = Used { bytes: 0, rows: 0 };
-    let graph = match load_dataset(alloc, shelf, folder, &mut used) {
-        Ok(graph) => graph,
-        Err(load) => return Err(load),
-    };
-    let lanes = match load_lanes(alloc, shelf, folder, &mut used) {
-        Ok(lanes) => lanes,
-        Err(load) => return Err(load),
-    };
-    let lists = match load_params(alloc, shelf, folder, &frequencies, &mut used) {
-        Ok(lists) => lists,
-        Err(load) => return Err(load),
-    };
+    let graph = load_dataset(alloc, shelf, folder, &mut used)?;
+    let lanes = load_lanes(alloc, shelf, folder, &mut used)?;
+    let lists = load_params(alloc, shelf, folder, &frequencies, &mut used)?;
     input_of(alloc, graph, lanes, lists, frequencies, ratio)
 }

@@ -5,13 +5,14 @@ mod audit;
 mod check;
 mod deliver;
 mod expect;
+mod finish;
 mod input;
 pub mod law;
 mod read;
 mod run;
-mod show;
 pub mod tool;
 mod trial;
 mod validate;
 
+pub use snb_trial::trial_input;
 pub use tool::snb;

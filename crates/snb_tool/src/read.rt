@@ -1,16 +1,14 @@
 //! The command `read`.
 
-ghost use Rattle.std.specs.Prelude.{◌≡◌, ℕ, ◌≤◌, IfOk, Option, ◌≢◌};
+ghost use Rattle.std.specs.Prelude.{ℕ, IfOk, Option};
 ghost use Rattle.snb_base.specs.Shelf.{IsRead};
 ghost use Rattle.snb_input_files.specs.Loading.{is_read_fault};
 ghost use Rattle.snb_graph_model.specs.Soundness.{Sound};
 ghost use Rattle.snb_tool_words.specs.declared.command.Command.TheVariants.{Read};
-ghost use Rattle.snb_tool.specs.Endings.{IsReplyAnswer, IsReplyLine};
-ghost use Rattle.snb_tool.specs.Outcome.{IsCommandAnswer};
-ghost use Rattle.snb_tool.specs.Outside.{Ends, IsReadOnly, seen};
+ghost use Rattle.snb_tool.specs.Endings.{IsFinished, IsReplyAnswer, IsReplyLine};
 
-use crate::show::{refuse, show_as};
-use snb_base::{Outbox, Shelf};
+use crate::deliver::Finished;
+use snb_base::Shelf;
 use snb_graph::Graph;
 use snb_input_files::{Load, Used};
 use snb_loader::load_dataset;
@@ -42,37 +40,20 @@ fn read_line<S: Shelf>(
     ensures read { IsRead (is_read_fault result) (S.contents shelf.old) (S.faults shelf.old) (S.contents shelf.new) (S.faults shelf.new) }
 {
     let mut used = Used { bytes: 0, rows: 0 };
-    let graph = match load_dataset(alloc, shelf, folder, &mut used) {
-        Ok(graph) => graph,
-        Err(load) => return Err(load),
-    };
-    match reply_line(alloc, &graph, query) {
-        Ok(line) => Ok(line),
-        Err(_) => Err(Load::Memory),
-    }
+    let graph = load_dataset(alloc, shelf, folder, &mut used)?;
+    Ok(reply_line(alloc, &graph, query)?)
 }
 
-/// Reads the tables of a folder, shows the reply to a read on them, and gives the status; or shows what is
-/// wrong with them first.
-pub fn read<S: Shelf, O: Outbox>(
+/// Reads the tables of a folder, and answers a read on them.
+pub fn read<S: Shelf>(
     alloc: Global,
     shelf: &mut S,
     folder: &str,
     query: &Query,
-    out: &mut O,
-) -> u8
-    ensures ends { (fixed : Option ℕ) → Ends (IsCommandAnswer (Read folder.now query.now))
-        (seen (S.contents shelf.old) fixed (S.faults shelf.old) (O.faults out.old) (O.written out.old) (O.ready out.old))
-        (seen (S.contents shelf.new) fixed (S.faults shelf.new) (O.faults out.new) (O.written out.new) (O.ready out.new)) result }
-    ensures read_only { IsReadOnly (S.contents shelf.old) (S.faults shelf.old) (S.contents shelf.new) (S.faults shelf.new) }
-    ensures reads_calm { result ≢ 4 → S.faults shelf.new ≡ S.faults shelf.old }
-    ensures writes_later { O.faults out.old ≤ O.faults out.new }
-    ensures writes_calm { result ≢ 5 → O.faults out.new ≡ O.faults out.old }
+) -> Result<Finished, Load>
+    ensures answer { (fixed : Option ℕ) → IsFinished (Read folder.now query.now) (S.contents shelf.old) fixed result }
+    ensures read { IsRead (is_read_fault result) (S.contents shelf.old) (S.faults shelf.old) (S.contents shelf.new) (S.faults shelf.new) }
 {
-    match read_line(alloc, shelf, folder, query) {
-        Ok(line) => show_as(out, &line, 0),
-        Err(Load::Refused { refusal }) => refuse(alloc, refusal, out),
-        Err(Load::ReadFault) => 4,
-        Err(Load::Memory) => 6,
-    }
+    let line = read_line(alloc, shelf, folder, query)?;
+    Ok(Finished::shown(alloc, line, 0))
 }

@@ -1,6 +1,8 @@
 //! The command `run`.
 
-ghost use Rattle.std.specs.Prelude.{◌≡◌, ◌≤◌, All, IfOk, ◌≢◌, length};
+ghost use Rattle.std.specs.Prelude.{◌≡◌, ◌≤◌, All, IfOk, length};
+ghost use Rattle.snb_base.specs.Shelf.{IsRead};
+ghost use Rattle.snb_input_files.specs.Loading.{is_read_fault};
 ghost use Rattle.snb_plan.specs.Closed.{IsClosed};
 ghost use Rattle.snb_plan.specs.Plans.{queries_in, schedule_of, updates_in};
 ghost use Rattle.snb_history.specs.Rules.{IsLegal};
@@ -13,14 +15,12 @@ ghost use Rattle.snb_graph_model.specs.FinalText.{final_text};
 ghost use Rattle.snb_graph_model.specs.Graphs.{HoldsKey};
 ghost use Rattle.snb_graph_model.specs.Soundness.{Sound};
 ghost use Rattle.snb_tool_words.specs.declared.command.Command.TheVariants.{Run};
-ghost use Rattle.snb_tool.specs.Endings.{AreTexts, bytes_of};
-ghost use Rattle.snb_tool.specs.Outcome.{IsCommandAnswer, IsLeft};
-ghost use Rattle.snb_tool.specs.Outside.{Ends, IsReadOnly, seen};
+ghost use Rattle.snb_tool.specs.Endings.{AreTexts, IsFinished, bytes_of};
+ghost use Rattle.snb_tool.specs.Outcome.{IsLeft};
 
-use crate::deliver::{Output, deliver};
+use crate::deliver::{Finished, Output};
 use crate::input::{Input, load_input};
-use crate::show::refuse;
-use snb_base::{Clock, Gate, Outbox, Shelf};
+use snb_base::{Clock, Gate, Shelf};
 use snb_graph::Graph;
 use snb_history::law::legal_is_short;
 use snb_history::{Event, Header};
@@ -152,47 +152,23 @@ pub fn run_output<R: Threads + Wait + Sync, C: Clock + Sync, G: Gate + Sync>(
 }
 
 /// Reads the tables, the streams and the parameter files of a folder, runs their plan by so many workers,
-/// each in a thread of its own, writes the texts of the run, and gives the status; or shows what is wrong with
-/// the files first.
-pub fn run<
-    R: AllocGlobal + Threads + Wait + Sync,
-    S: Shelf,
-    O: Outbox,
-    C: Clock + Sync,
-    G: Gate + Sync,
->(
+/// each in a thread of its own, and makes the texts of the run.
+pub fn run<R: AllocGlobal + Threads + Wait + Sync, S: Shelf, C: Clock + Sync, G: Gate + Sync>(
     rt: &R,
     shelf: &mut S,
     folder: &str,
     workers: u32,
     ratio: Ratio,
     frequencies: Frequencies,
-    out: &mut O,
     clock: &C,
     gate: &G,
-) -> u8
+) -> Result<Finished, Load>
     requires workers { 1 ≤ workers }
     requires few { workers ≤ MAX_WORKERS }
-    ensures ends { Ends (IsCommandAnswer (Run folder.now workers ratio frequencies))
-        (seen (S.contents shelf.old) (C.fixed clock.now) (S.faults shelf.old) (O.faults out.old) (O.written out.old) (O.ready out.old))
-        (seen (S.contents shelf.new) (C.fixed clock.now) (S.faults shelf.new) (O.faults out.new) (O.written out.new) (O.ready out.new)) result }
-    ensures read_only { IsReadOnly (S.contents shelf.old) (S.faults shelf.old) (S.contents shelf.new) (S.faults shelf.new) }
-    ensures reads_calm { result ≢ 4 → S.faults shelf.new ≡ S.faults shelf.old }
-    ensures writes_later { O.faults out.old ≤ O.faults out.new }
-    ensures writes_calm { result ≢ 5 → O.faults out.new ≡ O.faults out.old }
+    ensures answer { IsFinished (Run folder.now workers ratio frequencies) (S.contents shelf.old) (C.fixed clock.now) result }
+    ensures read { IsRead (is_read_fault result) (S.contents shelf.old) (S.faults shelf.old) (S.contents shelf.new) (S.faults shelf.new) }
 {
-    let input = match load_input(rt.alloc(), shelf, folder, ratio, frequencies) {
-        Ok(input) => input,
-        Err(Load::Refused { refusal }) => return refuse(rt.alloc(), refusal, out),
-        Err(Load::ReadFault) => return 4,
-        Err(Load::Memory) => return 6,
-    };
-    let output = match run_output(rt, rt.alloc(), workers, input, clock, gate) {
-        Ok(output) => output,
-        Err(_) => return 6,
-    };
-    match deliver(out, &output) {
-        Ok(()) => 0,
-        Err(_) => 5,
-    }
+    let input = load_input(rt.alloc(), shelf, folder, ratio, frequencies)?;
+    let output = run_output(rt, rt.alloc(), workers, input, clock, gate)?;
+    Ok(Finished { output, status: 0 })
 }

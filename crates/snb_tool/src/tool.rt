@@ -1,26 +1,27 @@
 //! The one call that does all that the program does.
 
-ghost use Rattle.std.specs.Prelude.{◌≡◌, ℕ, ◌≤◌, ◌⊎◌, None, ◌≢◌, nat_eq};
+ghost use Rattle.std.specs.Prelude.{◌≡◌, ◌≤◌, ◌⊎◌, None, ◌≢◌, nat_eq};
 ghost use Rattle.snb_base.specs.Shelf.{HasCounted, IsRead};
-ghost use Rattle.snb_schema.specs.declared.refusal.Refusal.{Refusal as Refused};
+ghost use Rattle.snb_input_files.specs.Loading.{is_read_fault};
 ghost use Rattle.snb_tool_words.specs.declared.command.Command.{Command as AnyCommand};
 ghost use Rattle.snb_tool_words.specs.Commands.{IsLineOf, IsOtherLine, IsRunnable, folder_of};
 ghost use Rattle.snb_tool_words.specs.Words.{texts_of};
-ghost use Rattle.snb_tool.specs.Inputs.{IsFine, IsWrong};
-ghost use Rattle.snb_tool.specs.Outcome.{IsAnswer, IsCommandAnswer, IsDoneAnswer, IsRefused};
-ghost use Rattle.snb_tool.specs.Output.{HasBegun, HasWritten};
-ghost use Rattle.snb_tool.specs.Outside.{Ends, IsReadOnly, seen};
+ghost use Rattle.snb_tool.specs.Endings.{IsFinished};
+ghost use Rattle.snb_tool.specs.Outcome.{HasAnswered, IsAnswer, Completes, IsCut, Refuses};
+ghost use Rattle.snb_tool.specs.Outside.{EndsAs, IsReadOnly, seen};
 
 use crate::audit::audit;
 use crate::check::check;
+use crate::deliver::Finished;
 use crate::expect::expect;
+use crate::finish::{finish, show_as};
 use crate::law::{answers_have_status, refusal_is_one};
 use crate::read::read;
 use crate::run::run;
-use crate::show::show_as;
 use crate::trial::trial;
 use crate::validate::validate;
 use snb_base::{Clock, Gate, Outbox, Shelf};
+use snb_input_files::Load;
 use snb_tool_words::law::one_command;
 use snb_tool_words::{Command, command_of};
 use std::sync::Wait;
@@ -30,29 +31,25 @@ use std::thread::Threads;
 const USAGE: &str =
     "usage: snb COMMAND, where COMMAND is check, run, audit, expect, validate, read or trial\n";
 
-// Does what a command says, and gives the status.
-fn obey<
-    R: AllocGlobal + Threads + Wait + Sync,
-    S: Shelf,
-    O: Outbox,
-    C: Clock + Sync,
-    G: Gate + Sync,
->(rt: &R, command: &Command, shelf: &mut S, out: &mut O, clock: &C, gate: &G) -> u8
+// Does what a command says, and answers it.
+fn obey<R: AllocGlobal + Threads + Wait + Sync, S: Shelf, C: Clock + Sync, G: Gate + Sync>(
+    rt: &R,
+    command: &Command,
+    shelf: &mut S,
+    clock: &C,
+    gate: &G,
+) -> Result<Finished, Load>
     requires runnable { IsRunnable command.now }
-    ensures ends { Ends (IsCommandAnswer command.now)
-        (seen (S.contents shelf.old) (C.fixed clock.now) (S.faults shelf.old) (O.faults out.old) (O.written out.old) (O.ready out.old))
-        (seen (S.contents shelf.new) (C.fixed clock.now) (S.faults shelf.new) (O.faults out.new) (O.written out.new) (O.ready out.new)) result }
+    ensures answer { IsFinished command.now (S.contents shelf.old) (C.fixed clock.now) result }
     ensures unread { folder_of command.now ≡ None → shelf.new ≡ shelf.old }
-    ensures read_only { IsReadOnly (S.contents shelf.old) (S.faults shelf.old) (S.contents shelf.new) (S.faults shelf.new) }
-    ensures reads_calm { result ≢ 4 → S.faults shelf.new ≡ S.faults shelf.old }
-    ensures writes_later { O.faults out.old ≤ O.faults out.new }
-    ensures writes_calm { result ≢ 5 → O.faults out.new ≡ O.faults out.old }
+    ensures read { IsRead (is_read_fault result) (S.contents shelf.old) (S.faults shelf.old) (S.contents shelf.new) (S.faults shelf.new) }
 {
+    let alloc = rt.alloc();
     match command {
         Command::Check {
             folder,
             frequencies,
-        } => check(rt.alloc(), shelf, folder.as_str(), *frequencies, out),
+        } => check(alloc, shelf, folder.as_str(), *frequencies),
         Command::Run {
             folder,
             workers,
@@ -65,7 +62,6 @@ fn obey<
             *workers,
             *ratio,
             *frequencies,
-            out,
             clock,
             gate,
         ),
@@ -75,23 +71,22 @@ fn obey<
             ratio,
             frequencies,
         } => audit(
-            rt.alloc(),
+            alloc,
             shelf,
             folder.as_str(),
             log.as_str(),
             *ratio,
             *frequencies,
-            out,
         ),
         Command::Expect {
             folder,
             frequencies,
-        } => expect(rt.alloc(), shelf, folder.as_str(), *frequencies, out),
+        } => expect(alloc, shelf, folder.as_str(), *frequencies),
         Command::Validate { folder, cases } => {
-            validate(rt.alloc(), shelf, folder.as_str(), cases.as_str(), out)
+            validate(alloc, shelf, folder.as_str(), cases.as_str())
         }
-        Command::Read { folder, query } => read(rt.alloc(), shelf, folder.as_str(), query, out),
-        Command::Trial { size, workers } => trial(rt, *size, *workers, out, clock, gate),
+        Command::Read { folder, query } => read(alloc, shelf, folder.as_str(), query),
+        Command::Trial { size, workers } => trial(rt, *size, *workers, clock, gate),
     }
 }
 
@@ -103,9 +98,7 @@ fn answer<
     C: Clock + Sync,
     G: Gate + Sync,
 >(rt: &R, words: &[&str], shelf: &mut S, out: &mut O, clock: &C, gate: &G) -> u8
-    ensures ends { Ends (IsAnswer (texts_of words.now))
-        (seen (S.contents shelf.old) (C.fixed clock.now) (S.faults shelf.old) (O.faults out.old) (O.written out.old) (O.ready out.old))
-        (seen (S.contents shelf.new) (C.fixed clock.now) (S.faults shelf.new) (O.faults out.new) (O.written out.new) (O.ready out.new)) result }
+    ensures ends { EndsAs (IsAnswer (texts_of words.now)) (seen S.Shelf O.Outbox C.Clock shelf.old shelf.new out.old out.new clock.now) result }
     ensures other_line { IsOtherLine (texts_of words.now) → ((result ≡ 2) ⊎ (result ≡ 5)) × (shelf.new ≡ shelf.old) }
     ensures unread { (command : AnyCommand) → IsLineOf (texts_of words.now) command → folder_of command ≡ None → shelf.new ≡ shelf.old }
     ensures read_only { IsReadOnly (S.contents shelf.old) (S.faults shelf.old) (S.contents shelf.new) (S.faults shelf.new) }
@@ -115,7 +108,10 @@ fn answer<
 {
     one_command();
     match command_of(rt.alloc(), words) {
-        Ok(Some(command)) => obey(rt, &command, shelf, out, clock, gate),
+        Ok(Some(command)) => {
+            let answer = obey(rt, &command, shelf, clock, gate);
+            finish(rt.alloc(), out, answer)
+        }
         Ok(None) => show_as(out, USAGE.as_bytes(), 2),
         Err(_) => 6,
     }
@@ -185,19 +181,14 @@ pub fn snb<
     C: Clock + Sync,
     G: Gate + Sync,
 >(rt: &R, words: &[&str], shelf: &mut S, out: &mut O, clock: &C, gate: &G) -> u8
-    ensures answered { HasWritten (O.written out.old) (O.written out.new) (IsAnswer (texts_of words.now) (S.contents shelf.old) (C.fixed clock.now) result)
+    ensures answered { HasAnswered (texts_of words.now) (seen S.Shelf O.Outbox C.Clock shelf.old shelf.new out.old out.new clock.now) result
         ⊎ ((result ≡ 4) ⊎ ((result ≡ 5) ⊎ (result ≡ 6))) }
     ensures unwritten { ((result ≡ 4) ⊎ (result ≡ 6)) → O.written out.new ≡ O.written out.old }
-    ensures cut { result ≡ 5 → (status : ℕ) × HasBegun (O.ready out.old) (O.written out.old) (O.written out.new)
-        (IsAnswer (texts_of words.now) (S.contents shelf.old) (C.fixed clock.now) status) }
+    ensures cut { result ≡ 5 → IsCut (texts_of words.now) (seen S.Shelf O.Outbox C.Clock shelf.old shelf.new out.old out.new clock.now) }
+    ensures complete { Completes (texts_of words.now) (seen S.Shelf O.Outbox C.Clock shelf.old shelf.new out.old out.new clock.now) result }
+    ensures refuses { Refuses (texts_of words.now) (seen S.Shelf O.Outbox C.Clock shelf.old shelf.new out.old out.new clock.now) result }
     ensures other_line { IsOtherLine (texts_of words.now) → ((result ≡ 2) ⊎ (result ≡ 5)) × (shelf.new ≡ shelf.old) }
     ensures unread { (command : AnyCommand) → IsLineOf (texts_of words.now) command → folder_of command ≡ None → shelf.new ≡ shelf.old }
-    ensures complete { (command : AnyCommand) → IsLineOf (texts_of words.now) command → IsFine (S.contents shelf.old) command → Ends (IsDoneAnswer command)
-        (seen (S.contents shelf.old) (C.fixed clock.now) (S.faults shelf.old) (O.faults out.old) (O.written out.old) (O.ready out.old))
-        (seen (S.contents shelf.new) (C.fixed clock.now) (S.faults shelf.new) (O.faults out.new) (O.written out.new) (O.ready out.new)) result }
-    ensures refuses { (command : AnyCommand) → IsLineOf (texts_of words.now) command → (r : Refused) → IsWrong (S.contents shelf.old) command r → Ends (λ contents fixed. IsRefused r)
-        (seen (S.contents shelf.old) (C.fixed clock.now) (S.faults shelf.old) (O.faults out.old) (O.written out.old) (O.ready out.old))
-        (seen (S.contents shelf.new) (C.fixed clock.now) (S.faults shelf.new) (O.faults out.new) (O.written out.new) (O.ready out.new)) result }
     ensures read { IsRead (nat_eq result 4) (S.contents shelf.old) (S.faults shelf.old) (S.contents shelf.new) (S.faults shelf.new) }
     ensures counted { HasCounted (nat_eq result 5) (O.faults out.old) (O.faults out.new) }
 {

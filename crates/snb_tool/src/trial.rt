@@ -1,18 +1,18 @@
 //! The command `trial`.
 
-ghost use Rattle.std.specs.Prelude.{◌≡◌, ℕ, ◌≤◌, IfOk, Option, ◌≢◌};
+ghost use Rattle.std.specs.Prelude.{◌≡◌, ◌≤◌, false, IfOk, Option};
 ghost use Rattle.snb_base.specs.Shelf.{Files};
+ghost use Rattle.snb_input_files.specs.Loading.{is_read_fault};
 ghost use Rattle.snb_schema.specs.declared.limits.TheConstants.{MAX_WORKERS};
 ghost use Rattle.snb_tool_words.specs.declared.command.Command.TheVariants.{Trial};
 ghost use Rattle.snb_schema.specs.declared.limits.TheConstants.{MAX_TRIAL};
-ghost use Rattle.snb_tool.specs.Endings.{IsTrialInput};
-ghost use Rattle.snb_tool.specs.Outcome.{IsCommandAnswer};
-ghost use Rattle.snb_tool.specs.Outside.{Ends, seen};
+ghost use Rattle.snb_tool.specs.Endings.{IsFinished, IsTrialInput};
 
-use crate::deliver::deliver;
+use crate::deliver::Finished;
 use crate::input::Input;
 use crate::run::run_output;
-use snb_base::{Clock, Gate, Outbox};
+use snb_base::{Clock, Gate};
+use snb_input_files::Load;
 use snb_plan::{Plan, PlanFault};
 use snb_trial::law::{lanes_are_of_streams, lists_are_enough, seven_updates, updates_are_closed};
 use snb_trial::terms::{trial_frequencies, trial_ratio};
@@ -41,35 +41,22 @@ fn input_of_size(alloc: Global, size: u32) -> Result<Input, AllocError>
 }
 
 /// Runs the formula workload of a size, 1 to `MAX_TRIAL`, by so many workers, 1 to 8, each in a thread of its
-/// own, writes the texts of the run, and gives the status. No file is read.
-pub fn trial<R: AllocGlobal + Threads + Wait + Sync, O: Outbox, C: Clock + Sync, G: Gate + Sync>(
+/// own, and makes the texts of the run. No file is read.
+pub fn trial<R: AllocGlobal + Threads + Wait + Sync, C: Clock + Sync, G: Gate + Sync>(
     rt: &R,
     size: u32,
     workers: u32,
-    out: &mut O,
     clock: &C,
     gate: &G,
-) -> u8
+) -> Result<Finished, Load>
     requires some { 1 ≤ size }
     requires few { size ≤ MAX_TRIAL }
     requires workers { 1 ≤ workers }
     requires crew { workers ≤ MAX_WORKERS }
-    ensures ends { (contents : Option Files) (faults : ℕ) → Ends (IsCommandAnswer (Trial size workers))
-        (seen contents (C.fixed clock.now) faults (O.faults out.old) (O.written out.old) (O.ready out.old))
-        (seen contents (C.fixed clock.now) faults (O.faults out.new) (O.written out.new) (O.ready out.new)) result }
-    ensures writes_later { O.faults out.old ≤ O.faults out.new }
-    ensures writes_calm { result ≢ 5 → O.faults out.new ≡ O.faults out.old }
+    ensures answer { (contents : Option Files) → IsFinished (Trial size workers) contents (C.fixed clock.now) result }
+    ensures read { is_read_fault result ≡ false }
 {
-    let input = match input_of_size(rt.alloc(), size) {
-        Ok(input) => input,
-        Err(_) => return 6,
-    };
-    let output = match run_output(rt, rt.alloc(), workers, input, clock, gate) {
-        Ok(output) => output,
-        Err(_) => return 6,
-    };
-    match deliver(out, &output) {
-        Ok(()) => 0,
-        Err(_) => 5,
-    }
+    let input = input_of_size(rt.alloc(), size)?;
+    let output = run_output(rt, rt.alloc(), workers, input, clock, gate)?;
+    Ok(Finished { output, status: 0 })
 }

@@ -1,5 +1,5 @@
-use Rattle.std.proofs.Common.{◌-◌, ◌+◌, length, take, subst}
-use Rattle.snb_base.specs.Outbox.{Rooms, room_of, with_room}
+use Rattle.std.proofs.Common.{◌+◌, take, subst}
+use Rattle.snb_base.specs.Outbox.{Rooms}
 use Rattle.snb_base.proofs.Laws.{counted_after}
 use Rattle.snb_tool_texts.specs.Answers.{bytes_in}
 use Rattle.snb_tool.proofs.Writing.{cut_after, first_pieces, fit_after, left_after, next_piece, written_both}

@@ -1,17 +1,14 @@
-use Rattle.snb_schema.specs.ScreenTexts.{refusal_text}
 use Rattle.snb_tool_words.specs.declared.command.Command.TheVariants.{Read}
-use Rattle.snb_tool.specs.Outcome.{IsCommandAnswer}
-use Rattle.snb_tool.proofs.OutcomeLemmas.{read_done, read_refused, shows_ends, shows_or_not}
+use Rattle.snb_tool.specs.Endings.{IsFinished}
+use Rattle.snb_tool.proofs.InputLemmas.{passed}
+use Rattle.snb_tool.proofs.OutcomeLemmas.{read_done, read_not}
 use Rattle.snb_tool.proofs.read.read.Goals as goal
 
-pub returns-in-Ok-clause-ends : goal.returns-in-Ok-clause-ends
-returns-in-Ok-clause-ends g c = λ fixed.
-    shows_ends (IsCommandAnswer (Read c.args.folder.now c.args.query.now)) _ _ 0 c.deref.result.now _
-    (read_done (g.S.Shelf.contents c.args.shelf.now) c.args.folder.now c.args.query.now fixed c.in-Ok.line _ c.in-Ok.ensures.answer c.deref.ensures.value)
-    c.show_as.ensures.shown
+pub returns-in_err-line-clause-answer : goal.returns-in_err-line-clause-answer
+returns-in_err-line-clause-answer g c = λ fixed.
+    passed (IsFinished (Read c.args.folder.now c.args.query.now) (g.S.Shelf.contents c.args.shelf.now) fixed) c.from_residual.result c.in_err-line.field-0.0 c.from_residual.ensures.1
+    (read_not (g.S.Shelf.contents c.args.shelf.now) c.args.folder.now c.args.query.now fixed c.in_err-line.field-0.0 c.in_err-line.ensures.answer)
 
-pub returns-in-Err-Refused-clause-ends : goal.returns-in-Err-Refused-clause-ends
-returns-in-Err-Refused-clause-ends g c = λ fixed.
-    shows_or_not (IsCommandAnswer (Read c.args.folder.now c.args.query.now)) _ _ 3 (refusal_text c.in-Err-Refused.refusal) _
-    (read_refused (g.S.Shelf.contents c.args.shelf.now) c.args.folder.now c.args.query.now fixed c.in-Err-Refused.refusal (rw c.in-Err-Refused.field-0-is at c.in-Err-Refused.ensures.answer))
-    c.refuse.ensures.shown
+pub returns-clause-answer : goal.returns-clause-answer
+returns-clause-answer g c = λ fixed.
+    read_done (g.S.Shelf.contents c.args.shelf.now) c.args.folder.now c.args.query.now fixed c.in_ok-line.line _ _ c.in_ok-line.ensures.answer c.shown.ensures.status c.shown.ensures.texts

@@ -20,23 +20,23 @@ trial-requires-clause-workers g c = λ κs lives. (subst IsRunnable c.in-Trial.i
 pub trial-requires-clause-crew : goal.trial-requires-clause-crew
 trial-requires-clause-crew g c = λ κs lives. (subst IsRunnable c.in-Trial.is c.requires.runnable).3
 
-pub returns-in-Trial-clause-ends : goal.returns-in-Trial-clause-ends
-returns-in-Trial-clause-ends g c = rw c.in-Trial.is (c.trial.ensures.ends (g.S.Shelf.contents c.args.shelf.now) (g.S.Shelf.faults c.args.shelf.now))
+pub returns-in-Trial-clause-answer : goal.returns-in-Trial-clause-answer
+returns-in-Trial-clause-answer g c = rw c.in-Trial.is (c.trial.ensures.answer (g.S.Shelf.contents c.args.shelf.now))
 
-pub returns-in-Check-clause-ends : goal.returns-in-Check-clause-ends
-returns-in-Check-clause-ends g c = rw (c.in-Check.is, ← c.as_str.ensures) (c.check.ensures.ends (g.C.Clock.fixed c.args.clock.now))
+pub returns-in-Check-clause-answer : goal.returns-in-Check-clause-answer
+returns-in-Check-clause-answer g c = rw (c.in-Check.is, ← c.as_str.ensures) (c.check.ensures.answer (g.C.Clock.fixed c.args.clock.now))
 
-pub returns-in-Run-clause-ends : goal.returns-in-Run-clause-ends
-returns-in-Run-clause-ends g c = rw (c.in-Run.is, ← c.as_str-in-Run.ensures) c.run.ensures.ends
+pub returns-in-Run-clause-answer : goal.returns-in-Run-clause-answer
+returns-in-Run-clause-answer g c = rw (c.in-Run.is, ← c.as_str-in-Run.ensures) c.run.ensures.answer
 
-pub returns-in-Read-clause-ends : goal.returns-in-Read-clause-ends
-returns-in-Read-clause-ends g c = rw (c.in-Read.is, ← c.as_str-in-Read.ensures) (c.read.ensures.ends (g.C.Clock.fixed c.args.clock.now))
+pub returns-in-Read-clause-answer : goal.returns-in-Read-clause-answer
+returns-in-Read-clause-answer g c = rw (c.in-Read.is, ← c.as_str-in-Read.ensures) (c.read.ensures.answer (g.C.Clock.fixed c.args.clock.now))
 
-pub returns-in-Audit-clause-ends : goal.returns-in-Audit-clause-ends
-returns-in-Audit-clause-ends g c = rw (c.in-Audit.is, ← c.as_str-in-Audit.ensures, ← c.as_str-in-Audit-2.ensures) (c.audit.ensures.ends (g.C.Clock.fixed c.args.clock.now))
+pub returns-in-Audit-clause-answer : goal.returns-in-Audit-clause-answer
+returns-in-Audit-clause-answer g c = rw (c.in-Audit.is, ← c.as_str-in-Audit.ensures, ← c.as_str-in-Audit-2.ensures) (c.audit.ensures.answer (g.C.Clock.fixed c.args.clock.now))
 
-pub returns-in-Validate-clause-ends : goal.returns-in-Validate-clause-ends
-returns-in-Validate-clause-ends g c = rw (c.in-Validate.is, ← c.as_str-in-Validate.ensures, ← c.as_str-in-Validate-2.ensures) (c.validate.ensures.ends (g.C.Clock.fixed c.args.clock.now))
+pub returns-in-Validate-clause-answer : goal.returns-in-Validate-clause-answer
+returns-in-Validate-clause-answer g c = rw (c.in-Validate.is, ← c.as_str-in-Validate.ensures, ← c.as_str-in-Validate-2.ensures) (c.validate.ensures.answer (g.C.Clock.fixed c.args.clock.now))
 
-pub returns-in-Expect-clause-ends : goal.returns-in-Expect-clause-ends
-returns-in-Expect-clause-ends g c = rw (c.in-Expect.is, ← c.as_str-in-Expect.ensures) (c.expect.ensures.ends (g.C.Clock.fixed c.args.clock.now))
+pub returns-in-Expect-clause-answer : goal.returns-in-Expect-clause-answer
+returns-in-Expect-clause-answer g c = rw (c.in-Expect.is, ← c.as_str-in-Expect.ensures) (c.expect.ensures.answer (g.C.Clock.fixed c.args.clock.now))

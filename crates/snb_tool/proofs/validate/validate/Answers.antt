@@ -1,20 +1,17 @@
-use Rattle.std.proofs.Common.{ℕ, subst, sym, ◌∙◌}
-use Rattle.snb_schema.specs.ScreenTexts.{refusal_text}
+use Rattle.std.proofs.Common.{ap, ◌∙◌}
 use Rattle.snb_tool_words.specs.declared.command.Command.TheVariants.{Validate}
-use Rattle.snb_tool.specs.Outcome.{IsCommandAnswer}
+use Rattle.snb_tool.specs.Endings.{IsFinished}
 use Rattle.snb_tool.specs.Output.{on_screen}
-use Rattle.snb_tool.proofs.OutcomeLemmas.{validate_done, validate_refused, shows_ends, shows_or_not}
+use Rattle.snb_tool.proofs.InputLemmas.{passed}
+use Rattle.snb_tool.proofs.OutcomeLemmas.{validate_done, validate_not}
 use Rattle.snb_tool.proofs.validate.validate.Goals as goal
 
-pub returns-in-Ok-tally_lines-clause-ends : goal.returns-in-Ok-tally_lines-clause-ends
-returns-in-Ok-tally_lines-clause-ends g c = λ fixed.
-    shows_ends (IsCommandAnswer (Validate c.args.folder.now c.args.cases.now)) _ _ c.status_of.result c.deref.result.now _
-    (subst (λ (s : ℕ). IsCommandAnswer (Validate c.args.folder.now c.args.cases.now) (g.S.Shelf.contents c.args.shelf.now) fixed s (on_screen c.deref.result.now)) (sym c.status_of.ensures)
-    (validate_done (g.S.Shelf.contents c.args.shelf.now) c.args.folder.now c.args.cases.now fixed c.in-Ok.tally _ c.in-Ok.ensures.answer (c.deref.ensures.value ∙ c.in-Ok-tally_lines.ensures)))
-    c.show_as.ensures.shown
+pub returns-in_err-tally-clause-answer : goal.returns-in_err-tally-clause-answer
+returns-in_err-tally-clause-answer g c = λ fixed.
+    passed (IsFinished (Validate c.args.folder.now c.args.cases.now) (g.S.Shelf.contents c.args.shelf.now) fixed) c.from_residual.result c.in_err-tally.field-0.0 c.from_residual.ensures.1
+    (validate_not (g.S.Shelf.contents c.args.shelf.now) c.args.folder.now c.args.cases.now fixed c.in_err-tally.field-0.0 c.in_err-tally.ensures.answer)
 
-pub returns-in-Err-Refused-clause-ends : goal.returns-in-Err-Refused-clause-ends
-returns-in-Err-Refused-clause-ends g c = λ fixed.
-    shows_or_not (IsCommandAnswer (Validate c.args.folder.now c.args.cases.now)) _ _ 3 (refusal_text c.in-Err-Refused.refusal) _
-    (validate_refused (g.S.Shelf.contents c.args.shelf.now) c.args.folder.now c.args.cases.now fixed c.in-Err-Refused.refusal (rw c.in-Err-Refused.field-0-is at c.in-Err-Refused.ensures.answer))
-    c.refuse.ensures.shown
+pub returns-clause-answer : goal.returns-clause-answer
+returns-clause-answer g c = λ fixed.
+    validate_done (g.S.Shelf.contents c.args.shelf.now) c.args.folder.now c.args.cases.now fixed c.in_ok-tally.tally _ _ c.in_ok-tally.ensures.answer
+    (c.shown.ensures.status ∙ c.status_of.ensures) (c.shown.ensures.texts ∙ ap on_screen c.in_ok-text.ensures)
