@@ -20,11 +20,25 @@ pub record Format (K T : Type 0) : Type 1 where
   pub language : FileId → Language K T
   pub rules : Rules T
 
--- the format of files that are read by these grammars, and whose items are refused by these rules
-abbrev pub format_of : {G K T : Type 0} → (G → Language K T) → (FileId → G) → Option ℕ → Own T → (FileId → List T → Option Refusal) → Format K T
-format_of language grammar_of limit own bare = record {
-  language = λ file. language (grammar_of file);
-  rules = record { limit = limit; own = own; bare = bare };
+-- what a file sink's contract says of the files of its stage
+pub record Stage (P G T : Type 0) : Type 1 where
+  -- the grammar of each file
+  pub grammar_of : FileId → G
+  -- how many data lines all files of the input may have together, where there is a limit
+  pub limit : Option ℕ
+  -- a file's own check of an item, where the first file was begun in this state
+  pub own : P → Own T
+  -- what is wrong with a file that said these items, if anything is
+  pub bare : FileId → List T → Option Refusal
+  -- where the first file was begun in the one state, the other was told these items by each file before, and these so far by the file that
+  -- is open
+  pub heard : P → Heard P T
+
+-- the format of the files of a stage that are read by grammars of this language, where the first file was begun in this state
+abbrev pub format_in : {P G K T : Type 0} → (G → Language K T) → Stage P G T → P → Format K T
+format_in language stage begun = record {
+  language = λ file. language (stage.grammar_of file);
+  rules = record { limit = stage.limit; own = stage.own begun; bare = stage.bare };
 }
 
 -- a line says one thing at most, and is refused in one way at most
@@ -51,8 +65,7 @@ pub record IsFileSink {P K T : Type 0} (g : Format K T) (heard : Heard P T) (may
   -- where a file ends it is refused by the rules
   pub ended : (s : P) (file : FileId) (done : List (List T)) (mine : List T) → heard s done mine → ends s file ≡ g.rules.bare file mine
 
--- sinks of such files, where a file's own check and what is told may be said by the state in which the first file was begun
-abbrev pub AreTakers : {P G K T : Type 0} → (G → Language K T) → (FileId → G) → Option ℕ → (P → Own T) → (FileId → List T → Option Refusal) → (P → Heard P T) → (T → Type 0)
-    → Takes P T → Refuses P T → (P → FileId → Option Refusal) → (P → P → Type 0) → Type 0
-AreTakers {P} language grammar_of limit own bare heard may takes refuses ends turns =
-    (begun : P) → IsFileSink (format_of language grammar_of limit (own begun) bare) (heard begun) may takes refuses ends turns
+-- sinks of the files of a stage, in whatever state the first file was begun
+abbrev pub AreTakers : {P G K T : Type 0} → (G → Language K T) → Stage P G T → (T → Type 0) → Takes P T → Refuses P T → (P → FileId → Option Refusal) → (P → P → Type 0) → Type 0
+AreTakers {P} language stage may takes refuses ends turns =
+    (begun : P) → IsFileSink (format_in language stage begun) (stage.heard begun) may takes refuses ends turns
