@@ -39,7 +39,7 @@ fn end_file<G: Grammar + Drop, P: FileSink<G> + Drop>(
     reader: &mut LineReader<G>,
     mut sink: RowCount<P>,
 ) -> Result<Found<P>, Load>
-    requires right { AreTakers G.language P.stage P.fits P.takes P.refuses P.ends P.turns }
+    requires right { AreTakers G.language P.stage P.meaning }
     requires of_file { reader.old.file ≡ file }
     requires by_grammar { reader.old.grammar ≡ P.stage.grammar_of file }
     requires few { used.bytes + reader.old.fed ≤ MAX_BYTES }
@@ -47,10 +47,10 @@ fn end_file<G: Grammar + Drop, P: FileSink<G> + Drop>(
     requires good { reader.old.fault ≡ None }
     ensures end { (begun : P) (past : List Source) (start : Row P) (text : List ℕ)
         → Opened (format_in G.language P.stage begun) (P.stage.heard begun) used.rows past start
-        → IsFed (format_in G.language P.stage begun) P.takes file (P.stage.grammar_of file) start text reader.old sink
+        → IsFed (format_in G.language P.stage begun) P.meaning.takes file (P.stage.grammar_of file) start text reader.old sink
         → IsEnd (format_in G.language P.stage begun) (P.stage.heard begun) file used past text reader.new.known result }
     ensures within { (begun : P) (start : Row P) (text : List ℕ) → start.most ≡ P.stage.limit → IsUnder P.stage.limit start.rows
-        → IsFed (format_in G.language P.stage begun) P.takes file (P.stage.grammar_of file) start text reader.old sink
+        → IsFed (format_in G.language P.stage begun) P.meaning.takes file (P.stage.grammar_of file) start text reader.old sink
         → IfOk result (IsWithin P.stage.limit) }
     ensures fault { is_read_fault result ≡ false }
 {
@@ -94,10 +94,10 @@ pub fn load_file<S: Shelf, G: Grammar + Drop, P: FileSink<G> + Drop>(
     used: Used,
     file_sink: P,
 ) -> Result<Found<P>, Load>
-    requires right { AreTakers G.language P.stage P.fits P.takes P.refuses P.ends P.turns }
+    requires right { AreTakers G.language P.stage P.meaning }
     requires bytes { used.bytes ≤ MAX_BYTES }
     requires rows { IsUnder P.stage.limit used.rows }
-    ensures answer { (begun : P) (past : List Source) (done : List (List G.Item)) → FilesSay (format_in G.language P.stage begun) past done → (P.stage.heard begun) file_sink done []
+    ensures answer { (begun : P) (past : List Source) (done : List (List G.Item)) → FilesSay (format_in G.language P.stage begun) past done → P.stage.heard begun file_sink done []
         → IsAnswer (format_in G.language P.stage begun) (P.stage.heard begun) (S.contents shelf.old) path.now file used past file_sink result }
     ensures within { IfOk result (IsWithin P.stage.limit) }
     ensures read { IsRead (is_read_fault result) (S.contents shelf.old) (S.faults shelf.old) (S.contents shelf.new) (S.faults shelf.new) }
@@ -118,11 +118,11 @@ pub fn load_known<S: Shelf, G: Grammar + Drop, P: FileSink<G> + Drop>(
     reader: &mut LineReader<G>,
     file_sink: P,
 ) -> Result<Found<P>, Load>
-    requires right { AreTakers G.language P.stage P.fits P.takes P.refuses P.ends P.turns }
+    requires right { AreTakers G.language P.stage P.meaning }
     requires begins { reader.old ≡ at_begin file (P.stage.grammar_of file) (G.language (P.stage.grammar_of file)).begins }
     requires bytes { used.bytes ≤ MAX_BYTES }
     requires rows { IsUnder P.stage.limit used.rows }
-    ensures answer { (begun : P) (past : List Source) (done : List (List G.Item)) → FilesSay (format_in G.language P.stage begun) past done → (P.stage.heard begun) file_sink done []
+    ensures answer { (begun : P) (past : List Source) (done : List (List G.Item)) → FilesSay (format_in G.language P.stage begun) past done → P.stage.heard begun file_sink done []
         → IsKnownAnswer (format_in G.language P.stage begun) (P.stage.heard begun) (S.contents shelf.old) path.now file used past file_sink reader.new.known result }
     ensures within { IfOk result (IsWithin P.stage.limit) }
     ensures read { IsRead (is_read_fault result) (S.contents shelf.old) (S.faults shelf.old) (S.contents shelf.new) (S.faults shelf.new) }

@@ -35,14 +35,14 @@ fn feed_piece<G: Grammar + Drop, P: FileSink<G> + Drop>(
     sink: &mut RowCount<P>,
     piece: &[u8],
 ) -> Result<(), Load>
-    requires right { AreTakers G.language P.stage P.fits P.takes P.refuses P.ends P.turns }
+    requires right { AreTakers G.language P.stage P.meaning }
     requires of_file { reader.old.file ≡ file }
     requires by_grammar { reader.old.grammar ≡ P.stage.grammar_of file }
     requires most { most ≤ MAX_BYTES }
     requires few { reader.old.fed ≤ most }
     requires goes_on { reader.old.over ≡ false }
     requires good { reader.old.fault ≡ None }
-    ensures ok { (begun : P) → OnOk result (IsFedMore (format_in G.language P.stage begun) P.takes file (P.stage.grammar_of file) reader.old sink.old piece.now reader.new sink.new) }
+    ensures ok { (begun : P) → OnOk result (IsFedMore (format_in G.language P.stage begun) P.meaning.takes file (P.stage.grammar_of file) reader.old sink.old piece.now reader.new sink.new) }
     ensures fed { OnOk result (reader.new.fed ≡ reader.old.fed + length piece.now) }
     ensures few { OnOk result (reader.new.fed ≤ most) }
     ensures goes_on { OnOk result (reader.new.over ≡ false) }
@@ -50,7 +50,7 @@ fn feed_piece<G: Grammar + Drop, P: FileSink<G> + Drop>(
     ensures of_file { reader.new.file ≡ file }
     ensures by_grammar { reader.new.grammar ≡ P.stage.grammar_of file }
     ensures refused { (begun : P) → OnRefused result
-        (IsBadPiece (format_in G.language P.stage begun) (P.stage.heard begun) P.takes file (P.stage.grammar_of file) most reader.old sink.old piece.now) }
+        (IsBadPiece (format_in G.language P.stage begun) (P.stage.heard begun) P.meaning.takes file (P.stage.grammar_of file) most reader.old sink.old piece.now) }
     ensures fault { is_read_fault result ≡ false }
 {
     let kept = piece.len().min((most - reader.fed()) as usize);
@@ -83,7 +83,7 @@ pub fn read_piece<S: Shelf, G: Grammar + Drop, P: FileSink<G> + Drop>(
     sink: &mut RowCount<P>,
     buffer: &mut [u8],
 ) -> Result<Step, Load>
-    requires right { AreTakers G.language P.stage P.fits P.takes P.refuses P.ends P.turns }
+    requires right { AreTakers G.language P.stage P.meaning }
     requires of_file { reader.old.file ≡ file }
     requires by_grammar { reader.old.grammar ≡ P.stage.grammar_of file }
     requires most { most ≤ MAX_BYTES }
@@ -91,7 +91,7 @@ pub fn read_piece<S: Shelf, G: Grammar + Drop, P: FileSink<G> + Drop>(
     requires goes_on { reader.old.over ≡ false }
     requires good { reader.old.fault ≡ None }
     requires room { 0 < length buffer.old }
-    ensures step { (begun : P) → IsStep (format_in G.language P.stage begun) (P.stage.heard begun) P.takes (S.contents shelf.old) name.now file (P.stage.grammar_of file) most
+    ensures step { (begun : P) → IsStep (format_in G.language P.stage begun) (P.stage.heard begun) P.meaning.takes (S.contents shelf.old) name.now file (P.stage.grammar_of file) most
         reader.old sink.old reader.new sink.new result }
     ensures more { IfOk result (λ step. step ≡ Step.More → reader.old.fed < reader.new.fed) }
     ensures few { OnOk result (reader.new.fed ≤ most) }

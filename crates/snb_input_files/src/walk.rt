@@ -64,7 +64,7 @@ fn look<S: Shelf, G: Grammar + Drop, P: FileSink<G> + Drop>(
     needed: bool,
     walk: Walk<P>,
 ) -> Result<Found<P>, Load>
-    requires right { AreTakers G.language P.stage P.fits P.takes P.refuses P.ends P.turns }
+    requires right { AreTakers G.language P.stage P.meaning }
     requires bytes { walk.used.bytes ≤ MAX_BYTES }
     requires rows { IsUnder P.stage.limit walk.used.rows }
     ensures answer { (begun : P) (start : Before) (looked : List Look) → Walked (format_in G.language P.stage begun) (P.stage.heard begun) start looked walk
@@ -104,7 +104,7 @@ fn walk_series<S: Shelf, G: Grammar + Drop, P: FileSink<G> + Drop>(
     series: Series,
     walk: Walk<P>,
 ) -> Result<Walk<P>, Load>
-    requires right { AreTakers G.language P.stage P.fits P.takes P.refuses P.ends P.turns }
+    requires right { AreTakers G.language P.stage P.meaning }
     requires bytes { walk.used.bytes ≤ MAX_BYTES }
     requires rows { IsUnder P.stage.limit walk.used.rows }
     requires few { series.most < 2 ^ 32 }
@@ -166,11 +166,11 @@ pub fn walk_stage<S: Shelf, G: Grammar + Drop, P: FileSink<G> + Drop>(
     used: Used,
     file_sink: P,
 ) -> Result<Walk<P>, Load>
-    requires right { AreTakers G.language P.stage P.fits P.takes P.refuses P.ends P.turns }
+    requires right { AreTakers G.language P.stage P.meaning }
     requires bytes { used.bytes ≤ MAX_BYTES }
     requires rows { IsUnder P.stage.limit used.rows }
     requires rising { AreRising 0 stage.now }
-    ensures answer { (P.stage.heard file_sink) file_sink [] []
+    ensures answer { P.stage.heard file_sink file_sink [] []
         → IsStage (format_in G.language P.stage file_sink) (P.stage.heard file_sink) (S.contents shelf.old) folder.now stage.now (before used) result }
     ensures within { IfOk result (IsWalkWithin P.stage.limit) }
     ensures read { IsRead (is_read_fault result) (S.contents shelf.old) (S.faults shelf.old) (S.contents shelf.new) (S.faults shelf.new) }

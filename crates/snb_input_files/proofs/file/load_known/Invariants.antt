@@ -8,8 +8,8 @@ use Rattle.snb_input_files.proofs.file.load_known.Given as goal
 abbrev pub invariant-pieces : goal.invariant-pieces
 invariant-pieces g l = record {
   going :
-      (begun : g.row.P.Denot) → Going (format_in g.G.Grammar.language g.P.FileSink.stage begun) (g.P.FileSink.stage.heard begun) g.P.Sink.takes l.file (g.P.FileSink.stage.grammar_of l.file) (g.S.Shelf.contents l.fn.shelf) l.path
-      (first (format_in g.G.Grammar.language g.P.FileSink.stage begun) (g.P.FileSink.stage.heard begun) g.P.Sink.takes l.file (g.P.FileSink.stage.grammar_of l.file) l.used.rows l.fn.file_sink) l.reader l.sink;
+      (begun : g.row.P.Denot) → Going (format_in g.G.Grammar.language g.P.FileSink.stage begun) (g.P.FileSink.stage.heard begun) g.P.Sink.meaning.takes l.file (g.P.FileSink.stage.grammar_of l.file) (g.S.Shelf.contents l.fn.shelf) l.path
+      (first (format_in g.G.Grammar.language g.P.FileSink.stage begun) (g.P.FileSink.stage.heard begun) g.P.Sink.meaning.takes l.file (g.P.FileSink.stage.grammar_of l.file) l.used.rows l.fn.file_sink) l.reader l.sink;
   of_file : l.reader.file ≡ l.file;
   by_grammar : l.reader.grammar ≡ g.P.FileSink.stage.grammar_of l.file;
   few : l.reader.fed ≤ l.most;
