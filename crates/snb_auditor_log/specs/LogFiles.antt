@@ -8,7 +8,7 @@ use Rattle.snb_schema.specs.declared.refusal.Refusal.{Refusal}
 use Rattle.snb_schema.specs.declared.refusal.Refusal.TheVariants.{Absent}
 use Rattle.snb_history.specs.History.{moment}
 use Rattle.snb_schema.specs.Lines.{lines}
-use Rattle.snb_input_lines.specs.Sinks.{Refuses, Takes}
+use Rattle.snb_input_lines.specs.Sinks.{Refuses, SinkMeaning, Takes}
 use Rattle.snb_input_files.specs.declared.load.Load.{Load}
 use Rattle.snb_input_files.specs.declared.load.Load.TheVariants.{Refused, ReadFault, Memory}
 use Rattle.snb_base.specs.FirstOf.{FirstOf, NoneOf}
@@ -67,6 +67,17 @@ TakesEvent old file x new = new ≡ old ++ x ∷ []
 abbrev pub RefusesEvent : Refuses (List Logged) Logged
 RefusesEvent old file x r = ⊥
 
+-- what takes the events of a log
+abbrev pub log_sink : SinkMeaning (List Logged) Logged
+log_sink = record {
+  fits = λ x. Unit {0};
+  takes = TakesEvent;
+  refuses = RefusesEvent;
+  same = λ old new. new ≡ old;
+  ends = λ s file. None;
+  turns = λ old new. new ≡ [];
+}
+
 -- what takes the events of a log is a file_sink of its file
 abbrev pub IsLogFileSink : Type 0
-IsLogFileSink = IsFileSink log_format HasHeard (λ x. Unit {0}) TakesEvent RefusesEvent (λ s file. None) (λ old new. new ≡ [])
+IsLogFileSink = IsFileSink log_format HasHeard log_sink

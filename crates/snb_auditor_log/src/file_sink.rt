@@ -68,20 +68,10 @@ pub(crate) fn log_is_lawful()
 }
 
 impl Sink<Logged> for LogFileSink {
-    ghost use Rattle.std.specs.Prelude.{◌≡◌, [], None, refl};
-    ghost use Rattle.snb_auditor_log.specs.LogFiles.{RefusesEvent, TakesEvent};
+    ghost use Rattle.std.specs.Prelude.{refl};
+    ghost use Rattle.snb_auditor_log.specs.LogFiles.{log_sink};
 
-    ghost fits = { λ _. Unit {0} };
-
-    ghost takes = { TakesEvent };
-
-    ghost refuses = { RefusesEvent };
-
-    ghost same = { λ old new. new ≡ old };
-
-    ghost ends = { λ _ _. None };
-
-    ghost turns = { λ _ new. new ≡ [] };
+    ghost meaning = { log_sink };
 
     fn put(&mut self, _file: FileId, item: Logged) -> Result<(), Fault> {
         self.logged.push(item)?;
@@ -101,17 +91,10 @@ impl Sink<Logged> for LogFileSink {
 }
 
 impl FileSink<LogLines> for LogFileSink {
+    ghost use Rattle.snb_input_files.specs.Format.{stage_by};
     ghost use Rattle.snb_auditor_log.specs.LogFiles.{HasHeard, log_rules};
 
-    ghost grammar_of = { λ file. record {} };
-
-    ghost limit = { log_rules.limit };
-
-    ghost own = { λ _. log_rules.own };
-
-    ghost bare = { log_rules.bare };
-
-    ghost heard = { λ _. HasHeard };
+    ghost stage = { stage_by (λ file. record {}) log_rules HasHeard };
 
     fn grammar(&self, _file: FileId) -> LogLines {
         LogLines {}

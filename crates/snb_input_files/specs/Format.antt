@@ -4,7 +4,7 @@ use Rattle.snb_schema.specs.declared.file.FileId.{FileId}
 use Rattle.snb_schema.specs.declared.refusal.Refusal.{Refusal}
 use Rattle.snb_input_lines.specs.Language.{Fits, Language}
 use Rattle.snb_input_lines.specs.Laws.{IsExact}
-use Rattle.snb_input_lines.specs.Sinks.{Heard, Hears, Own, Refuses, Takes}
+use Rattle.snb_input_lines.specs.Sinks.{Heard, Hears, Own, SinkMeaning}
 
 -- what the items of the files of a stage are refused for
 pub record Rules (T : Type 0) : Type 1 where
@@ -20,12 +20,30 @@ pub record Format (K T : Type 0) : Type 1 where
   pub language : FileId → Language K T
   pub rules : Rules T
 
--- the format of files that are read by these grammars, and whose items are refused by these rules
-abbrev pub format_of : {G K T : Type 0} → (G → Language K T) → (FileId → G) → Option ℕ → Own T → (FileId → List T → Option Refusal) → Format K T
-format_of language grammar_of limit own bare = record {
-  language = λ file. language (grammar_of file);
-  rules = record { limit = limit; own = own; bare = bare };
+-- what a file sink's contract says of the files of its stage
+pub record Stage (P G T : Type 0) : Type 1 where
+  -- the grammar of each file
+  pub grammar_of : FileId → G
+  -- how many data lines all files of the input may have together, where there is a limit
+  pub limit : Option ℕ
+  -- a file's own check of an item, where the first file was begun in this state
+  pub own : P → Own T
+  -- what is wrong with a file that said these items, if anything is
+  pub bare : FileId → List T → Option Refusal
+  -- where the first file was begun in the one state, the other was told these items by each file before, and these so far by the file that
+  -- is open
+  pub heard : P → Heard P T
+
+-- the format of the files of a stage that are read by grammars of this language, where the first file was begun in this state
+abbrev pub format_in : {P G K T : Type 0} → (G → Language K T) → Stage P G T → P → Format K T
+format_in language stage begun = record {
+  language = λ file. language (stage.grammar_of file);
+  rules = record { limit = stage.limit; own = stage.own begun; bare = stage.bare };
 }
+
+-- a stage that means the same in whatever state the first file was begun
+abbrev pub stage_by : {P G T : Type 0} → (FileId → G) → Rules T → Heard P T → Stage P G T
+stage_by grammar_of rules heard = record { grammar_of = grammar_of; limit = rules.limit; own = λ begun. rules.own; bare = rules.bare; heard = λ begun. heard }
 
 -- a line says one thing at most, and is refused in one way at most
 pub record Lawful {K T : Type 0} (g : Format K T) : Type 0 where
@@ -37,22 +55,19 @@ pub record Lawful {K T : Type 0} (g : Format K T) : Type 0 where
   -- the own check refuses in one way at most
   pub one_own : (file : FileId) (done : List (List T)) (mine : List T) (x : T) (r q : Refusal) → g.rules.own file done mine x r → g.rules.own file done mine x q → r ≡ q
 
--- a sink of the items of such files, by which items it may be told, what it does with each, and what it was told
-pub record IsFileSink {P K T : Type 0} (g : Format K T) (heard : Heard P T) (may : T → Type 0) (takes : Takes P T) (refuses : Refuses P T)
-    (ends : P → FileId → Option Refusal) (turns : P → P → Type 0) : Type 0 where
+-- a sink of the items of such files, with what it was told
+pub record IsFileSink {P K T : Type 0} (g : Format K T) (heard : Heard P T) (sink : SinkMeaning P T) : Type 0 where
   -- lines say one thing at most, and are refused in one way at most
   pub lawful : Lawful g
   -- it may be told what a line spells
-  pub fits : (file : FileId) → Fits (g.language file) may
+  pub fits : (file : FileId) → Fits (g.language file) sink.fits
   -- what it takes it was told, and isn't refused by the rules; what it refuses is
-  pub hears : Hears takes refuses heard g.rules.own
+  pub hears : Hears sink.takes sink.refuses heard g.rules.own
   -- past the end of a file, what that file said is what a file before said
-  pub turned : (old new : P) (done : List (List T)) (mine : List T) → heard old done mine → turns old new → heard new (done ++ mine ∷ []) []
+  pub turned : (old new : P) (done : List (List T)) (mine : List T) → heard old done mine → sink.turns old new → heard new (done ++ mine ∷ []) []
   -- where a file ends it is refused by the rules
-  pub ended : (s : P) (file : FileId) (done : List (List T)) (mine : List T) → heard s done mine → ends s file ≡ g.rules.bare file mine
+  pub ended : (s : P) (file : FileId) (done : List (List T)) (mine : List T) → heard s done mine → sink.ends s file ≡ g.rules.bare file mine
 
--- sinks of such files, where a file's own check and what is told may be said by the state in which the first file was begun
-abbrev pub AreTakers : {P G K T : Type 0} → (G → Language K T) → (FileId → G) → Option ℕ → (P → Own T) → (FileId → List T → Option Refusal) → (P → Heard P T) → (T → Type 0)
-    → Takes P T → Refuses P T → (P → FileId → Option Refusal) → (P → P → Type 0) → Type 0
-AreTakers {P} language grammar_of limit own bare heard may takes refuses ends turns =
-    (begun : P) → IsFileSink (format_of language grammar_of limit (own begun) bare) (heard begun) may takes refuses ends turns
+-- sinks of the files of a stage, in whatever state the first file was begun
+abbrev pub AreTakers : {P G K T : Type 0} → (G → Language K T) → Stage P G T → SinkMeaning P T → Type 0
+AreTakers {P} language stage sink = (begun : P) → IsFileSink (format_in language stage begun) (stage.heard begun) sink

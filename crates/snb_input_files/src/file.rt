@@ -6,7 +6,7 @@ ghost use Rattle.snb_schema.specs.declared.limits.TheConstants.{MAX_BYTES};
 ghost use Rattle.snb_input_lines.specs.Counts.{IsUnder};
 ghost use Rattle.snb_input_lines.specs.declared.counted.RowCount.{RowCount as Row};
 ghost use Rattle.snb_input_lines.specs.Feeding.{at_begin};
-ghost use Rattle.snb_input_files.specs.Format.{AreTakers, format_of};
+ghost use Rattle.snb_input_files.specs.Format.{AreTakers, format_in};
 ghost use Rattle.snb_input_files.specs.Loading.{IsAnswer, IsKnownAnswer, IsWithin, is_read_fault};
 ghost use Rattle.snb_input_files.specs.Pieces.{IsEnd, IsFed, Opened};
 ghost use Rattle.snb_input_files.specs.Places.{FilesSay, Source};
@@ -39,19 +39,19 @@ fn end_file<G: Grammar + Drop, P: FileSink<G> + Drop>(
     reader: &mut LineReader<G>,
     mut sink: RowCount<P>,
 ) -> Result<Found<P>, Load>
-    requires right { AreTakers G.language P.grammar_of P.limit P.own P.bare P.heard P.fits P.takes P.refuses P.ends P.turns }
+    requires right { AreTakers G.language P.stage P.meaning }
     requires of_file { reader.old.file ≡ file }
-    requires by_grammar { reader.old.grammar ≡ P.grammar_of file }
+    requires by_grammar { reader.old.grammar ≡ P.stage.grammar_of file }
     requires few { used.bytes + reader.old.fed ≤ MAX_BYTES }
     requires goes_on { reader.old.over ≡ false }
     requires good { reader.old.fault ≡ None }
     ensures end { (begun : P) (past : List Source) (start : Row P) (text : List ℕ)
-        → Opened (format_of G.language P.grammar_of P.limit (P.own begun) P.bare) (P.heard begun) used.rows past start
-        → IsFed (format_of G.language P.grammar_of P.limit (P.own begun) P.bare) P.takes file (P.grammar_of file) start text reader.old sink
-        → IsEnd (format_of G.language P.grammar_of P.limit (P.own begun) P.bare) (P.heard begun) file used past text reader.new.known result }
-    ensures within { (begun : P) (start : Row P) (text : List ℕ) → start.most ≡ P.limit → IsUnder P.limit start.rows
-        → IsFed (format_of G.language P.grammar_of P.limit (P.own begun) P.bare) P.takes file (P.grammar_of file) start text reader.old sink
-        → IfOk result (IsWithin P.limit) }
+        → Opened (format_in G.language P.stage begun) (P.stage.heard begun) used.rows past start
+        → IsFed (format_in G.language P.stage begun) P.meaning.takes file (P.stage.grammar_of file) start text reader.old sink
+        → IsEnd (format_in G.language P.stage begun) (P.stage.heard begun) file used past text reader.new.known result }
+    ensures within { (begun : P) (start : Row P) (text : List ℕ) → start.most ≡ P.stage.limit → IsUnder P.stage.limit start.rows
+        → IsFed (format_in G.language P.stage begun) P.meaning.takes file (P.stage.grammar_of file) start text reader.old sink
+        → IfOk result (IsWithin P.stage.limit) }
     ensures fault { is_read_fault result ≡ false }
 {
     match reader.end_to(&mut sink) {
@@ -94,12 +94,12 @@ pub fn load_file<S: Shelf, G: Grammar + Drop, P: FileSink<G> + Drop>(
     used: Used,
     file_sink: P,
 ) -> Result<Found<P>, Load>
-    requires right { AreTakers G.language P.grammar_of P.limit P.own P.bare P.heard P.fits P.takes P.refuses P.ends P.turns }
+    requires right { AreTakers G.language P.stage P.meaning }
     requires bytes { used.bytes ≤ MAX_BYTES }
-    requires rows { IsUnder P.limit used.rows }
-    ensures answer { (begun : P) (past : List Source) (done : List (List G.Item)) → FilesSay (format_of G.language P.grammar_of P.limit (P.own begun) P.bare) past done → (P.heard begun) file_sink done []
-        → IsAnswer (format_of G.language P.grammar_of P.limit (P.own begun) P.bare) (P.heard begun) (S.contents shelf.old) path.now file used past file_sink result }
-    ensures within { IfOk result (IsWithin P.limit) }
+    requires rows { IsUnder P.stage.limit used.rows }
+    ensures answer { (begun : P) (past : List Source) (done : List (List G.Item)) → FilesSay (format_in G.language P.stage begun) past done → P.stage.heard begun file_sink done []
+        → IsAnswer (format_in G.language P.stage begun) (P.stage.heard begun) (S.contents shelf.old) path.now file used past file_sink result }
+    ensures within { IfOk result (IsWithin P.stage.limit) }
     ensures read { IsRead (is_read_fault result) (S.contents shelf.old) (S.faults shelf.old) (S.contents shelf.new) (S.faults shelf.new) }
 {
     let mut reader = LineReader::of_file(alloc, file, file_sink.grammar(file));
@@ -118,13 +118,13 @@ pub fn load_known<S: Shelf, G: Grammar + Drop, P: FileSink<G> + Drop>(
     reader: &mut LineReader<G>,
     file_sink: P,
 ) -> Result<Found<P>, Load>
-    requires right { AreTakers G.language P.grammar_of P.limit P.own P.bare P.heard P.fits P.takes P.refuses P.ends P.turns }
-    requires begins { reader.old ≡ at_begin file (P.grammar_of file) (G.language (P.grammar_of file)).begins }
+    requires right { AreTakers G.language P.stage P.meaning }
+    requires begins { reader.old ≡ at_begin file (P.stage.grammar_of file) (G.language (P.stage.grammar_of file)).begins }
     requires bytes { used.bytes ≤ MAX_BYTES }
-    requires rows { IsUnder P.limit used.rows }
-    ensures answer { (begun : P) (past : List Source) (done : List (List G.Item)) → FilesSay (format_of G.language P.grammar_of P.limit (P.own begun) P.bare) past done → (P.heard begun) file_sink done []
-        → IsKnownAnswer (format_of G.language P.grammar_of P.limit (P.own begun) P.bare) (P.heard begun) (S.contents shelf.old) path.now file used past file_sink reader.new.known result }
-    ensures within { IfOk result (IsWithin P.limit) }
+    requires rows { IsUnder P.stage.limit used.rows }
+    ensures answer { (begun : P) (past : List Source) (done : List (List G.Item)) → FilesSay (format_in G.language P.stage begun) past done → P.stage.heard begun file_sink done []
+        → IsKnownAnswer (format_in G.language P.stage begun) (P.stage.heard begun) (S.contents shelf.old) path.now file used past file_sink reader.new.known result }
+    ensures within { IfOk result (IsWithin P.stage.limit) }
     ensures read { IsRead (is_read_fault result) (S.contents shelf.old) (S.faults shelf.old) (S.contents shelf.new) (S.faults shelf.new) }
 {
     let most = MAX_BYTES - used.bytes;

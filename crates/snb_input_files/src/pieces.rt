@@ -3,7 +3,7 @@
 ghost use Rattle.std.specs.Prelude.{◌≡◌, ◌+◌, ◌<◌, ◌≤◌, IfOk, OnOk, length, None, false};
 ghost use Rattle.snb_base.specs.Shelf.{IsRead};
 ghost use Rattle.snb_schema.specs.declared.limits.TheConstants.{MAX_BYTES};
-ghost use Rattle.snb_input_files.specs.Format.{AreTakers, format_of};
+ghost use Rattle.snb_input_files.specs.Format.{AreTakers, format_in};
 ghost use Rattle.snb_input_files.specs.Loading.{is_read_fault};
 ghost use Rattle.snb_input_files.specs.Pieces.{IsBadPiece, IsFedMore, IsStep, OnRefused};
 
@@ -35,22 +35,22 @@ fn feed_piece<G: Grammar + Drop, P: FileSink<G> + Drop>(
     sink: &mut RowCount<P>,
     piece: &[u8],
 ) -> Result<(), Load>
-    requires right { AreTakers G.language P.grammar_of P.limit P.own P.bare P.heard P.fits P.takes P.refuses P.ends P.turns }
+    requires right { AreTakers G.language P.stage P.meaning }
     requires of_file { reader.old.file ≡ file }
-    requires by_grammar { reader.old.grammar ≡ P.grammar_of file }
+    requires by_grammar { reader.old.grammar ≡ P.stage.grammar_of file }
     requires most { most ≤ MAX_BYTES }
     requires few { reader.old.fed ≤ most }
     requires goes_on { reader.old.over ≡ false }
     requires good { reader.old.fault ≡ None }
-    ensures ok { (begun : P) → OnOk result (IsFedMore (format_of G.language P.grammar_of P.limit (P.own begun) P.bare) P.takes file (P.grammar_of file) reader.old sink.old piece.now reader.new sink.new) }
+    ensures ok { (begun : P) → OnOk result (IsFedMore (format_in G.language P.stage begun) P.meaning.takes file (P.stage.grammar_of file) reader.old sink.old piece.now reader.new sink.new) }
     ensures fed { OnOk result (reader.new.fed ≡ reader.old.fed + length piece.now) }
     ensures few { OnOk result (reader.new.fed ≤ most) }
     ensures goes_on { OnOk result (reader.new.over ≡ false) }
     ensures good { OnOk result (reader.new.fault ≡ None) }
     ensures of_file { reader.new.file ≡ file }
-    ensures by_grammar { reader.new.grammar ≡ P.grammar_of file }
+    ensures by_grammar { reader.new.grammar ≡ P.stage.grammar_of file }
     ensures refused { (begun : P) → OnRefused result
-        (IsBadPiece (format_of G.language P.grammar_of P.limit (P.own begun) P.bare) (P.heard begun) P.takes file (P.grammar_of file) most reader.old sink.old piece.now) }
+        (IsBadPiece (format_in G.language P.stage begun) (P.stage.heard begun) P.meaning.takes file (P.stage.grammar_of file) most reader.old sink.old piece.now) }
     ensures fault { is_read_fault result ≡ false }
 {
     let kept = piece.len().min((most - reader.fed()) as usize);
@@ -83,22 +83,22 @@ pub fn read_piece<S: Shelf, G: Grammar + Drop, P: FileSink<G> + Drop>(
     sink: &mut RowCount<P>,
     buffer: &mut [u8],
 ) -> Result<Step, Load>
-    requires right { AreTakers G.language P.grammar_of P.limit P.own P.bare P.heard P.fits P.takes P.refuses P.ends P.turns }
+    requires right { AreTakers G.language P.stage P.meaning }
     requires of_file { reader.old.file ≡ file }
-    requires by_grammar { reader.old.grammar ≡ P.grammar_of file }
+    requires by_grammar { reader.old.grammar ≡ P.stage.grammar_of file }
     requires most { most ≤ MAX_BYTES }
     requires few { reader.old.fed ≤ most }
     requires goes_on { reader.old.over ≡ false }
     requires good { reader.old.fault ≡ None }
     requires room { 0 < length buffer.old }
-    ensures step { (begun : P) → IsStep (format_of G.language P.grammar_of P.limit (P.own begun) P.bare) (P.heard begun) P.takes (S.contents shelf.old) name.now file (P.grammar_of file) most
+    ensures step { (begun : P) → IsStep (format_in G.language P.stage begun) (P.stage.heard begun) P.meaning.takes (S.contents shelf.old) name.now file (P.stage.grammar_of file) most
         reader.old sink.old reader.new sink.new result }
     ensures more { IfOk result (λ step. step ≡ Step.More → reader.old.fed < reader.new.fed) }
     ensures few { OnOk result (reader.new.fed ≤ most) }
     ensures goes_on { OnOk result (reader.new.over ≡ false) }
     ensures good { OnOk result (reader.new.fault ≡ None) }
     ensures of_file { reader.new.file ≡ file }
-    ensures by_grammar { reader.new.grammar ≡ P.grammar_of file }
+    ensures by_grammar { reader.new.grammar ≡ P.stage.grammar_of file }
     ensures read { IsRead (is_read_fault result) (S.contents shelf.old) (S.faults shelf.old) (S.contents shelf.new) (S.faults shelf.new) }
 {
     match shelf.read(name, reader.fed(), buffer) {

@@ -5,7 +5,7 @@ ghost use Rattle.snb_base.specs.Shelf.{IsRead};
 ghost use Rattle.snb_schema.specs.declared.limits.TheConstants.{MAX_BYTES};
 ghost use Rattle.snb_input_lines.specs.Counts.{IsUnder};
 ghost use Rattle.snb_schema.specs.FileNames.{name_of};
-ghost use Rattle.snb_input_files.specs.Format.{AreTakers, format_of};
+ghost use Rattle.snb_input_files.specs.Format.{AreTakers, format_in};
 ghost use Rattle.snb_input_files.specs.Loading.{IsWithin, is_read_fault};
 ghost use Rattle.snb_input_files.specs.Looking.{IsLook, IsNotRefused, IsPeek, IsSeries};
 ghost use Rattle.snb_input_files.specs.Stages.{AreRising, IsStage, IsWalkWithin, Walked, before};
@@ -64,12 +64,12 @@ fn look<S: Shelf, G: Grammar + Drop, P: FileSink<G> + Drop>(
     needed: bool,
     walk: Walk<P>,
 ) -> Result<Found<P>, Load>
-    requires right { AreTakers G.language P.grammar_of P.limit P.own P.bare P.heard P.fits P.takes P.refuses P.ends P.turns }
+    requires right { AreTakers G.language P.stage P.meaning }
     requires bytes { walk.used.bytes ≤ MAX_BYTES }
-    requires rows { IsUnder P.limit walk.used.rows }
-    ensures answer { (begun : P) (start : Before) (looked : List Look) → Walked (format_of G.language P.grammar_of P.limit (P.own begun) P.bare) (P.heard begun) start looked walk
-        → IsLook (format_of G.language P.grammar_of P.limit (P.own begun) P.bare) (P.heard begun) (S.contents shelf.old) folder.now file needed start looked walk.used result }
-    ensures within { IfOk result (IsWithin P.limit) }
+    requires rows { IsUnder P.stage.limit walk.used.rows }
+    ensures answer { (begun : P) (start : Before) (looked : List Look) → Walked (format_in G.language P.stage begun) (P.stage.heard begun) start looked walk
+        → IsLook (format_in G.language P.stage begun) (P.stage.heard begun) (S.contents shelf.old) folder.now file needed start looked walk.used result }
+    ensures within { IfOk result (IsWithin P.stage.limit) }
     ensures read { IsRead (is_read_fault result) (S.contents shelf.old) (S.faults shelf.old) (S.contents shelf.new) (S.faults shelf.new) }
 {
     let path = path_of(alloc, folder, file)?;
@@ -104,13 +104,13 @@ fn walk_series<S: Shelf, G: Grammar + Drop, P: FileSink<G> + Drop>(
     series: Series,
     walk: Walk<P>,
 ) -> Result<Walk<P>, Load>
-    requires right { AreTakers G.language P.grammar_of P.limit P.own P.bare P.heard P.fits P.takes P.refuses P.ends P.turns }
+    requires right { AreTakers G.language P.stage P.meaning }
     requires bytes { walk.used.bytes ≤ MAX_BYTES }
-    requires rows { IsUnder P.limit walk.used.rows }
+    requires rows { IsUnder P.stage.limit walk.used.rows }
     requires few { series.most < 2 ^ 32 }
-    ensures answer { (begun : P) (start : Before) (looked : List Look) → Walked (format_of G.language P.grammar_of P.limit (P.own begun) P.bare) (P.heard begun) start looked walk
-        → IsSeries (format_of G.language P.grammar_of P.limit (P.own begun) P.bare) (P.heard begun) (S.contents shelf.old) folder.now series start looked result }
-    ensures within { IfOk result (IsWalkWithin P.limit) }
+    ensures answer { (begun : P) (start : Before) (looked : List Look) → Walked (format_in G.language P.stage begun) (P.stage.heard begun) start looked walk
+        → IsSeries (format_in G.language P.stage begun) (P.stage.heard begun) (S.contents shelf.old) folder.now series start looked result }
+    ensures within { IfOk result (IsWalkWithin P.stage.limit) }
     ensures read { IsRead (is_read_fault result) (S.contents shelf.old) (S.faults shelf.old) (S.contents shelf.new) (S.faults shelf.new) }
 {
     let mut so_far = walk;
@@ -166,13 +166,13 @@ pub fn walk_stage<S: Shelf, G: Grammar + Drop, P: FileSink<G> + Drop>(
     used: Used,
     file_sink: P,
 ) -> Result<Walk<P>, Load>
-    requires right { AreTakers G.language P.grammar_of P.limit P.own P.bare P.heard P.fits P.takes P.refuses P.ends P.turns }
+    requires right { AreTakers G.language P.stage P.meaning }
     requires bytes { used.bytes ≤ MAX_BYTES }
-    requires rows { IsUnder P.limit used.rows }
+    requires rows { IsUnder P.stage.limit used.rows }
     requires rising { AreRising 0 stage.now }
-    ensures answer { (P.heard file_sink) file_sink [] []
-        → IsStage (format_of G.language P.grammar_of P.limit (P.own file_sink) P.bare) (P.heard file_sink) (S.contents shelf.old) folder.now stage.now (before used) result }
-    ensures within { IfOk result (IsWalkWithin P.limit) }
+    ensures answer { P.stage.heard file_sink file_sink [] []
+        → IsStage (format_in G.language P.stage file_sink) (P.stage.heard file_sink) (S.contents shelf.old) folder.now stage.now (before used) result }
+    ensures within { IfOk result (IsWalkWithin P.stage.limit) }
     ensures read { IsRead (is_read_fault result) (S.contents shelf.old) (S.faults shelf.old) (S.contents shelf.new) (S.faults shelf.new) }
 {
     let mut so_far = Walk { used, file_sink };

@@ -4,7 +4,7 @@ use Rattle.snb_base.specs.FirstOf.{FirstOf}
 use Rattle.snb_schema.specs.declared.refusal.Counted.TheVariants.{Rows}
 use Rattle.snb_schema.specs.declared.refusal.Refusal.TheVariants.{TooMany}
 use Rattle.snb_input_lines.specs.declared.counted.RowCount.{RowCount}
-use Rattle.snb_input_lines.specs.Sinks.{Refuses, Takes}
+use Rattle.snb_input_lines.specs.Sinks.{Refuses, SinkMeaning, Takes}
 
 -- one more is counted, where there is a limit
 abbrev pub CountsOne : Option ℕ → ℕ → ℕ → Type 0
@@ -37,3 +37,14 @@ RowRefuses refuses old file item r = FirstOf ((λ q. IsFull old.most old.rows ×
 -- as many are counted, and the sinks were told the same
 abbrev pub RowSame : {S : Type 0} → (S → S → Type 0) → RowCount S → RowCount S → Type 0
 RowSame same old new = same old.sink new.sink × (new.rows ≡ old.rows) × (new.most ≡ old.most)
+
+-- what a sink does that counts the items which this one takes
+abbrev pub counting : {S T : Type 0} → SinkMeaning S T → SinkMeaning (RowCount S) T
+counting sink = record {
+  fits = sink.fits;
+  takes = RowTakes sink.takes;
+  refuses = RowRefuses sink.refuses;
+  same = RowSame sink.same;
+  ends = λ old file. sink.ends old.sink file;
+  turns = λ old new. sink.turns old.sink new.sink × (new.rows ≡ old.rows) × (new.most ≡ old.most);
+}

@@ -1,7 +1,7 @@
 //! A sink that takes so many items at most.
 
 ghost use Rattle.std.specs.Prelude.{◌≡◌, ◌↔◌, IsTrue, refl};
-ghost use Rattle.snb_input_lines.specs.Counts.{CountsOne, IsFull, RowRefuses, RowSame, RowTakes};
+ghost use Rattle.snb_input_lines.specs.Counts.{CountsOne, IsFull, counting};
 
 use crate::sink::Sink;
 use snb_schema::{Counted, Fault, FileId, Refusal};
@@ -41,17 +41,7 @@ fn with_one(most: Option<u64>, rows: u64) -> u64
 }
 
 impl<T: Drop, S: Sink<T>> Sink<T> for RowCount<S> {
-    ghost fits = { S.fits };
-
-    ghost takes = { RowTakes S.takes };
-
-    ghost refuses = { RowRefuses S.refuses };
-
-    ghost same = { RowSame S.same };
-
-    ghost ends = { λ old file. S.ends old.sink file };
-
-    ghost turns = { λ old new. S.turns old.sink new.sink × (new.rows ≡ old.rows) × (new.most ≡ old.most) };
+    ghost meaning = { counting S.meaning };
 
     fn put(&mut self, file: FileId, item: T) -> Result<(), Fault> {
         if is_full(self.most, self.rows) {

@@ -94,16 +94,16 @@ impl<G: Grammar> LineReader<G> {
     pub fn feed_to<S: Sink<G::Item>>(&mut self, piece: &[u8], sink: &mut S) -> Result<(), Fault>
         requires bytes { self.old.fed + length piece.now ≤ MAX_BYTES }
         requires goes_on { self.old.over ≡ false }
-        requires fits { Fits (G.language self.old.grammar) S.fits }
+        requires fits { Fits (G.language self.old.grammar) S.meaning.fits }
         ensures kept { KeepsFault result self.old sink.old self.new sink.new }
         ensures was_good { OnOk result (self.old.fault ≡ None) }
         ensures ok { OnOk result
-            (HasRead (G.language self.old.grammar) S.takes (new_lines self.old piece.now) self.old sink.old self.new sink.new) }
+            (HasRead (G.language self.old.grammar) S.meaning.takes (new_lines self.old piece.now) self.old sink.old self.new sink.new) }
         ensures after { OnOk result (self.new ≡ fed_more self.old piece.now self.new.known) }
         ensures bad { self.old.fault ≡ None → OnBad result
-            (HasStopped (G.language self.old.grammar) S.takes S.refuses S.same (new_lines self.old piece.now) self.old sink.old self.new sink.new) }
+            (HasStopped (G.language self.old.grammar) S.meaning.takes S.meaning.refuses S.meaning.same (new_lines self.old piece.now) self.old sink.old self.new sink.new) }
         ensures memory { self.old.fault ≡ None → OnMemory result
-            (HasRunOut (G.language self.old.grammar) S.takes S.same (new_lines self.old piece.now) self.old sink.old self.new sink.new) }
+            (HasRunOut (G.language self.old.grammar) S.meaning.takes S.meaning.same (new_lines self.old piece.now) self.old sink.old self.new sink.new) }
         ensures same { OnErr result (IsSameFile self.old self.new) }
     {
         if let Some(fault) = self.fault {
@@ -124,17 +124,17 @@ impl<G: Grammar> LineReader<G> {
     /// against the end of the file, or want of memory. It is kept as an error of `feed_to` is.
     pub fn end_to<S: Sink<G::Item>>(&mut self, sink: &mut S) -> Result<(), Fault>
         requires goes_on { self.old.over ≡ false }
-        requires fits { Fits (G.language self.old.grammar) S.fits }
+        requires fits { Fits (G.language self.old.grammar) S.meaning.fits }
         ensures kept { KeepsFault result self.old sink.old self.new sink.new }
         ensures was_good { OnOk result (self.old.fault ≡ None) }
         ensures ok { OnOk result
-            (HasRead (G.language self.old.grammar) S.takes (left_lines self.old) self.old sink.old self.new sink.new) }
-        ensures ends { OnOk result (end_fault self.old.file self.new.known (S.ends sink.new self.old.file) ≡ None) }
+            (HasRead (G.language self.old.grammar) S.meaning.takes (left_lines self.old) self.old sink.old self.new sink.new) }
+        ensures ends { OnOk result (end_fault self.old.file self.new.known (S.meaning.ends sink.new self.old.file) ≡ None) }
         ensures after { OnOk result (self.new ≡ at_file_end self.old self.new.known) }
         ensures bad { self.old.fault ≡ None → OnBad result
-            (HasStoppedAtEnd (G.language self.old.grammar) S.takes S.refuses S.same S.ends (left_lines self.old) self.old sink.old self.new sink.new) }
+            (HasStoppedAtEnd (G.language self.old.grammar) S.meaning.takes S.meaning.refuses S.meaning.same S.meaning.ends (left_lines self.old) self.old sink.old self.new sink.new) }
         ensures memory { self.old.fault ≡ None → OnMemory result
-            (HasRunOut (G.language self.old.grammar) S.takes S.same (left_lines self.old) self.old sink.old self.new sink.new) }
+            (HasRunOut (G.language self.old.grammar) S.meaning.takes S.meaning.same (left_lines self.old) self.old sink.old self.new sink.new) }
         ensures same { OnErr result (IsSameFile self.old self.new) }
     {
         if let Some(fault) = self.fault {

@@ -13,17 +13,14 @@ use snb_schema::{Fault, FileId, Refusal};
 use std::alloc::AllocError;
 
 impl<T: Drop> Sink<T> for Vec<T> {
-    ghost fits = { λ _. Unit {0} };
-
-    ghost takes = { λ old _ item new. new.items ≡ old.items ++ item ∷ [] };
-
-    ghost refuses = { λ _ _ _ _. ⊥ };
-
-    ghost same = { λ old new. new.items ≡ old.items };
-
-    ghost ends = { λ _ _. None };
-
-    ghost turns = { λ old new. new.items ≡ old.items };
+    ghost meaning = { record {
+      fits = λ _. Unit {0};
+      takes = λ old _ item new. new.items ≡ old.items ++ item ∷ [];
+      refuses = λ _ _ _ _. ⊥;
+      same = λ old new. new.items ≡ old.items;
+      ends = λ _ _. None;
+      turns = λ old new. new.items ≡ old.items;
+    } };
 
     fn put(&mut self, _file: FileId, item: T) -> Result<(), Fault> {
         self.push(item)?;

@@ -84,10 +84,10 @@ fn take_text<G: Grammar, S: Sink<G::Item>>(
     sink: &mut S,
 ) -> Result<(), Fault>
     requires text { IsTextLine (G.language of.now.grammar).splits line.now (row.now) }
-    requires fits { Fits (G.language of.now.grammar) S.fits }
-    ensures ok { OnOk result (TextTaken (G.language of.now.grammar) S.takes of.now.file number line.now at.old sink.old at.new sink.new) }
-    ensures bad { OnBad result (RefusesAs (G.language of.now.grammar) S.refuses of.now.file at.old.known sink.old number line.now) }
-    ensures same { OnErr result (S.same sink.old sink.new) }
+    requires fits { Fits (G.language of.now.grammar) S.meaning.fits }
+    ensures ok { OnOk result (TextTaken (G.language of.now.grammar) S.meaning.takes of.now.file number line.now at.old sink.old at.new sink.new) }
+    ensures bad { OnBad result (RefusesAs (G.language of.now.grammar) S.meaning.refuses of.now.file at.old.known sink.old number line.now) }
+    ensures same { OnErr result (S.meaning.same sink.old sink.new) }
     ensures ended { at.new.ended ≡ at.old.ended }
     ensures begun { at.new.begun.items ≡ at.old.begun.items }
 {
@@ -119,10 +119,10 @@ fn take_line<G: Grammar, S: Sink<G::Item>>(
     requires one_line { HasNoEnd line.now }
     requires utf8 { known ≡ true → IsUtf8 line.now }
     requires split { line.now ≢ [] → FieldsAs (G.language of.now.grammar).splits line.now (row.now) }
-    requires fits { Fits (G.language of.now.grammar) S.fits }
-    ensures ok { OnOk result (LineTaken (G.language of.now.grammar) S.takes of.now.file line.now at.old sink.old at.new sink.new) }
-    ensures bad { OnBad result (LineRefused (G.language of.now.grammar) S.refuses of.now.file line.now at.old sink.old) }
-    ensures same { OnErr result (S.same sink.old sink.new) }
+    requires fits { Fits (G.language of.now.grammar) S.meaning.fits }
+    ensures ok { OnOk result (LineTaken (G.language of.now.grammar) S.meaning.takes of.now.file line.now at.old sink.old at.new sink.new) }
+    ensures bad { OnBad result (LineRefused (G.language of.now.grammar) S.meaning.refuses of.now.file line.now at.old sink.old) }
+    ensures same { OnErr result (S.meaning.same sink.old sink.new) }
     ensures ended { OnOk result (at.new.ended ≡ at.old.ended + 1) }
     ensures begun { at.new.begun.items ≡ at.old.begun.items }
 {
@@ -143,10 +143,10 @@ fn take_last<G: Grammar, S: Sink<G::Item>>(
 ) -> Result<(), Fault>
     requires room { at.old.ended + 1 < 2 ^ 32 }
     requires one_line { HasNoEnd at.old.begun.items }
-    requires fits { Fits (G.language of.now.grammar) S.fits }
-    ensures ok { OnOk result (LineTaken (G.language of.now.grammar) S.takes of.now.file at.old.begun.items at.old sink.old at.new sink.new) }
-    ensures bad { OnBad result (LineRefused (G.language of.now.grammar) S.refuses of.now.file at.old.begun.items at.old sink.old) }
-    ensures same { OnErr result (S.same sink.old sink.new) }
+    requires fits { Fits (G.language of.now.grammar) S.meaning.fits }
+    ensures ok { OnOk result (LineTaken (G.language of.now.grammar) S.meaning.takes of.now.file at.old.begun.items at.old sink.old at.new sink.new) }
+    ensures bad { OnBad result (LineRefused (G.language of.now.grammar) S.meaning.refuses of.now.file at.old.begun.items at.old sink.old) }
+    ensures same { OnErr result (S.meaning.same sink.old sink.new) }
     ensures ended { OnOk result (at.new.ended ≡ at.old.ended + 1) }
     ensures begun { at.new.begun.items ≡ [] }
 {
@@ -166,10 +166,10 @@ fn take_lines<G: Grammar, S: Sink<G::Item>>(
     requires splits { text.old.splits ≡ (G.language of.now.grammar).splits }
     requires fresh { at.old.begun.items ≡ [] }
     requires room { at.old.ended + length text.old.text ≤ MAX_BYTES }
-    requires fits { Fits (G.language of.now.grammar) S.fits }
-    ensures ok { OnOk result (LinesTaken (G.language of.now.grammar) S.takes of.now.file (whole_lines text.old.text) at.old sink.old at.new sink.new) }
-    ensures bad { OnBad result (LinesStopped (G.language of.now.grammar) S.takes S.refuses S.same of.now.file (whole_lines text.old.text) at.old sink.old sink.new) }
-    ensures memory { OnMemory result (LinesRunOut (G.language of.now.grammar) S.takes S.same of.now.file (whole_lines text.old.text) at.old sink.old sink.new) }
+    requires fits { Fits (G.language of.now.grammar) S.meaning.fits }
+    ensures ok { OnOk result (LinesTaken (G.language of.now.grammar) S.meaning.takes of.now.file (whole_lines text.old.text) at.old sink.old at.new sink.new) }
+    ensures bad { OnBad result (LinesStopped (G.language of.now.grammar) S.meaning.takes S.meaning.refuses S.meaning.same of.now.file (whole_lines text.old.text) at.old sink.old sink.new) }
+    ensures memory { OnMemory result (LinesRunOut (G.language of.now.grammar) S.meaning.takes S.meaning.same of.now.file (whole_lines text.old.text) at.old sink.old sink.new) }
     ensures ended { OnOk result (at.new.ended ≡ at.old.ended + length (whole_lines text.old.text)) }
     ensures begun { OnOk result (at.new.begun.items ≡ rest_of text.old.text) }
 {
@@ -194,10 +194,10 @@ fn take_ended<G: Grammar, S: Sink<G::Item>>(
     requires ends { (rest : List ℕ) × (others.now ≡ 10 ∷ rest) }
     requires fresh { at.old.begun.items ≡ [] }
     requires room { at.old.ended + length (first.now ++ others.now) ≤ MAX_BYTES }
-    requires fits { Fits (G.language of.now.grammar) S.fits }
-    ensures ok { OnOk result (LinesTaken (G.language of.now.grammar) S.takes of.now.file (whole_lines (first.now ++ others.now)) at.old sink.old at.new sink.new) }
-    ensures bad { OnBad result (LinesStopped (G.language of.now.grammar) S.takes S.refuses S.same of.now.file (whole_lines (first.now ++ others.now)) at.old sink.old sink.new) }
-    ensures memory { OnMemory result (LinesRunOut (G.language of.now.grammar) S.takes S.same of.now.file (whole_lines (first.now ++ others.now)) at.old sink.old sink.new) }
+    requires fits { Fits (G.language of.now.grammar) S.meaning.fits }
+    ensures ok { OnOk result (LinesTaken (G.language of.now.grammar) S.meaning.takes of.now.file (whole_lines (first.now ++ others.now)) at.old sink.old at.new sink.new) }
+    ensures bad { OnBad result (LinesStopped (G.language of.now.grammar) S.meaning.takes S.meaning.refuses S.meaning.same of.now.file (whole_lines (first.now ++ others.now)) at.old sink.old sink.new) }
+    ensures memory { OnMemory result (LinesRunOut (G.language of.now.grammar) S.meaning.takes S.meaning.same of.now.file (whole_lines (first.now ++ others.now)) at.old sink.old sink.new) }
     ensures ended { OnOk result (at.new.ended ≡ at.old.ended + length (whole_lines (first.now ++ others.now))) }
     ensures begun { OnOk result (at.new.begun.items ≡ rest_of (first.now ++ others.now)) }
 {
@@ -214,13 +214,13 @@ pub fn take_piece<G: Grammar, S: Sink<G::Item>>(
 ) -> Result<(), Fault>
     requires one_line { HasNoEnd at.old.begun.items }
     requires room { at.old.ended + length at.old.begun.items + length piece.now ≤ MAX_BYTES }
-    requires fits { Fits (G.language of.now.grammar) S.fits }
+    requires fits { Fits (G.language of.now.grammar) S.meaning.fits }
     ensures ok { OnOk result
-        (LinesTaken (G.language of.now.grammar) S.takes of.now.file (whole_lines (at.old.begun.items ++ piece.now)) at.old sink.old at.new sink.new) }
+        (LinesTaken (G.language of.now.grammar) S.meaning.takes of.now.file (whole_lines (at.old.begun.items ++ piece.now)) at.old sink.old at.new sink.new) }
     ensures bad { OnBad result
-        (LinesStopped (G.language of.now.grammar) S.takes S.refuses S.same of.now.file (whole_lines (at.old.begun.items ++ piece.now)) at.old sink.old sink.new) }
+        (LinesStopped (G.language of.now.grammar) S.meaning.takes S.meaning.refuses S.meaning.same of.now.file (whole_lines (at.old.begun.items ++ piece.now)) at.old sink.old sink.new) }
     ensures memory { OnMemory result
-        (LinesRunOut (G.language of.now.grammar) S.takes S.same of.now.file (whole_lines (at.old.begun.items ++ piece.now)) at.old sink.old sink.new) }
+        (LinesRunOut (G.language of.now.grammar) S.meaning.takes S.meaning.same of.now.file (whole_lines (at.old.begun.items ++ piece.now)) at.old sink.old sink.new) }
     ensures ended { OnOk result (at.new.ended ≡ at.old.ended + length (whole_lines (at.old.begun.items ++ piece.now))) }
     ensures begun { OnOk result (at.new.begun.items ≡ rest_of (at.old.begun.items ++ piece.now)) }
 {
@@ -241,14 +241,14 @@ pub fn finish<G: Grammar, S: Sink<G::Item>>(
 ) -> Result<(), Fault>
     requires one_line { HasNoEnd at.old.begun.items }
     requires room { at.old.ended + length at.old.begun.items ≤ MAX_BYTES }
-    requires fits { Fits (G.language of.now.grammar) S.fits }
+    requires fits { Fits (G.language of.now.grammar) S.meaning.fits }
     ensures ok { OnOk result
-        (LinesTaken (G.language of.now.grammar) S.takes of.now.file (last_lines at.old.begun.items) at.old sink.old at.new sink.new) }
-    ensures ends { OnOk result (end_fault of.now.file at.new.known (S.ends sink.new of.now.file) ≡ None) }
+        (LinesTaken (G.language of.now.grammar) S.meaning.takes of.now.file (last_lines at.old.begun.items) at.old sink.old at.new sink.new) }
+    ensures ends { OnOk result (end_fault of.now.file at.new.known (S.meaning.ends sink.new of.now.file) ≡ None) }
     ensures bad { OnBad result
-        (FileStopped (G.language of.now.grammar) S.takes S.refuses S.same S.ends of.now.file (last_lines at.old.begun.items) at.old sink.old sink.new) }
+        (FileStopped (G.language of.now.grammar) S.meaning.takes S.meaning.refuses S.meaning.same S.meaning.ends of.now.file (last_lines at.old.begun.items) at.old sink.old sink.new) }
     ensures memory { OnMemory result
-        (LinesRunOut (G.language of.now.grammar) S.takes S.same of.now.file (last_lines at.old.begun.items) at.old sink.old sink.new) }
+        (LinesRunOut (G.language of.now.grammar) S.meaning.takes S.meaning.same of.now.file (last_lines at.old.begun.items) at.old sink.old sink.new) }
     ensures ended { OnOk result (at.new.ended ≡ at.old.ended + length (last_lines at.old.begun.items)) }
     ensures begun { OnOk result (at.new.begun.items ≡ []) }
 {

@@ -11,7 +11,7 @@ use Rattle.snb_schema.specs.LineLanes.{LineLanes}
 use Rattle.snb_schema.specs.StreamLines.{IsOfLine, NeverFalls}
 use Rattle.snb_schema.specs.TableRows.{IsFieldText}
 use Rattle.snb_streams.specs.Spelled.{SpellsInsert}
-use Rattle.snb_input_lines.specs.Sinks.{Refuses, Takes}
+use Rattle.snb_input_lines.specs.Sinks.{Refuses, SinkMeaning, Takes}
 use Rattle.snb_streams.specs.Lines.{stream_language}
 use Rattle.snb_input_files.specs.declared.load.Load.{Load}
 use Rattle.snb_input_files.specs.declared.load.Load.TheVariants.{Refused, ReadFault, Memory}
@@ -67,9 +67,20 @@ RefusesLine old file x r = Falls file old.done old.mine x r
 abbrev pub EndsStream : StreamLines → StreamLines → Type 0
 EndsStream old new = (new.done ≡ old.done ++ old.mine ∷ []) × (new.mine ≡ [])
 
+-- what takes streams
+abbrev pub stream_sink : SinkMeaning StreamLines Line
+stream_sink = record {
+  fits = IsOfLine;
+  takes = TakesLine;
+  refuses = RefusesLine;
+  same = λ old new. new ≡ old;
+  ends = λ s file. None;
+  turns = EndsStream;
+}
+
 -- what takes streams is a file_sink of their files
 abbrev pub IsStreamFileSink : Type 0
-IsStreamFileSink = IsFileSink stream_format IsHeard IsOfLine TakesLine RefusesLine (λ s file. None) EndsStream
+IsStreamFileSink = IsFileSink stream_format IsHeard stream_sink
 
 -- this is the t of the last of the lines, or 0
 pub record IsLastOf (lines : List Line) (last : ℕ) : Type 0 where

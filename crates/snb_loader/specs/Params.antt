@@ -10,7 +10,7 @@ use Rattle.snb_schema.specs.declared.refusal.Refusal.{Refusal}
 use Rattle.snb_schema.specs.declared.refusal.Refusal.TheVariants.{NoParameters}
 use Rattle.snb_schema.specs.Frequencies.{FrequencyTable, frequency_at}
 use Rattle.snb_schema.specs.QueryLists.{AreOf, QueryLists, list_of}
-use Rattle.snb_input_lines.specs.Sinks.{Takes}
+use Rattle.snb_input_lines.specs.Sinks.{SinkMeaning, Takes}
 use Rattle.snb_streams.specs.Parameters.{params_file, params_language}
 use Rattle.snb_input_files.specs.declared.load.Load.{Load}
 use Rattle.snb_input_files.specs.declared.load.Load.TheVariants.{Refused, ReadFault, Memory}
@@ -66,9 +66,20 @@ TakesQuery old file x new = (new.done ≡ old.done) × (new.mine ≡ old.mine ++
 abbrev pub EndsParams : ParamLines → ParamLines → Type 0
 EndsParams old new = (new.done ≡ old.done ++ old.mine ∷ []) × (new.mine ≡ [])
 
+-- what takes parameters
+abbrev pub param_sink : SinkMeaning ParamLines Query
+param_sink = record {
+  fits = λ x. Unit {0};
+  takes = TakesQuery;
+  refuses = λ old file x r. ⊥;
+  same = λ old new. new ≡ old;
+  ends = λ s file. no_parameters file s.mine;
+  turns = EndsParams;
+}
+
 -- what takes parameters is a file_sink of their files
 abbrev pub IsParamFileSink : Type 0
-IsParamFileSink = IsFileSink params_format HasHeard (λ x. Unit {0}) TakesQuery (λ old file x r. ⊥) (λ s file. no_parameters file s.mine) EndsParams
+IsParamFileSink = IsFileSink params_format HasHeard param_sink
 
 -- there is a list for each of these queries, with queries of its kind alone
 abbrev pub AreOfEach : List ℕ → List (List Query) → Type 0

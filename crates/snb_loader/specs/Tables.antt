@@ -13,6 +13,7 @@ use Rattle.snb_schema.specs.declared.row.Row.TheVariants as row
 use Rattle.snb_schema.specs.References.{refs_of_row}
 use Rattle.snb_schema.specs.RowKeys.{node_key, slot_of}
 use Rattle.snb_schema.specs.TableRows.{IsTableRow}
+use Rattle.snb_input_lines.specs.Sinks.{SinkMeaning}
 use Rattle.snb_csv.specs.Rows.{table_language}
 use Rattle.snb_input_files.specs.Format.{Format, IsFileSink, Rules}
 use Rattle.snb_graph_model.specs.Graphs.{HasGained, HasKey, HasSlot, IsGraph}
@@ -92,6 +93,17 @@ HasTaken old r new = (IsRepeat old r × (new ≡ old)) ⊎ (HasGained old (r ∷
 abbrev pub TakesPlaced : List Row → Placed → List Row → Type 0
 TakesPlaced old p new = All (IsThere old) (refs_of_row p.row p.turned) × HasTaken old p.row new
 
+-- what a graph does with the lines of tables
+abbrev pub table_sink : SinkMeaning (List Row) Placed
+table_sink = record {
+  fits = λ p. IsTableRow p.row;
+  takes = λ old file p new. TakesPlaced old p new;
+  refuses = IsAmissBeside;
+  same = λ old new. new ≡ old;
+  ends = λ s file. None;
+  turns = λ old new. new ≡ old;
+}
+
 -- the graph is a file_sink of the files of tables
 abbrev pub IsTableFileSink : Type 0
-IsTableFileSink = IsFileSink {P = List Row} table_format IsHeard (λ p. IsTableRow p.row) (λ old file p new. TakesPlaced old p new) IsAmissBeside (λ s file. None) (λ old new. new ≡ old)
+IsTableFileSink = IsFileSink table_format IsHeard table_sink

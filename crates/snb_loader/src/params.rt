@@ -70,20 +70,10 @@ impl ParamFileSink {
 }
 
 impl Sink<Query> for ParamFileSink {
-    ghost use Rattle.std.specs.Prelude.{◌≡◌, refl};
-    ghost use Rattle.snb_loader.specs.Params.{EndsParams, TakesQuery, no_parameters};
+    ghost use Rattle.std.specs.Prelude.{refl};
+    ghost use Rattle.snb_loader.specs.Params.{param_sink};
 
-    ghost fits = { λ _. Unit {0} };
-
-    ghost takes = { TakesQuery };
-
-    ghost refuses = { λ _ _ _ _. ⊥ };
-
-    ghost same = { λ old new. new ≡ old };
-
-    ghost ends = { λ s file. no_parameters file s.mine };
-
-    ghost turns = { EndsParams };
+    ghost meaning = { param_sink };
 
     fn put(&mut self, _file: FileId, item: Query) -> Result<(), Fault> {
         self.mine.push(item)?;
@@ -108,17 +98,10 @@ impl Sink<Query> for ParamFileSink {
 }
 
 impl FileSink<QueryLines> for ParamFileSink {
+    ghost use Rattle.snb_input_files.specs.Format.{stage_by};
     ghost use Rattle.snb_loader.specs.Params.{HasHeard, params_rules, query_in};
 
-    ghost grammar_of = { λ file. query_in file.kind };
-
-    ghost limit = { params_rules.limit };
-
-    ghost own = { λ _. params_rules.own };
-
-    ghost bare = { params_rules.bare };
-
-    ghost heard = { λ _. HasHeard };
+    ghost stage = { stage_by (λ file. query_in file.kind) params_rules HasHeard };
 
     fn grammar(&self, file: FileId) -> QueryLines {
         QueryLines::new(self.alloc, query_in(file.kind))

@@ -108,21 +108,10 @@ pub(crate) fn streams_are_lawful()
 }
 
 impl Sink<Line> for StreamFileSink {
-    ghost use Rattle.std.specs.Prelude.{◌≡◌, None, refl};
-    ghost use Rattle.snb_schema.specs.StreamLines.{IsOfLine};
-    ghost use Rattle.snb_loader.specs.Lanes.{EndsStream, RefusesLine, TakesLine};
+    ghost use Rattle.std.specs.Prelude.{refl};
+    ghost use Rattle.snb_loader.specs.Lanes.{stream_sink};
 
-    ghost fits = { IsOfLine };
-
-    ghost takes = { TakesLine };
-
-    ghost refuses = { RefusesLine };
-
-    ghost same = { λ old new. new ≡ old };
-
-    ghost ends = { λ _ _. None };
-
-    ghost turns = { EndsStream };
+    ghost meaning = { stream_sink };
 
     fn put(&mut self, file: FileId, item: Line) -> Result<(), Fault> {
         self.mine.put(file, item)
@@ -142,17 +131,10 @@ impl Sink<Line> for StreamFileSink {
 }
 
 impl FileSink<StreamLines> for StreamFileSink {
+    ghost use Rattle.snb_input_files.specs.Format.{stage_by};
     ghost use Rattle.snb_loader.specs.Lanes.{IsHeard, stream_rules};
 
-    ghost grammar_of = { λ file. file.kind };
-
-    ghost limit = { stream_rules.limit };
-
-    ghost own = { λ _. stream_rules.own };
-
-    ghost bare = { stream_rules.bare };
-
-    ghost heard = { λ _. IsHeard };
+    ghost stage = { stage_by (λ file. file.kind) stream_rules IsHeard };
 
     fn grammar(&self, file: FileId) -> StreamLines {
         StreamLines::new(self.alloc, file.kind)

@@ -128,21 +128,10 @@ impl TableGraph {
 }
 
 impl Sink<Placed> for TableGraph {
-    ghost use Rattle.std.specs.Prelude.{◌≡◌, None, refl};
-    ghost use Rattle.snb_schema.specs.TableRows.{IsTableRow};
-    ghost use Rattle.snb_loader.specs.Tables.{IsAmissBeside, TakesPlaced};
+    ghost use Rattle.std.specs.Prelude.{refl};
+    ghost use Rattle.snb_loader.specs.Tables.{table_sink};
 
-    ghost fits = { λ p. IsTableRow p.row };
-
-    ghost takes = { λ old _ p new. TakesPlaced old p new };
-
-    ghost refuses = { IsAmissBeside };
-
-    ghost same = { λ old new. new ≡ old };
-
-    ghost ends = { λ _ _. None };
-
-    ghost turns = { λ old new. new ≡ old };
+    ghost meaning = { table_sink };
 
     fn put(&mut self, file: FileId, item: Placed) -> Result<(), Fault> {
         let line = item.line;
@@ -166,17 +155,10 @@ impl Sink<Placed> for TableGraph {
 }
 
 impl FileSink<TableLines> for TableGraph {
+    ghost use Rattle.snb_input_files.specs.Format.{stage_by};
     ghost use Rattle.snb_loader.specs.Tables.{IsHeard, table_rules};
 
-    ghost grammar_of = { λ file. file.kind };
-
-    ghost limit = { table_rules.limit };
-
-    ghost own = { λ _. table_rules.own };
-
-    ghost bare = { table_rules.bare };
-
-    ghost heard = { λ _. IsHeard };
+    ghost stage = { stage_by (λ file. file.kind) table_rules IsHeard };
 
     fn grammar(&self, file: FileId) -> TableLines {
         TableLines::new(self.alloc, file.kind)

@@ -18,17 +18,14 @@ pub struct InOrder<S> {
 }
 
 impl<S: Sink<Line>> Sink<Line> for InOrder<S> {
-    ghost fits = { S.fits };
-
-    ghost takes = { λ old file x new. OrderTakes old.last x new.last × S.takes old.sink file x new.sink };
-
-    ghost refuses = { λ old file x r. OrderRefuses old.last file x (S.refuses old.sink file x) r };
-
-    ghost same = { λ old new. S.same old.sink new.sink × (new.last ≡ old.last) };
-
-    ghost ends = { λ old file. S.ends old.sink file };
-
-    ghost turns = { λ old new. S.turns old.sink new.sink × (new.last ≡ 0) };
+    ghost meaning = { record {
+      fits = S.meaning.fits;
+      takes = λ old file x new. OrderTakes old.last x new.last × S.meaning.takes old.sink file x new.sink;
+      refuses = λ old file x r. OrderRefuses old.last file x (S.meaning.refuses old.sink file x) r;
+      same = λ old new. S.meaning.same old.sink new.sink × (new.last ≡ old.last);
+      ends = λ old file. S.meaning.ends old.sink file;
+      turns = λ old new. S.meaning.turns old.sink new.sink × (new.last ≡ 0);
+    } };
 
     fn put(&mut self, file: FileId, item: Line) -> Result<(), Fault> {
         let t = item.t;

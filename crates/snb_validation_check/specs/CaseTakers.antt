@@ -4,8 +4,8 @@ use Rattle.snb_schema.specs.declared.file.FileId.{FileId}
 use Rattle.snb_schema.specs.declared.refusal.Refusal.{Refusal}
 use Rattle.snb_schema.specs.declared.row.Row.{Row}
 use Rattle.snb_graph_model.specs.Soundness.{Sound}
-use Rattle.snb_input_lines.specs.Sinks.{Refuses}
-use Rattle.snb_input_files.specs.Format.{AreTakers, Lawful}
+use Rattle.snb_input_lines.specs.Sinks.{Refuses, SinkMeaning}
+use Rattle.snb_input_files.specs.Format.{AreTakers, Lawful, Stage}
 use Rattle.snb_validation_cases.specs.declared.case.CaseAt.{CaseAt}
 use Rattle.snb_validation_cases.specs.CaseFile.{case_language}
 use Rattle.snb_validation_check.specs.CasesFile.{IsAmiss, IsRefused, case_format, said_cases}
@@ -43,8 +43,27 @@ IsHeard base s done mine = HasTaken base s (said_cases done mine)
 abbrev pub CasesAreLawful : Type 0
 CasesAreLawful = (base : List Row) → Lawful (case_format base)
 
+-- what takes cases
+abbrev pub case_sink : SinkMeaning Counted CaseAt
+case_sink = record {
+  fits = λ x. HasText x.case;
+  takes = TakesCase;
+  refuses = RefusesCase;
+  same = λ old new. new ≡ old;
+  ends = λ s file. None;
+  turns = λ old new. new ≡ old;
+}
+
+-- the stage of a file of cases: a case is refused by the graph with which the file was begun
+abbrev pub case_stage : Stage Counted (Unit {0}) CaseAt
+case_stage = record {
+  grammar_of = λ file. tt;
+  limit = None;
+  own = λ begun. IsAmiss begun.checked.graph;
+  bare = λ file items. None;
+  heard = λ begun. IsHeard begun.checked.graph;
+}
+
 -- what takes cases is a file_sink of their files
 abbrev pub AreCaseTakers : Type 0
-AreCaseTakers =
-    AreTakers {P = Counted} {G = Unit {0}} (λ _. case_language) (λ file. tt) None (λ begun. IsAmiss begun.checked.graph) (λ file items. None)
-    (λ begun. IsHeard begun.checked.graph) (λ x. HasText x.case) TakesCase RefusesCase (λ s file. None) (λ old new. new ≡ old)
+AreCaseTakers = AreTakers (λ _. case_language) case_stage case_sink

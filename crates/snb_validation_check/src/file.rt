@@ -86,21 +86,10 @@ impl CaseFileSink {
 }
 
 impl Sink<CaseAt> for CaseFileSink {
-    ghost use Rattle.std.specs.Prelude.{◌≡◌, None, refl};
-    ghost use Rattle.snb_validation_check.specs.CaseTakers.{RefusesCase, TakesCase};
-    ghost use Rattle.snb_validation_check.specs.Steps.{HasText};
+    ghost use Rattle.std.specs.Prelude.{refl};
+    ghost use Rattle.snb_validation_check.specs.CaseTakers.{case_sink};
 
-    ghost fits = { λ x. HasText x.case };
-
-    ghost takes = { TakesCase };
-
-    ghost refuses = { RefusesCase };
-
-    ghost same = { λ old new. new ≡ old };
-
-    ghost ends = { λ _ _. None };
-
-    ghost turns = { λ old new. new ≡ old };
+    ghost meaning = { case_sink };
 
     fn put(&mut self, file: FileId, item: CaseAt) -> Result<(), Fault> {
         // A file has at most `MAX_BYTES` bytes, and so never as many reads as don't fit 64 bits.
@@ -143,19 +132,9 @@ impl Sink<CaseAt> for CaseFileSink {
 }
 
 impl FileSink<CaseLines> for CaseFileSink {
-    ghost use Rattle.std.specs.Prelude.{None};
-    ghost use Rattle.snb_validation_check.specs.CasesFile.{IsAmiss};
-    ghost use Rattle.snb_validation_check.specs.CaseTakers.{IsHeard};
+    ghost use Rattle.snb_validation_check.specs.CaseTakers.{case_stage};
 
-    ghost grammar_of = { λ _. tt };
-
-    ghost limit = { None };
-
-    ghost own = { λ begun. IsAmiss begun.checked.graph };
-
-    ghost bare = { λ _ _. None };
-
-    ghost heard = { λ begun. IsHeard begun.checked.graph };
+    ghost stage = { case_stage };
 
     fn grammar(&self, _file: FileId) -> CaseLines {
         CaseLines::new(self.alloc)

@@ -1,6 +1,6 @@
 use Rattle.std.proofs.Common.{◌≡◌, subst}
 use Rattle.snb_input_lines.specs.Feeding.{at_begin}
-use Rattle.snb_input_files.specs.Format.{format_of}
+use Rattle.snb_input_files.specs.Format.{format_in}
 use Rattle.snb_input_files.proofs.Going.{known_answer}
 use Rattle.snb_input_files.proofs.file.load_file.Goals as goal
 
@@ -10,5 +10,5 @@ load_known-requires-clause-begins g c = subst (λ x. c.of_file-reader.result ≡
 pub returns-clause-answer : goal.returns-clause-answer
 returns-clause-answer g c =
     λ begun past done said fresh.
-    known_answer (format_of g.G.Grammar.language g.P.FileSink.grammar_of g.P.FileSink.limit (g.P.FileSink.own begun) g.P.FileSink.bare) (g.P.FileSink.heard begun) (g.S.Shelf.contents c.args.shelf.now) c.args.path.now c.args.file c.args.used past c.args.file_sink c.load_known.new.reader.known c.load_known.result
+    known_answer (format_in g.G.Grammar.language g.P.FileSink.stage begun) (g.P.FileSink.stage.heard begun) (g.S.Shelf.contents c.args.shelf.now) c.args.path.now c.args.file c.args.used past c.args.file_sink c.load_known.new.reader.known c.load_known.result
     (c.load_known.ensures.answer begun past done said fresh)

@@ -1,6 +1,6 @@
 use Rattle.std.proofs.Common.{◌≡◌, ◌-◌, ◌≤◌, ◌<◌, length, None, false}
 use Rattle.snb_base.specs.Shelf.{IsRead}
-use Rattle.snb_input_files.specs.Format.{format_of}
+use Rattle.snb_input_files.specs.Format.{format_in}
 use Rattle.snb_input_files.proofs.Going.{Going, first}
 use Rattle.snb_input_files.proofs.file.load_known.Given as goal
 
@@ -8,10 +8,10 @@ use Rattle.snb_input_files.proofs.file.load_known.Given as goal
 abbrev pub invariant-pieces : goal.invariant-pieces
 invariant-pieces g l = record {
   going :
-      (begun : g.row.P.Denot) → Going (format_of g.G.Grammar.language g.P.FileSink.grammar_of g.P.FileSink.limit (g.P.FileSink.own begun) g.P.FileSink.bare) (g.P.FileSink.heard begun) g.P.Sink.takes l.file (g.P.FileSink.grammar_of l.file) (g.S.Shelf.contents l.fn.shelf) l.path
-      (first (format_of g.G.Grammar.language g.P.FileSink.grammar_of g.P.FileSink.limit (g.P.FileSink.own begun) g.P.FileSink.bare) (g.P.FileSink.heard begun) g.P.Sink.takes l.file (g.P.FileSink.grammar_of l.file) l.used.rows l.fn.file_sink) l.reader l.sink;
+      (begun : g.row.P.Denot) → Going (format_in g.G.Grammar.language g.P.FileSink.stage begun) (g.P.FileSink.stage.heard begun) g.P.Sink.meaning.takes l.file (g.P.FileSink.stage.grammar_of l.file) (g.S.Shelf.contents l.fn.shelf) l.path
+      (first (format_in g.G.Grammar.language g.P.FileSink.stage begun) (g.P.FileSink.stage.heard begun) g.P.Sink.meaning.takes l.file (g.P.FileSink.stage.grammar_of l.file) l.used.rows l.fn.file_sink) l.reader l.sink;
   of_file : l.reader.file ≡ l.file;
-  by_grammar : l.reader.grammar ≡ g.P.FileSink.grammar_of l.file;
+  by_grammar : l.reader.grammar ≡ g.P.FileSink.stage.grammar_of l.file;
   few : l.reader.fed ≤ l.most;
   goes_on : l.reader.over ≡ false;
   good : l.reader.fault ≡ None;

@@ -1,6 +1,6 @@
 use Rattle.std.proofs.Common.{rules, take, arith, refl}
 use Rattle.snb_base.proofs.Laws.{read_well}
-use Rattle.snb_input_files.specs.Format.{format_of}
+use Rattle.snb_input_files.specs.Format.{format_in}
 use Rattle.snb_input_files.proofs.Feeding.{step_err}
 use Rattle.snb_input_files.proofs.ToldFacts.{told_end, told_more}
 use Rattle.snb_input_files.proofs.pieces.read_piece.Goals as goal
@@ -18,7 +18,7 @@ returns-in-Ok-clause-step g c = λ begun. (
 
 pub returns-in-Err-clause-step : goal.returns-in-Err-clause-step
 returns-in-Err-clause-step g c = λ begun.
-    step_err (format_of g.G.Grammar.language g.P.FileSink.grammar_of g.P.FileSink.limit (g.P.FileSink.own begun) g.P.FileSink.bare) (g.P.FileSink.heard begun) g.P.Sink.takes c.args.file (g.P.FileSink.grammar_of c.args.file) (g.S.Shelf.contents c.args.shelf.now) c.args.name.now c.args.most c.args.reader.now c.feed_piece.new.reader c.args.sink.now c.feed_piece.new.sink
+    step_err (format_in g.G.Grammar.language g.P.FileSink.stage begun) (g.P.FileSink.stage.heard begun) g.P.Sink.meaning.takes c.args.file (g.P.FileSink.stage.grammar_of c.args.file) (g.S.Shelf.contents c.args.shelf.now) c.args.name.now c.args.most c.args.reader.now c.feed_piece.new.reader c.args.sink.now c.feed_piece.new.sink
     (take c.in-Took.count c.read.new.into) c.in-Err.load
     (λ text here. told_more (g.S.Shelf.contents c.args.shelf.now) c.args.name.now c.read.new.into c.fed.result c.in-Took.count (search (rules, c.in-Took.ensures.room)) (search rules) c.in-Took.ensures.told text (let f = c.fed.ensures in omega (arith, here, f)))
     (c.in-Err.ensures.refused begun)

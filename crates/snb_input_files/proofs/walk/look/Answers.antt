@@ -1,5 +1,5 @@
 use Rattle.std.proofs.Common.{rules, Ok, subst}
-use Rattle.snb_input_files.specs.Format.{format_of}
+use Rattle.snb_input_files.specs.Format.{format_in}
 use Rattle.snb_input_files.specs.Loading.{IsAnswer}
 use Rattle.snb_input_files.specs.Walk.{after_walk}
 use Rattle.snb_input_files.proofs.WalkFacts.{look_absent, look_err, look_missing, look_whole}
@@ -8,26 +8,26 @@ use Rattle.snb_input_files.proofs.walk.look.Goals as goal
 pub returns-in-Err-clause-answer : goal.returns-in-Err-clause-answer
 returns-in-Err-clause-answer g c =
     λ begun start looked k.
-    look_err (format_of g.G.Grammar.language g.P.FileSink.grammar_of g.P.FileSink.limit (g.P.FileSink.own begun) g.P.FileSink.bare) (g.P.FileSink.heard begun) (g.S.Shelf.contents c.args.shelf.now) c.args.folder.now c.as_str.result.now c.args.file c.args.needed start looked c.args.walk (search rules) k c.in-Err.load
-    (c.in-Err.ensures.answer begun (after_walk (format_of g.G.Grammar.language g.P.FileSink.grammar_of g.P.FileSink.limit (g.P.FileSink.own begun) g.P.FileSink.bare) start looked).past k.done k.said k.fresh)
+    look_err (format_in g.G.Grammar.language g.P.FileSink.stage begun) (g.P.FileSink.stage.heard begun) (g.S.Shelf.contents c.args.shelf.now) c.args.folder.now c.as_str.result.now c.args.file c.args.needed start looked c.args.walk (search rules) k c.in-Err.load
+    (c.in-Err.ensures.answer begun (after_walk (format_in g.G.Grammar.language g.P.FileSink.stage begun) start looked).past k.done k.said k.fresh)
 
 pub returns-then-needed-clause-answer : goal.returns-then-needed-clause-answer
 returns-then-needed-clause-answer g c =
     λ begun start looked k.
-    look_missing (format_of g.G.Grammar.language g.P.FileSink.grammar_of g.P.FileSink.limit (g.P.FileSink.own begun) g.P.FileSink.bare) (g.P.FileSink.heard begun) (g.S.Shelf.contents c.args.shelf.now) c.args.folder.now c.as_str.result.now c.args.file c.args.needed start looked c.args.walk (search rules) k c.in-Ok-Absent.file_sink
-    (subst (λ z. IsAnswer (format_of g.G.Grammar.language g.P.FileSink.grammar_of g.P.FileSink.limit (g.P.FileSink.own begun) g.P.FileSink.bare) (g.P.FileSink.heard begun) (g.S.Shelf.contents c.args.shelf.now) c.as_str.result.now c.args.file c.args.walk.used (after_walk (format_of g.G.Grammar.language g.P.FileSink.grammar_of g.P.FileSink.limit (g.P.FileSink.own begun) g.P.FileSink.bare) start looked).past c.args.walk.file_sink (Ok z)) c.in-Ok-Absent.field-0-is (c.in-Ok-Absent.ensures.answer begun (after_walk (format_of g.G.Grammar.language g.P.FileSink.grammar_of g.P.FileSink.limit (g.P.FileSink.own begun) g.P.FileSink.bare) start looked).past k.done k.said k.fresh)) c.if-needed.true
+    look_missing (format_in g.G.Grammar.language g.P.FileSink.stage begun) (g.P.FileSink.stage.heard begun) (g.S.Shelf.contents c.args.shelf.now) c.args.folder.now c.as_str.result.now c.args.file c.args.needed start looked c.args.walk (search rules) k c.in-Ok-Absent.file_sink
+    (subst (λ z. IsAnswer (format_in g.G.Grammar.language g.P.FileSink.stage begun) (g.P.FileSink.stage.heard begun) (g.S.Shelf.contents c.args.shelf.now) c.as_str.result.now c.args.file c.args.walk.used (after_walk (format_in g.G.Grammar.language g.P.FileSink.stage begun) start looked).past c.args.walk.file_sink (Ok z)) c.in-Ok-Absent.field-0-is (c.in-Ok-Absent.ensures.answer begun (after_walk (format_in g.G.Grammar.language g.P.FileSink.stage begun) start looked).past k.done k.said k.fresh)) c.if-needed.true
 
 pub returns-in-Ok-Absent-clause-answer : goal.returns-in-Ok-Absent-clause-answer
 returns-in-Ok-Absent-clause-answer g c =
     λ begun start looked k.
-    look_absent (format_of g.G.Grammar.language g.P.FileSink.grammar_of g.P.FileSink.limit (g.P.FileSink.own begun) g.P.FileSink.bare) (g.P.FileSink.heard begun) (g.S.Shelf.contents c.args.shelf.now) c.args.folder.now c.as_str.result.now c.args.file c.args.needed start looked c.args.walk (search rules) k c.in-Ok-Absent.file_sink
-    (subst (λ z. IsAnswer (format_of g.G.Grammar.language g.P.FileSink.grammar_of g.P.FileSink.limit (g.P.FileSink.own begun) g.P.FileSink.bare) (g.P.FileSink.heard begun) (g.S.Shelf.contents c.args.shelf.now) c.as_str.result.now c.args.file c.args.walk.used (after_walk (format_of g.G.Grammar.language g.P.FileSink.grammar_of g.P.FileSink.limit (g.P.FileSink.own begun) g.P.FileSink.bare) start looked).past c.args.walk.file_sink (Ok z)) c.in-Ok-Absent.field-0-is (c.in-Ok-Absent.ensures.answer begun (after_walk (format_of g.G.Grammar.language g.P.FileSink.grammar_of g.P.FileSink.limit (g.P.FileSink.own begun) g.P.FileSink.bare) start looked).past k.done k.said k.fresh)) c.if-needed.false
+    look_absent (format_in g.G.Grammar.language g.P.FileSink.stage begun) (g.P.FileSink.stage.heard begun) (g.S.Shelf.contents c.args.shelf.now) c.args.folder.now c.as_str.result.now c.args.file c.args.needed start looked c.args.walk (search rules) k c.in-Ok-Absent.file_sink
+    (subst (λ z. IsAnswer (format_in g.G.Grammar.language g.P.FileSink.stage begun) (g.P.FileSink.stage.heard begun) (g.S.Shelf.contents c.args.shelf.now) c.as_str.result.now c.args.file c.args.walk.used (after_walk (format_in g.G.Grammar.language g.P.FileSink.stage begun) start looked).past c.args.walk.file_sink (Ok z)) c.in-Ok-Absent.field-0-is (c.in-Ok-Absent.ensures.answer begun (after_walk (format_in g.G.Grammar.language g.P.FileSink.stage begun) start looked).past k.done k.said k.fresh)) c.if-needed.false
 
 pub returns-clause-answer : goal.returns-clause-answer
 returns-clause-answer g c =
     λ begun start looked k.
-    look_whole (format_of g.G.Grammar.language g.P.FileSink.grammar_of g.P.FileSink.limit (g.P.FileSink.own begun) g.P.FileSink.bare) (g.P.FileSink.heard begun) (g.S.Shelf.contents c.args.shelf.now) c.args.folder.now c.as_str.result.now c.args.file c.args.needed start looked c.args.walk (search rules) k c.in-Ok-Whole.file_sink c.next_file.new.self c.in-Ok-Whole.used
-    (subst (λ z. IsAnswer (format_of g.G.Grammar.language g.P.FileSink.grammar_of g.P.FileSink.limit (g.P.FileSink.own begun) g.P.FileSink.bare) (g.P.FileSink.heard begun) (g.S.Shelf.contents c.args.shelf.now) c.as_str.result.now c.args.file c.args.walk.used (after_walk (format_of g.G.Grammar.language g.P.FileSink.grammar_of g.P.FileSink.limit (g.P.FileSink.own begun) g.P.FileSink.bare) start looked).past c.args.walk.file_sink (Ok z)) c.in-Ok-Whole.field-0-is (c.in-Ok-Whole.ensures.answer begun (after_walk (format_of g.G.Grammar.language g.P.FileSink.grammar_of g.P.FileSink.limit (g.P.FileSink.own begun) g.P.FileSink.bare) start looked).past k.done k.said k.fresh)) (λ done mine h. (c.requires.right begun).turned c.in-Ok-Whole.file_sink c.next_file.new.self done mine h c.in_ok-next_file-in-Ok-Whole.ensures)
+    look_whole (format_in g.G.Grammar.language g.P.FileSink.stage begun) (g.P.FileSink.stage.heard begun) (g.S.Shelf.contents c.args.shelf.now) c.args.folder.now c.as_str.result.now c.args.file c.args.needed start looked c.args.walk (search rules) k c.in-Ok-Whole.file_sink c.next_file.new.self c.in-Ok-Whole.used
+    (subst (λ z. IsAnswer (format_in g.G.Grammar.language g.P.FileSink.stage begun) (g.P.FileSink.stage.heard begun) (g.S.Shelf.contents c.args.shelf.now) c.as_str.result.now c.args.file c.args.walk.used (after_walk (format_in g.G.Grammar.language g.P.FileSink.stage begun) start looked).past c.args.walk.file_sink (Ok z)) c.in-Ok-Whole.field-0-is (c.in-Ok-Whole.ensures.answer begun (after_walk (format_in g.G.Grammar.language g.P.FileSink.stage begun) start looked).past k.done k.said k.fresh)) (λ done mine h. (c.requires.right begun).turned c.in-Ok-Whole.file_sink c.next_file.new.self done mine h c.in_ok-next_file-in-Ok-Whole.ensures)
 
 pub returns-in-Err-clause-within : goal.returns-in-Err-clause-within
 returns-in-Err-clause-within g c = tt

@@ -1,7 +1,7 @@
 use Rattle.std.proofs.Common.{rules, ◌≡◌, ◌++◌, Option, Some, None, Bool, Ok, Err, subst, sym, arith}
 use Rattle.snb_base.specs.Shelf.{Files}
 use Rattle.snb_base.proofs.Laws.{read_after}
-use Rattle.snb_input_files.specs.Format.{format_of}
+use Rattle.snb_input_files.specs.Format.{format_in}
 use Rattle.snb_input_files.specs.declared.found.Found.{Found}
 use Rattle.snb_input_files.specs.Loading.{IsWithin}
 use Rattle.snb_input_files.specs.Looking.{IsFileTold, IsLook, IsPeek}
@@ -11,7 +11,7 @@ use Rattle.snb_input_files.proofs.walk.walk_series.Goals as goal
 
 pub loop-part-init : goal.loop-part-init
 loop-part-init g c = record {
-  along = λ begun start looked k. along_first (format_of g.G.Grammar.language g.P.FileSink.grammar_of g.P.FileSink.limit (g.P.FileSink.own begun) g.P.FileSink.bare) (g.P.FileSink.heard begun) (g.S.Shelf.contents c.args.shelf.now) c.args.folder.now c.args.series start looked c.args.walk k;
+  along = λ begun start looked k. along_first (format_in g.G.Grammar.language g.P.FileSink.stage begun) (g.P.FileSink.stage.heard begun) (g.S.Shelf.contents c.args.shelf.now) c.args.folder.now c.args.series start looked c.args.walk k;
   bytes = search rules;
   rows = search rules;
   read = search rules;
@@ -21,27 +21,27 @@ pub returns-in-Err-clause-answer : goal.returns-in-Err-clause-answer
 returns-in-Err-clause-answer g c =
     λ begun start looked k.
     let a = c.loop-part.invariant.along begun start looked k in
-    along_err (format_of g.G.Grammar.language g.P.FileSink.grammar_of g.P.FileSink.limit (g.P.FileSink.own begun) g.P.FileSink.bare) (g.P.FileSink.heard begun) (g.S.Shelf.contents c.args.shelf.now) c.args.folder.now c.args.series start looked c.loop-part.part c.loop-part.needed c.loop-part.so_far c.in-Err.load a (search rules) c.requires.few
-    (subst (λ (z : Option Files). IsLook (format_of g.G.Grammar.language g.P.FileSink.grammar_of g.P.FileSink.limit (g.P.FileSink.own begun) g.P.FileSink.bare) (g.P.FileSink.heard begun) z c.args.folder.now (file_at c.args.series c.loop-part.part) c.loop-part.needed start (looked ++ a.ls) c.loop-part.so_far.used (Err c.in-Err.load)) c.loop-part.invariant.read.same (c.in-Err.ensures.answer begun start (looked ++ a.ls) a.walked))
+    along_err (format_in g.G.Grammar.language g.P.FileSink.stage begun) (g.P.FileSink.stage.heard begun) (g.S.Shelf.contents c.args.shelf.now) c.args.folder.now c.args.series start looked c.loop-part.part c.loop-part.needed c.loop-part.so_far c.in-Err.load a (search rules) c.requires.few
+    (subst (λ (z : Option Files). IsLook (format_in g.G.Grammar.language g.P.FileSink.stage begun) (g.P.FileSink.stage.heard begun) z c.args.folder.now (file_at c.args.series c.loop-part.part) c.loop-part.needed start (looked ++ a.ls) c.loop-part.so_far.used (Err c.in-Err.load)) c.loop-part.invariant.read.same (c.in-Err.ensures.answer begun start (looked ++ a.ls) a.walked))
 
 pub returns-in-Ok-Absent-clause-answer : goal.returns-in-Ok-Absent-clause-answer
 returns-in-Ok-Absent-clause-answer g c =
     λ begun start looked k.
     let a = c.loop-part.invariant.along begun start looked k in
-    let h = subst (λ (z : Found g.row.P.Denot). IsLook (format_of g.G.Grammar.language g.P.FileSink.grammar_of g.P.FileSink.limit (g.P.FileSink.own begun) g.P.FileSink.bare) (g.P.FileSink.heard begun) (g.S.Shelf.contents c.args.shelf.now) c.args.folder.now (file_at c.args.series c.loop-part.part) c.loop-part.needed start (looked ++ a.ls) c.loop-part.so_far.used (Ok z)) c.in-Ok-Absent.field-0-is
-    (subst (λ (z : Option Files). IsLook (format_of g.G.Grammar.language g.P.FileSink.grammar_of g.P.FileSink.limit (g.P.FileSink.own begun) g.P.FileSink.bare) (g.P.FileSink.heard begun) z c.args.folder.now (file_at c.args.series c.loop-part.part) c.loop-part.needed start (looked ++ a.ls) c.loop-part.so_far.used (Ok c.in-Ok-Absent.field-0)) c.loop-part.invariant.read.same (c.in-Ok-Absent.ensures.answer begun start (looked ++ a.ls) a.walked)) in
-    along_absent (format_of g.G.Grammar.language g.P.FileSink.grammar_of g.P.FileSink.limit (g.P.FileSink.own begun) g.P.FileSink.bare) (g.P.FileSink.heard begun) (g.S.Shelf.contents c.args.shelf.now) c.args.folder.now c.args.series start looked c.loop-part.part (first_role c.loop-part.needed) c.loop-part.so_far a (record { used = c.loop-part.so_far.used; file_sink = c.in-Ok-Absent.file_sink }) (search rules) c.requires.few h.0 h.1
+    let h = subst (λ (z : Found g.row.P.Denot). IsLook (format_in g.G.Grammar.language g.P.FileSink.stage begun) (g.P.FileSink.stage.heard begun) (g.S.Shelf.contents c.args.shelf.now) c.args.folder.now (file_at c.args.series c.loop-part.part) c.loop-part.needed start (looked ++ a.ls) c.loop-part.so_far.used (Ok z)) c.in-Ok-Absent.field-0-is
+    (subst (λ (z : Option Files). IsLook (format_in g.G.Grammar.language g.P.FileSink.stage begun) (g.P.FileSink.stage.heard begun) z c.args.folder.now (file_at c.args.series c.loop-part.part) c.loop-part.needed start (looked ++ a.ls) c.loop-part.so_far.used (Ok c.in-Ok-Absent.field-0)) c.loop-part.invariant.read.same (c.in-Ok-Absent.ensures.answer begun start (looked ++ a.ls) a.walked)) in
+    along_absent (format_in g.G.Grammar.language g.P.FileSink.stage begun) (g.P.FileSink.stage.heard begun) (g.S.Shelf.contents c.args.shelf.now) c.args.folder.now c.args.series start looked c.loop-part.part (first_role c.loop-part.needed) c.loop-part.so_far a (record { used = c.loop-part.so_far.used; file_sink = c.in-Ok-Absent.file_sink }) (search rules) c.requires.few h.0 h.1
 
 pub loop-part-preserved : goal.loop-part-preserved
 loop-part-preserved g c = record {
   along =
       λ begun start looked k.
       let a = c.loop-part.invariant.along begun start looked k in
-      let h = subst (λ (z : Found g.row.P.Denot). IsLook (format_of g.G.Grammar.language g.P.FileSink.grammar_of g.P.FileSink.limit (g.P.FileSink.own begun) g.P.FileSink.bare) (g.P.FileSink.heard begun) (g.S.Shelf.contents c.args.shelf.now) c.args.folder.now (file_at c.args.series c.loop-part.part) c.loop-part.needed start (looked ++ a.ls) c.loop-part.so_far.used (Ok z)) c.in-Ok-Whole.field-0-is
-      (subst (λ (z : Option Files). IsLook (format_of g.G.Grammar.language g.P.FileSink.grammar_of g.P.FileSink.limit (g.P.FileSink.own begun) g.P.FileSink.bare) (g.P.FileSink.heard begun) z c.args.folder.now (file_at c.args.series c.loop-part.part) c.loop-part.needed start (looked ++ a.ls) c.loop-part.so_far.used (Ok c.in-Ok-Whole.field-0)) c.loop-part.invariant.read.same (c.in-Ok-Whole.ensures.answer begun start (looked ++ a.ls) a.walked)) in
-      along_more (format_of g.G.Grammar.language g.P.FileSink.grammar_of g.P.FileSink.limit (g.P.FileSink.own begun) g.P.FileSink.bare) (g.P.FileSink.heard begun) (g.S.Shelf.contents c.args.shelf.now) c.args.folder.now c.args.series start looked c.loop-part.part (first_role c.loop-part.needed) c.loop-part.so_far a h.0 (record { used = c.in-Ok-Whole.used; file_sink = c.in-Ok-Whole.file_sink }) (search rules) h.1 h.2;
-  bytes = (subst (λ (z : Found g.row.P.Denot). IsWithin g.P.FileSink.limit z) c.in-Ok-Whole.field-0-is c.in-Ok-Whole.ensures.within).0;
-  rows = (subst (λ (z : Found g.row.P.Denot). IsWithin g.P.FileSink.limit z) c.in-Ok-Whole.field-0-is c.in-Ok-Whole.ensures.within).1;
+      let h = subst (λ (z : Found g.row.P.Denot). IsLook (format_in g.G.Grammar.language g.P.FileSink.stage begun) (g.P.FileSink.stage.heard begun) (g.S.Shelf.contents c.args.shelf.now) c.args.folder.now (file_at c.args.series c.loop-part.part) c.loop-part.needed start (looked ++ a.ls) c.loop-part.so_far.used (Ok z)) c.in-Ok-Whole.field-0-is
+      (subst (λ (z : Option Files). IsLook (format_in g.G.Grammar.language g.P.FileSink.stage begun) (g.P.FileSink.stage.heard begun) z c.args.folder.now (file_at c.args.series c.loop-part.part) c.loop-part.needed start (looked ++ a.ls) c.loop-part.so_far.used (Ok c.in-Ok-Whole.field-0)) c.loop-part.invariant.read.same (c.in-Ok-Whole.ensures.answer begun start (looked ++ a.ls) a.walked)) in
+      along_more (format_in g.G.Grammar.language g.P.FileSink.stage begun) (g.P.FileSink.stage.heard begun) (g.S.Shelf.contents c.args.shelf.now) c.args.folder.now c.args.series start looked c.loop-part.part (first_role c.loop-part.needed) c.loop-part.so_far a h.0 (record { used = c.in-Ok-Whole.used; file_sink = c.in-Ok-Whole.file_sink }) (search rules) h.1 h.2;
+  bytes = (subst (λ (z : Found g.row.P.Denot). IsWithin g.P.FileSink.stage.limit z) c.in-Ok-Whole.field-0-is c.in-Ok-Whole.ensures.within).0;
+  rows = (subst (λ (z : Found g.row.P.Denot). IsWithin g.P.FileSink.stage.limit z) c.in-Ok-Whole.field-0-is c.in-Ok-Whole.ensures.within).1;
   read = read_after c.loop-part.invariant.read c.in-Ok-Whole.ensures.read;
 }
 
@@ -52,7 +52,7 @@ returns-in-Ok-true-clause-answer g c =
     let h = subst (λ (z : Bool). IsPeek (g.S.Shelf.contents c.args.shelf.now) c.args.folder.now (file_at c.args.series c.args.series.most) z) c.in-Ok-true.field-0-test
     (subst (λ (z : Option Files). IsPeek z c.args.folder.now (file_at c.args.series c.args.series.most) c.in-Ok-true.field-0) c.loop-part.invariant.read.same c.in-Ok-true.ensures.told) in
     let full : c.loop-part.part ≡ c.args.series.most = omega arith in
-    along_over (format_of g.G.Grammar.language g.P.FileSink.grammar_of g.P.FileSink.limit (g.P.FileSink.own begun) g.P.FileSink.bare) (g.P.FileSink.heard begun) (g.S.Shelf.contents c.args.shelf.now) c.args.folder.now c.args.series start looked c.loop-part.part (first_role c.loop-part.needed) c.loop-part.so_far a h.0 c.in-Some.what c.in-Some.is full c.requires.few
+    along_over (format_in g.G.Grammar.language g.P.FileSink.stage begun) (g.P.FileSink.stage.heard begun) (g.S.Shelf.contents c.args.shelf.now) c.args.folder.now c.args.series start looked c.loop-part.part (first_role c.loop-part.needed) c.loop-part.so_far a h.0 c.in-Some.what c.in-Some.is full c.requires.few
     (subst (λ n. IsFileTold (g.S.Shelf.contents c.args.shelf.now) c.args.folder.now (file_at c.args.series n) (Some h.0)) (sym full) h.1)
 
 pub returns-in-Ok-false-clause-answer : goal.returns-in-Ok-false-clause-answer
@@ -62,13 +62,13 @@ returns-in-Ok-false-clause-answer g c =
     let h = subst (λ (z : Bool). IsPeek (g.S.Shelf.contents c.args.shelf.now) c.args.folder.now (file_at c.args.series c.args.series.most) z) c.in-Ok-false.field-0-test
     (subst (λ (z : Option Files). IsPeek z c.args.folder.now (file_at c.args.series c.args.series.most) c.in-Ok-false.field-0) c.loop-part.invariant.read.same c.in-Ok-false.ensures.told) in
     let full : c.loop-part.part ≡ c.args.series.most = omega arith in
-    along_end (format_of g.G.Grammar.language g.P.FileSink.grammar_of g.P.FileSink.limit (g.P.FileSink.own begun) g.P.FileSink.bare) (g.P.FileSink.heard begun) (g.S.Shelf.contents c.args.shelf.now) c.args.folder.now c.args.series start looked c.loop-part.part (first_role c.loop-part.needed) c.loop-part.so_far a c.in-Some.what c.in-Some.is full c.requires.few
+    along_end (format_in g.G.Grammar.language g.P.FileSink.stage begun) (g.P.FileSink.stage.heard begun) (g.S.Shelf.contents c.args.shelf.now) c.args.folder.now c.args.series start looked c.loop-part.part (first_role c.loop-part.needed) c.loop-part.so_far a c.in-Some.what c.in-Some.is full c.requires.few
     (subst (λ n. IsFileTold (g.S.Shelf.contents c.args.shelf.now) c.args.folder.now (file_at c.args.series n) None) (sym full) h)
 
 pub returns-in_default-clause-answer : goal.returns-in_default-clause-answer
 returns-in_default-clause-answer g c =
     λ begun start looked k.
-    along_last (format_of g.G.Grammar.language g.P.FileSink.grammar_of g.P.FileSink.limit (g.P.FileSink.own begun) g.P.FileSink.bare) (g.P.FileSink.heard begun) (g.S.Shelf.contents c.args.shelf.now) c.args.folder.now c.args.series start looked c.loop-part.part (first_role c.loop-part.needed) c.loop-part.so_far (c.loop-part.invariant.along begun start looked k) c.in_default.is
+    along_last (format_in g.G.Grammar.language g.P.FileSink.stage begun) (g.P.FileSink.stage.heard begun) (g.S.Shelf.contents c.args.shelf.now) c.args.folder.now c.args.series start looked c.loop-part.part (first_role c.loop-part.needed) c.loop-part.so_far (c.loop-part.invariant.along begun start looked k) c.in_default.is
     (omega arith) c.requires.few
 
 pub returns-in-Err-clause-within : goal.returns-in-Err-clause-within

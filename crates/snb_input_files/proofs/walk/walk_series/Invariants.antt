@@ -2,7 +2,7 @@ use Rattle.std.proofs.Common.{◌≤◌, List, false}
 use Rattle.snb_base.specs.Shelf.{IsRead}
 use Rattle.snb_schema.specs.declared.limits.TheConstants.{MAX_BYTES}
 use Rattle.snb_input_lines.specs.Counts.{IsUnder}
-use Rattle.snb_input_files.specs.Format.{format_of}
+use Rattle.snb_input_files.specs.Format.{format_in}
 use Rattle.snb_input_files.specs.Stages.{Walked}
 use Rattle.snb_input_files.specs.Walk.{Before, Look, first_role}
 use Rattle.snb_input_files.proofs.SeriesFacts.{Along}
@@ -13,9 +13,9 @@ abbrev pub invariant-loop-part : goal.invariant-loop-part
 invariant-loop-part g l = record {
   along :
       (begun : g.row.P.Denot) (start : Before) (looked : List Look)
-      → Walked (format_of g.G.Grammar.language g.P.FileSink.grammar_of g.P.FileSink.limit (g.P.FileSink.own begun) g.P.FileSink.bare) (g.P.FileSink.heard begun) start looked l.fn.walk
-      → Along (format_of g.G.Grammar.language g.P.FileSink.grammar_of g.P.FileSink.limit (g.P.FileSink.own begun) g.P.FileSink.bare) (g.P.FileSink.heard begun) (g.S.Shelf.contents l.fn.shelf) l.folder l.series start looked l.part (first_role l.needed) l.so_far;
+      → Walked (format_in g.G.Grammar.language g.P.FileSink.stage begun) (g.P.FileSink.stage.heard begun) start looked l.fn.walk
+      → Along (format_in g.G.Grammar.language g.P.FileSink.stage begun) (g.P.FileSink.stage.heard begun) (g.S.Shelf.contents l.fn.shelf) l.folder l.series start looked l.part (first_role l.needed) l.so_far;
   bytes : l.so_far.used.bytes ≤ MAX_BYTES;
-  rows : IsUnder g.P.FileSink.limit l.so_far.used.rows;
+  rows : IsUnder g.P.FileSink.stage.limit l.so_far.used.rows;
   read : IsRead false (g.S.Shelf.contents l.fn.shelf) (g.S.Shelf.faults l.fn.shelf) (g.S.Shelf.contents l.shelf) (g.S.Shelf.faults l.shelf);
 }

@@ -2,7 +2,7 @@ use Rattle.std.proofs.Common.{rules, ◌+◌, List, Option, Ok, Err, drop, get_o
 use Rattle.std.proofs.lemmas.List.{drop_all}
 use Rattle.snb_base.specs.Shelf.{Files}
 use Rattle.snb_base.proofs.Laws.{read_after}
-use Rattle.snb_input_files.specs.Format.{format_of}
+use Rattle.snb_input_files.specs.Format.{format_in}
 use Rattle.snb_input_files.specs.declared.series.Series.{Series}
 use Rattle.snb_input_files.specs.Looking.{IsSeries}
 use Rattle.snb_input_files.specs.Stages.{before}
@@ -13,8 +13,8 @@ pub loop-series-init : goal.loop-series-init
 loop-series-init g c = record {
   staged =
       λ fresh.
-      staged_first (format_of g.G.Grammar.language g.P.FileSink.grammar_of g.P.FileSink.limit (g.P.FileSink.own c.args.file_sink) g.P.FileSink.bare) (g.P.FileSink.heard c.args.file_sink) (g.S.Shelf.contents c.args.shelf.now) c.args.folder.now c.args.stage.now (before c.args.used) (record { used = c.args.used; file_sink = c.args.file_sink }) c.requires.rising
-      (walked_first (format_of g.G.Grammar.language g.P.FileSink.grammar_of g.P.FileSink.limit (g.P.FileSink.own c.args.file_sink) g.P.FileSink.bare) (g.P.FileSink.heard c.args.file_sink) c.args.used c.args.file_sink fresh);
+      staged_first (format_in g.G.Grammar.language g.P.FileSink.stage c.args.file_sink) (g.P.FileSink.stage.heard c.args.file_sink) (g.S.Shelf.contents c.args.shelf.now) c.args.folder.now c.args.stage.now (before c.args.used) (record { used = c.args.used; file_sink = c.args.file_sink }) c.requires.rising
+      (walked_first (format_in g.G.Grammar.language g.P.FileSink.stage c.args.file_sink) (g.P.FileSink.stage.heard c.args.file_sink) c.args.used c.args.file_sink fresh);
   bytes = search rules;
   rows = search rules;
   read = search rules;
@@ -28,9 +28,9 @@ returns-in-Err-clause-answer g c =
     λ fresh.
     let next = next_series c.args.stage.now c.loop-series.series-index (search rules) in
     let one : Series = get_or c.args.stage.now c.loop-series.series-index no_series in
-    let k = subst (λ (left : List Series). Staged (format_of g.G.Grammar.language g.P.FileSink.grammar_of g.P.FileSink.limit (g.P.FileSink.own c.args.file_sink) g.P.FileSink.bare) (g.P.FileSink.heard c.args.file_sink) (g.S.Shelf.contents c.args.shelf.now) c.args.folder.now c.args.stage.now (before c.args.used) left c.loop-series.so_far) next (c.loop-series.invariant.staged fresh) in
-    staged_err (format_of g.G.Grammar.language g.P.FileSink.grammar_of g.P.FileSink.limit (g.P.FileSink.own c.args.file_sink) g.P.FileSink.bare) (g.P.FileSink.heard c.args.file_sink) (g.S.Shelf.contents c.args.shelf.now) c.args.folder.now c.args.stage.now (before c.args.used) one (drop (c.loop-series.series-index + 1) c.args.stage.now) c.loop-series.so_far c.in-Err.load k
-    (subst (λ (z : Option Files). IsSeries (format_of g.G.Grammar.language g.P.FileSink.grammar_of g.P.FileSink.limit (g.P.FileSink.own c.args.file_sink) g.P.FileSink.bare) (g.P.FileSink.heard c.args.file_sink) z c.args.folder.now one (before c.args.used) k.ls (Err c.in-Err.load)) c.loop-series.invariant.read.same (c.in-Err.ensures.answer c.args.file_sink (before c.args.used) k.ls k.walked))
+    let k = subst (λ (left : List Series). Staged (format_in g.G.Grammar.language g.P.FileSink.stage c.args.file_sink) (g.P.FileSink.stage.heard c.args.file_sink) (g.S.Shelf.contents c.args.shelf.now) c.args.folder.now c.args.stage.now (before c.args.used) left c.loop-series.so_far) next (c.loop-series.invariant.staged fresh) in
+    staged_err (format_in g.G.Grammar.language g.P.FileSink.stage c.args.file_sink) (g.P.FileSink.stage.heard c.args.file_sink) (g.S.Shelf.contents c.args.shelf.now) c.args.folder.now c.args.stage.now (before c.args.used) one (drop (c.loop-series.series-index + 1) c.args.stage.now) c.loop-series.so_far c.in-Err.load k
+    (subst (λ (z : Option Files). IsSeries (format_in g.G.Grammar.language g.P.FileSink.stage c.args.file_sink) (g.P.FileSink.stage.heard c.args.file_sink) z c.args.folder.now one (before c.args.used) k.ls (Err c.in-Err.load)) c.loop-series.invariant.read.same (c.in-Err.ensures.answer c.args.file_sink (before c.args.used) k.ls k.walked))
 
 pub loop-series-preserved : goal.loop-series-preserved
 loop-series-preserved g c = record {
@@ -38,9 +38,9 @@ loop-series-preserved g c = record {
       λ fresh.
       let next = next_series c.args.stage.now c.loop-series.series-index (search rules) in
       let one : Series = get_or c.args.stage.now c.loop-series.series-index no_series in
-      let k = subst (λ (left : List Series). Staged (format_of g.G.Grammar.language g.P.FileSink.grammar_of g.P.FileSink.limit (g.P.FileSink.own c.args.file_sink) g.P.FileSink.bare) (g.P.FileSink.heard c.args.file_sink) (g.S.Shelf.contents c.args.shelf.now) c.args.folder.now c.args.stage.now (before c.args.used) left c.loop-series.so_far) next (c.loop-series.invariant.staged fresh) in
-      staged_more (format_of g.G.Grammar.language g.P.FileSink.grammar_of g.P.FileSink.limit (g.P.FileSink.own c.args.file_sink) g.P.FileSink.bare) (g.P.FileSink.heard c.args.file_sink) (g.S.Shelf.contents c.args.shelf.now) c.args.folder.now c.args.stage.now (before c.args.used) one (drop (c.loop-series.series-index + 1) c.args.stage.now) c.loop-series.so_far c.in-Ok.walk k
-      (subst (λ (z : Option Files). IsSeries (format_of g.G.Grammar.language g.P.FileSink.grammar_of g.P.FileSink.limit (g.P.FileSink.own c.args.file_sink) g.P.FileSink.bare) (g.P.FileSink.heard c.args.file_sink) z c.args.folder.now one (before c.args.used) k.ls (Ok c.in-Ok.walk)) c.loop-series.invariant.read.same (c.in-Ok.ensures.answer c.args.file_sink (before c.args.used) k.ls k.walked));
+      let k = subst (λ (left : List Series). Staged (format_in g.G.Grammar.language g.P.FileSink.stage c.args.file_sink) (g.P.FileSink.stage.heard c.args.file_sink) (g.S.Shelf.contents c.args.shelf.now) c.args.folder.now c.args.stage.now (before c.args.used) left c.loop-series.so_far) next (c.loop-series.invariant.staged fresh) in
+      staged_more (format_in g.G.Grammar.language g.P.FileSink.stage c.args.file_sink) (g.P.FileSink.stage.heard c.args.file_sink) (g.S.Shelf.contents c.args.shelf.now) c.args.folder.now c.args.stage.now (before c.args.used) one (drop (c.loop-series.series-index + 1) c.args.stage.now) c.loop-series.so_far c.in-Ok.walk k
+      (subst (λ (z : Option Files). IsSeries (format_in g.G.Grammar.language g.P.FileSink.stage c.args.file_sink) (g.P.FileSink.stage.heard c.args.file_sink) z c.args.folder.now one (before c.args.used) k.ls (Ok c.in-Ok.walk)) c.loop-series.invariant.read.same (c.in-Ok.ensures.answer c.args.file_sink (before c.args.used) k.ls k.walked));
   bytes = search rules;
   rows = search rules;
   read = read_after c.loop-series.invariant.read c.in-Ok.ensures.read;
@@ -49,8 +49,8 @@ loop-series-preserved g c = record {
 pub returns-clause-answer : goal.returns-clause-answer
 returns-clause-answer g c =
     λ fresh.
-    staged_end (format_of g.G.Grammar.language g.P.FileSink.grammar_of g.P.FileSink.limit (g.P.FileSink.own c.args.file_sink) g.P.FileSink.bare) (g.P.FileSink.heard c.args.file_sink) (g.S.Shelf.contents c.args.shelf.now) c.args.folder.now c.args.stage.now (before c.args.used) c.loop-series.so_far
-    (subst (λ (left : List Series). Staged (format_of g.G.Grammar.language g.P.FileSink.grammar_of g.P.FileSink.limit (g.P.FileSink.own c.args.file_sink) g.P.FileSink.bare) (g.P.FileSink.heard c.args.file_sink) (g.S.Shelf.contents c.args.shelf.now) c.args.folder.now c.args.stage.now (before c.args.used) left c.loop-series.so_far) (drop_all c.loop-series.series-index c.args.stage.now (search rules)) (c.loop-series.invariant.staged fresh))
+    staged_end (format_in g.G.Grammar.language g.P.FileSink.stage c.args.file_sink) (g.P.FileSink.stage.heard c.args.file_sink) (g.S.Shelf.contents c.args.shelf.now) c.args.folder.now c.args.stage.now (before c.args.used) c.loop-series.so_far
+    (subst (λ (left : List Series). Staged (format_in g.G.Grammar.language g.P.FileSink.stage c.args.file_sink) (g.P.FileSink.stage.heard c.args.file_sink) (g.S.Shelf.contents c.args.shelf.now) c.args.folder.now c.args.stage.now (before c.args.used) left c.loop-series.so_far) (drop_all c.loop-series.series-index c.args.stage.now (search rules)) (c.loop-series.invariant.staged fresh))
 
 pub returns-in-Err-clause-read : goal.returns-in-Err-clause-read
 returns-in-Err-clause-read g c = read_after c.loop-series.invariant.read c.in-Err.ensures.read

@@ -2,7 +2,7 @@ use Rattle.std.proofs.Common.{◌≤◌, [], drop, false}
 use Rattle.snb_base.specs.Shelf.{IsRead}
 use Rattle.snb_schema.specs.declared.limits.TheConstants.{MAX_BYTES}
 use Rattle.snb_input_lines.specs.Counts.{IsUnder}
-use Rattle.snb_input_files.specs.Format.{format_of}
+use Rattle.snb_input_files.specs.Format.{format_in}
 use Rattle.snb_input_files.specs.Stages.{before}
 use Rattle.snb_input_files.proofs.StageFacts.{Staged}
 use Rattle.snb_input_files.proofs.walk.walk_stage.Given as goal
@@ -11,9 +11,9 @@ use Rattle.snb_input_files.proofs.walk.walk_stage.Given as goal
 abbrev pub invariant-loop-series : goal.invariant-loop-series
 invariant-loop-series g l = record {
   staged :
-      (g.P.FileSink.heard l.fn.file_sink) l.fn.file_sink [] []
-      → Staged (format_of g.G.Grammar.language g.P.FileSink.grammar_of g.P.FileSink.limit (g.P.FileSink.own l.fn.file_sink) g.P.FileSink.bare) (g.P.FileSink.heard l.fn.file_sink) (g.S.Shelf.contents l.fn.shelf) l.folder l.stage (before l.fn.used) (drop l.series-index l.stage) l.so_far;
+      (g.P.FileSink.stage.heard l.fn.file_sink) l.fn.file_sink [] []
+      → Staged (format_in g.G.Grammar.language g.P.FileSink.stage l.fn.file_sink) (g.P.FileSink.stage.heard l.fn.file_sink) (g.S.Shelf.contents l.fn.shelf) l.folder l.stage (before l.fn.used) (drop l.series-index l.stage) l.so_far;
   bytes : l.so_far.used.bytes ≤ MAX_BYTES;
-  rows : IsUnder g.P.FileSink.limit l.so_far.used.rows;
+  rows : IsUnder g.P.FileSink.stage.limit l.so_far.used.rows;
   read : IsRead false (g.S.Shelf.contents l.fn.shelf) (g.S.Shelf.faults l.fn.shelf) (g.S.Shelf.contents l.shelf) (g.S.Shelf.faults l.shelf);
 }

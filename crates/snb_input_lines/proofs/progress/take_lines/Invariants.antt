@@ -9,7 +9,7 @@ invariant-loop-row g l = record {
   splits : l.text.splits ≡ (g.G.Grammar.language l.of.grammar).splits;
   begun : l.at.begun.items ≡ [];
   room : l.at.ended + length l.text.text ≤ MAX_BYTES;
-  coming : Coming (g.G.Grammar.language l.of.grammar) g.S.Sink.takes l.of.file l.fn.at.known l.fn.at.ended l.fn.text.text l.fn.sink l.at.known l.at.ended l.text.text l.sink;
+  coming : Coming (g.G.Grammar.language l.of.grammar) g.S.Sink.meaning.takes l.of.file l.fn.at.known l.fn.at.ended l.fn.text.text l.fn.sink l.at.known l.at.ended l.text.text l.sink;
 }
 
 abbrev pub decreases-loop-row : goal.decreases-loop-row

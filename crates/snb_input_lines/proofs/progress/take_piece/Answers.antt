@@ -42,19 +42,19 @@ pub returns-clause-ok : goal.returns-clause-ok
 returns-clause-ok g c =
     let is = piece_text c.args.at.now.begun.items c.args.piece.now c.in-Some.head.now c.in-Some.others.now c.as_slice.result.now (c.as_slice.result.now ++ c.in-Some.others.now) c.in-Some.ensures
     (c.as_slice.ensures.value ∙ c.in_ok-extend_from_slice-2.ensures.items ∙ ap (λ v. v.items ++ c.in-Some.head.now) c.replace-line.ensures.value) refl in
-    subst (λ (t : List ℕ). OnOk c.take_ended.result (LinesTaken (g.G.Grammar.language c.args.of.now.grammar) g.S.Sink.takes c.args.of.now.file (whole_lines t) c.args.at.now c.args.sink.now c.take_ended.new.at c.take_ended.new.sink)) is c.take_ended.ensures.ok
+    subst (λ (t : List ℕ). OnOk c.take_ended.result (LinesTaken (g.G.Grammar.language c.args.of.now.grammar) g.S.Sink.meaning.takes c.args.of.now.file (whole_lines t) c.args.at.now c.args.sink.now c.take_ended.new.at c.take_ended.new.sink)) is c.take_ended.ensures.ok
 
 pub returns-clause-bad : goal.returns-clause-bad
 returns-clause-bad g c =
     let is = piece_text c.args.at.now.begun.items c.args.piece.now c.in-Some.head.now c.in-Some.others.now c.as_slice.result.now (c.as_slice.result.now ++ c.in-Some.others.now) c.in-Some.ensures
     (c.as_slice.ensures.value ∙ c.in_ok-extend_from_slice-2.ensures.items ∙ ap (λ v. v.items ++ c.in-Some.head.now) c.replace-line.ensures.value) refl in
-    subst (λ (t : List ℕ). OnBad c.take_ended.result (LinesStopped (g.G.Grammar.language c.args.of.now.grammar) g.S.Sink.takes g.S.Sink.refuses g.S.Sink.same c.args.of.now.file (whole_lines t) c.args.at.now c.args.sink.now c.take_ended.new.sink)) is c.take_ended.ensures.bad
+    subst (λ (t : List ℕ). OnBad c.take_ended.result (LinesStopped (g.G.Grammar.language c.args.of.now.grammar) g.S.Sink.meaning.takes g.S.Sink.meaning.refuses g.S.Sink.meaning.same c.args.of.now.file (whole_lines t) c.args.at.now c.args.sink.now c.take_ended.new.sink)) is c.take_ended.ensures.bad
 
 pub returns-clause-memory : goal.returns-clause-memory
 returns-clause-memory g c =
     let is = piece_text c.args.at.now.begun.items c.args.piece.now c.in-Some.head.now c.in-Some.others.now c.as_slice.result.now (c.as_slice.result.now ++ c.in-Some.others.now) c.in-Some.ensures
     (c.as_slice.ensures.value ∙ c.in_ok-extend_from_slice-2.ensures.items ∙ ap (λ v. v.items ++ c.in-Some.head.now) c.replace-line.ensures.value) refl in
-    subst (λ (t : List ℕ). OnMemory c.take_ended.result (LinesRunOut (g.G.Grammar.language c.args.of.now.grammar) g.S.Sink.takes g.S.Sink.same c.args.of.now.file (whole_lines t) c.args.at.now c.args.sink.now c.take_ended.new.sink)) is c.take_ended.ensures.memory
+    subst (λ (t : List ℕ). OnMemory c.take_ended.result (LinesRunOut (g.G.Grammar.language c.args.of.now.grammar) g.S.Sink.meaning.takes g.S.Sink.meaning.same c.args.of.now.file (whole_lines t) c.args.at.now c.args.sink.now c.take_ended.new.sink)) is c.take_ended.ensures.memory
 
 pub returns-clause-ended : goal.returns-clause-ended
 returns-clause-ended g c =

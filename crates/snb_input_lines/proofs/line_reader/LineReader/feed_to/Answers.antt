@@ -20,4 +20,4 @@ invariant_of-self g c none =
     }
 
 pub take_piece-taken-requires-clause-fits : goal.take_piece-taken-requires-clause-fits
-take_piece-taken-requires-clause-fits g c = subst (λ x. Fits (g.G.Grammar.language x) g.S.Sink.fits) (sym (ap (λ v. v.grammar) c.self.view_is)) c.requires.fits
+take_piece-taken-requires-clause-fits g c = subst (λ x. Fits (g.G.Grammar.language x) g.S.Sink.meaning.fits) (sym (ap (λ v. v.grammar) c.self.view_is)) c.requires.fits
