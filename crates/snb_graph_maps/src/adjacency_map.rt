@@ -185,13 +185,16 @@ impl AdjacencyMap {
         take(&mut self.added, of, id);
     }
 
-    /// Makes all pairs the frozen part, which copies share. Where memory doesn't suffice, the index is as
-    /// it was.
+    /// Makes all pairs the frozen part, which copies share. Where nothing was added that isn't frozen, nothing
+    /// is done. Where memory doesn't suffice, the index is as it was.
     pub fn freeze(&mut self) -> Result<(), AllocError>
         ensures same { SamePairs self.old self.new }
         ensures ok { OnOk result ((q : ℕ) → pairs_at self.new.0 q ≡ pairs_of self.old q) }
         ensures err { OnErr result (self.new ≡ self.old) }
     {
+        if self.added.is_empty() {
+            return Ok(());
+        }
         let runs = match &self.frozen {
             Some(frozen) => {
                 let whole = joined(self.alloc, frozen, &self.added)?;
