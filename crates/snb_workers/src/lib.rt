@@ -1,4 +1,4 @@
-//! Replicas of the graph, and runs of a plan: workers claim its operations from the book, do them and
+//! Replicas of the graph, and runs of a plan: workers claim its operations at a board, do them and
 //! finish them.
 #![tactic(auto)]
 

@@ -6,7 +6,7 @@ ghost use Rattle.snb_graph_model.specs.Graphs.{HoldsKey};
 ghost use Rattle.snb_graph_model.specs.Soundness.{Sound};
 ghost use Rattle.snb_plan.specs.Closed.{IsClosed};
 ghost use Rattle.snb_plan.specs.Plans.{schedule_of, updates_in};
-ghost use Rattle.snb_workers.specs.Crews.{AllLeave, AreReady, IsReady, Leaves};
+ghost use Rattle.snb_workers.specs.Crews.{AllLeave, AreReady};
 ghost use Rattle.snb_workers.specs.Runs.{HasRun};
 
 use crate::crew::{Worker, outcome_of};
@@ -49,10 +49,7 @@ fn work_all<R: Threads + Wait + Sync, C: Clock + Sync, G: Gate + Sync>(
     thread::map_vec(
         rt,
         seats,
-        &|seat: Seat| -> Result<Worker, AllocError>
-            requires { (board.now.schedule ≡ schedule_of plan.now) × IsReady board.now seat × Sound base.now × IsClosed (HoldsKey base.now) (updates_in plan.now) }
-            ensures { IfOk result (Leaves plan.entry.now (C.fixed clock.entry.now) base.entry.now seat) }
-        { Worker::run(rt, alloc, board, seat, plan, base, clock, gate) },
+        &|seat: Seat| { Worker::run(rt, alloc, board, seat, plan, base, clock, gate) },
     )
 }
 
