@@ -187,11 +187,13 @@ IsAnswer words contents fixed status texts =
     ((status ≡ 2) × IsOtherLine words × (texts ≡ on_screen usage_text))
     ⊎ ((command : Command) × IsLineOf words command × IsCommandAnswer command contents fixed status texts)
 
--- texts that belong to the words and this status were added to the channels
-abbrev pub HasAnswered : List (List ℕ) → Call → ℕ → Type 0
-HasAnswered words call status = HasWritten call.before.written call.after.written (IsAnswer words call.before.contents call.before.fixed status)
+-- texts that belong to the words and the status of the call were added to the channels, unless the status is 4, 5 or 6
+abbrev pub IsAnswered : List (List ℕ) → Call → ℕ → Type 0
+IsAnswered words call status =
+    HasWritten call.before.written call.after.written (IsAnswer words call.before.contents call.before.fixed status)
+    ⊎ ((status ≡ 4) ⊎ ((status ≡ 5) ⊎ (status ≡ 6)))
 
--- a front of texts that belong to the words and some status was
+-- a front of texts that belong to the words and some status was added to them
 abbrev pub IsCut : List (List ℕ) → Call → Type 0
 IsCut words call =
     (status : ℕ) × HasBegun call.before.ready call.before.written call.after.written (IsAnswer words call.before.contents call.before.fixed status)

@@ -7,7 +7,7 @@ ghost use Rattle.snb_tool_words.specs.declared.command.Command.{Command as AnyCo
 ghost use Rattle.snb_tool_words.specs.Commands.{IsLineOf, IsOtherLine, IsRunnable, folder_of};
 ghost use Rattle.snb_tool_words.specs.Words.{texts_of};
 ghost use Rattle.snb_tool.specs.Endings.{IsFinished};
-ghost use Rattle.snb_tool.specs.Outcome.{HasAnswered, IsAnswer, Completes, IsCut, Refuses};
+ghost use Rattle.snb_tool.specs.Outcome.{Completes, IsAnswer, IsAnswered, IsCut, Refuses};
 ghost use Rattle.snb_tool.specs.Outside.{EndsAs, IsReadOnly, seen};
 
 use crate::audit::audit;
@@ -181,8 +181,7 @@ pub fn snb<
     C: Clock + Sync,
     G: Gate + Sync,
 >(rt: &R, words: &[&str], shelf: &mut S, out: &mut O, clock: &C, gate: &G) -> u8
-    ensures answered { HasAnswered (texts_of words.now) (seen S.Shelf O.Outbox C.Clock shelf.old shelf.new out.old out.new clock.now) result
-        ⊎ ((result ≡ 4) ⊎ ((result ≡ 5) ⊎ (result ≡ 6))) }
+    ensures answered { IsAnswered (texts_of words.now) (seen S.Shelf O.Outbox C.Clock shelf.old shelf.new out.old out.new clock.now) result }
     ensures unwritten { ((result ≡ 4) ⊎ (result ≡ 6)) → O.written out.new ≡ O.written out.old }
     ensures cut { result ≡ 5 → IsCut (texts_of words.now) (seen S.Shelf O.Outbox C.Clock shelf.old shelf.new out.old out.new clock.now) }
     ensures complete { Completes (texts_of words.now) (seen S.Shelf O.Outbox C.Clock shelf.old shelf.new out.old out.new clock.now) result }
