@@ -66,7 +66,7 @@ pub fn alone<R: Wait>(rt: &R, alloc: Global, files: &Files, rest: &str) -> Resul
     told_alone(rt, alloc, &whole, &moments)
 }
 
-// One worker runs the plan without a board, at a clock that shows these moments.
+// One worker runs the plan alone, at a clock that shows these moments.
 fn told_by_itself<R: Wait>(
     rt: &R,
     alloc: Global,
