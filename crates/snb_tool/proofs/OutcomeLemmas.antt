@@ -2,8 +2,9 @@
 use Rattle.std.proofs.Common.{◌≡◌, ℕ, ◌+◌, List, [], ◌++◌, length, length-append, Option, None, Some, Ok, Err, Vec, refl, sym, subst, ap, ◌∙◌, inl, inr}
 use Rattle.std.proofs.lemmas.List.Sorted.{length_permutation}
 use Rattle.std.specs.declared.alloc.Global.{Global}
+use Rattle.snb_base.specs.declared.outbox.Outbox.{Ghosts as Outboxes}
 use Rattle.snb_base.specs.Outbox.{Rooms, Written}
-use Rattle.snb_base.specs.Shelf.{Counts, Files, Rose}
+use Rattle.snb_base.specs.Shelf.{Counts, Files}
 use Rattle.snb_runlog.specs.Laws.{ReadsBack}
 use Rattle.snb_schema.specs.declared.query.Query.{Query}
 use Rattle.snb_input_files.specs.declared.load.Load.{Load}
@@ -39,43 +40,56 @@ use Rattle.snb_tool.specs.Outside.{Ends, OutOfMemory, Outside, ReadFault, Whole,
 begun_weaker : (ready : Rooms → Type 0) (old new : Option Written) (P Q : Written → Type 0) → ((texts : Written) → P texts → Q texts) → HasBegun ready old new P → HasBegun ready old new Q
 begun_weaker ready old new P Q f b = record { texts = b.texts; part = b.part; are = f b.texts b.are; front = b.front; wrote = b.wrote; unsure = b.unsure }
 
-module _ (P : Option Files → Option ℕ → ℕ → Written → Type 0) (old new : Outside) where
-  -- a call that delivers texts that belong to its status
-  pub delivers_ends : (status : ℕ) (texts : Written) (result : ℕ) → P old.contents old.fixed status texts
-      → Delivers status texts (Rose old.write_faults new.write_faults) old.ready old.written new.written result → Ends P old new result
-  delivers_ends status texts result b (inl h) = subst (λ (r : ℕ). Ends P old new r) (sym h.0) (Whole (texts, b, h.1))
-  delivers_ends status texts result b (inr h) =
-      WriteFault status h.0 h.1
-      (begun_weaker old.ready old.written new.written (λ all. all ≡ texts) (P old.contents old.fixed status)
-      (λ all e. subst (λ (t : Written). P old.contents old.fixed status t) (sym e) b) h.2)
+-- what belongs to a status by one rule may by another
+pub ends_weaker : (P Q : Option Files → Option ℕ → ℕ → Written → Type 0) (old new : Outside) (result : ℕ)
+    → ((s : ℕ) (texts : Written) → P old.contents old.fixed s texts → Q old.contents old.fixed s texts) → Ends P old new result → Ends Q old new result
+ends_weaker P Q old new result f (Whole h) = Whole (h.0, f result h.0 h.1, h.2)
+ends_weaker P Q old new result f (ReadFault e r n) = ReadFault e r n
+ends_weaker P Q old new result f (WriteFault s e r h) = WriteFault s e r (begun_weaker old.ready old.written new.written (P old.contents old.fixed s) (Q old.contents old.fixed s) (f s) h)
+ends_weaker P Q old new result f (OutOfMemory e n) = OutOfMemory e n
 
-  -- what belongs to a status by one rule may by another
-  pub ends_weaker : (Q : Option Files → Option ℕ → ℕ → Written → Type 0) (result : ℕ)
-      → ((s : ℕ) (texts : Written) → P old.contents old.fixed s texts → Q old.contents old.fixed s texts) → Ends P old new result → Ends Q old new result
-  ends_weaker Q result f (Whole h) = Whole (h.0, f result h.0 h.1, h.2)
-  ends_weaker Q result f (ReadFault e r n) = ReadFault e r n
-  ends_weaker Q result f (WriteFault s e r h) = WriteFault s e r (begun_weaker old.ready old.written new.written (P old.contents old.fixed s) (Q old.contents old.fixed s) (f s) h)
-  ends_weaker Q result f (OutOfMemory e n) = OutOfMemory e n
+module _ {O : Type 0} (outboxes : Outboxes O) (out out_after : O) where
+  module _ (contents contents_after : Option Files) (fixed : Option ℕ) (faults faults_after : ℕ) where
+    abbrev old : Outside
+    old = record { contents = contents; fixed = fixed; read_faults = faults; write_faults = outboxes.faults out; written = outboxes.written out; ready = outboxes.ready out }
 
--- a call that delivers what a command answers
-module _ (command : Command) (old new : Outside) where
-  pub finished_ends : (answer : Result Finished Load) (result : ℕ) → IsFinished command old.contents old.fixed answer → Counts (is_read_fault answer) old.read_faults new.read_faults
-      → Finishes answer (Rose old.write_faults new.write_faults) old.ready old.written new.written result → Ends (IsCommandAnswer command) old new result
-  finished_ends (Ok f) result is counts d =
-      delivers_ends (IsCommandAnswer command) old new f.status (bytes_of f.output) result (is.0, is.1, inl (is.2, is.3)) d
-  finished_ends (Err (loads.Refused r)) result is counts (inl d) =
-      delivers_ends (IsCommandAnswer command) old new 3 (on_screen (refusal_text r)) result (is.0, is.1, inr (r, is.2, (refl, refl))) d
-  finished_ends (Err (loads.Refused r)) result is counts (inr d) = OutOfMemory d.0 d.1
-  finished_ends (Err loads.ReadFault) result is counts d = ReadFault d.0 counts d.1
-  finished_ends (Err loads.Memory) result is counts d = OutOfMemory d.0 d.1
+    abbrev new : Outside
+    new = record {
+      contents = contents_after;
+      fixed = fixed;
+      read_faults = faults_after;
+      write_faults = outboxes.faults out_after;
+      written = outboxes.written out_after;
+      ready = outboxes.ready out_after;
+    }
 
--- it counts a failed read by status 4 alone
-pub finished_calm : (answer : Result Finished Load) (wrote : Type 0) (ready : Rooms → Type 0) (old new : Option Written) (result faults faults_after : ℕ) → Finishes answer wrote ready old new result
-    → Counts (is_read_fault answer) faults faults_after → result ≢ 4 → faults_after ≡ faults
-finished_calm (Ok f) wrote ready old new result faults faults_after d counts other = counts
-finished_calm (Err (loads.Refused r)) wrote ready old new result faults faults_after d counts other = counts
-finished_calm (Err loads.ReadFault) wrote ready old new result faults faults_after d counts other = absurd (other d.0)
-finished_calm (Err loads.Memory) wrote ready old new result faults faults_after d counts other = counts
+    -- a call that delivers texts that belong to its status
+    pub delivers_ends : (P : Option Files → Option ℕ → ℕ → Written → Type 0) (status : ℕ) (texts : Written) (result : ℕ) → P contents fixed status texts
+        → Delivers outboxes out out_after status texts result → Ends P old new result
+    delivers_ends P status texts result b (inl h) = subst (λ (r : ℕ). Ends P old new r) (sym h.0) (Whole (texts, b, h.1))
+    delivers_ends P status texts result b (inr h) =
+        WriteFault status h.0 h.1
+        (begun_weaker old.ready old.written new.written (λ all. all ≡ texts) (P contents fixed status)
+        (λ all e. subst (λ (t : Written). P contents fixed status t) (sym e) b) h.2)
+
+    -- and one that delivers what a command answers
+    pub finished_ends : (command : Command) (answer : Result Finished Load) (result : ℕ) → IsFinished command contents fixed answer → Counts (is_read_fault answer) faults faults_after
+        → Finishes outboxes out out_after answer result → Ends (IsCommandAnswer command) old new result
+    finished_ends command (Ok f) result is counts d =
+        delivers_ends (IsCommandAnswer command) f.status (bytes_of f.output) result (is.0, is.1, inl (is.2, is.3)) d
+    finished_ends command (Err (loads.Refused r)) result is counts (inl d) =
+        delivers_ends (IsCommandAnswer command) 3 (on_screen (refusal_text r)) result (is.0, is.1, inr (r, is.2, (refl, refl))) d
+    finished_ends command (Err (loads.Refused r)) result is counts (inr d) = OutOfMemory d.0 d.1
+    finished_ends command (Err loads.ReadFault) result is counts d = ReadFault d.0 counts d.1
+    finished_ends command (Err loads.Memory) result is counts d = OutOfMemory d.0 d.1
+
+  -- it counts a failed read by status 4 alone
+  pub finished_calm : (answer : Result Finished Load) (result faults faults_after : ℕ) → Finishes outboxes out out_after answer result → Counts (is_read_fault answer) faults faults_after
+      → result ≢ 4 → faults_after ≡ faults
+  finished_calm (Ok f) result faults faults_after d counts other = counts
+  finished_calm (Err (loads.Refused r)) result faults faults_after d counts other = counts
+  finished_calm (Err loads.ReadFault) result faults faults_after d counts other = absurd (other d.0)
+  finished_calm (Err loads.Memory) result faults faults_after d counts other = counts
 
 -- ---- what a command answers where it isn't done
 

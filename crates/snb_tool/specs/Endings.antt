@@ -3,8 +3,9 @@ use Rattle.std.specs.Prelude.{◌≡◌, ℕ, ◌<◌, ◌≤◌, ◌⊎◌, Lis
 use Rattle.std.specs.declared.alloc.Global.{Global}
 use Rattle.snb_auditor_log.specs.LogFiles.{log_checks}
 use Rattle.snb_auditor_log.specs.declared.verdict.AuditVerdict.{AuditVerdict}
-use Rattle.snb_base.specs.Outbox.{Rooms, Written}
-use Rattle.snb_base.specs.Shelf.{Files}
+use Rattle.snb_base.specs.declared.outbox.Outbox.{Ghosts as Outboxes}
+use Rattle.snb_base.specs.Outbox.{Written}
+use Rattle.snb_base.specs.Shelf.{Files, Rose}
 use Rattle.snb_base.specs.FirstOf.{FirstOf, NoneOf}
 use Rattle.snb_input_files.specs.Loading.{IsTold}
 use Rattle.snb_input_files.specs.Walk.{Held, IsHeldTold}
@@ -51,20 +52,22 @@ use Rattle.snb_tool.specs.Output.{HasBegun, Wrote, on_screen}
 abbrev pub bytes_of : Output → Written
 bytes_of o = record { screen = o.screen.items; log = o.log.items; answers = bytes_in o.answers.items; finals = o.finals.items; cases = o.cases.items }
 
--- texts are written whole, with this status; or a front of them, where the outbox failed, which wasn't sure of all of them
-abbrev pub Delivers : ℕ → Written → Type 0 → (Rooms → Type 0) → Option Written → Option Written → ℕ → Type 0
-Delivers status texts wrote ready old new result =
-    ((result ≡ status) × Wrote old new texts)
-    ⊎ ((result ≡ 5) × wrote × HasBegun ready old new (λ all. all ≡ texts))
+-- texts are written whole on an outbox, with this status; or a front of them, where it failed, which wasn't sure of all of them
+abbrev pub Delivers : {O : Type 0} → Outboxes O → O → O → ℕ → Written → ℕ → Type 0
+Delivers outboxes old new status texts result =
+    ((result ≡ status) × Wrote (outboxes.written old) (outboxes.written new) texts)
+    ⊎ ((result ≡ 5)
+    × Rose (outboxes.faults old) (outboxes.faults new)
+    × HasBegun (outboxes.ready old) (outboxes.written old) (outboxes.written new) (λ all. all ≡ texts))
 
 -- how what a command answers is delivered: the texts of one that is done with its status; what is wrong first with 3, where memory suffices; and
 -- nothing after a failed read, with 4, and for want of memory, with 6
-abbrev pub Finishes : Result Finished Load → Type 0 → (Rooms → Type 0) → Option Written → Option Written → ℕ → Type 0
-Finishes (Ok f) wrote ready old new result = Delivers f.status (bytes_of f.output) wrote ready old new result
-Finishes (Err (Refused r)) wrote ready old new result =
-    Delivers 3 (on_screen (refusal_text r)) wrote ready old new result ⊎ ((result ≡ 6) × (new ≡ old))
-Finishes (Err ReadFault) wrote ready old new result = (result ≡ 4) × (new ≡ old)
-Finishes (Err Memory) wrote ready old new result = (result ≡ 6) × (new ≡ old)
+abbrev pub Finishes : {O : Type 0} → Outboxes O → O → O → Result Finished Load → ℕ → Type 0
+Finishes outboxes old new (Ok f) result = Delivers outboxes old new f.status (bytes_of f.output) result
+Finishes outboxes old new (Err (Refused r)) result =
+    Delivers outboxes old new 3 (on_screen (refusal_text r)) result ⊎ ((result ≡ 6) × (outboxes.written new ≡ outboxes.written old))
+Finishes outboxes old new (Err ReadFault) result = (result ≡ 4) × (outboxes.written new ≡ outboxes.written old)
+Finishes outboxes old new (Err Memory) result = (result ≡ 6) × (outboxes.written new ≡ outboxes.written old)
 
 -- there are files, which are those that the shelf tells where it tells any, of which nothing is wrong, and the command is done with this status
 -- and these texts

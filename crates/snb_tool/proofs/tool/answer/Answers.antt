@@ -8,16 +8,16 @@ use Rattle.snb_tool.proofs.tool.answer.Goals as goal
 
 pub returns-in-Ok-Some-clause-ends : goal.returns-in-Ok-Some-clause-ends
 returns-in-Ok-Some-clause-ends g c =
-    ends_weaker (IsCommandAnswer c.in-Ok-Some.command) _ _ (IsAnswer (texts_of c.args.words.now)) _
+    ends_weaker (IsCommandAnswer c.in-Ok-Some.command) (IsAnswer (texts_of c.args.words.now)) _ _ _
     (λ s texts b. inr (c.in-Ok-Some.command, (rw c.in-Ok-Some.field-0-is at c.in-Ok-Some.ensures.is_line), b))
-    (finished_ends c.in-Ok-Some.command _ _ c.obey-answer.result c.finish.result c.obey-answer.ensures.answer c.obey-answer.ensures.read.told c.finish.ensures.finished)
+    (finished_ends g.O.Outbox c.args.out.now c.finish.new.out _ _ _ _ _ c.in-Ok-Some.command c.obey-answer.result c.finish.result c.obey-answer.ensures.answer c.obey-answer.ensures.read.told c.finish.ensures.finished)
 
 pub returns-in-Ok-Some-clause-reads_calm : goal.returns-in-Ok-Some-clause-reads_calm
-returns-in-Ok-Some-clause-reads_calm g c = finished_calm c.obey-answer.result _ _ _ _ c.finish.result _ _ c.finish.ensures.finished c.obey-answer.ensures.read.told
+returns-in-Ok-Some-clause-reads_calm g c = finished_calm g.O.Outbox c.args.out.now c.finish.new.out c.obey-answer.result c.finish.result _ _ c.finish.ensures.finished c.obey-answer.ensures.read.told
 
 pub returns-in-Ok-None-clause-ends : goal.returns-in-Ok-None-clause-ends
 returns-in-Ok-None-clause-ends g c =
-    delivers_ends (IsAnswer (texts_of c.args.words.now)) _ _ 2 (on_screen c.as_bytes.result.now) _ (inl (refl, (rw c.in-Ok-None.field-0-is at c.in-Ok-None.ensures.is_line), ap on_screen c.as_bytes.ensures.value)) c.show_as.ensures.shown
+    delivers_ends g.O.Outbox c.args.out.now c.show_as.new.out _ _ _ _ _ (IsAnswer (texts_of c.args.words.now)) 2 (on_screen c.as_bytes.result.now) _ (inl (refl, (rw c.in-Ok-None.field-0-is at c.in-Ok-None.ensures.is_line), ap on_screen c.as_bytes.ensures.value)) c.show_as.ensures.shown
 
 pub returns-in-Err-clause-ends : goal.returns-in-Err-clause-ends
 returns-in-Err-clause-ends g c = OutOfMemory refl refl
