@@ -1,15 +1,19 @@
--- What another crate may cite of this one: values that are taken, and fields read by columns.
-use Rattle.std.proofs.Common.{◌≡◌, ◌∷◌, ◌∙◌, ◌+◌, ◌⊎◌, [], ℕ, zero, suc, List, Option, Some, None, false, length, take, refl, ap, inl, inr}
+-- What another crate may cite of this one: values that are taken, reads that are made of them, and fields read by columns.
+use Rattle.std.proofs.Common.{◌≡◌, ◌∷◌, ◌∙◌, ◌+◌, ◌⊎◌, [], ℕ, zero, suc, List, Option, Some, None, false, length, take, refl, ap, inl, inr, rules}
 use Rattle.std.proofs.lemmas.Bool.{cases_eq}
 use Rattle.snb_base.specs.Spellings.{Num}
 use Rattle.snb_schema.specs.declared.column.Column.{Column}
 use Rattle.snb_schema.specs.declared.column.Column.TheVariants.{Number, Small, OptionalId, Date, Day, Words, Word, TextList, IdList, PairList}
 use Rattle.snb_schema.specs.declared.column.Value.{Value}
 use Rattle.snb_schema.specs.declared.column.Value.TheVariants.{Digits, SmallDigits, NoId, Letters, Texts, Ids, Pairs}
+use Rattle.snb_schema.specs.declared.query.Query.{Query}
+use Rattle.snb_schema.specs.declared.read_kind.ReadKind.{ReadKind}
 use Rattle.snb_schema.specs.Columns.{Spells, SpellsAll, StopsAfter}
+use Rattle.snb_schema.specs.ReadKinds.{kind_of, parameter_columns, parameter_values}
 use Rattle.snb_schema.specs.RowLines.{IsWide}
 use Rattle.snb_input_lines.specs.Records.{field_at}
 use Rattle.snb_input_fields.specs.Laws.{TakenAgain}
+use Rattle.snb_input_fields.specs.Queries.{query_by}
 use Rattle.snb_input_fields.specs.Values.{starts_twice, taken}
 use Rattle.snb_input_fields.proofs.DecidedFacts.{number_found}
 use Rattle.snb_input_fields.proofs.WideFacts.{wide_none, wide_some}
@@ -78,3 +82,11 @@ wide_or_not count fs = go (field_at fs count) refl
 -- a text is a number of at most so much, or it isn't
 pub number_or_not : (x : List ℕ) (most : ℕ) → ((n : ℕ) × Num x n most) ⊎ ((n : ℕ) → ¬ Num x n most)
 number_or_not = number_found
+
+-- a read has the kind and the values that it is made of
+pub made : (kind : ReadKind) (vs : List Value) → (kind_of (query_by kind vs) ≡ kind) × (parameter_values (query_by kind vs) ≡ taken (parameter_columns kind) vs)
+made kind vs = search rules
+
+-- and is what is made of them
+pub query_back : (query : Query) → query_by (kind_of query) (parameter_values query) ≡ query
+query_back query = search rules

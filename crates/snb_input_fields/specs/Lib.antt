@@ -1,4 +1,5 @@
 pub mod Cells
 pub mod Laws
+pub mod Queries
 pub mod Reading
 pub mod Values

@@ -11,11 +11,12 @@ use Rattle.snb_schema.specs.Columns.{SpellsAll}
 use Rattle.snb_schema.specs.ParameterLines.{query_columns}
 use Rattle.snb_schema.specs.UpdateLines.{IsBadInsert, Names, kind_number, line_columns}
 use Rattle.snb_input_fields.specs.Laws.{EachLineIsRead, TakenAgain}
+use Rattle.snb_input_fields.specs.Queries.{query_by}
 use Rattle.snb_input_fields.specs.Values.{first_number}
 use Rattle.snb_input_fields.proofs.Laws.{number_or_not}
 use Rattle.snb_streams.specs.Laws.{InsertOrColumn, QueryOrColumn}
 use Rattle.snb_streams.specs.Make.{clash_at, op_by}
-use Rattle.snb_streams.specs.Parameters.{query_by}
+use Rattle.snb_streams.specs.Parameters.{complex_kind}
 use Rattle.snb_streams.specs.Spelled.{SpellsInsert}
 use Rattle.snb_streams.proofs.CaseFacts.{insert_from_case}
 use Rattle.snb_streams.proofs.FaultFacts.{clash_bad, stop_bad, third_bad, time_bad, times}
@@ -102,7 +103,7 @@ pub query_or_column : TakenAgain → EachLineIsRead → QueryOrColumn
 query_or_column again read q fs complex = elim (cases_eq (length fs) (length (query_columns q))) [
   | inr other ↦ inr (0, inl (other, refl))
   | inl long ↦ elim (read (query_columns q) fs (omega (arith, long))) [
-    | inl s ↦ inl (query_by q s.0, told_query again q (query_columns q) fs s.0 (query_by q s.0) complex refl long s.1 refl)
+    | inl s ↦ inl (query_by (complex_kind q) s.0, told_query again q (query_columns q) fs s.0 (query_by (complex_kind q) s.0) complex refl long s.1 refl)
     | inr stop ↦ inr (stop.0 + 1, told_stop q (query_columns q) fs stop.0 (stop.0 + 1) refl long stop.2 refl)
   ]
 ]

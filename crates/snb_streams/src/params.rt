@@ -1,69 +1,42 @@
 //! The reader of a parameter file.
 
-ghost use Rattle.std.specs.Prelude.{◌≡◌, All, IfOk, IsUtf8};
+ghost use Rattle.std.specs.Prelude.{◌≡◌, All, IfOk, IsUtf8, MatchOption};
 ghost use Rattle.snb_schema.specs.Faults.{OnBadColumn};
 ghost use Rattle.snb_schema.specs.ParameterLines.{IsBadQuery, SpellsQuery, query_columns};
 ghost use Rattle.snb_schema.specs.Queries.{IsComplex};
-ghost use Rattle.snb_streams.specs.Parameters.{query_by};
+ghost use Rattle.snb_streams.specs.Parameters.{complex_kind};
 
 use snb_input_fields::law::taken_again;
-use snb_input_fields::{Values, read_values};
+use snb_input_fields::{Values, query_of, read_values};
 use snb_input_lines::{Grammar, LineReader, Open, Record};
 use snb_schema::query::is_complex;
 use snb_schema::{Column, FileId, FileKind, LineFault, Query, ReadKind};
 use std::alloc::Global;
 use std::marker::Model;
 
+// The kind of the complex query of this number; None exactly where it isn't one of the seven.
+fn complex_kind(query: u32) -> Option<ReadKind>
+    ensures { MatchOption result (¬ IsComplex query) (λ kind. IsComplex query × (kind ≡ complex_kind query)) }
+{
+    match query {
+        1 => Some(ReadKind::Ic1),
+        2 => Some(ReadKind::Ic2),
+        7 => Some(ReadKind::Ic7),
+        8 => Some(ReadKind::Ic8),
+        9 => Some(ReadKind::Ic9),
+        11 => Some(ReadKind::Ic11),
+        13 => Some(ReadKind::Ic13),
+        _ => None,
+    }
+}
+
 /// The columns of the parameters of the query of this number: none, where it isn't one of the seven.
 pub fn columns_of(query: u32) -> &'static [Column]
     ensures { result.now ≡ query_columns query }
 {
-    match query {
-        1 => ReadKind::Ic1.columns(),
-        2 => ReadKind::Ic2.columns(),
-        7 => ReadKind::Ic7.columns(),
-        8 => ReadKind::Ic8.columns(),
-        9 => ReadKind::Ic9.columns(),
-        11 => ReadKind::Ic11.columns(),
-        13 => ReadKind::Ic13.columns(),
-        _ => &[],
-    }
-}
-
-// The query of this number that has these values.
-fn make_query(query: u32, values: &mut Values) -> Query
-    requires { IsComplex query }
-    ensures { result ≡ query_by query values.old }
-{
-    match query {
-        1 => Query::Ic1 {
-            person: values.number(),
-            first_name: values.text(),
-        },
-        2 => Query::Ic2 {
-            person: values.number(),
-            max_date: values.number(),
-        },
-        7 => Query::Ic7 {
-            person: values.number(),
-        },
-        8 => Query::Ic8 {
-            person: values.number(),
-        },
-        9 => Query::Ic9 {
-            person: values.number(),
-            max_date: values.number(),
-        },
-        11 => Query::Ic11 {
-            person: values.number(),
-            country: values.text(),
-            year: values.small(),
-        },
-        13 => Query::Ic13 {
-            from: values.number(),
-            to: values.number(),
-        },
-        _ => unreachable!(),
+    match complex_kind(query) {
+        Some(kind) => kind.columns(),
+        None => &[],
     }
 }
 
@@ -79,13 +52,16 @@ pub fn read_query(alloc: Global, query: u32, fields: &Record) -> Result<Query, L
     ensures bad { OnBadColumn result (IsBadQuery query fields.now) }
 {
     taken_again();
-    let columns = columns_of(query);
+    let Some(kind) = complex_kind(query) else {
+        unreachable!()
+    };
+    let columns = kind.columns();
     if fields.len() != columns.len() {
         return Err(LineFault::Bad { column: 0 });
     }
     let mut values = Vec::new(alloc);
     match read_values(alloc, columns, fields, &mut values) {
-        Ok(()) => Ok(make_query(query, &mut Values::new(alloc, values))),
+        Ok(()) => Ok(query_of(kind, &mut Values::new(alloc, values))),
         Err(fault) => Err(fault),
     }
 }

@@ -2,10 +2,10 @@
 use Rattle.std.proofs.Common.{◌≡◌, ◌↔◌, ◌<◌, ◌≤◌, Bool, false, IsTrue, Option, Some, None, List, [], ◌∷◌, length, refl, sym, subst, ap, ◌∙◌, arith, rules, ℕ}
 use Rattle.std.specs.Option.{MatchOption, is_some}
 use Rattle.snb_base.specs.Spellings.{Date, Num}
-use Rattle.snb_input_fields.proofs.Laws.{spelled_long}
+use Rattle.snb_input_fields.proofs.Laws.{made, query_back, spelled_long}
 use Rattle.snb_columns.specs.Laws.{OneList}
 use Rattle.snb_input_fields.specs.Laws.{TakenAgain}
-use Rattle.snb_input_fields.specs.Values.{taken}
+use Rattle.snb_input_fields.specs.Queries.{query_by}
 use Rattle.snb_schema.specs.declared.column.Column.{Column}
 use Rattle.snb_schema.specs.declared.column.Column.TheVariants as columns
 use Rattle.snb_schema.specs.declared.column.Column.TheVariants.{Number, Small}
@@ -16,7 +16,6 @@ use Rattle.snb_schema.specs.declared.read_kind.ReadKind.{ReadKind}
 use Rattle.snb_schema.specs.Columns.{Spells, SpellsAll}
 use Rattle.snb_schema.specs.ReadKinds.{kind_of, parameter_columns, parameter_values, read_word}
 use Rattle.snb_tool_words.specs.Commands.{IsReadOf}
-use Rattle.snb_tool_words.specs.Taken.{query_by}
 
 -- a read has one to three parameters
 pub few_columns : (kind : ReadKind) → (1 ≤ length (parameter_columns kind)) × (length (parameter_columns kind) < 4)
@@ -72,14 +71,6 @@ module _ (c : Column) (cs all : List Column) (x : List ℕ) (xs words : List (Li
 -- a word names one kind
 pub one_kind : (a b : ReadKind) → read_word a ≡ read_word b → a ≡ b
 one_kind a b e = search rules
-
--- a read has the kind and the values that it is made of
-made : (kind : ReadKind) (vs : List Value) → (kind_of (query_by kind vs) ≡ kind) × (parameter_values (query_by kind vs) ≡ taken (parameter_columns kind) vs)
-made kind vs = search rules
-
--- and is what is made of them
-pub query_back : (query : Query) → query_by (kind_of query) (parameter_values query) ≡ query
-query_back query = search rules
 
 -- words name one read
 pub one_read : OneList → (kind : List ℕ) (parameters : List (List ℕ)) (a b : Query) → IsReadOf kind parameters a → IsReadOf kind parameters b → a ≡ b

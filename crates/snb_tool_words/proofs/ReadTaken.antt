@@ -8,16 +8,18 @@ use Rattle.snb_schema.specs.declared.query.Query.{Query}
 use Rattle.snb_schema.specs.declared.read_kind.ReadKind.{ReadKind}
 use Rattle.snb_schema.specs.Columns.{SpellsAll}
 use Rattle.snb_schema.specs.ReadKinds.{kind_of, parameter_columns, parameter_values}
+use Rattle.snb_input_fields.specs.Queries.{query_by}
+use Rattle.snb_input_fields.proofs.Laws.{query_back}
 use Rattle.std.specs.Option.{option_map}
 use Rattle.clap.specs.Simple.{App, Shape, built, matches_of}
 use Rattle.clap.specs.Takes.{takes}
 use Rattle.clap.specs.Walk.{Text, first_of, nothing_held, walk_from}
 use Rattle.snb_tool_words.specs.declared.command.Command.TheVariants.{Read}
 use Rattle.snb_tool_words.specs.Commands.{IsLineOf, IsReadOf}
-use Rattle.snb_tool_words.specs.Taken.{AreValuesFound, IsLineBy, IsReadFound, IsValueFound, line_app, query_by}
+use Rattle.snb_tool_words.specs.Taken.{AreValuesFound, IsLineBy, IsReadFound, IsValueFound, line_app}
 use Rattle.snb_tool_words.specs.Words.{IsPlainWord}
 use Rattle.snb_tool_words.proofs.CommandLemmas.{at_read}
-use Rattle.snb_tool_words.proofs.ReadLemmas.{few_parameters, query_back}
+use Rattle.snb_tool_words.proofs.ReadLemmas.{few_parameters}
 use Rattle.snb_tool_words.proofs.TakenLemmas.{as_found, no_options_said}
 use Rattle.snb_tool_words.proofs.TakenLines.{plain_by, words_by}
 use Rattle.snb_tool_words.proofs.WalkFacts.{Given, IsBuilt, IsPlaced, Runs, after, ends, finds, first, placed, to_row, value_of}

@@ -1,19 +1,18 @@
 //! The words of a read.
 
-ghost use Rattle.std.specs.Prelude.{◌≡◌, ◌↔◌, List, IsTrue};
+ghost use Rattle.std.specs.Prelude.{◌↔◌, List, IsTrue};
 ghost use Rattle.std.specs.List.{AllByRecursion};
 ghost use Rattle.snb_schema.specs.declared.column.Value.{Value as AnyValue};
 ghost use Rattle.snb_schema.specs.declared.query.Query.{Query as AnyQuery};
 ghost use Rattle.snb_schema.specs.Columns.{Spells, SpellsAll};
 ghost use Rattle.snb_tool_words.specs.Commands.{IsReadOf};
-ghost use Rattle.snb_tool_words.specs.Taken.{IsParameter, query_by};
+ghost use Rattle.snb_tool_words.specs.Taken.{IsParameter};
 ghost use Rattle.snb_tool_words.specs.Words.{texts_of};
 
 use snb_base::read_number;
 use snb_clock::read_date;
-use snb_input_fields::Values;
 use snb_input_fields::law::taken_again;
-use snb_schema::{Column, Query, ReadKind};
+use snb_schema::{Column, ReadKind};
 
 // Whether the word spells a value of the column. The condition: a parameter may have the column.
 fn is_spelled(column: Column, word: &str) -> bool
@@ -53,44 +52,5 @@ pub fn is_read(kind: &str, parameters: &[&str]) -> bool
     match ReadKind::of_word(kind) {
         Some(kind) => are_spelled(kind.columns(), parameters),
         None => false,
-    }
-}
-
-/// The read of this kind that has these values.
-pub fn query_of(kind: ReadKind, values: &mut Values) -> Query
-    ensures { result ≡ query_by kind values.old }
-{
-    let id = values.number();
-    match kind {
-        ReadKind::Is1 => Query::Is1 { person: id },
-        ReadKind::Is2 => Query::Is2 { person: id },
-        ReadKind::Is3 => Query::Is3 { person: id },
-        ReadKind::Is4 => Query::Is4 { message: id },
-        ReadKind::Is5 => Query::Is5 { message: id },
-        ReadKind::Is6 => Query::Is6 { message: id },
-        ReadKind::Is7 => Query::Is7 { message: id },
-        ReadKind::Ic1 => Query::Ic1 {
-            person: id,
-            first_name: values.text(),
-        },
-        ReadKind::Ic2 => Query::Ic2 {
-            person: id,
-            max_date: values.number(),
-        },
-        ReadKind::Ic7 => Query::Ic7 { person: id },
-        ReadKind::Ic8 => Query::Ic8 { person: id },
-        ReadKind::Ic9 => Query::Ic9 {
-            person: id,
-            max_date: values.number(),
-        },
-        ReadKind::Ic11 => Query::Ic11 {
-            person: id,
-            country: values.text(),
-            year: values.small(),
-        },
-        ReadKind::Ic13 => Query::Ic13 {
-            from: id,
-            to: values.number(),
-        },
     }
 }

@@ -11,12 +11,11 @@ ghost use Rattle.snb_tool_words.specs.Taken.{AreFound, IsFound, IsKindFound, IsR
 ghost use Rattle.snb_tool_words.specs.Words.{texts_of};
 
 use crate::options::{Options, frequencies_of, ratio_of, size_of, workers_of};
-use crate::reads::query_of;
 use clap::error::ErrorKind;
 use clap::{Arg, ArgMatches, Command};
 use snb_base::Text;
 use snb_input_fields::law::one_value;
-use snb_input_fields::{Values, read_value};
+use snb_input_fields::{Values, query_of, read_value};
 use snb_ratio::law::one_ratio;
 use snb_schema::law::frequencies_are_one;
 use snb_schema::{Column, Query, ReadKind, Value};

@@ -1,14 +1,18 @@
 -- A kind has its own word, and a query is told by its kind and its values.
 use Rattle.std.proofs.Common.{◌≡◌, ℕ, ◌+◌, ◌*◌, ◌==◌, List, [], ◌∷◌, get_or, if◌then◌else◌, refl, sym, subst, ap, ◌∙◌}
 use Rattle.serde_json.specs.Data.{Data}
+use Rattle.snb_schema.specs.declared.column.Column.{Column}
+use Rattle.snb_schema.specs.declared.column.Column.TheVariants.{Number, Small, Date, Words}
 use Rattle.snb_schema.specs.declared.column.Value.{Value}
 use Rattle.snb_schema.specs.declared.column.Value.TheVariants.{Digits, SmallDigits, Letters}
 use Rattle.snb_schema.specs.declared.query.Query.{Query}
-use Rattle.snb_schema.specs.declared.query.Query.TheVariants as queries
 use Rattle.snb_schema.specs.declared.read_kind.ReadKind.{ReadKind}
 use Rattle.snb_schema.specs.declared.read_kind.ReadKind.TheVariants as kinds
 use Rattle.snb_schema.specs.ReadKinds.{kind_of, parameter_columns, parameter_values, read_word}
-use Rattle.snb_validation_cases.specs.Parameters.{AreParameters, IsParameter}
+use Rattle.snb_input_fields.specs.Queries.{query_by}
+use Rattle.snb_input_fields.specs.Values.{taken}
+use Rattle.snb_input_fields.proofs.Laws.{made, query_back}
+use Rattle.snb_validation_cases.specs.Parameters.{AreOfKind, AreParameters, IsParameter}
 use Rattle.snb_validation_cases.specs.Values.{AreAlong, IsArray}
 use Rattle.snb_validation_cases.proofs.OneFacts.{along_one, parameter_one}
 use Rattle.snb_validation_cases.proofs.ValueFacts.{array_all}
@@ -54,40 +58,32 @@ kind_back kinds.Ic13 = refl
 pub one_kind : (a b : ReadKind) → read_word a ≡ read_word b → a ≡ b
 one_kind a b e = sym (kind_back a) ∙ ap (λ (w : List ℕ). kind_by (number w)) e ∙ kind_back b
 
--- a query by its kind and its values
-query_by : ReadKind → List Value → Query
-query_by kinds.Is1 (Digits n ∷ []) = queries.Is1 n
-query_by kinds.Is2 (Digits n ∷ []) = queries.Is2 n
-query_by kinds.Is3 (Digits n ∷ []) = queries.Is3 n
-query_by kinds.Is4 (Digits n ∷ []) = queries.Is4 n
-query_by kinds.Is5 (Digits n ∷ []) = queries.Is5 n
-query_by kinds.Is6 (Digits n ∷ []) = queries.Is6 n
-query_by kinds.Is7 (Digits n ∷ []) = queries.Is7 n
-query_by kinds.Ic1 (Digits n ∷ Letters text ∷ []) = queries.Ic1 n text
-query_by kinds.Ic2 (Digits n ∷ Digits m ∷ []) = queries.Ic2 n m
-query_by kinds.Ic7 (Digits n ∷ []) = queries.Ic7 n
-query_by kinds.Ic8 (Digits n ∷ []) = queries.Ic8 n
-query_by kinds.Ic9 (Digits n ∷ Digits m ∷ []) = queries.Ic9 n m
-query_by kinds.Ic11 (Digits n ∷ Letters text ∷ SmallDigits m ∷ []) = queries.Ic11 n text m
-query_by kinds.Ic13 (Digits n ∷ Digits m ∷ []) = queries.Ic13 n m
-query_by kind values = queries.Is1 0
+-- ---- a query by its kind and its values
 
-query_back : (query : Query) → query_by (kind_of query) (parameter_values query) ≡ query
-unfolding query_by
-query_back (queries.Is1 id) = refl
-query_back (queries.Is2 id) = refl
-query_back (queries.Is3 id) = refl
-query_back (queries.Is4 id) = refl
-query_back (queries.Is5 id) = refl
-query_back (queries.Is6 id) = refl
-query_back (queries.Is7 id) = refl
-query_back (queries.Ic1 person first_name) = refl
-query_back (queries.Ic2 person max_date) = refl
-query_back (queries.Ic7 person) = refl
-query_back (queries.Ic8 person) = refl
-query_back (queries.Ic9 person max_date) = refl
-query_back (queries.Ic11 person country year) = refl
-query_back (queries.Ic13 from to) = refl
+-- what is taken first of a parameter is this parameter
+one_taken : (c : Column) (d : Data) (v : Value) (cs : List Column) (vs : List Value) → IsParameter c d v → taken (c ∷ cs) (v ∷ vs) ≡ v ∷ taken cs vs
+one_taken (Number most) d (Digits n) cs vs h = refl
+one_taken (Small most) d (SmallDigits n) cs vs h = refl
+one_taken Date d (Digits n) cs vs h = refl
+one_taken Words d (Letters text) cs vs h = refl
+one_taken c d v cs vs h = absurd h
+
+-- and what is taken of all are these parameters
+taken_along : (cs : List Column) (ds : List Data) (vs : List Value) → AreAlong IsParameter cs ds vs → taken cs vs ≡ vs
+taken_along [] [] [] h = refl
+taken_along (c ∷ cs) (d ∷ ds) (v ∷ vs) h = one_taken c d v cs vs h.0 ∙ ap (λ (ws : List Value). v ∷ ws) (taken_along cs ds vs h.1)
+taken_along cs ds vs h = absurd h
+
+-- parameters are those of the query that is made of them
+pub made_of : (kind : ReadKind) (columns : List Column) (ds : List Data) (vs : List Value) (query : Query) → columns ≡ parameter_columns kind → AreAlong IsParameter columns ds vs → query ≡ query_by kind vs → AreOfKind kind ds query
+made_of kind columns ds vs query same all e =
+    let is = made kind vs in
+    let own : AreAlong IsParameter (parameter_columns kind) ds vs = subst (λ (cs : List Column). AreAlong IsParameter cs ds vs) same all in
+    subst (AreOfKind kind ds) (sym e) (sym is.0, rw (is.0, is.1, taken_along (parameter_columns kind) ds vs own) own)
+
+-- and other values are those of none
+pub none_made : (kind : ReadKind) (columns : List Column) (ds : List Data) → columns ≡ parameter_columns kind → ((vs : List Value) → ¬ AreAlong IsParameter columns ds vs) → (query : Query) → ¬ AreOfKind kind ds query
+none_made kind columns ds same none query h = none (parameter_values query) (subst (λ (cs : List Column). AreAlong IsParameter cs ds (parameter_values query)) (sym (same ∙ ap parameter_columns h.0)) h.1)
 
 -- parameters are those of one query of a kind
 query_of_one : (ds : List Data) (a b : Query) → kind_of a ≡ kind_of b → AreParameters ds a → AreParameters ds b → a ≡ b

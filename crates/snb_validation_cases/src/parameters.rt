@@ -1,130 +1,120 @@
 //! The queries that JSON values ask.
 
-ghost use Rattle.std.specs.Prelude.{[], ◌∷◌, IfOk, MatchOption, map};
+ghost use Rattle.std.specs.Prelude.{List, IfOk, MatchOption, map};
 ghost use Rattle.serde_json.specs.View.{view};
+ghost use Rattle.snb_schema.specs.declared.column.Column.TheVariants.{Date, Number, Small, Words};
+ghost use Rattle.snb_schema.specs.declared.column.Value.{Value as AnyValue};
 ghost use Rattle.snb_schema.specs.declared.query.Query.{Query as AnyQuery};
-ghost use Rattle.snb_validation_cases.specs.Parameters.{AreOfKind};
-ghost use Rattle.snb_validation_cases.specs.Values.{IsArray};
+ghost use Rattle.snb_validation_cases.specs.Parameters.{AreOfKind, IsParameter};
+ghost use Rattle.snb_validation_cases.specs.Values.{AreAlong, IsArray};
 
 use crate::values::{items_in, number_in, text_in};
-use serde_json::Value;
-use snb_schema::limits::{MAX_ID, MAX_TIME, MAX_YEAR};
-use snb_schema::{Query, ReadKind};
+use serde_json::Value as Json;
+use snb_input_fields::{Values, query_of};
+use snb_schema::limits::MAX_TIME;
+use snb_schema::{Column, Query, ReadKind, Value};
 use std::alloc::{AllocError, Global};
 
-// The query of this kind with an id.
-fn query_of_one(kind: ReadKind, id: &Value) -> Option<Query>
-    ensures { MatchOption result ((query : AnyQuery) → ¬ AreOfKind kind (view id.now ∷ []) query) (AreOfKind kind (view id.now ∷ [])) }
+// The number up to `most` that a value is.
+fn digits_in(value: &Json, most: u64) -> Option<Value>
+    ensures { MatchOption result ((v : AnyValue) → ¬ IsParameter (Number most) (view value.now) v) (IsParameter (Number most) (view value.now)) }
 {
-    let id = number_in(id, MAX_ID)?;
-    match kind {
-        ReadKind::Is1 => Some(Query::Is1 { person: id }),
-        ReadKind::Is2 => Some(Query::Is2 { person: id }),
-        ReadKind::Is3 => Some(Query::Is3 { person: id }),
-        ReadKind::Is4 => Some(Query::Is4 { message: id }),
-        ReadKind::Is5 => Some(Query::Is5 { message: id }),
-        ReadKind::Is6 => Some(Query::Is6 { message: id }),
-        ReadKind::Is7 => Some(Query::Is7 { message: id }),
-        ReadKind::Ic7 => Some(Query::Ic7 { person: id }),
-        ReadKind::Ic8 => Some(Query::Ic8 { person: id }),
-        _ => None,
+    match number_in(value, most) {
+        Some(n) => Some(Value::Digits { n }),
+        None => None,
     }
 }
 
-// The query of this kind with an id and a text, a date or an id.
-fn query_of_two(
-    alloc: Global,
-    kind: ReadKind,
-    first: &Value,
-    second: &Value,
-) -> Result<Option<Query>, AllocError>
-    ensures { IfOk result (λ found. MatchOption found
-        ((query : AnyQuery) → ¬ AreOfKind kind (view first.now ∷ view second.now ∷ []) query)
-        (AreOfKind kind (view first.now ∷ view second.now ∷ []))) }
+// The date that a value is.
+fn date_in(value: &Json) -> Option<Value>
+    ensures { MatchOption result ((v : AnyValue) → ¬ IsParameter Date (view value.now) v) (IsParameter Date (view value.now)) }
 {
-    let Some(person) = number_in(first, MAX_ID) else {
-        return Ok(None);
-    };
-    match kind {
-        ReadKind::Ic1 => match text_in(alloc, second)? {
-            Some(first_name) => Ok(Some(Query::Ic1 { person, first_name })),
-            None => Ok(None),
-        },
-        ReadKind::Ic2 => match number_in(second, MAX_TIME) {
-            Some(max_date) => Ok(Some(Query::Ic2 { person, max_date })),
-            None => Ok(None),
-        },
-        ReadKind::Ic9 => match number_in(second, MAX_TIME) {
-            Some(max_date) => Ok(Some(Query::Ic9 { person, max_date })),
-            None => Ok(None),
-        },
-        ReadKind::Ic13 => match number_in(second, MAX_ID) {
-            Some(to) => Ok(Some(Query::Ic13 { from: person, to })),
-            None => Ok(None),
-        },
-        _ => Ok(None),
+    match number_in(value, MAX_TIME) {
+        Some(n) => Some(Value::Digits { n }),
+        None => None,
     }
 }
 
-// The query of this kind with an id, a text and a year.
-fn query_of_three(
-    alloc: Global,
-    kind: ReadKind,
-    first: &Value,
-    second: &Value,
-    third: &Value,
-) -> Result<Option<Query>, AllocError>
-    ensures { IfOk result (λ found. MatchOption found
-        ((query : AnyQuery) → ¬ AreOfKind kind (view first.now ∷ view second.now ∷ view third.now ∷ []) query)
-        (AreOfKind kind (view first.now ∷ view second.now ∷ view third.now ∷ []))) }
+// The small number up to `most` that a value is.
+fn small_digits_in(value: &Json, most: u32) -> Option<Value>
+    ensures { MatchOption result ((v : AnyValue) → ¬ IsParameter (Small most) (view value.now) v) (IsParameter (Small most) (view value.now)) }
 {
-    match kind {
-        ReadKind::Ic11 => {}
-        _ => return Ok(None),
+    match number_in(value, u64::from(most)) {
+        Some(n) => Some(Value::SmallDigits { n: n as u32 }),
+        None => None,
     }
-    let Some(person) = number_in(first, MAX_ID) else {
-        return Ok(None);
-    };
-    let Some(year) = number_in(third, u64::from(MAX_YEAR)) else {
-        return Ok(None);
-    };
-    match text_in(alloc, second)? {
-        Some(country) => Ok(Some(Query::Ic11 {
-            person,
-            country,
-            year: year as u32,
-        })),
+}
+
+// The text that a value is.
+fn letters_in(alloc: Global, value: &Json) -> Result<Option<Value>, AllocError>
+    ensures { IfOk result (λ found. MatchOption found
+        ((v : AnyValue) → ¬ IsParameter Words (view value.now) v)
+        (IsParameter Words (view value.now))) }
+{
+    match text_in(alloc, value)? {
+        Some(text) => Ok(Some(Value::Letters { text })),
         None => Ok(None),
     }
 }
 
-// The query of this kind that has these parameters.
-fn query_of(
-    alloc: Global,
-    kind: ReadKind,
-    parameters: &[Value],
-) -> Result<Option<Query>, AllocError>
+// The parameter of a column that a value is.
+fn parameter_in(alloc: Global, column: Column, value: &Json) -> Result<Option<Value>, AllocError>
     ensures { IfOk result (λ found. MatchOption found
-        ((query : AnyQuery) → ¬ AreOfKind kind (map view parameters.now) query)
-        (AreOfKind kind (map view parameters.now))) }
+        ((v : AnyValue) → ¬ IsParameter column (view value.now) v)
+        (IsParameter column (view value.now))) }
 {
-    match parameters {
-        [] => Ok(None),
-        [only] => Ok(query_of_one(kind, only)),
-        [first, second] => query_of_two(alloc, kind, first, second),
-        [first, second, third] => query_of_three(alloc, kind, first, second, third),
+    match column {
+        Column::Number { most } => Ok(digits_in(value, most)),
+        Column::Small { most } => Ok(small_digits_in(value, most)),
+        Column::Date => Ok(date_in(value)),
+        Column::Words => letters_in(alloc, value),
         _ => Ok(None),
     }
 }
 
+// The parameters of these columns that values are.
+fn parameters_of(
+    alloc: Global,
+    columns: &[Column],
+    items: &[Json],
+) -> Result<Option<Vec<Value>>, AllocError>
+    ensures { IfOk result (λ found. MatchOption found
+        ((values : List AnyValue) → ¬ AreAlong IsParameter columns.now (map view items.now) values)
+        (λ values. AreAlong IsParameter columns.now (map view items.now) values.items)) }
+{
+    if columns.len() != items.len() {
+        return Ok(None);
+    }
+    let mut values = Vec::new(alloc);
+    for i in 0..columns.len() {
+        let Some(value) = parameter_in(alloc, columns[i], &items[i])? else {
+            return Ok(None);
+        };
+        values.push(value)?;
+    }
+    Ok(Some(values))
+}
+
+// The query of this kind that has these parameters.
+fn query_with(alloc: Global, kind: ReadKind, items: &[Json]) -> Result<Option<Query>, AllocError>
+    ensures { IfOk result (λ found. MatchOption found
+        ((query : AnyQuery) → ¬ AreOfKind kind (map view items.now) query)
+        (AreOfKind kind (map view items.now))) }
+{
+    match parameters_of(alloc, kind.columns(), items)? {
+        Some(values) => Ok(Some(query_of(kind, &mut Values::new(alloc, values)))),
+        None => Ok(None),
+    }
+}
+
 /// The query of this kind whose parameters a value is.
-pub fn query_in(alloc: Global, kind: ReadKind, value: &Value) -> Result<Option<Query>, AllocError>
+pub fn query_in(alloc: Global, kind: ReadKind, value: &Json) -> Result<Option<Query>, AllocError>
     ensures { IfOk result (λ found. MatchOption found
         ((query : AnyQuery) → ¬ IsArray (AreOfKind kind) (view value.now) query)
         (IsArray (AreOfKind kind) (view value.now))) }
 {
     match items_in(value) {
-        Some(parameters) => query_of(alloc, kind, parameters),
+        Some(items) => query_with(alloc, kind, items),
         None => Ok(None),
     }
 }
