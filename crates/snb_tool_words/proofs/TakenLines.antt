@@ -1,5 +1,5 @@
 -- The line of each command, as `clap` takes it apart.
-use Rattle.std.proofs.Common.{◌≡◌, ℕ, ◌++◌, zero, suc, List, [], ◌∷◌, All, true, Some, None, Contains, refl, sym, subst, ap, ◌∙◌, inl, arith, codes}
+use Rattle.std.proofs.Common.{◌≡◌, Bool, false, cond, ℕ, ◌++◌, zero, suc, List, [], ◌∷◌, All, true, Some, None, Contains, refl, sym, subst, ap, ◌∙◌, inl, arith, codes}
 use Rattle.std.proofs.lemmas.List.Elements.{All-head, All-tail}
 use Rattle.clap.specs.Simple.{App, Shape, built, matches_of}
 use Rattle.clap.specs.Takes.{takes}
@@ -204,3 +204,8 @@ trial_line words (command, named, line) = at_trial (λ c. IsLineOf words c → I
           (record { by_index = refl; by_id = refl; after = refl }) (record { by_index = refl; by_id = refl; after = refl }) refl (record { workers = refl; ratio = refl; frequencies = refl }),
     ))
     command named line
+
+-- the line of either of these two
+pub folder_line : (expects : Bool) (words : List Text) → (expects ≡ false → IsLineBy (codes "check") words) → (expects ≡ true → IsLineBy (codes "expect") words) → IsFrequenciesLine (cond expects Expect Check) words
+folder_line false words check expect = check_line words (check refl)
+folder_line true words check expect = expect_line words (expect refl)

@@ -1,6 +1,6 @@
 //! The commands of the program, read off the words of a line.
 
-ghost use Rattle.std.specs.Prelude.{◌↔◌, IfOk, IfSome, IsTrue, MatchOption, OnErr, codes};
+ghost use Rattle.std.specs.Prelude.{◌≡◌, ◌↔◌, IfOk, IfSome, IsTrue, MatchOption, OnErr, codes, false, true};
 ghost use Rattle.snb_tool_words.specs.declared.command.Command.{Command as AnyCommand};
 ghost use Rattle.snb_tool_words.specs.Commands.{AreOf, IsLineOf, IsOtherLine, IsRunnable};
 ghost use Rattle.snb_tool_words.specs.Taken.{IsLineBy};
@@ -169,15 +169,24 @@ fn is_command(line: &Line<'_, '_>) -> bool
     }
 }
 
-// The check that the words say.
-fn take_check(alloc: Global, words: &[&str]) -> Result<Command, AllocError>
-    requires { IsLineBy (codes "check") (texts_of words.now) }
+// The check, or the `expect`, that the words say.
+fn take_of_folder(alloc: Global, expects: bool, words: &[&str]) -> Result<Command, AllocError>
+    requires check { expects ≡ false → IsLineBy (codes "check") (texts_of words.now) }
+    requires expect { expects ≡ true → IsLineBy (codes "expect") (texts_of words.now) }
     ensures { IfOk result (IsLineOf (texts_of words.now)) }
 {
     let matches = matches_in(alloc, &["folder"], &["freq"], words)?;
+    let folder = text_at(alloc, &matches, "folder")?;
+    let frequencies = options_in(&matches).frequencies_or_none();
+    if expects {
+        return Ok(Command::Expect {
+            folder,
+            frequencies,
+        });
+    }
     Ok(Command::Check {
-        folder: text_at(alloc, &matches, "folder")?,
-        frequencies: options_in(&matches).frequencies_or_none(),
+        folder,
+        frequencies,
     })
 }
 
@@ -211,18 +220,6 @@ fn take_audit(alloc: Global, words: &[&str]) -> Result<Command, AllocError>
         log: text_at(alloc, &matches, "log")?,
         ratio: said.ratio_or_one(),
         frequencies: said.frequencies_or_none(),
-    })
-}
-
-// The `expect` that the words say.
-fn take_expect(alloc: Global, words: &[&str]) -> Result<Command, AllocError>
-    requires { IsLineBy (codes "expect") (texts_of words.now) }
-    ensures { IfOk result (IsLineOf (texts_of words.now)) }
-{
-    let matches = matches_in(alloc, &["folder"], &["freq"], words)?;
-    Ok(Command::Expect {
-        folder: text_at(alloc, &matches, "folder")?,
-        frequencies: options_in(&matches).frequencies_or_none(),
     })
 }
 
@@ -268,10 +265,10 @@ fn take(alloc: Global, name: &str, words: &[&str]) -> Result<Command, AllocError
     ensures { IfOk result (IsLineOf (texts_of words.now)) }
 {
     match name {
-        "check" => take_check(alloc, words),
+        "check" => take_of_folder(alloc, false, words),
         "run" => take_run(alloc, words),
         "audit" => take_audit(alloc, words),
-        "expect" => take_expect(alloc, words),
+        "expect" => take_of_folder(alloc, true, words),
         "validate" => take_validate(alloc, words),
         "read" => take_read(alloc, words),
         "trial" => take_trial(alloc, words),
