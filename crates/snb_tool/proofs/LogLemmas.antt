@@ -1,6 +1,5 @@
 -- Facts on the log of a run.
-use Rattle.std.proofs.Common.{◌≡◌, ◌∙◌, ◌≤◌, ◌<◌, ◌+◌, ◌*◌, ◌++◌, ◌∷◌, ◌==◌, ℕ, zero, suc, List, [], All, Some, None, length, map, get_or, take, refl, sym, ap, subst, cond, inl, inr, arith, append_assoc, length-append}
-use Rattle.std.specs.List.{flat_map}
+use Rattle.std.proofs.Common.{◌≡◌, ◌∙◌, ◌≤◌, ◌<◌, ◌+◌, ◌*◌, ◌++◌, ◌∷◌, ◌==◌, ℕ, suc, List, [], All, length, get_or, take, refl, sym, ap, subst, inl, inr, arith, append_assoc, length-append}
 use Rattle.std.specs.Prelude.{Contains}
 use Rattle.std.proofs.lemmas.Bool.{cases_Bool}
 use Rattle.std.proofs.lemmas.List.{length-map, map-append}
@@ -11,7 +10,6 @@ use Rattle.snb_history.specs.declared.event.Event.{Event}
 use Rattle.snb_history.specs.declared.event.Event.TheVariants.{Start, Finish, Halt}
 use Rattle.snb_history.specs.declared.logged.Logged.{Logged}
 use Rattle.snb_schema.specs.declared.limits.TheConstants.{MAX_AT, MAX_WORKERS}
-use Rattle.snb_schema.specs.declared.row.Row.{Row}
 use Rattle.snb_history.specs.History.{moment}
 use Rattle.snb_history.specs.Laws.{LegalIsShort}
 use Rattle.snb_history.specs.Rules.{IsLegal, V1, V8}

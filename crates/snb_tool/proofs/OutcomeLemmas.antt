@@ -1,5 +1,5 @@
 -- Facts on how a call ends.
-use Rattle.std.proofs.Common.{◌≡◌, ℕ, ◌+◌, ◌⊎◌, ◌≤◌, List, [], ◌∷◌, ◌++◌, length, length-append, Option, None, Some, Ok, Err, Vec, refl, sym, subst, ap, ◌∙◌, inl, inr}
+use Rattle.std.proofs.Common.{◌≡◌, ℕ, ◌+◌, ◌⊎◌, List, [], ◌++◌, length, length-append, Option, None, Some, Ok, Err, Vec, refl, sym, subst, ap, ◌∙◌, inl, inr}
 use Rattle.std.proofs.lemmas.List.Sorted.{length_permutation}
 use Rattle.std.specs.declared.alloc.Global.{Global}
 use Rattle.snb_base.specs.Outbox.{Rooms, Written}
@@ -16,7 +16,7 @@ use Rattle.snb_history.specs.RunTexts.{header_of, log_text}
 use Rattle.snb_schema.specs.ScreenTexts.{refusal_text, summary_text}
 use Rattle.snb_graph_model.specs.FinalText.{final_text}
 use Rattle.snb_graph_model.specs.Graphs.{HasGained}
-use Rattle.snb_plan.specs.Plans.{Plan, queries_in, updates_in}
+use Rattle.snb_plan.specs.Plans.{queries_in, updates_in}
 use Rattle.snb_workers_replay.specs.Replay.{all_rows}
 use Rattle.snb_tool_texts.specs.Answers.{answers_text}
 use Rattle.snb_tool_words.specs.declared.command.Command.TheVariants.{Audit, Check, Run, Read, Trial, Validate}
