@@ -1,6 +1,6 @@
 -- Facts on the verdict of an audit.
-use Rattle.std.proofs.Common.{◌≡◌, ◌≢◌, ◌∙◌, ◌≤◌, ◌<◌, ◌+◌, ◌++◌, ◌∷◌, ℕ, zero, suc, List, [], All, Option, Some, None, length, map, get_or, take, drop, refl, sym, ap, subst, inl, inr, arith}
-use Rattle.std.specs.Prelude.{◌⊎◌, ◌↔◌, slice_get, IfSome}
+use Rattle.std.proofs.Common.{◌≡◌, ◌≢◌, ◌∙◌, ◌≤◌, ◌<◌, ◌+◌, ◌++◌, ◌∷◌, ℕ, zero, suc, List, All, Option, Some, None, length, get_or, take, drop, refl, sym, ap, subst, inl, inr, arith}
+use Rattle.std.specs.Prelude.{slice_get, IfSome}
 use Rattle.std.specs.Option.{IsSome}
 use Rattle.std.proofs.lemmas.Bool.{cases_eq}
 use Rattle.std.proofs.lemmas.List.{get_or_default, map-append}
@@ -29,7 +29,7 @@ use Rattle.snb_workers.specs.declared.miscount.Miscount.{Miscount}
 use Rattle.snb_workers.specs.Miscounts.{IsFirstMiscount, IsMiscount, events_of}
 use Rattle.snb_auditor_log.specs.declared.verdict.AuditVerdict.{AuditVerdict}
 use Rattle.snb_auditor_log.specs.declared.verdict.AuditVerdict.TheVariants.{Judged, Miscounted, Mismatched}
-use Rattle.snb_auditor_log.specs.AuditVerdicts.{IsAuditVerdict, IsInOrder, IsJudged, IsMatched, IsMiscounted, IsMismatched, IsViolated}
+use Rattle.snb_auditor_log.specs.AuditVerdicts.{IsAuditVerdict, IsInOrder, IsMatched, IsMismatched, IsViolated}
 use Rattle.snb_auditor_log.specs.Laws.{AcceptedInOrder, AuditVerdictIsOne}
 use Rattle.snb_auditor_log.specs.VerdictTexts.{audit_status, verdict_status}
 

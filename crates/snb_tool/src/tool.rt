@@ -125,10 +125,12 @@ fn answer<
 ///   each finds the nodes that it refers to there, among the persons and forums added up to its t_d, or among what
 ///   the updates before it in its lane add.
 /// - `run DIR --workers N` reads the same, runs the plan by N workers, 1 to 8, each in a thread of its own, and
-///   writes the log, the answers, the final graph and the summary on their channels.
-/// - `audit DIR LOG` reads the same, then the log of a run of that plan, and shows the verdict on it: the
-///   first event that doesn't fit those before it, with the first rule that it breaks and two values; else
-///   the worker that halted first; else the least operation that isn't finished; else how many operations
+///   writes the log, the answers, the final graph and the summary on their channels. The log states how many
+///   operations the plan has, and at each Finish how many rows the read gave.
+/// - `audit DIR LOG` reads the same, then the log of a run of that plan, and shows the verdict on it: that it
+///   states another number of operations than the plan has; else the first event that doesn't fit those
+///   before it, with the first rule that it breaks and two values; else the first Finish with a wrong count of
+///   rows; else the worker that halted first; else the least operation that isn't finished; else how many operations
 ///   there are and how many of them were on time, started at most 1000 milliseconds after they were due: it
 ///   is accepted where these are at least 95 of 100. The log is a file of its own, and its path isn't taken
 ///   from `DIR`.
