@@ -2,4 +2,5 @@ pub mod Laws
 pub mod FrequencyFacts
 pub mod Walks
 mod Appended
+mod PlaceFacts
 pub mod LayoutFacts

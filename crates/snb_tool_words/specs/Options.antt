@@ -46,7 +46,7 @@ ratio_of said = unwrap_or said.ratio 1000000
 
 -- no query has a frequency
 abbrev pub no_frequencies : FrequencyTable
-no_frequencies = record { one = 0; two = 0; seven = 0; eight = 0; nine = 0; eleven = 0; thirteen = 0 }
+no_frequencies = (0, 0, 0, 0, 0, 0, 0, tt)
 
 -- the frequencies that are said, or none
 abbrev pub frequencies_of : Options → FrequencyTable

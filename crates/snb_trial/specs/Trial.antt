@@ -125,21 +125,13 @@ lanes n = record {
 
 -- query 2 is asked of person 0 up to the last moment, query 13 of persons 0 and n
 abbrev pub lists : ℕ → QueryLists
-lists n = record {
-  one = [];
-  two = Ic2 0 MAX_TIME ∷ [];
-  seven = [];
-  eight = [];
-  nine = [];
-  eleven = [];
-  thirteen = Ic13 0 n ∷ [];
-}
+lists n = ([], Ic2 0 MAX_TIME ∷ [], [], [], [], [], Ic13 0 n ∷ [], tt)
 
 -- ---- the plan
 
 -- a read of query 2 goes with every tenth update, and one of query 13 with every seventh
 abbrev pub read_frequencies : FrequencyTable
-read_frequencies = record { one = 0; two = 10; seven = 0; eight = 0; nine = 0; eleven = 0; thirteen = 7 }
+read_frequencies = (0, 10, 0, 0, 0, 0, 7, tt)
 
 -- the ratio, in millionths: the least
 abbrev pub least_ratio : ℕ

@@ -107,10 +107,10 @@ these zero (suc k) line lt e = absurd cc
 these (suc n) place line lt e = absurd (omega arith)
 
 abbrev none : FrequencyTable
-none = record { one = 0; two = 0; seven = 0; eight = 0; nine = 0; eleven = 0; thirteen = 0 }
+none = (0, 0, 0, 0, 0, 0, 0, tt)
 
 abbrev no_lists : QueryLists
-no_lists = record { one = []; two = []; seven = []; eight = []; nine = []; eleven = []; thirteen = [] }
+no_lists = ([], [], [], [], [], [], [], tt)
 
 -- no query has a frequency
 unasked : (t : FrequencyTable) (q : ℕ) → t ≡ none → frequency_at t q ≡ 0
