@@ -1,10 +1,10 @@
 -- Facts on values by their query's place.
-use Rattle.std.proofs.Common.{◌≡◌, ◌≢◌, ◌==◌, ◌∷◌, ◌∙◌, ◌<◌, ◌⊎◌, [], ℕ, zero, suc, List, Bool, true, false, inl, inr, refl, sym, ap, subst, length, arith, get_or, set, replicate, map, Ok, Err, Result, OnOk, if◌then◌else◌}
-use Rattle.std.proofs.lemmas.Bool.{eqb-true, eqb-false}
+use Rattle.std.proofs.Common.{◌≡◌, ◌≢◌, ◌==◌, ◌∷◌, ◌∙◌, ◌<◌, ◌≤◌, [], ℕ, zero, suc, List, Bool, true, false, inl, inr, refl, sym, ap, subst, length, arith, get_or, set, replicate, map, Ok, Err, Result, OnOk, if◌then◌else◌}
+use Rattle.std.proofs.lemmas.Bool.{cases_lt, eqb-true, eqb-false}
 use Rattle.std.proofs.lemmas.List.{get_or-set_same, get_or-set_other, length-map, length-set, map-set}
-use Rattle.snb_schema.specs.Frequencies.{frequency_at}
+use Rattle.snb_schema.specs.Frequencies.{FrequencyTable, frequency_at}
 use Rattle.snb_schema.specs.Queries.{IsComplex}
-use Rattle.snb_schema.specs.QueryPlaces.{complex_queries, place_in, place_of, value_at, values_of}
+use Rattle.snb_schema.specs.QueryPlaces.{Values, complex_queries, place_in, place_of, value_at, values_of}
 
 -- the place of a complex query is one of the seven
 pub complex_place : (q : ℕ) → IsComplex q → place_of q < 7
@@ -40,6 +40,31 @@ value_is zero (x ∷ xs) none place e = absurd (omega (arith, e))
 value_is (suc n) [] none place e = absurd (omega (arith, e))
 value_is (suc n) (x ∷ xs) none zero e = refl
 value_is (suc n) (x ∷ xs) none (suc place) e = value_is n xs none place (omega (arith, e))
+
+-- past the last place stands no value
+past_last : {A : Type 0} (n : ℕ) (values : Values n A) (place : ℕ) (none : A) → n ≤ place → value_at n values place none ≡ none
+past_last zero values place none past = refl
+past_last (suc n) values zero none past = absurd (omega (arith, past))
+past_last (suc n) values (suc place) none past = past_last n values.1 place none (omega (arith, past))
+
+-- at each place stands a complex query
+complex_at : (place : ℕ) → place < 7 → IsComplex (get_or complex_queries place 0)
+complex_at zero lt = inl refl
+complex_at (suc zero) lt = inr (inl refl)
+complex_at (suc (suc zero)) lt = inr (inr (inl refl))
+complex_at (suc (suc (suc zero))) lt = inr (inr (inr (inl refl)))
+complex_at (suc (suc (suc (suc zero)))) lt = inr (inr (inr (inr (inl refl))))
+complex_at (suc (suc (suc (suc (suc zero))))) lt = inr (inr (inr (inr (inr (inl refl)))))
+complex_at (suc (suc (suc (suc (suc (suc zero)))))) lt = inr (inr (inr (inr (inr (inr refl)))))
+complex_at (suc (suc (suc (suc (suc (suc (suc place))))))) lt = absurd (omega (arith, lt))
+
+-- a query with a frequency is one of the seven
+pub frequent_complex : (table : FrequencyTable) (q : ℕ) → 0 < frequency_at table q → IsComplex q
+frequent_complex table q some =
+    elim (cases_lt (place_of q) 7) [
+      | inl low ↦ subst IsComplex (found complex_queries q 0 low) (complex_at (place_of q) low)
+      | inr past ↦ absurd (let none = past_last 7 table (place_of q) 0 past in omega (arith, some, none))
+    ]
 
 -- where each value is one and the same, so is that of each place
 pub each_same : {A : Type 0} (n : ℕ) (none : A) (place : ℕ) → value_at n (values_of n (replicate n none) none) place none ≡ none
