@@ -22,7 +22,8 @@ use Rattle.snb_input_files.specs.Places.{FileSays, FilesSay, Source}
 use Rattle.snb_input_files.specs.Stages.{IsStage, before}
 use Rattle.snb_input_files.specs.Walk.{Before, Held, Look, after_walk, looks_from, series_looks, stage_looks, walk_checks, with_file}
 use Rattle.snb_input_files.specs.Walk.Role.{Needed}
-use Rattle.snb_loader.specs.Order.{complex_queries, params_series}
+use Rattle.snb_schema.specs.QueryPlaces.{complex_queries}
+use Rattle.snb_loader.specs.Order.{params_series}
 use Rattle.snb_loader.specs.Params.{AreOfEach, HasHeard, IsListSaid, IsParamsAnswer, ParamLines, asked, params_format, params_stage, query_in}
 use Rattle.snb_loader.proofs.ParamListFacts.{Each, each_passing}
 

@@ -43,7 +43,7 @@ frequencies_said = record { spelled = (two, (thirteen, tt)); rising = two_rise 2
 
 -- a table that has just these is the workload's
 pub table_is : (table : FrequencyTable) → HasFrequencies table pairs → table ≡ read_frequencies
-table_is table p = λ i. (p 1 i, p 2 i, p 7 i, p 8 i, p 9 i, p 11 i, p 13 i, tt)
+table_is table p = λ i. (p 1 i, (p 2 i, (p 7 i, (p 8 i, (p 9 i, (p 11 i, (p 13 i, tt)))))))
 
 -- and the ratio's text
 pub ratio_said : SpellsRatio (codes "0.000001") least_ratio

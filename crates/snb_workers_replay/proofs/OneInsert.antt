@@ -9,7 +9,7 @@ use Rattle.snb_base.specs.Spellings.{Num}
 use Rattle.snb_base.proofs.Laws.{contains_cases, contains_here}
 use Rattle.snb_history.specs.declared.event.Event.TheVariants.{Start, Finish}
 use Rattle.snb_schema.proofs.PlaceFacts.{each_same}
-use Rattle.snb_schema.specs.QueryPlaces.{place_of}
+use Rattle.snb_schema.specs.QueryPlaces.{place_of, values_of}
 use Rattle.snb_schema.specs.declared.op.Line.{Line}
 use Rattle.snb_schema.specs.declared.row.Row.{Row}
 use Rattle.snb_schema.specs.declared.table.Kind.TheVariants as kinds
@@ -109,10 +109,10 @@ these zero (suc k) line lt e = absurd cc
 these (suc n) place line lt e = absurd (omega arith)
 
 abbrev none : FrequencyTable
-none = (0, 0, 0, 0, 0, 0, 0, tt)
+none = values_of 7 [] 0
 
 abbrev no_lists : QueryLists
-no_lists = ([], [], [], [], [], [], [], tt)
+no_lists = values_of 7 [] []
 
 -- no query has a frequency
 unasked : (t : FrequencyTable) (q : ℕ) → t ≡ none → frequency_at t q ≡ 0
