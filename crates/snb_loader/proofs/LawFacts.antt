@@ -97,15 +97,7 @@ module _ (one : OneSaying params_format) where
       cc_some x y e = cc
 
   pub params_one : ParamsAreOne
-  params_one at held table a b p q = λ i. record {
-    one = same 1 i;
-    two = same 2 i;
-    seven = same 7 i;
-    eight = same 8 i;
-    nine = same 9 i;
-    eleven = same 11 i;
-    thirteen = same 13 i;
-  }
+  params_one at held table a b p q = λ i. (same 1 i, (same 2 i, (same 7 i, (same 8 i, (same 9 i, (same 11 i, (same 13 i, tt)))))))
     where
       by_frequency : (query n : ℕ) → frequency_at table query ≡ n → list_of a query ≡ list_of b query
       by_frequency query zero e = p.others query e ∙ sym (q.others query e)

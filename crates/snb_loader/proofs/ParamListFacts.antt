@@ -5,7 +5,7 @@ use Rattle.std.proofs.Math.Seq.{drop-cons}
 use Rattle.snb_schema.specs.declared.query.Query.{Query}
 use Rattle.snb_schema.specs.Frequencies.{FrequencyTable, frequency_at}
 use Rattle.snb_schema.specs.QueryLists.{AreOf, QueryLists, list_of}
-use Rattle.snb_loader.specs.Order.{complex_queries}
+use Rattle.snb_schema.specs.QueryPlaces.{complex_queries}
 use Rattle.snb_loader.specs.Params.{AreOfEach, asked}
 
 -- the lists with these appended to that of this query

@@ -23,10 +23,6 @@ person_series = record { kind = kinds.PersonStream; needed = false; most = 256; 
 abbrev pub forum_series : List Series
 forum_series = record { kind = kinds.ForumStream; needed = false; most = 256; what = Some Lanes } ∷ []
 
--- the complex queries, of each of which there is one parameter file
-abbrev pub complex_queries : List ℕ
-complex_queries = 1 ∷ 2 ∷ 7 ∷ 8 ∷ 9 ∷ 11 ∷ 13 ∷ []
-
--- the parameter file of a query, which must be there
+-- the parameter file of a complex query, of which there is one, and which must be there
 abbrev pub params_series : ℕ → Series
 params_series q = record { kind = kinds.Params q; needed = true; most = 1; what = None }

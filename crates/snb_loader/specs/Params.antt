@@ -10,7 +10,12 @@ use Rattle.snb_schema.specs.declared.refusal.Refusal.{Refusal}
 use Rattle.snb_schema.specs.declared.refusal.Refusal.TheVariants.{NoParameters}
 use Rattle.snb_schema.specs.Frequencies.{FrequencyTable, frequency_at}
 use Rattle.snb_schema.specs.QueryLists.{AreOf, QueryLists, list_of}
+<<<<<<< HEAD
 use Rattle.snb_input_lines.specs.Sinks.{SinkMeaning, Takes}
+=======
+use Rattle.snb_schema.specs.QueryPlaces.{complex_queries}
+use Rattle.snb_input_lines.specs.Sinks.{Takes}
+>>>>>>> b1b520119e3c913509123edc13b65b4b0afe5d68
 use Rattle.snb_streams.specs.Parameters.{params_file, params_language}
 use Rattle.snb_input_files.specs.declared.load.Load.{Load}
 use Rattle.snb_input_files.specs.declared.load.Load.TheVariants.{Refused, ReadFault, Memory}
@@ -21,7 +26,7 @@ use Rattle.snb_input_files.specs.Format.{Format, IsFileSink, Rules}
 use Rattle.snb_input_files.specs.Places.{FileSays}
 use Rattle.snb_input_files.specs.Stages.{before}
 use Rattle.snb_input_files.specs.Walk.{Before, Held, IsHeldTold, after_walk, stage_checks, stage_looks}
-use Rattle.snb_loader.specs.Order.{complex_queries, params_series}
+use Rattle.snb_loader.specs.Order.{params_series}
 
 -- the queries with a frequency, by rising number
 abbrev pub asked : FrequencyTable → List ℕ

@@ -1,6 +1,6 @@
 -- The instances of the queries that go with so many updates.
-use Rattle.std.proofs.Common.{◌≡◌, ℕ, zero, suc, ◌+◌, ◌-◌, ◌*◌, ◌/◌, ◌<◌, ◌≤◌, Bool, true, false, List, [], ◌∷◌, ◌++◌, length, get_or, ◌⊎◌, inl, inr, refl, sym, ap, ◌∙◌, subst, arith, length-append}
-use Rattle.std.specs.Prelude.{if◌then◌else◌, ◌==◌}
+use Rattle.std.proofs.Common.{◌≡◌, ℕ, zero, suc, ◌+◌, ◌-◌, ◌*◌, ◌/◌, ◌<◌, ◌≤◌, true, false, List, [], ◌∷◌, ◌++◌, length, get_or, ◌⊎◌, inl, inr, refl, sym, ap, ◌∙◌, subst, arith, length-append}
+use Rattle.std.specs.Prelude.{◌==◌}
 use Rattle.std.specs.List.{AllPairs, Contains}
 use Rattle.std.specs.List.Sorted.{IsPermutation, IsSorted}
 use Rattle.std.specs.Ordering.{nat_cmp, ordering_then, is_lt}
@@ -11,6 +11,7 @@ use Rattle.std.proofs.lemmas.Nat.{div-add-mod', div-mul-add, le-div, mul-le}
 use Rattle.snb_plan.specs.contracts.instances.InstanceOrd.TheImpl.Laws.{total-law}
 use Rattle.snb_schema.specs.Frequencies.{FrequencyTable, frequency_at}
 use Rattle.snb_schema.specs.Queries.{IsComplex}
+use Rattle.snb_schema.proofs.PlaceFacts.{frequent_complex}
 use Rattle.snb_plan.specs.declared.instances.Instance.{Instance}
 use Rattle.snb_plan.specs.Plans.{AreReads, IsInstance, IsSooner, read_count, share}
 use Rattle.snb_plan.specs.Positions.{all_instances, instance_of, instances_of}
@@ -79,41 +80,6 @@ part_of fr c i is =
     subst (Contains (instances_of fr c i.query)) same (from_part fr c i.query (i.turn - 1) (omega (arith, many, turns)))
 
 -- ---- all queries
-
-pick : (b1 b2 b7 b8 b9 b11 b13 : Bool) (x1 x2 x7 x8 x9 x11 x13 : ℕ)
-    → 0 < (if b1 then x1 else if b2 then x2 else if b7 then x7 else if b8 then x8 else if b9 then x9 else if b11 then x11 else if b13 then x13 else 0)
-    → (b1 ≡ true) ⊎ (b2 ≡ true) ⊎ (b7 ≡ true) ⊎ (b8 ≡ true) ⊎ (b9 ≡ true) ⊎ (b11 ≡ true) ⊎ (b13 ≡ true)
-pick true b2 b7 b8 b9 b11 b13 x1 x2 x7 x8 x9 x11 x13 lt = inl refl
-pick false true b7 b8 b9 b11 b13 x1 x2 x7 x8 x9 x11 x13 lt = inr (inl refl)
-pick false false true b8 b9 b11 b13 x1 x2 x7 x8 x9 x11 x13 lt = inr (inr (inl refl))
-pick false false false true b9 b11 b13 x1 x2 x7 x8 x9 x11 x13 lt = inr (inr (inr (inl refl)))
-pick false false false false true b11 b13 x1 x2 x7 x8 x9 x11 x13 lt = inr (inr (inr (inr (inl refl))))
-pick false false false false false true b13 x1 x2 x7 x8 x9 x11 x13 lt = inr (inr (inr (inr (inr (inl refl)))))
-pick false false false false false false true x1 x2 x7 x8 x9 x11 x13 lt = inr (inr (inr (inr (inr (inr refl)))))
-pick false false false false false false false x1 x2 x7 x8 x9 x11 x13 lt = absurd (omega (arith, lt))
-
--- a query with a frequency is one of the seven
-pub frequent_complex : (fr : FrequencyTable) (q : ℕ) → 0 < frequency_at fr q → IsComplex q
-frequent_complex fr q lt =
-    elim (pick (q == 1) (q == 2) (q == 7) (q == 8) (q == 9) (q == 11) (q == 13) fr.one fr.two fr.seven fr.eight fr.nine fr.eleven fr.thirteen lt) [
-      | inl e ↦ inl (eqb-true q 1 e)
-      | inr r ↦ elim r [
-        | inl e ↦ inr (inl (eqb-true q 2 e))
-        | inr r ↦ elim r [
-          | inl e ↦ inr (inr (inl (eqb-true q 7 e)))
-          | inr r ↦ elim r [
-            | inl e ↦ inr (inr (inr (inl (eqb-true q 8 e))))
-            | inr r ↦ elim r [
-              | inl e ↦ inr (inr (inr (inr (inl (eqb-true q 9 e)))))
-              | inr r ↦ elim r [
-                | inl e ↦ inr (inr (inr (inr (inr (inl (eqb-true q 11 e))))))
-                | inr e ↦ inr (inr (inr (inr (inr (inr (eqb-true q 13 e))))))
-              ]
-            ]
-          ]
-        ]
-      ]
-    ]
 
 -- by query, then by turn
 IsLater : Instance → Instance → Type 0

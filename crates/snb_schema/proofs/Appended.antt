@@ -34,13 +34,5 @@ of_kind old new query q one kind appended others were =
 pub sorted_after : {T E : Type 0} (r : Result T E) (old new : QueryLists) (query : ℕ) (one : Query) → number_of_query one ≡ query
     → OnOk r (list_of new query ≡ list_of old query ++ one ∷ []) → OnOk r ((other : ℕ) → other ≢ query → list_of new other ≡ list_of old other)
     → OnErr r (new ≡ old) → AreSorted old → AreSorted new
-sorted_after (Ok _) old new query one kind appended others err sorted = record {
-  one = of_kind old new query 1 one kind appended others sorted.one;
-  two = of_kind old new query 2 one kind appended others sorted.two;
-  seven = of_kind old new query 7 one kind appended others sorted.seven;
-  eight = of_kind old new query 8 one kind appended others sorted.eight;
-  nine = of_kind old new query 9 one kind appended others sorted.nine;
-  eleven = of_kind old new query 11 one kind appended others sorted.eleven;
-  thirteen = of_kind old new query 13 one kind appended others sorted.thirteen;
-}
+sorted_after (Ok _) old new query one kind appended others err sorted = λ q. of_kind old new query q one kind appended others (sorted q)
 sorted_after (Err _) old new query one kind appended others err sorted = subst AreSorted (sym err) sorted

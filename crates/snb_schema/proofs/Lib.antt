@@ -1,5 +1,6 @@
 pub mod Laws
 pub mod FrequencyFacts
+pub mod PlaceFacts
 pub mod Walks
 mod Appended
 pub mod LayoutFacts

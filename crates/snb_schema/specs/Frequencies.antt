@@ -5,37 +5,19 @@ use Rattle.std.specs.List.Sorted.{IsStrictlyIncreasing}
 use Rattle.snb_base.specs.Spellings.{Num, EachSpells}
 use Rattle.snb_schema.specs.declared.limits.TheConstants.{MAX_FREQUENCY}
 use Rattle.snb_schema.specs.Queries.{IsComplex}
+use Rattle.snb_schema.specs.QueryPlaces.{Values, place_of, value_at}
 
--- the frequency of each of the seven queries, 0 where it has none
-pub record FrequencyTable : Type 0 where
-  pub one : ℕ
-  pub two : ℕ
-  pub seven : ℕ
-  pub eight : ℕ
-  pub nine : ℕ
-  pub eleven : ℕ
-  pub thirteen : ℕ
-
--- no frequency is above the greatest
-pub record AreBounded (table : FrequencyTable) : Type 0 where
-  pub one : table.one ≤ MAX_FREQUENCY
-  pub two : table.two ≤ MAX_FREQUENCY
-  pub seven : table.seven ≤ MAX_FREQUENCY
-  pub eight : table.eight ≤ MAX_FREQUENCY
-  pub nine : table.nine ≤ MAX_FREQUENCY
-  pub eleven : table.eleven ≤ MAX_FREQUENCY
-  pub thirteen : table.thirteen ≤ MAX_FREQUENCY
+-- the frequency of each of the seven queries at its place, 0 where it has none
+abbrev pub FrequencyTable : Type 0
+FrequencyTable = Values 7 ℕ
 
 -- the frequency of the query of this number; any other number has none
 abbrev pub frequency_at : FrequencyTable → ℕ → ℕ
-frequency_at table q =
-    if q == 1 then table.one else
-    if q == 2 then table.two else
-    if q == 7 then table.seven else
-    if q == 8 then table.eight else
-    if q == 9 then table.nine else
-    if q == 11 then table.eleven else
-    if q == 13 then table.thirteen else 0
+frequency_at table q = value_at 7 table (place_of q) 0
+
+-- no frequency is above the greatest
+abbrev pub AreBounded : FrequencyTable → Type 0
+AreBounded table = (q : ℕ) → frequency_at table q ≤ MAX_FREQUENCY
 
 -- x is `q:f`: the number of a complex query, and a frequency that isn't 0
 pub record SpellsFrequency (x : List ℕ) (pair : ℕ × ℕ) : Type 0 where

@@ -11,6 +11,7 @@ pub mod Lines
 pub mod ParameterLines
 pub mod Queries
 pub mod QueryLists
+pub mod QueryPlaces
 pub mod ReadKinds
 pub mod RowLines
 pub mod ScreenTexts

@@ -7,7 +7,7 @@ ghost use Rattle.snb_schema.specs.FrequencyPieces.{IsCutAtFirst, SpellsAfter};
 ghost use Rattle.snb_schema.specs.Lines.{HasNo};
 
 use crate::limits::MAX_FREQUENCY;
-use crate::query::is_complex;
+use crate::query::{is_complex, place_of};
 use snb_base::read_number;
 use std::marker::Model;
 
@@ -17,25 +17,23 @@ use std::marker::Model;
 /// A contract sees the seven frequencies, of which 0 stands for none; none is above `MAX_FREQUENCY`.
 #[derive(Clone, Copy)]
 pub struct Frequencies {
-    one: u32,
-    two: u32,
-    seven: u32,
-    eight: u32,
-    nine: u32,
-    eleven: u32,
-    thirteen: u32,
+    by_place: [u32; 7],
 }
 
 impl Model for Frequencies {
+    ghost use Rattle.std.specs.Prelude.{◌≡◌, length};
     ghost use Rattle.snb_schema.specs.Frequencies.{AreBounded, FrequencyTable};
+    ghost use Rattle.snb_schema.specs.QueryPlaces.{as_list, listed_back, values_of};
 
     ghost Value = { FrequencyTable };
 
-    ghost view = { λ f. record { one = f.one; two = f.two; seven = f.seven; eight = f.eight; nine = f.nine; eleven = f.eleven; thirteen = f.thirteen } };
+    ghost view = { λ f. values_of 7 f.by_place 0 };
 
-    ghost invariant = { λ f. AreBounded (record { one = f.one; two = f.two; seven = f.seven; eight = f.eight; nine = f.nine; eleven = f.eleven; thirteen = f.thirteen }) };
+    ghost invariant = { λ f. (length f.by_place ≡ 7) × AreBounded (values_of 7 f.by_place 0) };
 
-    ghost inverse = { λ t. record { one = t.one; two = t.two; seven = t.seven; eight = t.eight; nine = t.nine; eleven = t.eleven; thirteen = t.thirteen } };
+    ghost inverse = { λ t. record { by_place = as_list 7 t } };
+
+    ghost inverse_ok = { λ f h i. record { by_place = listed_back 7 f.by_place 0 h.0 i } };
 }
 
 impl Frequencies {
@@ -43,15 +41,7 @@ impl Frequencies {
     pub fn none() -> Frequencies
         ensures { (query : ℕ) → frequency_at result query ≡ 0 }
     {
-        Frequencies {
-            one: 0,
-            two: 0,
-            seven: 0,
-            eight: 0,
-            nine: 0,
-            eleven: 0,
-            thirteen: 0,
-        }
+        Frequencies { by_place: [0; 7] }
     }
 
     /// The frequency of the query of this number: 0 where it has none, and at any number that isn't
@@ -60,16 +50,8 @@ impl Frequencies {
         ensures value { result ≡ frequency_at self.now query }
         ensures bounded { result ≤ MAX_FREQUENCY }
     {
-        match query {
-            1 => self.one,
-            2 => self.two,
-            7 => self.seven,
-            8 => self.eight,
-            9 => self.nine,
-            11 => self.eleven,
-            13 => self.thirteen,
-            _ => 0,
-        }
+        let place = place_of(query);
+        if place < 7 { self.by_place[place] } else { 0 }
     }
 
     /// The frequencies that the text says: one or more pairs `query:frequency`, separated by commas.
@@ -90,15 +72,7 @@ impl Frequencies {
         ensures { (other : ℕ) → frequency_at result other ≡ (if other == query then frequency else frequency_at self other) }
     {
         let mut table = self;
-        match query {
-            1 => table.one = frequency,
-            2 => table.two = frequency,
-            7 => table.seven = frequency,
-            8 => table.eight = frequency,
-            9 => table.nine = frequency,
-            11 => table.eleven = frequency,
-            _ => table.thirteen = frequency,
-        }
+        table.by_place[place_of(query)] = frequency;
         table
     }
 }

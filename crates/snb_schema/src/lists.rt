@@ -4,7 +4,7 @@ ghost use Rattle.std.specs.Prelude.{◌≡◌, ◌≢◌, ℕ, ◌++◌, ◌∷�
 ghost use Rattle.snb_schema.specs.Queries.{IsComplex, number_of_query};
 ghost use Rattle.snb_schema.specs.QueryLists.{list_of, AreOf};
 
-use crate::query::Query;
+use crate::query::{Query, place_of};
 use std::alloc::{AllocError, Global};
 use std::marker::Model;
 
@@ -33,35 +33,25 @@ impl Model for Lists {
 
 // Seven lists, of any queries.
 struct Parts {
-    one: Vec<Query>,
-    two: Vec<Query>,
-    seven: Vec<Query>,
-    eight: Vec<Query>,
-    nine: Vec<Query>,
-    eleven: Vec<Query>,
-    thirteen: Vec<Query>,
+    by_place: [Vec<Query>; 7],
 }
 
 impl Drop for Parts {
     fn drop(self) {
-        let Parts {
-            one: _,
-            two: _,
-            seven: _,
-            eight: _,
-            nine: _,
-            eleven: _,
-            thirteen: _,
-        } = self;
+        let Parts { by_place: _ } = self;
     }
 }
 
 impl Model for Parts {
+    ghost use Rattle.std.specs.Prelude.{◌≡◌, length, map, []};
     ghost use Rattle.snb_schema.specs.QueryLists.{QueryLists};
+    ghost use Rattle.snb_schema.specs.QueryPlaces.{values_of};
 
     ghost Value = { QueryLists };
 
-    ghost view = { λ l. record { one = l.one.items; two = l.two.items; seven = l.seven.items; eight = l.eight.items; nine = l.nine.items; eleven = l.eleven.items; thirteen = l.thirteen.items } };
+    ghost view = { λ l. values_of 7 (map (λ v. v.items) l.by_place) [] };
+
+    ghost invariant = { λ l. length l.by_place ≡ 7 };
 }
 
 // Appends a query to a list. Want of memory leaves the list as it was.
@@ -81,15 +71,7 @@ impl Parts {
         ensures others { OnOk result ((other : ℕ) → other ≢ query → list_of self.new other ≡ list_of self.old other) }
         ensures err { OnErr result (self.new ≡ self.old) }
     {
-        match query {
-            1 => append(&mut self.one, one),
-            2 => append(&mut self.two, one),
-            7 => append(&mut self.seven, one),
-            8 => append(&mut self.eight, one),
-            9 => append(&mut self.nine, one),
-            11 => append(&mut self.eleven, one),
-            _ => append(&mut self.thirteen, one),
-        }
+        append(&mut self.by_place[place_of(query)], one)
     }
 
     // The list of the query of this number.
@@ -97,15 +79,7 @@ impl Parts {
         requires { IsComplex query }
         ensures { result.now ≡ list_of self.now query }
     {
-        match query {
-            1 => &self.one,
-            2 => &self.two,
-            7 => &self.seven,
-            8 => &self.eight,
-            9 => &self.nine,
-            11 => &self.eleven,
-            _ => &self.thirteen,
-        }
+        &self.by_place[place_of(query)]
     }
 }
 
@@ -116,13 +90,15 @@ impl Lists {
     {
         Lists {
             parts: Parts {
-                one: Vec::new(alloc),
-                two: Vec::new(alloc),
-                seven: Vec::new(alloc),
-                eight: Vec::new(alloc),
-                nine: Vec::new(alloc),
-                eleven: Vec::new(alloc),
-                thirteen: Vec::new(alloc),
+                by_place: [
+                    Vec::new(alloc),
+                    Vec::new(alloc),
+                    Vec::new(alloc),
+                    Vec::new(alloc),
+                    Vec::new(alloc),
+                    Vec::new(alloc),
+                    Vec::new(alloc),
+                ],
             },
         }
     }

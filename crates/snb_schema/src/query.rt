@@ -1,7 +1,8 @@
 //! The reads of the workload.
 
-ghost use Rattle.std.specs.Prelude.{◌↔◌, IsTrue};
+ghost use Rattle.std.specs.Prelude.{◌≡◌, ◌↔◌, IsTrue};
 ghost use Rattle.snb_schema.specs.Queries.{IsComplex};
+ghost use Rattle.snb_schema.specs.QueryPlaces.{place_of};
 
 use snb_base::Text;
 
@@ -111,4 +112,21 @@ pub fn is_complex(query: u32) -> bool
     ensures { IsTrue result ↔ IsComplex query }
 {
     matches!(query, 1 | 2 | 7 | 8 | 9 | 11 | 13)
+}
+
+/// The place of a complex query among the seven, in the order of their numbers: 0 to 6. Any other
+/// number has place 7, past the last.
+pub fn place_of(query: u32) -> usize
+    ensures { result ≡ place_of query }
+{
+    match query {
+        1 => 0,
+        2 => 1,
+        7 => 2,
+        8 => 3,
+        9 => 4,
+        11 => 5,
+        13 => 6,
+        _ => 7,
+    }
 }

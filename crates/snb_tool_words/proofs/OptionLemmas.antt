@@ -11,15 +11,10 @@ use Rattle.snb_tool_words.specs.Options.{Adds, AreSuited, IsGiven, Say, SaysFreq
 
 -- a list of frequencies is that of one table
 table_one : (pairs : List (ℕ × ℕ)) (a b : FrequencyTable) → HasFrequencies a pairs → HasFrequencies b pairs → a ≡ b
-table_one pairs a b p q = λ i. record {
-  one = (p 1 ∙ sym (q 1)) i;
-  two = (p 2 ∙ sym (q 2)) i;
-  seven = (p 7 ∙ sym (q 7)) i;
-  eight = (p 8 ∙ sym (q 8)) i;
-  nine = (p 9 ∙ sym (q 9)) i;
-  eleven = (p 11 ∙ sym (q 11)) i;
-  thirteen = (p 13 ∙ sym (q 13)) i;
-}
+table_one pairs a b p q = λ i. (same 1 i, (same 2 i, (same 7 i, (same 8 i, (same 9 i, (same 11 i, (same 13 i, tt)))))))
+  where
+    same : (query : ℕ) → frequency_at a query ≡ frequency_at b query
+    same query = p query ∙ sym (q query)
 
 -- a word says the frequencies of one table
 pub says_one : FrequenciesAreOne → (word : List ℕ) (a b : FrequencyTable) → SaysFrequencies word a → SaysFrequencies word b → a ≡ b
@@ -27,7 +22,7 @@ says_one law word a b p q = table_one p.0 a b p.2 (subst (HasFrequencies b) (law
 
 -- a table in which no query has a frequency is the one of none
 pub no_table : (table : FrequencyTable) → ((q : ℕ) → frequency_at table q ≡ 0) → table ≡ no_frequencies
-no_table table p = λ i. record { one = p 1 i; two = p 2 i; seven = p 7 i; eight = p 8 i; nine = p 9 i; eleven = p 11 i; thirteen = p 13 i }
+no_table table p = λ i. (p 1 i, (p 2 i, (p 7 i, (p 8 i, (p 9 i, (p 11 i, (p 13 i, tt)))))))
 
 module _ (ratios : OneRatio) (tables : FrequenciesAreOne) where
   -- two words add one option

@@ -4,6 +4,7 @@ use Rattle.std.specs.Option.{unwrap_or}
 use Rattle.snb_base.specs.Spellings.{Num}
 use Rattle.snb_ratio.specs.Ratios.{SpellsRatio}
 use Rattle.snb_schema.specs.declared.limits.TheConstants.{MAX_WORKERS}
+use Rattle.snb_schema.specs.QueryPlaces.{values_of}
 use Rattle.snb_schema.specs.Frequencies.{FrequencyTable, HasFrequencies, SpellsFrequencies}
 use Rattle.snb_tool_words.specs.declared.options.OptionName.{OptionName}
 use Rattle.snb_tool_words.specs.declared.options.OptionName.TheVariants.{Workers, Ratio, Frequencies}
@@ -46,7 +47,7 @@ ratio_of said = unwrap_or said.ratio 1000000
 
 -- no query has a frequency
 abbrev pub no_frequencies : FrequencyTable
-no_frequencies = record { one = 0; two = 0; seven = 0; eight = 0; nine = 0; eleven = 0; thirteen = 0 }
+no_frequencies = values_of 7 [] 0
 
 -- the frequencies that are said, or none
 abbrev pub frequencies_of : Options → FrequencyTable

@@ -1,9 +1,10 @@
 -- The texts of the frequencies and of the ratio, and that they are said so.
-use Rattle.std.proofs.Common.{◌≡◌, ◌<◌, ℕ, zero, suc, List, [], ◌∷◌, ◌==◌, ◌⊎◌, Bool, true, false, if◌then◌else◌, inl, inr, refl, arith, codes}
+use Rattle.std.proofs.Common.{◌≡◌, ◌<◌, ℕ, zero, suc, List, [], ◌∷◌, ◌⊎◌, inl, inr, refl, arith, subst, codes}
 use Rattle.std.specs.List.Sorted.{IsStrictlyIncreasing}
 use Rattle.snb_ratio.specs.Ratios.{SpellsRatio}
-use Rattle.snb_schema.specs.Frequencies.{FrequencyTable, HasFrequencies, SpellsFrequencies, SpellsFrequency}
-use Rattle.std.proofs.lemmas.Bool.{eqb-true}
+use Rattle.snb_schema.specs.Frequencies.{FrequencyTable, HasFrequencies, frequency_at, SpellsFrequencies, SpellsFrequency}
+use Rattle.snb_schema.specs.Queries.{IsComplex}
+use Rattle.snb_schema.proofs.PlaceFacts.{frequent_complex}
 use Rattle.snb_trial.specs.Laws.{NamesTwo}
 use Rattle.snb_trial.specs.Trial.{least_ratio, read_frequencies}
 
@@ -42,7 +43,7 @@ frequencies_said = record { spelled = (two, (thirteen, tt)); rising = two_rise 2
 
 -- a table that has just these is the workload's
 pub table_is : (table : FrequencyTable) → HasFrequencies table pairs → table ≡ read_frequencies
-table_is table p = λ i. record { one = p 1 i; two = p 2 i; seven = p 7 i; eight = p 8 i; nine = p 9 i; eleven = p 11 i; thirteen = p 13 i }
+table_is table p = λ i. (p 1 i, (p 2 i, (p 7 i, (p 8 i, (p 9 i, (p 11 i, (p 13 i, tt)))))))
 
 -- and the ratio's text
 pub ratio_said : SpellsRatio (codes "0.000001") least_ratio
@@ -68,19 +69,16 @@ ratio_said = (
   ),
 )
 
-by_tests : (a b c d e f g : Bool) → 0 < (if a then 0 else if b then 10 else if c then 0 else if d then 0 else if e then 0 else if f then 0 else if g then 7 else 0) → (b ≡ true) ⊎ (g ≡ true)
-by_tests true b c d e f g lt = absurd (omega (arith, lt))
-by_tests false true c d e f g lt = inl refl
-by_tests false false true d e f g lt = absurd (omega (arith, lt))
-by_tests false false false true e f g lt = absurd (omega (arith, lt))
-by_tests false false false false true f g lt = absurd (omega (arith, lt))
-by_tests false false false false false true g lt = absurd (omega (arith, lt))
-by_tests false false false false false false true lt = inr refl
-by_tests false false false false false false false lt = absurd (omega (arith, lt))
+-- of the seven queries two have a frequency
+of_seven : (q : ℕ) → 0 < frequency_at read_frequencies q → IsComplex q → (q ≡ 2) ⊎ (q ≡ 13)
+of_seven q lt (inl e) = absurd (let some = subst (λ (n : ℕ). 0 < frequency_at read_frequencies n) e lt in omega (arith, some))
+of_seven q lt (inr (inl e)) = inl e
+of_seven q lt (inr (inr (inl e))) = absurd (let some = subst (λ (n : ℕ). 0 < frequency_at read_frequencies n) e lt in omega (arith, some))
+of_seven q lt (inr (inr (inr (inl e)))) = absurd (let some = subst (λ (n : ℕ). 0 < frequency_at read_frequencies n) e lt in omega (arith, some))
+of_seven q lt (inr (inr (inr (inr (inl e))))) = absurd (let some = subst (λ (n : ℕ). 0 < frequency_at read_frequencies n) e lt in omega (arith, some))
+of_seven q lt (inr (inr (inr (inr (inr (inl e)))))) = absurd (let some = subst (λ (n : ℕ). 0 < frequency_at read_frequencies n) e lt in omega (arith, some))
+of_seven q lt (inr (inr (inr (inr (inr (inr e)))))) = inr e
 
 -- no query but 2 and 13 has a frequency
 pub names_two : NamesTwo read_frequencies
-names_two q lt = elim (by_tests (q == 1) (q == 2) (q == 7) (q == 8) (q == 9) (q == 11) (q == 13) lt) [
-  | inl two ↦ inl (eqb-true q 2 two)
-  | inr thirteen ↦ inr (eqb-true q 13 thirteen)
-]
+names_two q lt = of_seven q lt (frequent_complex read_frequencies q lt)

@@ -12,6 +12,7 @@ use Rattle.snb_schema.specs.declared.row.Row.TheVariants as row
 use Rattle.snb_schema.specs.declared.table.Table.TheVariants as table
 use Rattle.snb_schema.specs.Frequencies.{FrequencyTable}
 use Rattle.snb_schema.specs.LineLanes.{LineLanes}
+use Rattle.snb_schema.specs.QueryPlaces.{values_of}
 use Rattle.snb_schema.specs.QueryLists.{QueryLists}
 
 -- ---- the dataset
@@ -125,21 +126,13 @@ lanes n = record {
 
 -- query 2 is asked of person 0 up to the last moment, query 13 of persons 0 and n
 abbrev pub lists : ℕ → QueryLists
-lists n = record {
-  one = [];
-  two = Ic2 0 MAX_TIME ∷ [];
-  seven = [];
-  eight = [];
-  nine = [];
-  eleven = [];
-  thirteen = Ic13 0 n ∷ [];
-}
+lists n = values_of 7 ([] ∷ (Ic2 0 MAX_TIME ∷ []) ∷ [] ∷ [] ∷ [] ∷ [] ∷ (Ic13 0 n ∷ []) ∷ []) []
 
 -- ---- the plan
 
 -- a read of query 2 goes with every tenth update, and one of query 13 with every seventh
 abbrev pub read_frequencies : FrequencyTable
-read_frequencies = record { one = 0; two = 10; seven = 0; eight = 0; nine = 0; eleven = 0; thirteen = 7 }
+read_frequencies = values_of 7 (0 ∷ 10 ∷ 0 ∷ 0 ∷ 0 ∷ 0 ∷ 7 ∷ []) 0
 
 -- the ratio, in millionths: the least
 abbrev pub least_ratio : ℕ

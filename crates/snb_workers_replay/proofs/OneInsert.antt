@@ -8,6 +8,8 @@ use Rattle.std.proofs.lemmas.Str.{IsUtf8-from_ascii, IsUtf8-nil}
 use Rattle.snb_base.specs.Spellings.{Num}
 use Rattle.snb_base.proofs.Laws.{contains_cases, contains_here}
 use Rattle.snb_history.specs.declared.event.Event.TheVariants.{Start, Finish}
+use Rattle.snb_schema.proofs.PlaceFacts.{each_same}
+use Rattle.snb_schema.specs.QueryPlaces.{place_of, values_of}
 use Rattle.snb_schema.specs.declared.op.Line.{Line}
 use Rattle.snb_schema.specs.declared.row.Row.{Row}
 use Rattle.snb_schema.specs.declared.table.Kind.TheVariants as kinds
@@ -107,22 +109,14 @@ these zero (suc k) line lt e = absurd cc
 these (suc n) place line lt e = absurd (omega arith)
 
 abbrev none : FrequencyTable
-none = record { one = 0; two = 0; seven = 0; eight = 0; nine = 0; eleven = 0; thirteen = 0 }
+none = values_of 7 [] 0
 
 abbrev no_lists : QueryLists
-no_lists = record { one = []; two = []; seven = []; eight = []; nine = []; eleven = []; thirteen = [] }
+no_lists = values_of 7 [] []
 
 -- no query has a frequency
 unasked : (t : FrequencyTable) (q : ℕ) → t ≡ none → frequency_at t q ≡ 0
-unasked t q e =
-    let one = ap (λ (x : FrequencyTable). x.one) e in
-    let two = ap (λ (x : FrequencyTable). x.two) e in
-    let seven = ap (λ (x : FrequencyTable). x.seven) e in
-    let eight = ap (λ (x : FrequencyTable). x.eight) e in
-    let nine = ap (λ (x : FrequencyTable). x.nine) e in
-    let eleven = ap (λ (x : FrequencyTable). x.eleven) e in
-    let thirteen = ap (λ (x : FrequencyTable). x.thirteen) e in
-    grind arith
+unasked t q e = ap (λ (table : FrequencyTable). frequency_at table q) e ∙ each_same 7 0 (place_of q)
 
 is_plan : IsPlan one_lane no_lists none 1000000 one_insert
 is_plan = record {

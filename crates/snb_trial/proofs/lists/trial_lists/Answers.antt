@@ -10,7 +10,7 @@ use Rattle.snb_trial.proofs.lists.trial_lists.Goals as goal
 listed : (made : QueryLists) (n to : ℕ) → to ≡ n → list_of made 1 ≡ [] → list_of made 2 ≡ Ic2 0 MAX_TIME ∷ [] → list_of made 7 ≡ [] → list_of made 8 ≡ [] → list_of made 9 ≡ [] → list_of made 11 ≡ []
     → list_of made 13 ≡ Ic13 0 to ∷ [] → made ≡ lists n
 listed made n to e one two seven eight nine eleven thirteen =
-    (λ i. record { one = one i; two = two i; seven = seven i; eight = eight i; nine = nine i; eleven = eleven i; thirteen = thirteen i }) ∙ ap lists e
+    (λ i. (one i, (two i, (seven i, (eight i, (nine i, (eleven i, (thirteen i, tt)))))))) ∙ ap lists e
 
 pub returns : goal.returns
 returns c =
