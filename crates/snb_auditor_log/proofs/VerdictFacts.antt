@@ -1,8 +1,8 @@
 -- Facts on the verdict of an audit.
-use Rattle.std.proofs.Common.{◌≡◌, ◌≢◌, ◌∙◌, ◌≤◌, ◌<◌, ◌+◌, ◌++◌, ◌∷◌, ℕ, zero, suc, List, All, Option, Some, None, length, get_or, take, drop, refl, sym, ap, subst, inl, inr, arith}
+use Rattle.std.proofs.Common.{◌≡◌, ◌≢◌, ◌∙◌, ◌≤◌, ◌<◌, ◌+◌, ◌*◌, ◌++◌, ◌∷◌, ℕ, zero, suc, true, List, All, Option, Some, None, length, get_or, take, drop, refl, sym, ap, subst, inl, inr, arith}
 use Rattle.std.specs.Prelude.{slice_get, IfSome}
 use Rattle.std.specs.Option.{IsSome}
-use Rattle.std.proofs.lemmas.Bool.{cases_eq}
+use Rattle.std.proofs.lemmas.Bool.{cases_eq, cases_lt}
 use Rattle.std.proofs.lemmas.List.{get_or_default, map-append}
 use Rattle.std.proofs.lemmas.Option.{get_or_from_slice_get, same_Some, slice_get_within}
 use Rattle.snb_base.proofs.Laws.{split_here}
@@ -16,7 +16,7 @@ use Rattle.snb_runlog.specs.Columns.{HasCount, HasOperations}
 use Rattle.snb_auditor.specs.declared.verdict.Violation.{Violation}
 use Rattle.snb_auditor.specs.declared.verdict.Verdict.{Verdict}
 use Rattle.snb_auditor.specs.declared.verdict.Verdict.TheVariants.{Violated, Halted, Incomplete, TooLate, Accepted}
-use Rattle.snb_auditor.specs.Verdicts.{IsTimelyRun, IsVerdict, IsViolation}
+use Rattle.snb_auditor.specs.Verdicts.{IsTimelyRun, IsVerdict, IsViolation, on_time}
 use Rattle.snb_auditor.specs.VerdictLaws.{AcceptedExactly, VerdictIsOne}
 use Rattle.snb_auditor.specs.Audits.{Audit, HasHeard, IsRefused}
 use Rattle.snb_graph_model.specs.Graphs.{IsGraph}
@@ -29,8 +29,8 @@ use Rattle.snb_workers.specs.declared.miscount.Miscount.{Miscount}
 use Rattle.snb_workers.specs.Miscounts.{IsFirstMiscount, IsMiscount, events_of}
 use Rattle.snb_auditor_log.specs.declared.verdict.AuditVerdict.{AuditVerdict}
 use Rattle.snb_auditor_log.specs.declared.verdict.AuditVerdict.TheVariants.{Judged, Miscounted, Mismatched}
-use Rattle.snb_auditor_log.specs.AuditVerdicts.{IsAuditVerdict, IsInOrder, IsMatched, IsMismatched, IsViolated}
-use Rattle.snb_auditor_log.specs.Laws.{AcceptedInOrder, AuditVerdictIsOne}
+use Rattle.snb_auditor_log.specs.AuditVerdicts.{IsAuditVerdict, IsInOrder, IsMatched, IsMismatched, IsViolated, IsWhole, is_whole}
+use Rattle.snb_auditor_log.specs.Laws.{AcceptedInOrder, AuditVerdictIsOne, WholeExactly}
 use Rattle.snb_auditor_log.specs.VerdictTexts.{audit_status, verdict_status}
 
 -- ---- the events, one by one
@@ -128,36 +128,88 @@ module _ (base : List Row) (plan : Plan) (header : Header) (logged : List Logged
       at_most : (a b : ℕ) → (b < a → ⊥) → a ≤ b
       at_most a b not_less = omega arith
 
-  module _ (exactly : AcceptedExactly) (one : VerdictIsOne) where
-    accepted_good : (history : Verdict) → verdict_status history ≡ 0 → IsVerdict (schedule_of plan) header.workers (events_of logged) history
-        → IsLegal (schedule_of plan) header.workers (events_of logged) × IsComplete (schedule_of plan) (events_of logged) × IsTimelyRun (schedule_of plan) (events_of logged)
-    accepted_good (Violated v) e is = absurd cc
-    accepted_good (Halted worker) e is = absurd cc
-    accepted_good (Incomplete op) e is = absurd cc
-    accepted_good (TooLate these all) e is = absurd cc
-    accepted_good (Accepted these all) e is = (exactly (schedule_of plan) header.workers (events_of logged)).0 (these, all, is)
+  whole_good : (history : Verdict) → is_whole (Judged history) ≡ true → IsVerdict (schedule_of plan) header.workers (events_of logged) history
+      → IsLegal (schedule_of plan) header.workers (events_of logged) × IsComplete (schedule_of plan) (events_of logged)
+  whole_good (Violated v) e is = absurd cc
+  whole_good (Halted worker) e is = absurd cc
+  whole_good (Incomplete op) e is = absurd cc
+  whole_good (TooLate these all) e is = (is.0, is.1)
+  whole_good (Accepted these all) e is = (is.0, is.1)
 
-    stated : (o : Option ℕ) (n : ℕ) → ((found : ℕ) → o ≡ Some found → found ≢ n → ⊥) → IfSome o (λ k. k ≡ n)
-    stated None n h = tt
-    stated (Some k) n h = elim (cases_eq k n) [
-      | inl same ↦ same
-      | inr other ↦ absurd (h k refl other)
-    ]
+  stated : (o : Option ℕ) (n : ℕ) → ((found : ℕ) → o ≡ Some found → found ≢ n → ⊥) → IfSome o (λ k. k ≡ n)
+  stated None n h = tt
+  stated (Some k) n h = elim (cases_eq k n) [
+    | inl same ↦ same
+    | inr other ↦ absurd (h k refl other)
+  ]
+
+  -- a verdict that a run is whole is right
+  whole : (verdict : AuditVerdict) → IsAuditVerdict base plan header logged verdict → is_whole verdict ≡ true → IsWhole base plan header logged
+  whole verdict (inl wrong) e = absurd (let is = ap is_whole wrong.is in cc)
+  whole verdict (inr (matched, inl wrong)) e = absurd (let is = ap is_whole wrong.is in cc)
+  whole verdict (inr (matched, inr (unbroken, inl wrong))) e = absurd (let is = ap is_whole wrong.is in cc)
+  whole verdict (inr (matched, inr (unbroken, inr (rightly, inl judged)))) e =
+      let good = whole_good judged.history (sym (ap is_whole judged.is) ∙ e) judged.judged in
+      record {
+        legal = good.0;
+        complete = good.1;
+        counted = λ m. none_below (λ k first. rightly (Miscounted k) (record { miscount = k; legal = good.0; first = first; is = refl })) (m.event + 1) m (omega arith);
+        matched = stated header.operations (length plan.operations) (λ found has differ. matched (Mismatched (length plan.operations) found) (record { found = found; stated = has; differ = differ; is = refl }));
+      }
+  whole verdict (inr (matched, inr (unbroken, inr (rightly, inr (none, wrong))))) e = absurd wrong
+
+  -- the history of a whole run is late or in time
+  on_time_or_not : IsLegal (schedule_of plan) header.workers (events_of logged) → IsComplete (schedule_of plan) (events_of logged)
+      → (history : Verdict) × IsVerdict (schedule_of plan) header.workers (events_of logged) history × (is_whole (Judged history) ≡ true)
+  on_time_or_not legal complete =
+      elim (cases_lt (100 * on_time (schedule_of plan) (events_of logged)) (95 * length (schedule_of plan).steps)) [
+        | inl late ↦ (TooLate (on_time (schedule_of plan) (events_of logged)) (length (schedule_of plan).steps), (legal, complete, refl, refl, late), refl)
+        | inr timely ↦ (Accepted (on_time (schedule_of plan) (events_of logged)) (length (schedule_of plan).steps), (legal, complete, refl, refl, timely), refl)
+      ]
+
+  -- and the verdict on a log with a whole run is so
+  tells_whole : VerdictIsOne → (verdict : AuditVerdict) → IsAuditVerdict base plan header logged verdict → IsWhole base plan header logged → is_whole verdict ≡ true
+  tells_whole one verdict (inl wrong) good = absurd (not_mismatched good.matched verdict wrong)
+  tells_whole one verdict (inr (matched, inl wrong)) good =
+      let right = on_time_or_not good.legal good.complete in
+      absurd (let e = ap (λ (v : Verdict). is_whole (Judged v)) (one (schedule_of plan) header.workers (events_of logged) (Violated wrong.violation) right.0 wrong.judged right.1) ∙ right.2 in cc)
+  tells_whole one verdict (inr (matched, inr (unbroken, inl wrong))) good = absurd (good.counted wrong.miscount wrong.first.0)
+  tells_whole one verdict (inr (matched, inr (unbroken, inr (rightly, inl judged)))) good =
+      let right = on_time_or_not good.legal good.complete in
+      ap is_whole judged.is
+      ∙ ap (λ (v : Verdict). is_whole (Judged v)) (one (schedule_of plan) header.workers (events_of logged) judged.history right.0 judged.judged right.1) ∙ right.2
+  tells_whole one verdict (inr (matched, inr (unbroken, inr (rightly, inr (none, wrong))))) good = absurd wrong
+
+  -- an accepted run is whole
+  accepted_whole : (verdict : AuditVerdict) → audit_status verdict ≡ 0 → is_whole verdict ≡ true
+  accepted_whole (Mismatched needs found) e = absurd (omega arith)
+  accepted_whole (Miscounted m) e = absurd (omega arith)
+  accepted_whole (Judged (Violated v)) e = absurd (omega arith)
+  accepted_whole (Judged (Halted worker)) e = absurd (omega arith)
+  accepted_whole (Judged (Incomplete op)) e = absurd (omega arith)
+  accepted_whole (Judged (TooLate these all)) e = refl
+  accepted_whole (Judged (Accepted these all)) e = refl
+
+  module _ (exactly : AcceptedExactly) (one : VerdictIsOne) where
+    accepted_timely : (history : Verdict) → verdict_status history ≡ 0 → IsVerdict (schedule_of plan) header.workers (events_of logged) history
+        → IsTimelyRun (schedule_of plan) (events_of logged)
+    accepted_timely (Violated v) e is = absurd cc
+    accepted_timely (Halted worker) e is = absurd cc
+    accepted_timely (Incomplete op) e is = absurd cc
+    accepted_timely (TooLate these all) e is = absurd cc
+    accepted_timely (Accepted these all) e is = is.4
+
+    timely : (verdict : AuditVerdict) → IsAuditVerdict base plan header logged verdict → audit_status verdict ≡ 0 → IsTimelyRun (schedule_of plan) (events_of logged)
+    timely verdict (inl wrong) e = absurd (let is = ap audit_status wrong.is in omega arith)
+    timely verdict (inr (matched, inl wrong)) e = absurd (let is = ap audit_status wrong.is in omega arith)
+    timely verdict (inr (matched, inr (unbroken, inl wrong))) e = absurd (let is = ap audit_status wrong.is in omega arith)
+    timely verdict (inr (matched, inr (unbroken, inr (rightly, inl judged)))) e = accepted_timely judged.history (sym (ap audit_status judged.is) ∙ e) judged.judged
+    timely verdict (inr (matched, inr (unbroken, inr (rightly, inr (none, wrong))))) e = absurd wrong
 
     in_order : (verdict : AuditVerdict) → IsAuditVerdict base plan header logged verdict → audit_status verdict ≡ 0 → IsInOrder base plan header logged
-    in_order verdict (inl wrong) e = absurd (let is = ap audit_status wrong.is in omega arith)
-    in_order verdict (inr (matched, inl wrong)) e = absurd (let is = ap audit_status wrong.is in omega arith)
-    in_order verdict (inr (matched, inr (unbroken, inl wrong))) e = absurd (let is = ap audit_status wrong.is in omega arith)
-    in_order verdict (inr (matched, inr (unbroken, inr (rightly, inl judged)))) e =
-        let good = accepted_good judged.history (sym (ap audit_status judged.is) ∙ e) judged.judged in
-        record {
-          legal = good.0;
-          complete = good.1;
-          timely = good.2;
-          counted = λ m. none_below (λ k first. rightly (Miscounted k) (record { miscount = k; legal = good.0; first = first; is = refl })) (m.event + 1) m (omega arith);
-          matched = stated header.operations (length plan.operations) (λ found has differ. matched (Mismatched (length plan.operations) found) (record { found = found; stated = has; differ = differ; is = refl }));
-        }
-    in_order verdict (inr (matched, inr (unbroken, inr (rightly, inr (none, wrong))))) e = absurd wrong
+    in_order verdict is e =
+        let run = whole verdict is (accepted_whole verdict e) in
+        record { legal = run.legal; complete = run.complete; timely = timely verdict is e; counted = run.counted; matched = run.matched }
 
     accepts : (verdict : AuditVerdict) → IsAuditVerdict base plan header logged verdict → IsInOrder base plan header logged → audit_status verdict ≡ 0
     accepts verdict (inl wrong) good = absurd (not_mismatched good.matched verdict wrong)
@@ -173,6 +225,10 @@ module _ (base : List Row) (plan : Plan) (header : Header) (logged : List Logged
 pub accepted_in_order : AcceptedExactly → VerdictIsOne → AcceptedInOrder
 accepted_in_order exactly one base plan header logged verdict is =
     (in_order base plan header logged exactly one verdict is, accepts base plan header logged exactly one verdict is)
+
+pub whole_exactly : VerdictIsOne → WholeExactly
+whole_exactly one base plan header logged verdict is =
+    (whole base plan header logged verdict is, tells_whole base plan header logged one verdict is)
 
 -- ---- one verdict
 

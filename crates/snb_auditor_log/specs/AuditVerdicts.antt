@@ -1,12 +1,12 @@
 -- The verdict of the audit of a log.
-use Rattle.std.specs.Prelude.{◌≡◌, ◌≢◌, ℕ, List, [], ◌∷◌, length, None, Some, IfSome}
+use Rattle.std.specs.Prelude.{◌≡◌, ◌≢◌, ℕ, Bool, true, false, List, [], ◌∷◌, length, None, Some, IfSome}
 use Rattle.snb_base.specs.FirstOf.{FirstOf}
 use Rattle.snb_history.specs.declared.logged.Header.{Header}
 use Rattle.snb_history.specs.declared.logged.Logged.{Logged}
 use Rattle.snb_schema.specs.declared.row.Row.{Row}
 use Rattle.snb_history.specs.Rules.{IsComplete, IsLegal}
 use Rattle.snb_auditor.specs.declared.verdict.Verdict.{Verdict}
-use Rattle.snb_auditor.specs.declared.verdict.Verdict.TheVariants.{Violated}
+use Rattle.snb_auditor.specs.declared.verdict.Verdict.TheVariants.{Violated, TooLate, Accepted}
 use Rattle.snb_auditor.specs.declared.verdict.Violation.{Violation}
 use Rattle.snb_auditor.specs.Verdicts.{IsTimelyRun, IsVerdict}
 use Rattle.snb_plan.specs.Plans.{Plan, schedule_of}
@@ -61,5 +61,18 @@ pub record IsInOrder (base : List Row) (plan : Plan) (header : Header) (logged :
   pub legal : IsLegal (schedule_of plan) header.workers (events_of logged)
   pub complete : IsComplete (schedule_of plan) (events_of logged)
   pub timely : IsTimelyRun (schedule_of plan) (events_of logged)
+  pub counted : IsFirstMiscount base plan logged None
+  pub matched : IsMatched plan header
+
+-- the verdict says that the run is whole: it is accepted, or late
+abbrev pub is_whole : AuditVerdict → Bool
+is_whole (Judged (TooLate on_time all)) = true
+is_whole (Judged (Accepted on_time all)) = true
+is_whole other = false
+
+-- the history of a log is legal and complete on the plan, no count is wrong, and the number of operations, where it is stated, is the plan's
+pub record IsWhole (base : List Row) (plan : Plan) (header : Header) (logged : List Logged) : Type 0 where
+  pub legal : IsLegal (schedule_of plan) header.workers (events_of logged)
+  pub complete : IsComplete (schedule_of plan) (events_of logged)
   pub counted : IsFirstMiscount base plan logged None
   pub matched : IsMatched plan header

@@ -1,5 +1,5 @@
 -- Laws of what a log is refused for, of what it says, and of the verdict on it.
-use Rattle.std.specs.Prelude.{◌≡◌, ◌↔◌, ℕ, List, Option}
+use Rattle.std.specs.Prelude.{◌≡◌, ◌↔◌, ℕ, true, List, Option}
 use Rattle.snb_history.specs.declared.logged.Header.{Header}
 use Rattle.snb_history.specs.declared.logged.Logged.{Logged}
 use Rattle.snb_schema.specs.declared.refusal.Refusal.{Refusal}
@@ -10,7 +10,7 @@ use Rattle.snb_graph_model.specs.Soundness.{Sound}
 use Rattle.snb_plan.specs.Plans.{Plan}
 use Rattle.snb_workers_replay.specs.Laws.{IsReplayed}
 use Rattle.snb_auditor_log.specs.declared.verdict.AuditVerdict.{AuditVerdict}
-use Rattle.snb_auditor_log.specs.AuditVerdicts.{IsAuditVerdict, IsInOrder}
+use Rattle.snb_auditor_log.specs.AuditVerdicts.{IsAuditVerdict, IsInOrder, IsWhole, is_whole}
 use Rattle.snb_auditor_log.specs.LogFiles.{IsLogOf, log_checks}
 use Rattle.snb_auditor_log.specs.VerdictTexts.{audit_status}
 
@@ -38,3 +38,10 @@ abbrev pub AcceptedInOrder : Type 0
 AcceptedInOrder =
     (base : List Row) (plan : Plan) (header : Header) (logged : List Logged) (verdict : AuditVerdict) →
     IsAuditVerdict base plan header logged verdict → (audit_status verdict ≡ 0) ↔ IsInOrder base plan header logged
+
+-- the verdict is that the run is accepted or late exactly where the history is legal and complete, no count is wrong, and the number of operations
+-- that is stated is the plan's
+abbrev pub WholeExactly : Type 0
+WholeExactly =
+    (base : List Row) (plan : Plan) (header : Header) (logged : List Logged) (verdict : AuditVerdict) →
+    IsAuditVerdict base plan header logged verdict → (is_whole verdict ≡ true) ↔ IsWhole base plan header logged

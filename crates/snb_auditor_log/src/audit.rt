@@ -27,6 +27,19 @@ use snb_plan::Plan;
 use snb_workers::miscount::first_miscount;
 use std::alloc::{AllocError, Global};
 
+/// A log, and the verdict on it.
+pub struct Audited {
+    /// What the log says.
+    pub log: Log,
+    pub verdict: AuditVerdict,
+}
+
+impl Drop for Audited {
+    fn drop(self) {
+        let Audited { log: _, verdict: _ } = self;
+    }
+}
+
 // The verdict on the history of what is logged.
 fn judge(
     alloc: Global,
@@ -100,8 +113,8 @@ fn verdict_on(
     after_judging(alloc, plan, base, log, verdict)
 }
 
-/// The verdict on the log of this path, of version 1 or 2, by a plan that is closed over a sound dataset. The
-/// whole log is read before any verdict: with a log that is refused there is none. A log of version 2 is
+/// What the log of this path says, of version 1 or 2, and the verdict on it by a plan that is closed over a sound
+/// dataset. The whole log is read before any verdict: with a log that is refused there is none. A log of version 2 is
 /// judged by its counts too: that of operations comes before anything else, and those of rows are looked at
 /// where the history is legal. The errors are those of `load_log`.
 pub fn audit_log<S: Shelf>(
@@ -110,14 +123,13 @@ pub fn audit_log<S: Shelf>(
     plan: &Plan,
     base: &Graph,
     path: &str,
-) -> Result<AuditVerdict, Load>
+) -> Result<Audited, Load>
     requires sound { Sound base.now }
     requires closed { IsClosed (HoldsKey base.now) (updates_in plan.now) }
     ensures answer { IsAuditAnswer base.now plan.now (S.contents shelf.old) path.now result }
     ensures read { IsRead (is_read_fault result) (S.contents shelf.old) (S.faults shelf.old) (S.contents shelf.new) (S.faults shelf.new) }
 {
-    match load_log(alloc, shelf, path) {
-        Err(load) => Err(load),
-        Ok(log) => Ok(verdict_on(alloc, plan, base, &log)?),
-    }
+    let log = load_log(alloc, shelf, path)?;
+    let verdict = verdict_on(alloc, plan, base, &log)?;
+    Ok(Audited { log, verdict })
 }

@@ -1,6 +1,6 @@
 //! Laws of what a log is refused for, of what it says and of the verdict on it, over every log.
 
-ghost use Rattle.snb_auditor_log.specs.Laws.{AcceptedInOrder, AuditVerdictIsOne, LogSaysOne, OneLogRefusal, RefusedOrNot};
+ghost use Rattle.snb_auditor_log.specs.Laws.{AcceptedInOrder, AuditVerdictIsOne, LogSaysOne, OneLogRefusal, RefusedOrNot, WholeExactly};
 
 use crate::file_sink::log_is_lawful;
 use snb_auditor::law::{accepted_exactly, verdict_is_one};
@@ -31,5 +31,13 @@ pub fn accepted_in_order()
     ensures { AcceptedInOrder }
 {
     accepted_exactly();
+    verdict_is_one();
+}
+
+/// The verdict on a log is that the run is accepted or late exactly where the history is legal and complete, no
+/// count is wrong, and the number of operations, where the log states it, is the plan's.
+pub fn whole_exactly()
+    ensures { WholeExactly }
+{
     verdict_is_one();
 }

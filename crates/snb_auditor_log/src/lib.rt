@@ -8,5 +8,6 @@ pub mod log;
 pub mod verdict;
 pub mod verdict_text;
 
-pub use audit::audit_log;
+pub use audit::{Audited, audit_log};
+pub use log::Log;
 pub use verdict::AuditVerdict;

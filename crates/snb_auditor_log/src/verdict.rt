@@ -1,5 +1,8 @@
 //! What the audit of a log finds.
 
+ghost use Rattle.std.specs.Prelude.{◌≡◌};
+ghost use Rattle.snb_auditor_log.specs.AuditVerdicts.{is_whole};
+
 use snb_auditor::Verdict;
 use snb_workers::Miscount;
 
@@ -22,4 +25,18 @@ pub enum AuditVerdict {
     Judged {
         verdict: Verdict,
     },
+}
+
+impl AuditVerdict {
+    /// Whether the run is accepted, or late: its history is legal and complete, and no count is wrong.
+    pub fn is_whole(self) -> bool
+        ensures { result ≡ is_whole self }
+    {
+        match self {
+            AuditVerdict::Mismatched { .. } | AuditVerdict::Miscounted { .. } => false,
+            AuditVerdict::Judged { verdict } => {
+                matches!(verdict, Verdict::Accepted { .. } | Verdict::TooLate { .. })
+            }
+        }
+    }
 }

@@ -1,6 +1,7 @@
 -- What other crates may cite of this one: facts about schedules, histories, completion times and plans.
 use Rattle.std.proofs.Common.{◌≡◌, ℕ, ◌<◌, ◌≤◌, List, [], ◌∷◌, ◌++◌, length, Bool, true, cond, ◌⊎◌, Option, Some, None}
-use Rattle.std.specs.Prelude.{pos, ◌≤ℤ◌, ◌↔◌}
+use Rattle.std.specs.Prelude.{pos, ◌≤ℤ◌, ◌↔◌, reverse}
+use Rattle.std.specs.List.{find}
 use Rattle.snb_schema.specs.declared.limits.TheConstants.{MAX_TIME, MAX_AT}
 use Rattle.snb_history.specs.declared.event.Event.{Event}
 use Rattle.snb_history.specs.Schedule.{Schedule, step_of, IsOperation, is_dependency, IsPlanned}
@@ -16,6 +17,7 @@ use Rattle.snb_history.proofs.Held
 use Rattle.snb_history.proofs.Short
 use Rattle.snb_history.proofs.Once
 use Rattle.snb_history.proofs.Histories
+use Rattle.snb_history.proofs.Pushes
 use Rattle.snb_history.proofs.InTurn
 use Rattle.snb_history.proofs.Holding
 use Rattle.snb_history.proofs.Unstuck
@@ -61,6 +63,17 @@ le-least_of = Times.le-least_of
 -- a least value is that of a number that passes, or the top
 pub least_of-reached : (f : ℕ → ℕ) (top : ℕ) (p : ℕ → Bool) (n : ℕ) → (least_of f top p n ≡ top) ⊎ ((k : ℕ) × (k < n) × (p k ≡ true) × (least_of f top p n ≡ f k))
 least_of-reached = Times.least_of-reached
+
+-- the events before the last are a legal history, and the last fits them
+pub IsLegal-front : (s : Schedule) (w : ℕ) (g h : List Event) → IsLegal s w (g ++ h) → IsLegal s w g
+IsLegal-front = Histories.IsLegal-front
+
+pub Fits-last : (s : Schedule) (w : ℕ) (h : List Event) (e : Event) → IsLegal s w (h ++ e ∷ []) → Fits s w h e
+Fits-last = Histories.Fits-last
+
+-- the latest of one more event: that event where it passes, else the latest of the others
+pub find-reverse_push : {X : Type 0} (p : X → Bool) (h : List X) (e : X) → find p (reverse (h ++ e ∷ [])) ≡ cond (p e) (Some e) (find p (reverse h))
+find-reverse_push = Pushes.find-reverse_push
 
 -- one more event starts what it starts, and leaves the rest
 pub started-push : (h : List Event) (e : Event) (k : ℕ) → started (h ++ e ∷ []) k ≡ cond (starts k e) true (started h k)

@@ -3,6 +3,8 @@ use Rattle.std.specs.Prelude.{◌≡◌, ℕ, ◌+◌, ◌≤◌, Bool, true, fa
 use Rattle.snb_base.specs.Shelf.{Files}
 use Rattle.snb_schema.specs.declared.fault.Fault.{Fault}
 use Rattle.snb_schema.specs.declared.fault.Fault.TheVariants as fault
+use Rattle.snb_schema.specs.declared.fault.PlanFault.{PlanFault}
+use Rattle.snb_schema.specs.declared.fault.PlanFault.TheVariants as plan_fault
 use Rattle.snb_schema.specs.declared.file.FileId.{FileId}
 use Rattle.snb_schema.specs.declared.limits.TheConstants.{MAX_BYTES}
 use Rattle.snb_schema.specs.Lines.{lines}
@@ -32,6 +34,11 @@ is_read_fault (Err load) = is_fault load
 abbrev pub load_for : Fault → Load
 load_for (fault.Bad r) = Refused r
 load_for fault.Memory = Memory
+
+-- and how a fault of a plan does
+abbrev pub load_for_plan : PlanFault → Load
+load_for_plan (plan_fault.Refused r) = Refused r
+load_for_plan plan_fault.Memory = Memory
 
 -- this is what the shelf holds under the name, where it tells what it holds
 abbrev pub IsTold : Option Files → List ℕ → Option (List ℕ) → Type 0

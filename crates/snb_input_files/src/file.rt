@@ -13,7 +13,7 @@ ghost use Rattle.snb_input_files.specs.Places.{FilesSay, Source};
 
 use crate::file_sink::FileSink;
 use crate::found::Found;
-use crate::load::{Load, Used, load_of};
+use crate::load::{Load, Used};
 use crate::pieces::{Step, read_piece};
 use snb_base::Shelf;
 use snb_input_lines::{Grammar, LineReader, RowCount};
@@ -55,7 +55,7 @@ fn end_file<G: Grammar + Drop, P: FileSink<G> + Drop>(
     ensures fault { is_read_fault result ≡ false }
 {
     match reader.end_to(&mut sink) {
-        Err(fault) => Err(load_of(fault)),
+        Err(fault) => Err(Load::from(fault)),
         Ok(()) => {
             let bytes = used.bytes + reader.fed();
             let RowCount {

@@ -1,10 +1,9 @@
 //! How much of an input was read, and why one isn't read.
 
-ghost use Rattle.std.specs.Prelude.{◌≡◌};
 ghost use Rattle.snb_input_files.specs.declared.load.Load.TheVariants.{Memory};
-ghost use Rattle.snb_input_files.specs.Loading.{load_for};
+ghost use Rattle.snb_input_files.specs.Loading.{load_for, load_for_plan};
 
-use snb_schema::{Fault, Refusal};
+use snb_schema::{Fault, PlanFault, Refusal};
 use std::alloc::{AllocError, AllocFailed};
 
 /// How much of an input was read so far, of all its files together.
@@ -47,12 +46,28 @@ impl<T: Drop> From<AllocFailed<T>> for Load {
     }
 }
 
-/// Why an input isn't read, where a reader of lines stopped at this.
-pub fn load_of(fault: Fault) -> Load
-    ensures { result ≡ load_for fault }
-{
-    match fault {
-        Fault::Bad { refusal } => Load::Refused { refusal },
-        Fault::Memory => Load::Memory,
+impl From<Fault> for Load {
+    ghost use Rattle.std.specs.Prelude.{◌≡◌};
+
+    ghost from_gives = { λ fault e. e ≡ load_for fault };
+
+    fn from(fault: Fault) -> Load {
+        match fault {
+            Fault::Bad { refusal } => Load::Refused { refusal },
+            Fault::Memory => Load::Memory,
+        }
+    }
+}
+
+impl From<PlanFault> for Load {
+    ghost use Rattle.std.specs.Prelude.{◌≡◌};
+
+    ghost from_gives = { λ fault e. e ≡ load_for_plan fault };
+
+    fn from(fault: PlanFault) -> Load {
+        match fault {
+            PlanFault::Refused { refusal } => Load::Refused { refusal },
+            PlanFault::Memory => Load::Memory,
+        }
     }
 }

@@ -8,7 +8,7 @@ ghost use Rattle.snb_input_files.specs.Loading.{is_read_fault};
 ghost use Rattle.snb_input_files.specs.Pieces.{IsBadPiece, IsFedMore, IsStep, OnRefused};
 
 use crate::file_sink::FileSink;
-use crate::load::{Load, load_of};
+use crate::load::Load;
 use snb_base::{Got, Shelf};
 use snb_input_lines::{Grammar, LineReader, RowCount};
 use snb_schema::limits::MAX_BYTES;
@@ -55,7 +55,7 @@ fn feed_piece<G: Grammar + Drop, P: FileSink<G> + Drop>(
 {
     let kept = piece.len().min((most - reader.fed()) as usize);
     match reader.feed_to(&piece[..kept], sink) {
-        Err(fault) => Err(load_of(fault)),
+        Err(fault) => Err(Load::from(fault)),
         Ok(()) => {
             if kept < piece.len() {
                 return Err(Load::Refused {

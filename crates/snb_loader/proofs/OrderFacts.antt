@@ -9,7 +9,7 @@ use Rattle.std.proofs.lemmas.List.Quantifiers.{all_pairs_push}
 use Rattle.snb_schema.specs.declared.file.FileId.{FileId}
 use Rattle.snb_schema.specs.declared.file.FileKind.{FileKind}
 use Rattle.snb_schema.specs.declared.op.Line.{Line}
-use Rattle.snb_schema.specs.declared.op.OpKind.{OpKind}
+use Rattle.snb_schema.specs.declared.op.InsertKind.{InsertKind}
 use Rattle.snb_schema.specs.declared.refusal.Refusal.{Refusal}
 use Rattle.snb_schema.specs.declared.refusal.Refusal.TheVariants.{OutOfOrder}
 use Rattle.snb_schema.specs.Lines.{lines}
@@ -98,7 +98,7 @@ files_inserts kind (s ∷ ss) (xs ∷ xss) k h =
     (files_inserts kind ss xss k.1 h.1)
 
 -- streams that were taken, and have the inserts of a kind
-pub of_streams : (kinds : List OpKind) (xss : List (List Line)) → All AreTaken xss → All (λ xs. AreInserts kinds xs) xss → All (AreOfStream kinds) xss
+pub of_streams : (kinds : List InsertKind) (xss : List (List Line)) → All AreTaken xss → All (λ xs. AreInserts kinds xs) xss → All (AreOfStream kinds) xss
 of_streams kinds [] taken are = All-nil (AreOfStream kinds)
 of_streams kinds (xs ∷ xss) taken are =
     let one = All-head AreTaken xs xss taken in

@@ -4,7 +4,7 @@ use Rattle.snb_base.specs.Shelf.{Files}
 use Rattle.snb_schema.specs.declared.file.FileId.{FileId}
 use Rattle.snb_schema.specs.declared.limits.TheConstants.{MAX_ROWS}
 use Rattle.snb_schema.specs.declared.op.Line.{Line}
-use Rattle.snb_schema.specs.declared.op.OpKind.{OpKind}
+use Rattle.snb_schema.specs.declared.op.InsertKind.{InsertKind}
 use Rattle.snb_schema.specs.declared.refusal.Refusal.{Refusal}
 use Rattle.snb_schema.specs.declared.refusal.Refusal.TheVariants.{OutOfOrder}
 use Rattle.snb_schema.specs.LineLanes.{LineLanes}
@@ -37,7 +37,7 @@ stream_format = record { language = λ file. stream_language file.kind; rules = 
 
 -- an insert that texts of fields spell is that of some line
 abbrev pub InsertsOfFieldsFit : Type 0
-InsertsOfFieldsFit = (allowed : List OpKind) (fs : List (List ℕ)) (x : Line) → All IsFieldText fs → SpellsInsert allowed fs x.t x.t_d x.op → IsOfLine x
+InsertsOfFieldsFit = (allowed : List InsertKind) (fs : List (List ℕ)) (x : Line) → All IsFieldText fs → SpellsInsert allowed fs x.t x.t_d x.op → IsOfLine x
 
 -- some text is each line, and t never falls
 pub record AreTaken (lines : List Line) : Type 0 where

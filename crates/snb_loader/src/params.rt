@@ -15,15 +15,14 @@ use snb_base::Shelf;
 use snb_input_files::{FileSink, Load, Series, Used, Walk, walk_stage};
 use snb_input_lines::Sink;
 use snb_schema::limits::MAX_ROWS;
-use snb_schema::{Fault, FileId, FileKind, Frequencies, Lists, Query, Refusal};
+use snb_schema::{
+    COMPLEX_QUERIES, Fault, FileId, FileKind, Frequencies, Lists, Query, Refusal,
+};
 use snb_streams::QueryLines;
 use snb_streams::law::one_query;
 use std::alloc::{AllocError, Global};
 use std::marker::Model;
 use std::mem;
-
-/// The numbers of the complex queries.
-pub const COMPLEX_QUERIES: [u32; 7] = [1, 2, 7, 8, 9, 11, 13];
 
 // The number of the query whose parameters a file of this kind has; any other file gives 0.
 fn query_in(kind: FileKind) -> u32

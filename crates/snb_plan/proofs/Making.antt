@@ -21,7 +21,7 @@ use Rattle.snb_plan.specs.Plans.{AreInOrder, AreReads, AreUpdates, IsEarlier, Is
 use Rattle.snb_plan.specs.Positions.{AreKept, AreUpdatePositions, IsKept, IsReadPosition, IsScheduled, IsPositionBefore, IsUpdatePosition, instance_at, line_at, no_instance, no_line, no_position, operation_of, query_at, read_step, position_step, position_t, update_step}
 use Rattle.snb_plan.proofs.Assembly.{ArePositionsOf, reads_within}
 use Rattle.snb_plan.proofs.Planned.{at_line, at_read, step_is, steps_before}
-use Rattle.snb_schema.proofs.PlaceFacts.{frequent_complex}
+use Rattle.snb_schema.proofs.Laws.{frequent_complex}
 use Rattle.snb_plan.proofs.Viewing.{shown}
 
 -- ---- lists that are mapped

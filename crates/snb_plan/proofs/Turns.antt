@@ -1,17 +1,19 @@
 -- The instances of the queries that go with so many updates.
 use Rattle.std.proofs.Common.{◌≡◌, ℕ, zero, suc, ◌+◌, ◌-◌, ◌*◌, ◌/◌, ◌<◌, ◌≤◌, true, false, List, [], ◌∷◌, ◌++◌, length, get_or, ◌⊎◌, inl, inr, refl, sym, ap, ◌∙◌, subst, arith, length-append}
 use Rattle.std.specs.Prelude.{if◌then◌else◌, ◌==◌}
-use Rattle.std.specs.List.{AllPairs, Contains}
+use Rattle.std.specs.List.{AllPairs, Contains, flat_map, sum_by}
 use Rattle.std.specs.List.Sorted.{IsPermutation, IsSorted}
 use Rattle.std.specs.Ordering.{nat_cmp, ordering_then, is_lt}
 use Rattle.std.proofs.lemmas.Bool.{cases_Bool, cases_lt, eqb-false, eqb-true}
 use Rattle.std.proofs.lemmas.List.Elements.{Contains-append_cases, Contains-append_left, Contains-append_right}
+use Rattle.std.proofs.lemmas.List.Concat.{length-flat_map}
 use Rattle.std.proofs.lemmas.List.FromFn.{get_or-map-range_with_len, length-map-range_with_len}
 use Rattle.std.proofs.lemmas.Nat.{div-add-mod', div-mul-add, le-div, mul-le}
 use Rattle.snb_plan.specs.contracts.instances.InstanceOrd.TheImpl.Laws.{total-law}
 use Rattle.snb_schema.specs.Frequencies.{FrequencyTable, frequency_at}
 use Rattle.snb_schema.specs.Queries.{IsComplex}
-use Rattle.snb_schema.proofs.PlaceFacts.{frequent_complex}
+use Rattle.snb_schema.specs.QueryPlaces.{complex_queries}
+use Rattle.snb_schema.proofs.Laws.{frequent_complex}
 use Rattle.snb_plan.specs.declared.instances.Instance.{Instance}
 use Rattle.snb_plan.specs.Plans.{AreReads, IsInstance, IsSooner, read_count, share}
 use Rattle.snb_plan.specs.Positions.{all_instances, instance_of, instances_of}
@@ -90,10 +92,10 @@ unfolding IsLater
 not_later a (inl lt) = omega (arith, lt)
 not_later a (inr (same, lt)) = omega (arith, lt)
 
--- the instances of some queries, of which none is above this one
-record Parts (fr : FrequencyTable) (c : ℕ) (xs : List Instance) (most : ℕ) : Type 0 where
+-- the instances of some queries, of which none is below this one
+record Parts (fr : FrequencyTable) (c : ℕ) (xs : List Instance) (least : ℕ) : Type 0 where
   pub pairs : AllPairs IsLater xs
-  pub below : (i : Instance) → Contains xs i → i.query ≤ most
+  pub above : (i : Instance) → Contains xs i → least ≤ i.query
   pub good : (i : Instance) → Contains xs i → IsInstance fr c i
 
 part_query : (fr : FrequencyTable) (c q : ℕ) (i : Instance) → Contains (instances_of fr c q) i → i.query ≡ q
@@ -109,58 +111,59 @@ part_pairs fr c q i j d below lt =
     let tb = ap (λ (x : Instance). x.turn) b in
     inr (ap (λ (x : Instance). x.query) a ∙ sym (ap (λ (x : Instance). x.query) b), omega (arith, ta, tb, below))
 
-first_part : (fr : FrequencyTable) (c q : ℕ) → Parts fr c (instances_of fr c q) q
-first_part fr c q = record { pairs = part_pairs fr c q; below = λ i at. (let e = part_query fr c q i at in omega (arith, e)); good = part_good fr c q }
+-- queries rise from this number on
+IsRising : ℕ → List ℕ → Type 0
+IsRising least [] = Unit {0}
+IsRising least (q ∷ qs) = (least ≤ q) × IsRising (q + 1) qs
 
-more_parts : (fr : FrequencyTable) (c : ℕ) (xs : List Instance) (most q : ℕ) → most < q → Parts fr c xs most → Parts fr c (xs ++ instances_of fr c q) q
-unfolding IsLater
-more_parts fr c xs most q above p = record {
-  pairs = pairs_append IsLater xs (instances_of fr c q) p.pairs (part_pairs fr c q)
-      (λ x y one other. let low = p.below x one in let e = part_query fr c q y other in inl (omega (arith, low, e, above)));
-  below = λ i at. elim (Contains-append_cases xs (instances_of fr c q) i at) [
-    | inl one ↦ let low = p.below i one in omega (arith, low, above)
-    | inr other ↦ let e = part_query fr c q i other in omega (arith, e)
-  ];
-  good = λ i at. elim (Contains-append_cases xs (instances_of fr c q) i at) [ inl one ↦ p.good i one | inr other ↦ part_good fr c q i other ];
+parts_of : (fr : FrequencyTable) (c least : ℕ) (qs : List ℕ) → IsRising least qs → Parts fr c (flat_map (instances_of fr c) qs) least
+unfolding IsLater IsRising
+parts_of fr c least [] rising = record {
+  pairs = λ i j d below lt. absurd (omega (arith, lt));
+  above = λ i at. absurd (let lt = at.1 in omega (arith, lt));
+  good = λ i at. absurd (let lt = at.1 in omega (arith, lt));
 }
+parts_of fr c least (q ∷ qs) (from, rising) =
+    let rest = parts_of fr c (q + 1) qs rising in
+    record {
+      pairs = pairs_append IsLater (instances_of fr c q) (flat_map (instances_of fr c) qs) (part_pairs fr c q) rest.pairs
+          (λ x y one other. let e = part_query fr c q x one in let high = rest.above y other in inl (omega (arith, e, high)));
+      above = λ i at. elim (Contains-append_cases (instances_of fr c q) (flat_map (instances_of fr c) qs) i at) [
+        | inl one ↦ let e = part_query fr c q i one in omega (arith, e, from)
+        | inr other ↦ let high = rest.above i other in omega (arith, high, from)
+      ];
+      good = λ i at. elim (Contains-append_cases (instances_of fr c q) (flat_map (instances_of fr c) qs) i at) [ inl one ↦ part_good fr c q i one | inr other ↦ rest.good i other ];
+    }
 
-all_parts : (fr : FrequencyTable) (c : ℕ) → Parts fr c (all_instances fr c) 13
-all_parts fr c =
-    more_parts fr c _ 11 13 (omega arith) (more_parts fr c _ 9 11 (omega arith) (more_parts fr c _ 8 9 (omega arith)
-    (more_parts fr c _ 7 8 (omega arith) (more_parts fr c _ 2 7 (omega arith) (more_parts fr c _ 1 2 (omega arith) (first_part fr c 1))))))
+all_parts : (fr : FrequencyTable) (c : ℕ) → Parts fr c (all_instances fr c) 1
+unfolding IsRising
+all_parts fr c = parts_of fr c 1 complex_queries (omega arith, (omega arith, (omega arith, (omega arith, (omega arith, (omega arith, (omega arith, tt)))))))
+
+-- the query is one of these
+IsOneOf : ℕ → List ℕ → Type 0
+IsOneOf q [] = ⊥
+IsOneOf q (x ∷ xs) = (q ≡ x) ⊎ IsOneOf q xs
+
+-- an instance of one of the queries is among theirs
+among : (fr : FrequencyTable) (c : ℕ) (qs : List ℕ) (q : ℕ) (i : Instance) → IsOneOf q qs → Contains (instances_of fr c q) i → Contains (flat_map (instances_of fr c) qs) i
+unfolding IsOneOf
+among fr c [] q i none at = absurd none
+among fr c (x ∷ qs) q i (inl here) at =
+    Contains-append_left (instances_of fr c x) (flat_map (instances_of fr c) qs) i (subst (λ (n : ℕ). Contains (instances_of fr c n) i) here at)
+among fr c (x ∷ qs) q i (inr later) at = Contains-append_right (instances_of fr c x) (flat_map (instances_of fr c) qs) i (among fr c qs q i later at)
 
 all_of : (fr : FrequencyTable) (c : ℕ) (i : Instance) → IsInstance fr c i → Contains (all_instances fr c) i
-all_of fr c i is = by (frequent_complex fr i.query is.frequent)
+unfolding IsOneOf
+all_of fr c i is = among fr c complex_queries i.query i (listed (frequent_complex fr i.query is.frequent)) (part_of fr c i is)
   where
-    here : (q : ℕ) → i.query ≡ q → Contains (instances_of fr c q) i
-    here q e = subst (λ (n : ℕ). Contains (instances_of fr c n) i) e (part_of fr c i is)
-
-    at13 : Contains (instances_of fr c 1 ++ instances_of fr c 2 ++ instances_of fr c 7 ++ instances_of fr c 8 ++ instances_of fr c 9 ++ instances_of fr c 11) i → Contains (all_instances fr c) i
-    at13 at = Contains-append_left (instances_of fr c 1 ++ instances_of fr c 2 ++ instances_of fr c 7 ++ instances_of fr c 8 ++ instances_of fr c 9 ++ instances_of fr c 11) (instances_of fr c 13) i at
-
-    at11 : Contains (instances_of fr c 1 ++ instances_of fr c 2 ++ instances_of fr c 7 ++ instances_of fr c 8 ++ instances_of fr c 9) i → Contains (all_instances fr c) i
-    at11 at = at13 (Contains-append_left (instances_of fr c 1 ++ instances_of fr c 2 ++ instances_of fr c 7 ++ instances_of fr c 8 ++ instances_of fr c 9) (instances_of fr c 11) i at)
-
-    at9 : Contains (instances_of fr c 1 ++ instances_of fr c 2 ++ instances_of fr c 7 ++ instances_of fr c 8) i → Contains (all_instances fr c) i
-    at9 at = at11 (Contains-append_left (instances_of fr c 1 ++ instances_of fr c 2 ++ instances_of fr c 7 ++ instances_of fr c 8) (instances_of fr c 9) i at)
-
-    at8 : Contains (instances_of fr c 1 ++ instances_of fr c 2 ++ instances_of fr c 7) i → Contains (all_instances fr c) i
-    at8 at = at9 (Contains-append_left (instances_of fr c 1 ++ instances_of fr c 2 ++ instances_of fr c 7) (instances_of fr c 8) i at)
-
-    at7 : Contains (instances_of fr c 1 ++ instances_of fr c 2) i → Contains (all_instances fr c) i
-    at7 at = at8 (Contains-append_left (instances_of fr c 1 ++ instances_of fr c 2) (instances_of fr c 7) i at)
-
-    by : IsComplex i.query → Contains (all_instances fr c) i
-    by (inl e) = at7 (Contains-append_left (instances_of fr c 1) (instances_of fr c 2) i (here 1 e))
-    by (inr (inl e)) = at7 (Contains-append_right (instances_of fr c 1) (instances_of fr c 2) i (here 2 e))
-    by (inr (inr (inl e))) = at8 (Contains-append_right (instances_of fr c 1 ++ instances_of fr c 2) (instances_of fr c 7) i (here 7 e))
-    by (inr (inr (inr (inl e)))) = at9 (Contains-append_right (instances_of fr c 1 ++ instances_of fr c 2 ++ instances_of fr c 7) (instances_of fr c 8) i (here 8 e))
-    by (inr (inr (inr (inr (inl e))))) =
-        at11 (Contains-append_right (instances_of fr c 1 ++ instances_of fr c 2 ++ instances_of fr c 7 ++ instances_of fr c 8) (instances_of fr c 9) i (here 9 e))
-    by (inr (inr (inr (inr (inr (inl e)))))) =
-        at13 (Contains-append_right (instances_of fr c 1 ++ instances_of fr c 2 ++ instances_of fr c 7 ++ instances_of fr c 8 ++ instances_of fr c 9) (instances_of fr c 11) i (here 11 e))
-    by (inr (inr (inr (inr (inr (inr e)))))) =
-        Contains-append_right (instances_of fr c 1 ++ instances_of fr c 2 ++ instances_of fr c 7 ++ instances_of fr c 8 ++ instances_of fr c 9 ++ instances_of fr c 11) (instances_of fr c 13) i (here 13 e)
+    listed : IsComplex i.query → IsOneOf i.query complex_queries
+    listed (inl e) = inl e
+    listed (inr (inl e)) = inr (inl e)
+    listed (inr (inr (inl e))) = inr (inr (inl e))
+    listed (inr (inr (inr (inl e)))) = inr (inr (inr (inl e)))
+    listed (inr (inr (inr (inr (inl e))))) = inr (inr (inr (inr (inl e))))
+    listed (inr (inr (inr (inr (inr (inl e)))))) = inr (inr (inr (inr (inr (inl e)))))
+    listed (inr (inr (inr (inr (inr (inr e)))))) = inr (inr (inr (inr (inr (inr (inl e))))))
 
 -- ---- in order
 
@@ -212,17 +215,5 @@ reads_sorted fr c xs ys are moved sorted = record {
 -- there are as many as all shares together
 pub instances_counted : (fr : FrequencyTable) (c : ℕ) → length (all_instances fr c) ≡ read_count fr c
 instances_counted fr c =
-    let n : (q : ℕ) → length (instances_of fr c q) ≡ share c (frequency_at fr q) = λ q. length-map-range_with_len (instance_of (frequency_at fr q) q) 0 (share c (frequency_at fr q)) in
-    let p2 : List Instance = instances_of fr c 1 ++ instances_of fr c 2 in
-    let p7 : List Instance = instances_of fr c 1 ++ instances_of fr c 2 ++ instances_of fr c 7 in
-    let p8 : List Instance = instances_of fr c 1 ++ instances_of fr c 2 ++ instances_of fr c 7 ++ instances_of fr c 8 in
-    let p9 : List Instance = instances_of fr c 1 ++ instances_of fr c 2 ++ instances_of fr c 7 ++ instances_of fr c 8 ++ instances_of fr c 9 in
-    let p11 : List Instance = instances_of fr c 1 ++ instances_of fr c 2 ++ instances_of fr c 7 ++ instances_of fr c 8 ++ instances_of fr c 9 ++ instances_of fr c 11 in
-    let a2 = length-append (instances_of fr c 1) (instances_of fr c 2) in
-    let a7 = length-append p2 (instances_of fr c 7) in
-    let a8 = length-append p7 (instances_of fr c 8) in
-    let a9 = length-append p8 (instances_of fr c 9) in
-    let a11 = length-append p9 (instances_of fr c 11) in
-    let a13 = length-append p11 (instances_of fr c 13) in
-    let n1 = n 1 in let n2 = n 2 in let n7 = n 7 in let n8 = n 8 in let n9 = n 9 in let n11 = n 11 in let n13 = n 13 in
-    omega (arith, a2, a7, a8, a9, a11, a13, n1, n2, n7, n8, n9, n11, n13)
+    let each : (q : ℕ) → length (instances_of fr c q) ≡ share c (frequency_at fr q) = λ q. length-map-range_with_len (instance_of (frequency_at fr q) q) 0 (share c (frequency_at fr q)) in
+    length-flat_map (instances_of fr c) complex_queries ∙ ap (λ (f : ℕ → ℕ). sum_by f complex_queries) (λ i q. each q i)

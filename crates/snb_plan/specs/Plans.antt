@@ -13,11 +13,12 @@ use Rattle.snb_schema.specs.Awaiting.{adds_awaited, waits}
 use Rattle.snb_schema.specs.Frequencies.{FrequencyTable, frequency_at}
 use Rattle.snb_schema.specs.LineLanes.{LineLanes}
 use Rattle.snb_schema.specs.QueryLists.{QueryLists, list_of}
+use Rattle.snb_schema.specs.QueryPlaces.{complex_queries}
 use Rattle.snb_history.specs.Schedule.{Schedule, ComesBefore}
 use Rattle.snb_schema.specs.StreamLines.{AreOfStreams}
 use Rattle.snb_plan.specs.declared.instances.Instance.{Instance}
-use Rattle.snb_plan.specs.declared.plan.PlanFault.{PlanFault}
-use Rattle.snb_plan.specs.declared.plan.PlanFault.TheVariants.{Refused, Memory}
+use Rattle.snb_schema.specs.declared.fault.PlanFault.{PlanFault}
+use Rattle.snb_schema.specs.declared.fault.PlanFault.TheVariants.{Refused, Memory}
 use Rattle.snb_plan.specs.declared.plan.Source.{Source}
 use Rattle.snb_plan.specs.declared.plan.Task.{Task}
 use Rattle.snb_plan.specs.declared.plan.Task.TheVariants as tasks
@@ -99,7 +100,7 @@ share count frequency = if frequency == 0 then 0 else count / frequency
 
 -- and how many of all queries together
 abbrev pub read_count : FrequencyTable → ℕ → ℕ
-read_count frequencies count = sum_by (λ q. share count (frequency_at frequencies q)) (1 ∷ 2 ∷ 7 ∷ 8 ∷ 9 ∷ 11 ∷ 13 ∷ [])
+read_count frequencies count = sum_by (λ q. share count (frequency_at frequencies q)) complex_queries
 
 -- the parameters are taken in turn, and from the start again when they are used up
 abbrev pub IsAsked : QueryLists → Instance → Query → Type 0

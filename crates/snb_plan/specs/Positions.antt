@@ -1,6 +1,6 @@
 -- Where operations stand, before they are put in order. Cited by contracts of private functions alone.
 use Rattle.std.specs.Prelude.{◌≡◌, ℕ, ◌+◌, ◌-◌, ◌*◌, ◌<◌, ◌≤◌, ◌⊎◌, ◌%◌, ◌++◌, ◌∷◌, ◌==◌, [], List, AllPairs, Option, Some, None, filter_map, if◌then◌else◌, length, map, slice_index_or, true, false}
-use Rattle.std.specs.List.{range_with_len}
+use Rattle.std.specs.List.{flat_map, range_with_len}
 use Rattle.snb_ratio.specs.Ratios.{due_of}
 use Rattle.snb_schema.specs.declared.op.Line.{Line}
 use Rattle.snb_schema.specs.declared.op.Op.TheVariants.{AddFriend}
@@ -12,6 +12,7 @@ use Rattle.snb_schema.specs.Frequencies.{FrequencyTable, frequency_at}
 use Rattle.snb_schema.specs.LineLanes.{LineLanes}
 use Rattle.snb_schema.specs.Queries.{IsComplex}
 use Rattle.snb_schema.specs.QueryLists.{QueryLists, list_of}
+use Rattle.snb_schema.specs.QueryPlaces.{complex_queries}
 use Rattle.snb_history.specs.Schedule.{Schedule, no_step}
 use Rattle.snb_plan.specs.declared.instances.Instance.{Instance}
 use Rattle.snb_plan.specs.declared.positions.Position.{Position}
@@ -31,9 +32,7 @@ instances_of frequencies count query =
 
 -- the instances of all queries, query by query
 abbrev pub all_instances : FrequencyTable → ℕ → List Instance
-all_instances frequencies count =
-    instances_of frequencies count 1 ++ instances_of frequencies count 2 ++ instances_of frequencies count 7 ++ instances_of frequencies count 8
-    ++ instances_of frequencies count 9 ++ instances_of frequencies count 11 ++ instances_of frequencies count 13
+all_instances frequencies count = flat_map (instances_of frequencies count) complex_queries
 
 -- ---- positions
 

@@ -4,7 +4,7 @@ ghost use Rattle.std.specs.Prelude.{◌≡◌, ◌≤◌, ◌++◌, length, IfOk
 ghost use Rattle.snb_plan.specs.Plans.{read_count, share, AreReads};
 ghost use Rattle.snb_plan.specs.Positions.{all_instances, instances_of};
 
-use snb_schema::Frequencies;
+use snb_schema::{COMPLEX_QUERIES, Frequencies};
 use std::alloc::{AllocError, Global};
 
 /// An instance of a complex query.
@@ -34,13 +34,11 @@ fn share(count: u32, frequency: u32) -> u64
 pub fn read_count(frequencies: &Frequencies, count: u32) -> u64
     ensures { result ≡ read_count frequencies.now count }
 {
-    share(count, frequencies.of(1))
-        + share(count, frequencies.of(2))
-        + share(count, frequencies.of(7))
-        + share(count, frequencies.of(8))
-        + share(count, frequencies.of(9))
-        + share(count, frequencies.of(11))
-        + share(count, frequencies.of(13))
+    let mut all = 0;
+    for query in COMPLEX_QUERIES {
+        all += share(count, frequencies.of(query));
+    }
+    all
 }
 
 // Appends the instances of a query that go with so many updates, in their order.
@@ -73,13 +71,9 @@ fn all_instances(
     ensures { IfOk result (λ instances. instances.items ≡ all_instances frequencies.now count) }
 {
     let mut instances = Vec::new(alloc);
-    push_instances(&mut instances, frequencies, 1, count)?;
-    push_instances(&mut instances, frequencies, 2, count)?;
-    push_instances(&mut instances, frequencies, 7, count)?;
-    push_instances(&mut instances, frequencies, 8, count)?;
-    push_instances(&mut instances, frequencies, 9, count)?;
-    push_instances(&mut instances, frequencies, 11, count)?;
-    push_instances(&mut instances, frequencies, 13, count)?;
+    for query in COMPLEX_QUERIES {
+        push_instances(&mut instances, frequencies, query, count)?;
+    }
     Ok(instances)
 }
 

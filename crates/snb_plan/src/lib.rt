@@ -8,4 +8,5 @@ pub mod law;
 pub mod plan;
 mod positions;
 
-pub use plan::{Plan, PlanFault, Task};
+pub use plan::{Plan, Task};
+pub use snb_schema::PlanFault;

@@ -2,7 +2,6 @@
 
 ghost use Rattle.std.specs.Prelude.{◌≡◌, ◌<◌, ◌≤◌, All, IfOk, OnOk, count_by, length, map};
 ghost use Rattle.snb_schema.specs.declared.limits.TheConstants.{MAX_AT, MAX_READS, MAX_ROWS, MAX_TIME};
-ghost use Rattle.snb_plan.specs.declared.plan.PlanFault.TheVariants.{Memory};
 ghost use Rattle.snb_schema.specs.declared.refusal.Counted.TheVariants.{Reads};
 ghost use Rattle.snb_schema.specs.declared.refusal.Refusal.TheVariants.{TooMany};
 ghost use Rattle.snb_schema.specs.Awaiting.{adds_awaited, waits};
@@ -24,9 +23,9 @@ use snb_history::{LaneKind, Schedule, Step};
 use snb_ratio::Ratio;
 use snb_schema::limits::MAX_READS;
 use snb_schema::{
-    Counted, Fault, FileId, Frequencies, Held, Lanes, Line, Lists, Op, Query, Refusal,
+    Counted, Fault, FileId, Frequencies, Held, Lanes, Line, Lists, Op, PlanFault, Query, Refusal,
 };
-use std::alloc::{AllocError, AllocFailed, Global};
+use std::alloc::{AllocError, Global};
 use std::marker::Model;
 
 /// Whether the insert is a dependency: it adds a node that dependents may wait for, by the dependency
@@ -47,35 +46,6 @@ pub fn waits(op: &Op) -> bool
     match op {
         Op::AddPerson { .. } => false,
         _ => true,
-    }
-}
-
-/// Why there is no plan, or why it isn't closed.
-#[derive(Clone, Copy)]
-pub enum PlanFault {
-    /// The input is refused.
-    Refused { refusal: Refusal },
-    /// Memory ran out.
-    Memory,
-}
-
-impl From<AllocError> for PlanFault {
-    ghost use Rattle.std.specs.Prelude.{◌≡◌};
-
-    ghost from_gives = { λ _ e. e ≡ Memory };
-
-    fn from(_error: AllocError) -> PlanFault {
-        PlanFault::Memory
-    }
-}
-
-impl<T: Drop> From<AllocFailed<T>> for PlanFault {
-    ghost use Rattle.std.specs.Prelude.{◌≡◌};
-
-    ghost from_gives = { λ _ e. e ≡ Memory };
-
-    fn from(_error: AllocFailed<T>) -> PlanFault {
-        PlanFault::Memory
     }
 }
 

@@ -1,8 +1,8 @@
 -- Who waits for whom: some inserts add nodes that others wait for, and some inserts wait. An insert may do both, one or neither.
 use Rattle.std.specs.Prelude.{Bool, true, false, Option, Some, None}
 use Rattle.snb_schema.specs.declared.op.Op.{Op}
-use Rattle.snb_schema.specs.declared.op.OpKind.{OpKind}
-use Rattle.snb_schema.specs.declared.op.OpKind.TheVariants as inserts
+use Rattle.snb_schema.specs.declared.op.InsertKind.{InsertKind}
+use Rattle.snb_schema.specs.declared.op.InsertKind.TheVariants as inserts
 use Rattle.snb_schema.specs.declared.table.Kind.{Kind}
 use Rattle.snb_schema.specs.declared.table.Kind.TheVariants as kinds
 use Rattle.snb_schema.specs.UpdateLines.{kind_of}
@@ -19,7 +19,7 @@ is_awaited kinds.Post = false
 is_awaited kinds.Comment = false
 
 -- the kind of the node that an insert adds, if it adds one
-abbrev pub added_kind : OpKind → Option Kind
+abbrev pub added_kind : InsertKind → Option Kind
 added_kind inserts.AddPerson = Some kinds.Person
 added_kind inserts.LikePost = None
 added_kind inserts.LikeComment = None
@@ -39,7 +39,7 @@ abbrev pub adds_awaited : Op → Bool
 adds_awaited op = is_awaited_node (added_kind (kind_of op))
 
 -- an insert of this kind waits for what is added up to its t_d: all but the first do
-abbrev pub kind_waits : OpKind → Bool
+abbrev pub kind_waits : InsertKind → Bool
 kind_waits inserts.AddPerson = false
 kind_waits inserts.LikePost = true
 kind_waits inserts.LikeComment = true

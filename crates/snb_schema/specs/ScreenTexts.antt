@@ -11,7 +11,7 @@ use Rattle.snb_schema.specs.FileNames.{name_of, table_text}
 
 -- what is shown for words that aren't a line of the program's
 abbrev pub usage_text : List ℕ
-usage_text = codes "usage: snb COMMAND, where COMMAND is check, run, audit, expect, validate, read or trial\n"
+usage_text = codes "usage: snb COMMAND, where COMMAND is check, run, audit, latency, expect, validate, read or trial\n"
 
 -- how many operations, updates and reads a run had, and how many rows its final graph has
 abbrev pub summary_text : ℕ → ℕ → ℕ → ℕ → List ℕ

@@ -1,7 +1,7 @@
 -- The lines of the update streams, as a plan takes them.
 use Rattle.std.specs.Prelude.{◌≤◌, ℕ, List, All, AllPairs, Contains}
 use Rattle.snb_schema.specs.declared.op.Line.{Line}
-use Rattle.snb_schema.specs.declared.op.OpKind.{OpKind}
+use Rattle.snb_schema.specs.declared.op.InsertKind.{InsertKind}
 use Rattle.snb_schema.specs.LineLanes.{LineLanes}
 use Rattle.snb_schema.specs.UpdateLines.{IsLine, forum_inserts, kind_of, person_inserts}
 
@@ -10,7 +10,7 @@ abbrev pub IsOfLine : Line → Type 0
 IsOfLine x = (text : List ℕ) × IsLine text x.t x.t_d x.op
 
 -- each line is one of these inserts
-abbrev pub AreInserts : List OpKind → List Line → Type 0
+abbrev pub AreInserts : List InsertKind → List Line → Type 0
 AreInserts kinds lines = All (λ x. Contains kinds (kind_of x.op)) lines
 
 -- t never falls
@@ -18,7 +18,7 @@ abbrev pub NeverFalls : List Line → Type 0
 NeverFalls lines = AllPairs (λ x y. x.t ≤ y.t) lines
 
 -- the lines of a stream that has these inserts: some text has each, each is one of the inserts, and t never falls
-pub record AreOfStream (kinds : List OpKind) (lines : List Line) : Type 0 where
+pub record AreOfStream (kinds : List InsertKind) (lines : List Line) : Type 0 where
   pub of_lines : All IsOfLine lines
   pub of_kinds : AreInserts kinds lines
   pub rises : NeverFalls lines

@@ -10,8 +10,8 @@ use Rattle.snb_schema.specs.declared.column.Value.TheVariants.{Digits, SmallDigi
 use Rattle.snb_schema.specs.declared.limits.TheConstants.{MAX_LENGTH, MAX_TIME}
 use Rattle.snb_schema.specs.declared.op.Op.{Op}
 use Rattle.snb_schema.specs.declared.op.Op.TheVariants.{AddPerson, LikePost, LikeComment, AddForum, AddMember, AddPost, AddComment, AddFriend}
-use Rattle.snb_schema.specs.declared.op.OpKind.{OpKind}
-use Rattle.snb_schema.specs.declared.op.OpKind.TheVariants as kinds
+use Rattle.snb_schema.specs.declared.op.InsertKind.{InsertKind}
+use Rattle.snb_schema.specs.declared.op.InsertKind.TheVariants as kinds
 use Rattle.snb_schema.specs.declared.op.Parent.{Parent}
 use Rattle.snb_schema.specs.declared.op.Parent.TheVariants as parents
 use Rattle.snb_schema.specs.Columns.{SpellsAll, StopsAfter, canonical_field, no_id}
@@ -19,7 +19,7 @@ use Rattle.snb_schema.specs.Layouts.{id_column}
 use Rattle.snb_schema.specs.Lines.{HasNoEnd, fields, begins_with_mark}
 
 -- which of the eight an insert is
-abbrev pub kind_of : Op → OpKind
+abbrev pub kind_of : Op → InsertKind
 kind_of (AddPerson id first last gender birthday created ip browser city languages emails tags study work) = kinds.AddPerson
 kind_of (LikePost person post date) = kinds.LikePost
 kind_of (LikeComment person comment date) = kinds.LikeComment
@@ -30,7 +30,7 @@ kind_of (AddComment id date ip browser content size author country parent tags) 
 kind_of (AddFriend one other date) = kinds.AddFriend
 
 -- the number by which a line names its insert
-abbrev pub kind_number : OpKind → ℕ
+abbrev pub kind_number : InsertKind → ℕ
 kind_number kinds.AddPerson = 1
 kind_number kinds.LikePost = 2
 kind_number kinds.LikeComment = 3
@@ -44,7 +44,7 @@ abbrev pub op_number : Op → ℕ
 op_number op = kind_number (kind_of op)
 
 -- the columns that follow the number of an insert
-abbrev pub insert_columns : OpKind → List Column
+abbrev pub insert_columns : InsertKind → List Column
 insert_columns kinds.AddPerson =
     id_column ∷ Words ∷ Words ∷ Words ∷ Day ∷ Date ∷ Words ∷ Words ∷ id_column ∷ TextList ∷ TextList ∷ IdList ∷ PairList ∷ PairList ∷ []
 insert_columns kinds.LikePost = id_column ∷ id_column ∷ Date ∷ []
@@ -58,7 +58,7 @@ insert_columns kinds.AddComment =
 insert_columns kinds.AddFriend = id_column ∷ id_column ∷ Date ∷ []
 
 -- the columns of a line with an insert of this kind: t, t_d, the number, and those of the insert
-abbrev pub line_columns : OpKind → List Column
+abbrev pub line_columns : InsertKind → List Column
 line_columns kind = Number MAX_TIME ∷ Number MAX_TIME ∷ Number (kind_number kind) ∷ insert_columns kind
 
 -- the post that a comment replies to, where it is one
@@ -110,7 +110,7 @@ abbrev pub canonical_line : ℕ → ℕ → Op → List ℕ
 canonical_line t t_d op = join_with_byte 124 (map canonical_field (line_values t t_d op))
 
 -- the third field is the number of one of these inserts
-abbrev pub Names : List OpKind → List (List ℕ) → OpKind → Type 0
+abbrev pub Names : List InsertKind → List (List ℕ) → InsertKind → Type 0
 Names allowed (t ∷ t_d ∷ x ∷ rest) kind = Contains allowed kind × Num x (kind_number kind) (kind_number kind)
 Names allowed _ kind = ⊥
 
@@ -120,7 +120,7 @@ field k fs = slice_index_or fs k []
 
 -- two fields of an insert of this kind don't go together, and the second is in this column: a friendship with oneself, or a comment
 -- with no parent or two
-abbrev pub Clashes : OpKind → List (List ℕ) → ℕ → Type 0
+abbrev pub Clashes : InsertKind → List (List ℕ) → ℕ → Type 0
 Clashes kinds.AddFriend fs column = (column ≡ 5) × ((id : ℕ) × SpellsId (field 3 fs) id × SpellsId (field 4 fs) id)
 Clashes kinds.AddComment fs column =
     (column ≡ 13)
@@ -133,33 +133,33 @@ IsFirstOfThree fs column =
     FirstOf ((λ c. (n : ℕ) × StopsAfter (Number MAX_TIME ∷ Number MAX_TIME ∷ []) fs n × (c ≡ n + 1)) ∷ (λ c. c ≡ 3) ∷ []) column
 
 -- a column of a line with an insert of this kind is the first that isn't in its grammar, or doesn't go with one before it
-abbrev pub IsBadField : OpKind → List (List ℕ) → ℕ → Type 0
+abbrev pub IsBadField : InsertKind → List (List ℕ) → ℕ → Type 0
 IsBadField kind fs column = ((n : ℕ) × StopsAfter (line_columns kind) fs n × (column ≡ n + 1)) ⊎ Clashes kind fs column
 
 -- the least of these columns
-abbrev pub IsFirstBad : OpKind → List (List ℕ) → ℕ → Type 0
+abbrev pub IsFirstBad : InsertKind → List (List ℕ) → ℕ → Type 0
 IsFirstBad kind fs column = IsBadField kind fs column × ((other : ℕ) → IsBadField kind fs other → column ≤ other)
 
 -- these fields are no insert of one of these kinds, in this column first: 0 where there are fewer than three, then the first bad one of
 -- three where the third names none of these inserts, then 0 where the insert has another number of fields, else the first bad one
-abbrev pub IsBadInsert : List OpKind → List (List ℕ) → ℕ → Type 0
+abbrev pub IsBadInsert : List InsertKind → List (List ℕ) → ℕ → Type 0
 IsBadInsert allowed fs column =
     FirstOf
     ((λ c. (length fs < 3) × (c ≡ 0))
-    ∷ (λ c. ((kind : OpKind) → ¬ Names allowed fs kind) × IsFirstOfThree fs c)
-    ∷ (λ c. (kind : OpKind) × Names allowed fs kind × (length fs ≢ length (line_columns kind)) × (c ≡ 0))
-    ∷ (λ c. (kind : OpKind) × Names allowed fs kind × IsFirstBad kind fs c)
+    ∷ (λ c. ((kind : InsertKind) → ¬ Names allowed fs kind) × IsFirstOfThree fs c)
+    ∷ (λ c. (kind : InsertKind) × Names allowed fs kind × (length fs ≢ length (line_columns kind)) × (c ≡ 0))
+    ∷ (λ c. (kind : InsertKind) × Names allowed fs kind × IsFirstBad kind fs c)
     ∷ [])
     column
 
 -- the inserts of each kind of stream, and all of them
-abbrev pub person_inserts : List OpKind
+abbrev pub person_inserts : List InsertKind
 person_inserts = kinds.AddPerson ∷ kinds.AddFriend ∷ []
 
-abbrev pub forum_inserts : List OpKind
+abbrev pub forum_inserts : List InsertKind
 forum_inserts = kinds.LikePost ∷ kinds.LikeComment ∷ kinds.AddForum ∷ kinds.AddMember ∷ kinds.AddPost ∷ kinds.AddComment ∷ []
 
-abbrev pub all_inserts : List OpKind
+abbrev pub all_inserts : List InsertKind
 all_inserts = kinds.AddPerson ∷ kinds.LikePost ∷ kinds.LikeComment ∷ kinds.AddForum ∷ kinds.AddMember ∷ kinds.AddPost ∷ kinds.AddComment ∷ kinds.AddFriend ∷ []
 
 -- a text is no line of an insert, in this column first: 1 where it begins with a byte order mark, 0 where it isn't UTF-8 or isn't one

@@ -1,7 +1,8 @@
-//! Why a reader of lines stops.
+//! Why a reader of lines stops, and why there is no plan.
 
 ghost use Rattle.snb_schema.specs.declared.fault.Fault.TheVariants.{Memory};
 ghost use Rattle.snb_schema.specs.declared.fault.LineFault.TheVariants as line_fault;
+ghost use Rattle.snb_schema.specs.declared.fault.PlanFault.TheVariants as plan_fault;
 
 use crate::refusal::Refusal;
 use std::alloc::{AllocError, AllocFailed};
@@ -62,5 +63,34 @@ impl<T: Drop> From<AllocFailed<T>> for LineFault {
 
     fn from(_error: AllocFailed<T>) -> LineFault {
         LineFault::Memory
+    }
+}
+
+/// Why there is no plan, or why it isn't closed.
+#[derive(Clone, Copy)]
+pub enum PlanFault {
+    /// The input is refused.
+    Refused { refusal: Refusal },
+    /// Memory ran out.
+    Memory,
+}
+
+impl From<AllocError> for PlanFault {
+    ghost use Rattle.std.specs.Prelude.{◌≡◌};
+
+    ghost from_gives = { λ _ e. e ≡ plan_fault.Memory };
+
+    fn from(_error: AllocError) -> PlanFault {
+        PlanFault::Memory
+    }
+}
+
+impl<T: Drop> From<AllocFailed<T>> for PlanFault {
+    ghost use Rattle.std.specs.Prelude.{◌≡◌};
+
+    ghost from_gives = { λ _ e. e ≡ plan_fault.Memory };
+
+    fn from(_error: AllocFailed<T>) -> PlanFault {
+        PlanFault::Memory
     }
 }

@@ -172,7 +172,7 @@ impl Drop for Op {
 
 /// The eight inserts, in the order of their numbers from 1 on.
 #[derive(Clone, Copy)]
-pub enum OpKind {
+pub enum InsertKind {
     AddPerson,
     LikePost,
     LikeComment,

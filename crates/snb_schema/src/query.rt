@@ -107,6 +107,9 @@ impl Drop for Query {
     }
 }
 
+/// The numbers of the complex queries, in order.
+pub const COMPLEX_QUERIES: [u32; 7] = [1, 2, 7, 8, 9, 11, 13];
+
 /// Whether this is the number of one of the seven complex queries.
 pub fn is_complex(query: u32) -> bool
     ensures { IsTrue result ↔ IsComplex query }

@@ -4,7 +4,7 @@ use Rattle.std.specs.Prelude.{IsUtf8}
 use Rattle.std.proofs.lemmas.Bool.{cases_Bool, cases_eq, cases_lt}
 use Rattle.snb_schema.specs.declared.column.Column.TheVariants.{Number}
 use Rattle.snb_schema.specs.declared.limits.TheConstants.{MAX_TIME}
-use Rattle.snb_schema.specs.declared.op.OpKind.{OpKind}
+use Rattle.snb_schema.specs.declared.op.InsertKind.{InsertKind}
 use Rattle.snb_schema.specs.Columns.{StopsAfter}
 use Rattle.snb_schema.specs.Lines.{HasNoEnd, begins_with_mark, fields}
 use Rattle.snb_schema.specs.ParameterLines.{IsBadQuery, query_columns}
@@ -32,41 +32,41 @@ three_to_case fs column (inr (stops, inl p)) = inr (λ n s. stops (n + 1) (n, s,
 three_to_case fs column (inr (stops, inr p)) = absurd p.1
 
 -- of the fields of an insert,
-abbrev pub IsFieldCase : OpKind → List (List ℕ) → ℕ → Type 0
+abbrev pub IsFieldCase : InsertKind → List (List ℕ) → ℕ → Type 0
 IsFieldCase kind fs column =
     ((n : ℕ) × StopsAfter (line_columns kind) fs n × (column ≡ n + 1) × ((other : ℕ) → Clashes kind fs other → column < other))
     ⊎ (Clashes kind fs column × ((n : ℕ) → StopsAfter (line_columns kind) fs n → column ≤ n))
 
-stop_least : (kind : OpKind) (fs : List (List ℕ)) (column n : ℕ) → StopsAfter (line_columns kind) fs n → column ≡ n + 1 → ((other : ℕ) → Clashes kind fs other → column < other) → (c : ℕ) → IsBadField kind fs c → column ≤ c
+stop_least : (kind : InsertKind) (fs : List (List ℕ)) (column n : ℕ) → StopsAfter (line_columns kind) fs n → column ≡ n + 1 → ((other : ℕ) → Clashes kind fs other → column < other) → (c : ℕ) → IsBadField kind fs c → column ≤ c
 stop_least kind fs column n stop at less c (inl q) = (let same = one_stop (line_columns kind) fs n q.0 stop q.1 in let a = q.2 in omega arith)
 stop_least kind fs column n stop at less c (inr q) = (let l = less c q in omega arith)
 
-clash_least : (kind : OpKind) (fs : List (List ℕ)) (column : ℕ) → Clashes kind fs column → ((n : ℕ) → StopsAfter (line_columns kind) fs n → column ≤ n) → (c : ℕ) → IsBadField kind fs c → column ≤ c
+clash_least : (kind : InsertKind) (fs : List (List ℕ)) (column : ℕ) → Clashes kind fs column → ((n : ℕ) → StopsAfter (line_columns kind) fs n → column ≤ n) → (c : ℕ) → IsBadField kind fs c → column ≤ c
 clash_least kind fs column clash less c (inl q) = (let l = less q.0 q.1 in let a = q.2 in omega arith)
 clash_least kind fs column clash less c (inr q) = (let same = one_clash kind fs column c clash q in omega arith)
 
-pub field_from_case : (kind : OpKind) (fs : List (List ℕ)) (column : ℕ) → IsFieldCase kind fs column → IsFirstBad kind fs column
+pub field_from_case : (kind : InsertKind) (fs : List (List ℕ)) (column : ℕ) → IsFieldCase kind fs column → IsFirstBad kind fs column
 field_from_case kind fs column (inl p) = (inl (p.0, p.1, p.2), stop_least kind fs column p.0 p.1 p.2 p.3)
 field_from_case kind fs column (inr p) = (inr p.0, clash_least kind fs column p.0 p.1)
 
-pub field_to_case : (kind : OpKind) (fs : List (List ℕ)) (column : ℕ) → IsFirstBad kind fs column → IsFieldCase kind fs column
+pub field_to_case : (kind : InsertKind) (fs : List (List ℕ)) (column : ℕ) → IsFirstBad kind fs column → IsFieldCase kind fs column
 field_to_case kind fs column (inl p, least) =
     inl (p.0, p.1, p.2, λ other h. (let l = least other (inr h) in let ne = clash_spelled kind fs p.0 other p.1 h in let at = p.2 in omega arith))
 field_to_case kind fs column (inr p, least) =
     inr (p, λ n s. (let l = least (n + 1) (inl (n, s, refl)) in let ne = clash_spelled kind fs n column s p in omega arith))
 
 -- of the fields of any insert,
-abbrev pub IsInsertCase : List OpKind → List (List ℕ) → ℕ → Type 0
+abbrev pub IsInsertCase : List InsertKind → List (List ℕ) → ℕ → Type 0
 IsInsertCase allowed fs column =
     ((length fs < 3) × (column ≡ 0))
-    ⊎ ((3 ≤ length fs) × ((kind : OpKind) → ¬ Names allowed fs kind) × IsThreeCase fs column)
-    ⊎ ((kind : OpKind) × Names allowed fs kind × (length fs ≢ length (line_columns kind)) × (column ≡ 0))
-    ⊎ ((kind : OpKind) × Names allowed fs kind × (length fs ≡ length (line_columns kind)) × IsFieldCase kind fs column)
+    ⊎ ((3 ≤ length fs) × ((kind : InsertKind) → ¬ Names allowed fs kind) × IsThreeCase fs column)
+    ⊎ ((kind : InsertKind) × Names allowed fs kind × (length fs ≢ length (line_columns kind)) × (column ≡ 0))
+    ⊎ ((kind : InsertKind) × Names allowed fs kind × (length fs ≡ length (line_columns kind)) × IsFieldCase kind fs column)
 
 not_few : (fs : List (List ℕ)) (c : ℕ) → 3 ≤ length fs → ¬ ((length fs < 3) × (c ≡ 0))
 not_few fs c many few = (let l = few.0 in omega arith)
 
-pub insert_from_case : (allowed : List OpKind) (fs : List (List ℕ)) (column : ℕ) → IsInsertCase allowed fs column → IsBadInsert allowed fs column
+pub insert_from_case : (allowed : List InsertKind) (fs : List (List ℕ)) (column : ℕ) → IsInsertCase allowed fs column → IsBadInsert allowed fs column
 insert_from_case allowed fs column (inl p) = inl p
 insert_from_case allowed fs column (inr (inl p)) = inr (λ c q. not_few fs c p.0 q, inl (p.1, three_from_case fs column p.2))
 insert_from_case allowed fs column (inr (inr (inl p))) = inr (λ c q. not_few fs c (named_long allowed fs p.0 p.1) q, inr (λ c q. q.0 p.0 p.1, inl p))
@@ -75,14 +75,14 @@ insert_from_case allowed fs column (inr (inr (inr p))) =
       λ c q. not_few fs c (named_long allowed fs p.0 p.1) q,
       inr (
         λ c q. q.0 p.0 p.1,
-        inr (λ c q. q.2 (p.2 ∙ ap (λ (k : OpKind). length (line_columns k)) (one_named allowed fs p.0 q.0 p.1 q.1)), inl (p.0, p.1, field_from_case p.0 fs column p.3)),
+        inr (λ c q. q.2 (p.2 ∙ ap (λ (k : InsertKind). length (line_columns k)) (one_named allowed fs p.0 q.0 p.1 q.1)), inl (p.0, p.1, field_from_case p.0 fs column p.3)),
       ),
     )
 
 many : (fs : List (List ℕ)) → ((c : ℕ) → ¬ ((length fs < 3) × (c ≡ 0))) → 3 ≤ length fs
 many fs few = elim (cases_lt (length fs) 3) [ inl l ↦ absurd (few 0 (l, refl)) | inr is ↦ is ]
 
-pub insert_to_case : (allowed : List OpKind) (fs : List (List ℕ)) (column : ℕ) → IsBadInsert allowed fs column → IsInsertCase allowed fs column
+pub insert_to_case : (allowed : List InsertKind) (fs : List (List ℕ)) (column : ℕ) → IsBadInsert allowed fs column → IsInsertCase allowed fs column
 insert_to_case allowed fs column (inl p) = inl p
 insert_to_case allowed fs column (inr (few, inl p)) = inr (inl (many fs few, p.0, three_to_case fs column p.1))
 insert_to_case allowed fs column (inr (few, inr (none, inl p))) = inr (inr (inl p))

@@ -7,8 +7,8 @@ use Rattle.snb_schema.specs.declared.column.Column.{Column}
 use Rattle.snb_schema.specs.declared.column.Column.TheVariants.{Date, IdList, OptionalId}
 use Rattle.snb_schema.specs.declared.column.Value.{Value}
 use Rattle.snb_schema.specs.declared.column.Value.TheVariants.{Digits, SmallDigits, NoId, Letters, Texts, Ids, Pairs}
-use Rattle.snb_schema.specs.declared.op.OpKind.{OpKind}
-use Rattle.snb_schema.specs.declared.op.OpKind.TheVariants as kinds
+use Rattle.snb_schema.specs.declared.op.InsertKind.{InsertKind}
+use Rattle.snb_schema.specs.declared.op.InsertKind.TheVariants as kinds
 use Rattle.snb_schema.specs.Columns.{Spells, SpellsAll, StopsAfter, no_id}
 use Rattle.snb_schema.specs.Layouts.{id_column}
 use Rattle.snb_schema.specs.UpdateLines.{Clashes, field, line_columns, parent_comment, parent_post}
@@ -122,7 +122,7 @@ place : (k i : ℕ) (fs : List (List ℕ)) → get_or (drop k fs) i [] ≡ get_o
 place k i fs = get_or-drop k fs i []
 
 -- values that clash are read, and their fields clash
-pub clash_there : (kind : OpKind) (fs : List (List ℕ)) (vs : List Value) (n column : ℕ) → SpellsAll (take n (line_columns kind)) (take n fs) vs → clash_at kind vs ≡ Some column → Clashes kind fs column × (column ≤ n)
+pub clash_there : (kind : InsertKind) (fs : List (List ℕ)) (vs : List Value) (n column : ℕ) → SpellsAll (take n (line_columns kind)) (take n fs) vs → clash_at kind vs ≡ Some column → Clashes kind fs column × (column ≤ n)
 clash_there kinds.AddFriend fs vs n column s e = elim (cases_lt n 3) [
   | inl low ↦ (let none : starts_twice (drop 3 vs) ≡ false = ap starts_twice (no_values 3 n (line_columns kinds.AddFriend) fs vs (omega arith) s) in let yes = (told (starts_twice (drop 3 vs)) 5 column e).0 in absurd cc)
   | inr high ↦
@@ -142,7 +142,7 @@ clash_there kinds.AddComment fs vs n column s e = elim (cases_lt n 11) [
 clash_there kind fs vs n column s e = absurd cc
 
 -- values of all of these fields that don't clash have fields that don't
-pub clash_off : (kind : OpKind) (fs : List (List ℕ)) (vs : List Value) (n column : ℕ) → SpellsAll (take n (line_columns kind)) (take n fs) vs → clash_at kind vs ≡ None → Clashes kind fs column → column ≤ n → ⊥
+pub clash_off : (kind : InsertKind) (fs : List (List ℕ)) (vs : List Value) (n column : ℕ) → SpellsAll (take n (line_columns kind)) (take n fs) vs → clash_at kind vs ≡ None → Clashes kind fs column → column ≤ n → ⊥
 clash_off kinds.AddFriend fs vs n column s e h l =
     let five = h.0 in
     let at : n ≡ 3 + suc (suc (n - 5)) = omega arith in
@@ -156,7 +156,7 @@ clash_off kinds.AddComment fs vs n column s e h l =
 clash_off kind fs vs n column s e h l = h
 
 -- the second of two fields that clash is in its grammar
-pub clash_spelled : (kind : OpKind) (fs : List (List ℕ)) (n column : ℕ) → StopsAfter (line_columns kind) fs n → Clashes kind fs column → column ≢ n + 1
+pub clash_spelled : (kind : InsertKind) (fs : List (List ℕ)) (n column : ℕ) → StopsAfter (line_columns kind) fs n → Clashes kind fs column → column ≢ n + 1
 clash_spelled kinds.AddFriend fs n column s h e =
     let five = h.0 in
     let bad = second_bad id_column id_column (Date ∷ []) (drop 3 fs) (stop_from 3 1 n (line_columns kinds.AddFriend) fs (omega arith) s) in
@@ -171,14 +171,14 @@ clash_spelled kinds.AddComment fs n column s h e =
 clash_spelled kind fs n column s h e = h
 
 -- where values stop that don't clash, their fields clash later if at all
-pub clash_later : (kind : OpKind) (fs : List (List ℕ)) (vs : List Value) (n other : ℕ) → SpellsAll (take n (line_columns kind)) (take n fs) vs → StopsAfter (line_columns kind) fs n → clash_at kind vs ≡ None → Clashes kind fs other → n + 1 < other
+pub clash_later : (kind : InsertKind) (fs : List (List ℕ)) (vs : List Value) (n other : ℕ) → SpellsAll (take n (line_columns kind)) (take n fs) vs → StopsAfter (line_columns kind) fs n → clash_at kind vs ≡ None → Clashes kind fs other → n + 1 < other
 clash_later kind fs vs n other s stop e h = elim (cases_lt n other) [
   | inl low ↦ (let ne = clash_spelled kind fs n other stop h in omega arith)
   | inr high ↦ absurd (clash_off kind fs vs n other s e h high)
 ]
 
 -- fields clash in one column at most
-pub one_clash : (kind : OpKind) (fs : List (List ℕ)) (a b : ℕ) → Clashes kind fs a → Clashes kind fs b → a ≡ b
+pub one_clash : (kind : InsertKind) (fs : List (List ℕ)) (a b : ℕ) → Clashes kind fs a → Clashes kind fs b → a ≡ b
 one_clash kinds.AddFriend fs a b s t = s.0 ∙ sym t.0
 one_clash kinds.AddComment fs a b s t = s.0 ∙ sym t.0
 one_clash kind fs a b s t = absurd s

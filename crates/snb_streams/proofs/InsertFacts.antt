@@ -9,8 +9,8 @@ use Rattle.snb_schema.specs.declared.column.Value.{Value}
 use Rattle.snb_schema.specs.declared.column.Value.TheVariants.{Digits}
 use Rattle.snb_schema.specs.declared.op.Op.{Op}
 use Rattle.snb_schema.specs.declared.op.Op.TheVariants.{AddPerson, LikePost, LikeComment, AddForum, AddMember, AddPost, AddComment, AddFriend}
-use Rattle.snb_schema.specs.declared.op.OpKind.{OpKind}
-use Rattle.snb_schema.specs.declared.op.OpKind.TheVariants as kinds
+use Rattle.snb_schema.specs.declared.op.InsertKind.{InsertKind}
+use Rattle.snb_schema.specs.declared.op.InsertKind.TheVariants as kinds
 use Rattle.snb_schema.specs.declared.op.Parent.TheVariants as parents
 use Rattle.snb_schema.specs.Columns.{SpellsAll}
 use Rattle.snb_schema.specs.UpdateLines.{IsOfTwo, Names, insert_columns, kind_number, kind_of, line_columns, line_values, op_number, op_values}
@@ -31,12 +31,12 @@ eight_on : (vs : List Value) → drop 1 (drop 1 (drop 1 (drop 1 (drop 1 (drop 1 
 eight_on vs = simp drop-drop
 
 -- an insert is of the kind that it is made for
-made_kind : (kind : OpKind) (vs : List Value) → kind_of (op_by kind vs) ≡ kind
+made_kind : (kind : InsertKind) (vs : List Value) → kind_of (op_by kind vs) ≡ kind
 made_kind kinds.AddPerson vs = refl
 made_kind kind vs = refl
 
 -- and has the values that it is made of
-made_values : (kind : OpKind) (fs : List (List ℕ)) (vs : List Value) → SpellsAll (line_columns kind) fs vs → clash_at kind vs ≡ None → op_values (op_by kind (drop 3 vs)) ≡ taken (insert_columns kind) (drop 3 vs)
+made_values : (kind : InsertKind) (fs : List (List ℕ)) (vs : List Value) → SpellsAll (line_columns kind) fs vs → clash_at kind vs ≡ None → op_values (op_by kind (drop 3 vs)) ≡ taken (insert_columns kind) (drop 3 vs)
 made_values kinds.AddPerson fs vs s e = refl
 made_values kinds.LikePost fs vs s e = refl
 made_values kinds.LikeComment fs vs s e = refl
@@ -49,7 +49,7 @@ made_values kinds.AddComment fs vs s e =
 made_values kinds.AddFriend fs vs s e = refl
 
 -- a friendship is of two
-made_two : (kind : OpKind) (fs : List (List ℕ)) (vs : List Value) → SpellsAll (line_columns kind) fs vs → clash_at kind vs ≡ None → IsOfTwo (op_by kind (drop 3 vs))
+made_two : (kind : InsertKind) (fs : List (List ℕ)) (vs : List Value) → SpellsAll (line_columns kind) fs vs → clash_at kind vs ≡ None → IsOfTwo (op_by kind (drop 3 vs))
 made_two kinds.AddPerson fs vs s e = tt
 made_two kinds.LikePost fs vs s e = tt
 made_two kinds.LikeComment fs vs s e = tt
@@ -60,7 +60,7 @@ made_two kinds.AddComment fs vs s e = tt
 made_two kinds.AddFriend fs vs s e = twice_differ (Date ∷ []) (drop 3 fs) (drop 3 vs) (spelled_from 3 (line_columns kinds.AddFriend) fs vs s) (untold (starts_twice (drop 3 vs)) 5 e)
 
 -- the values of a line are those of the insert that is made of them
-made_line : TakenAgain → (allowed : List OpKind) (kind : OpKind) (fs : List (List ℕ)) (vs : List Value) → Names allowed fs kind → SpellsAll (line_columns kind) fs vs → clash_at kind vs ≡ None
+made_line : TakenAgain → (allowed : List InsertKind) (kind : InsertKind) (fs : List (List ℕ)) (vs : List Value) → Names allowed fs kind → SpellsAll (line_columns kind) fs vs → clash_at kind vs ≡ None
     → line_values (first_number vs) (first_number (drop 1 vs)) (op_by kind (drop 3 vs)) ≡ vs
 made_line again allowed kind fs vs names s e =
     let number : op_number (op_by kind (drop 3 vs)) ≡ first_number (drop 1 (drop 1 vs)) = ap kind_number (made_kind kind (drop 3 vs)) ∙ sym (third_number allowed kind fs vs names s) in
@@ -69,7 +69,7 @@ made_line again allowed kind fs vs names s e =
     (λ i. Digits (first_number vs) ∷ Digits (first_number (drop 1 vs)) ∷ Digits (number i) ∷ (values ∙ later) i) ∙ again (line_columns kind) fs vs s
 
 -- an insert of the fields that spell these values
-pub spells_insert : TakenAgain → (allowed : List OpKind) (kind : OpKind) (fs : List (List ℕ)) (vs : List Value) (t t_d : ℕ) (op : Op) → Names allowed fs kind → length fs ≡ length (line_columns kind)
+pub spells_insert : TakenAgain → (allowed : List InsertKind) (kind : InsertKind) (fs : List (List ℕ)) (vs : List Value) (t t_d : ℕ) (op : Op) → Names allowed fs kind → length fs ≡ length (line_columns kind)
     → SpellsAll (line_columns kind) (take (length (line_columns kind)) fs) vs → clash_at kind vs ≡ None → t ≡ first_number vs → t_d ≡ first_number (drop 1 vs) → op ≡ op_by kind (drop 1 (drop 1 (drop 1 vs))) → SpellsInsert allowed fs t t_d op
 spells_insert again allowed kind fs vs t t_d op names long s e at at_d made =
     let few : length fs ≤ length (line_columns kind) = omega (arith, long) in
@@ -77,8 +77,8 @@ spells_insert again allowed kind fs vs t t_d op names long s e at at_d made =
     let is : op ≡ op_by kind (drop 3 vs) = made ∙ ap (op_by kind) (three_on vs) in
     let own : kind ≡ kind_of op = sym (ap kind_of is ∙ made_kind kind (drop 3 vs)) in
     let said : vs ≡ line_values t t_d op = sym ((λ i. line_values (at i) (at_d i) (is i)) ∙ made_line again allowed kind fs vs names all e) in (
-      subst (λ (k : OpKind). Contains allowed k) own (third_names allowed fs kind names),
-      subst (λ (k : OpKind). SpellsAll (line_columns k) fs (line_values t t_d op)) own (subst (SpellsAll (line_columns kind) fs) said all),
+      subst (λ (k : InsertKind). Contains allowed k) own (third_names allowed fs kind names),
+      subst (λ (k : InsertKind). SpellsAll (line_columns k) fs (line_values t t_d op)) own (subst (SpellsAll (line_columns kind) fs) said all),
       subst IsOfTwo (sym is) (made_two kind fs vs all e),
     )
 
@@ -107,7 +107,7 @@ own_apart t t_d (AddComment id date ip browser content size author country (pare
 own_apart t t_d (AddFriend one other date) two = ap (λ b. cond b (Some 5) None) (ne_eqb one other two)
 
 -- as the reading of the values tells it
-pub told_insert : TakenAgain → (allowed : List OpKind) (kind : OpKind) (cs : List Column) (fs : List (List ℕ)) (vs : List Value) (t t_d : ℕ) (op : Op) → cs ≡ line_columns kind → Names allowed fs kind → length fs ≡ length cs
+pub told_insert : TakenAgain → (allowed : List InsertKind) (kind : InsertKind) (cs : List Column) (fs : List (List ℕ)) (vs : List Value) (t t_d : ℕ) (op : Op) → cs ≡ line_columns kind → Names allowed fs kind → length fs ≡ length cs
     → SpellsAll cs (take (length cs) fs) vs → clash_at kind vs ≡ None → t ≡ first_number vs → t_d ≡ first_number (drop 1 vs) → op ≡ op_by kind (drop 1 (drop 1 (drop 1 vs))) → SpellsInsert allowed fs t t_d op
 told_insert again allowed kind cs fs vs t t_d op e names long s apart at at_d made =
     subst (λ (ds : List Column). length fs ≡ length ds → SpellsAll ds (take (length ds) fs) vs → SpellsInsert allowed fs t t_d op) (sym e) (λ l u. spells_insert again allowed kind fs vs t t_d op names l u apart at at_d made) long s

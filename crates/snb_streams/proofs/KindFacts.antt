@@ -8,14 +8,14 @@ use Rattle.snb_base.specs.Spellings.{Num}
 use Rattle.snb_schema.specs.declared.column.Value.{Value}
 use Rattle.snb_schema.specs.declared.column.Value.TheVariants.{Digits}
 use Rattle.snb_schema.specs.declared.op.Op.{Op}
-use Rattle.snb_schema.specs.declared.op.OpKind.{OpKind}
-use Rattle.snb_schema.specs.declared.op.OpKind.TheVariants as kinds
+use Rattle.snb_schema.specs.declared.op.InsertKind.{InsertKind}
+use Rattle.snb_schema.specs.declared.op.InsertKind.TheVariants as kinds
 use Rattle.snb_schema.specs.Columns.{SpellsAll}
 use Rattle.snb_input_fields.specs.Values.{first_number}
 use Rattle.snb_schema.specs.UpdateLines.{Names, kind_number, kind_of, line_columns, line_values}
 
 -- the kind of a number, counted from 0
-abbrev kind_at : ℕ → OpKind
+abbrev kind_at : ℕ → InsertKind
 kind_at zero = kinds.AddPerson
 kind_at (suc zero) = kinds.LikePost
 kind_at (suc (suc zero)) = kinds.LikeComment
@@ -26,7 +26,7 @@ kind_at (suc (suc (suc (suc (suc (suc zero)))))) = kinds.AddComment
 kind_at _ = kinds.AddFriend
 
 -- a kind is that of its number
-kind_again : (kind : OpKind) (n : ℕ) → kind_number kind ≡ suc n → kind_at n ≡ kind
+kind_again : (kind : InsertKind) (n : ℕ) → kind_number kind ≡ suc n → kind_at n ≡ kind
 kind_again kinds.AddPerson n e = (let at : n ≡ 0 = omega (arith, e) in ap kind_at at)
 kind_again kinds.LikePost n e = (let at : n ≡ 1 = omega (arith, e) in ap kind_at at)
 kind_again kinds.LikeComment n e = (let at : n ≡ 2 = omega (arith, e) in ap kind_at at)
@@ -37,7 +37,7 @@ kind_again kinds.AddComment n e = (let at : n ≡ 6 = omega (arith, e) in ap kin
 kind_again kinds.AddFriend n e = (let at : n ≡ 7 = omega (arith, e) in ap kind_at at)
 
 -- no kind has the number 0
-kind_counted : (kind : OpKind) → 0 < kind_number kind
+kind_counted : (kind : InsertKind) → 0 < kind_number kind
 kind_counted kinds.AddPerson = omega arith
 kind_counted kinds.LikePost = omega arith
 kind_counted kinds.LikeComment = omega arith
@@ -48,7 +48,7 @@ kind_counted kinds.AddComment = omega arith
 kind_counted kinds.AddFriend = omega arith
 
 -- and two kinds have two numbers
-pub one_kind : (a b : OpKind) → kind_number a ≡ kind_number b → a ≡ b
+pub one_kind : (a b : InsertKind) → kind_number a ≡ kind_number b → a ≡ b
 one_kind a b e = go (kind_number a) refl (kind_counted a)
   where
     go : (n : ℕ) → kind_number a ≡ n → 0 < n → a ≡ b
@@ -56,32 +56,32 @@ one_kind a b e = go (kind_number a) refl (kind_counted a)
     go (suc n) is some = sym (kind_again a n is) ∙ kind_again b n (sym e ∙ is)
 
 -- a text names one kind at most
-pub one_name : (x : List ℕ) (a b : OpKind) → Num x (kind_number a) (kind_number a) → Num x (kind_number b) (kind_number b) → a ≡ b
+pub one_name : (x : List ℕ) (a b : InsertKind) → Num x (kind_number a) (kind_number a) → Num x (kind_number b) (kind_number b) → a ≡ b
 one_name x a b s t = one_kind a b (s.value ∙ sym t.value)
 
 -- and so do fields
-pub one_named : (allowed : List OpKind) (fs : List (List ℕ)) (a b : OpKind) → Names allowed fs a → Names allowed fs b → a ≡ b
+pub one_named : (allowed : List InsertKind) (fs : List (List ℕ)) (a b : InsertKind) → Names allowed fs a → Names allowed fs b → a ≡ b
 one_named allowed [] a b s t = absurd s
 one_named allowed (t₁ ∷ []) a b s t = absurd s
 one_named allowed (t₁ ∷ t₂ ∷ []) a b s t = absurd s
 one_named allowed (t₁ ∷ t₂ ∷ x ∷ fs) a b s t = one_name x a b s.1 t.1
 
 -- fields that name a kind are three at least
-pub named_long : (allowed : List OpKind) (fs : List (List ℕ)) (kind : OpKind) → Names allowed fs kind → 3 ≤ length fs
+pub named_long : (allowed : List InsertKind) (fs : List (List ℕ)) (kind : InsertKind) → Names allowed fs kind → 3 ≤ length fs
 named_long allowed [] kind s = absurd s
 named_long allowed (t₁ ∷ []) kind s = absurd s
 named_long allowed (t₁ ∷ t₂ ∷ []) kind s = absurd s
 named_long allowed (t₁ ∷ t₂ ∷ x ∷ fs) kind s = omega arith
 
 -- fields that spell an insert name its kind
-pub spelled_names : (allowed : List OpKind) (fs : List (List ℕ)) (t t_d : ℕ) (op : Op) → Contains allowed (kind_of op) → SpellsAll (line_columns (kind_of op)) fs (line_values t t_d op) → Names allowed fs (kind_of op)
+pub spelled_names : (allowed : List InsertKind) (fs : List (List ℕ)) (t t_d : ℕ) (op : Op) → Contains allowed (kind_of op) → SpellsAll (line_columns (kind_of op)) fs (line_values t t_d op) → Names allowed fs (kind_of op)
 spelled_names allowed [] t t_d op h s = absurd s
 spelled_names allowed (t₁ ∷ []) t t_d op h s = absurd s.1
 spelled_names allowed (t₁ ∷ t₂ ∷ []) t t_d op h s = absurd s.1.1
 spelled_names allowed (t₁ ∷ t₂ ∷ x ∷ fs) t t_d op h s = (h, s.1.1.0)
 
 -- a kind's number is at most 8
-kind_low : (kind : OpKind) → kind_number kind ≤ 8
+kind_low : (kind : InsertKind) → kind_number kind ≤ 8
 kind_low kinds.AddPerson = omega arith
 kind_low kinds.LikePost = omega arith
 kind_low kinds.LikeComment = omega arith
@@ -92,17 +92,17 @@ kind_low kinds.AddComment = omega arith
 kind_low kinds.AddFriend = omega arith
 
 -- the number of a kind is a number of at most 8
-wide_number : (x : List ℕ) (kind : OpKind) → Num x (kind_number kind) (kind_number kind) → Num x (kind_number kind) 8
+wide_number : (x : List ℕ) (kind : InsertKind) → Num x (kind_number kind) (kind_number kind) → Num x (kind_number kind) 8
 wide_number x kind n = record { digits = n.digits; some = n.some; few = n.few; no_lead = n.no_lead; value = n.value; small = kind_low kind }
 
 -- a text that is no number of at most 8 is no kind's
-pub no_number : (x : List ℕ) (allowed : List OpKind) → ((n : ℕ) → ¬ Num x n 8) → (kind : OpKind) → Contains allowed kind → ¬ Num x (kind_number kind) (kind_number kind)
+pub no_number : (x : List ℕ) (allowed : List InsertKind) → ((n : ℕ) → ¬ Num x n 8) → (kind : InsertKind) → Contains allowed kind → ¬ Num x (kind_number kind) (kind_number kind)
 no_number x allowed none kind h n = none (kind_number kind) (wide_number x kind n)
 
 -- the kind of a number is that of its text
-pub named_number : (x : List ℕ) (n : ℕ) (allowed : List OpKind) (found : Option OpKind) → Num x n 8
-    → MatchOption found ((kind : OpKind) → Contains allowed kind → kind_number kind ≢ n) (λ kind. Contains allowed kind × (kind_number kind ≡ n))
-    → MatchOption found ((kind : OpKind) → Contains allowed kind → ¬ Num x (kind_number kind) (kind_number kind)) (λ kind. Contains allowed kind × Num x (kind_number kind) (kind_number kind))
+pub named_number : (x : List ℕ) (n : ℕ) (allowed : List InsertKind) (found : Option InsertKind) → Num x n 8
+    → MatchOption found ((kind : InsertKind) → Contains allowed kind → kind_number kind ≢ n) (λ kind. Contains allowed kind × (kind_number kind ≡ n))
+    → MatchOption found ((kind : InsertKind) → Contains allowed kind → ¬ Num x (kind_number kind) (kind_number kind)) (λ kind. Contains allowed kind × Num x (kind_number kind) (kind_number kind))
 named_number x n allowed (Some kind) s found = (found.0, record { digits = s.digits; some = s.some; few = s.few; no_lead = s.no_lead; value = found.1 ∙ s.value; small = omega arith })
 named_number x n allowed None s none = λ kind h own. none kind h (own.value ∙ sym s.value)
 
@@ -129,21 +129,21 @@ pub field_none : (o : Option (Bor (List ℕ))) (fs : List (List ℕ)) (k : ℕ) 
 field_none o fs k e is = place_none fs k (sym e ∙ ap (option_map (λ (s : Bor (List ℕ)). s.now)) is)
 
 -- the kind whose number is the third field
-pub third_named : (allowed : List OpKind) (fs : List (List ℕ)) (x : List ℕ) (kind : OpKind) → 2 < length fs → x ≡ get_or fs 2 [] → Contains allowed kind × Num x (kind_number kind) (kind_number kind) → Names allowed fs kind
+pub third_named : (allowed : List InsertKind) (fs : List (List ℕ)) (x : List ℕ) (kind : InsertKind) → 2 < length fs → x ≡ get_or fs 2 [] → Contains allowed kind × Num x (kind_number kind) (kind_number kind) → Names allowed fs kind
 third_named allowed [] x kind l e s = absurd (omega (arith, l))
 third_named allowed (t₁ ∷ []) x kind l e s = absurd (omega (arith, l))
 third_named allowed (t₁ ∷ t₂ ∷ []) x kind l e s = absurd (omega (arith, l))
 third_named allowed (t₁ ∷ t₂ ∷ y ∷ fs) x kind l e s = (s.0, subst (λ (z : List ℕ). Num z (kind_number kind) (kind_number kind)) e s.1)
 
 -- the third field is no kind's number
-pub third_unnamed : (allowed : List OpKind) (fs : List (List ℕ)) (x : List ℕ) → x ≡ get_or fs 2 [] → ((kind : OpKind) → Contains allowed kind → ¬ Num x (kind_number kind) (kind_number kind)) → (kind : OpKind) → ¬ Names allowed fs kind
+pub third_unnamed : (allowed : List InsertKind) (fs : List (List ℕ)) (x : List ℕ) → x ≡ get_or fs 2 [] → ((kind : InsertKind) → Contains allowed kind → ¬ Num x (kind_number kind) (kind_number kind)) → (kind : InsertKind) → ¬ Names allowed fs kind
 third_unnamed allowed [] x e none kind s = s
 third_unnamed allowed (t₁ ∷ []) x e none kind s = s
 third_unnamed allowed (t₁ ∷ t₂ ∷ []) x e none kind s = s
 third_unnamed allowed (t₁ ∷ t₂ ∷ y ∷ fs) x e none kind s = none kind s.0 (subst (λ (z : List ℕ). Num z (kind_number kind) (kind_number kind)) (sym e) s.1)
 
 -- a kind that is named is one of those
-pub third_names : (allowed : List OpKind) (fs : List (List ℕ)) (kind : OpKind) → Names allowed fs kind → Contains allowed kind
+pub third_names : (allowed : List InsertKind) (fs : List (List ℕ)) (kind : InsertKind) → Names allowed fs kind → Contains allowed kind
 third_names allowed [] kind s = absurd s
 third_names allowed (t₁ ∷ []) kind s = absurd s
 third_names allowed (t₁ ∷ t₂ ∷ []) kind s = absurd s
@@ -157,6 +157,6 @@ third_field (t₁ ∷ t₂ ∷ []) t t_d op s = absurd s.1.1
 third_field (t₁ ∷ t₂ ∷ x ∷ fs) t t_d op s = s.1.1.0
 
 -- the third value of an insert is its kind's number
-pub third_number : (allowed : List OpKind) (kind : OpKind) (fs : List (List ℕ)) (vs : List Value) → Names allowed fs kind → SpellsAll (line_columns kind) fs vs → first_number (drop 1 (drop 1 vs)) ≡ kind_number kind
+pub third_number : (allowed : List InsertKind) (kind : InsertKind) (fs : List (List ℕ)) (vs : List Value) → Names allowed fs kind → SpellsAll (line_columns kind) fs vs → first_number (drop 1 (drop 1 vs)) ≡ kind_number kind
 third_number allowed kind (t₁ ∷ t₂ ∷ x ∷ fs) (v ∷ u ∷ Digits m ∷ vs) names s = s.1.1.0.value ∙ sym names.1.value
 third_number allowed kind fs vs names s = absurd assumption

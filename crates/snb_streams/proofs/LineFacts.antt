@@ -6,7 +6,7 @@ use Rattle.std.proofs.lemmas.List.Elements.{All-head, All-nil, All-tail}
 use Rattle.std.proofs.lemmas.Str.{IsUtf8-nil}
 use Rattle.snb_schema.specs.declared.column.Value.{Value}
 use Rattle.snb_schema.specs.declared.op.Op.{Op}
-use Rattle.snb_schema.specs.declared.op.OpKind.{OpKind}
+use Rattle.snb_schema.specs.declared.op.InsertKind.{InsertKind}
 use Rattle.snb_schema.specs.Columns.{SpellsAll}
 use Rattle.snb_schema.specs.Lines.{HasNoEnd, begins_with_mark, fields}
 use Rattle.snb_schema.specs.UpdateLines.{IsBadInsert, IsBadLine, IsLine, all_inserts, kind_of, line_columns, line_values, op_values}
@@ -22,7 +22,7 @@ use Rattle.snb_streams.proofs.InsertFacts.{made_again}
 use Rattle.snb_streams.proofs.KindFacts.{one_name, third_field}
 
 -- a line with fields that spell an insert
-pub is_line : (line : List ℕ) (fs : List (List ℕ)) (t t_d : ℕ) (op : Op) (allowed : List OpKind) → IsSplit line fs → SpellsInsert allowed fs t t_d op → IsLine line t t_d op
+pub is_line : (line : List ℕ) (fs : List (List ℕ)) (t t_d : ℕ) (op : Op) (allowed : List InsertKind) → IsSplit line fs → SpellsInsert allowed fs t t_d op → IsLine line t t_d op
 is_line line fs t t_d op allowed is s =
     record { text = is.utf8; unmarked = is.unmarked; one_line = is.one_line; spelled = subst (λ (xs : List (List ℕ)). SpellsAll (line_columns (kind_of op)) xs (line_values t t_d op)) is.split s.1; of_two = s.2 }
 
@@ -35,7 +35,7 @@ pub one_spelled : OneList → (fs : List (List ℕ)) (t t_d : ℕ) (op : Op) (u 
     → (t ≡ u) × (t_d ≡ u_d) × (op ≡ oq)
 one_spelled one fs t t_d op u u_d oq p q =
     let kind : kind_of op ≡ kind_of oq = one_name (get_or fs 2 []) (kind_of op) (kind_of oq) (third_field fs t t_d op p) (third_field fs u u_d oq q) in
-    let other : SpellsAll (line_columns (kind_of op)) fs (line_values u u_d oq) = subst (λ (k : OpKind). SpellsAll (line_columns k) fs (line_values u u_d oq)) (sym kind) q in
+    let other : SpellsAll (line_columns (kind_of op)) fs (line_values u u_d oq) = subst (λ (k : InsertKind). SpellsAll (line_columns k) fs (line_values u u_d oq)) (sym kind) q in
     let same = one (line_columns (kind_of op)) fs (line_values t t_d op) (line_values u u_d oq) p other in
     let values : op_values op ≡ op_values oq = ap (λ (vs : List Value). drop 3 vs) same in
     let times = same_time t t_d op u u_d oq same in

@@ -6,7 +6,7 @@ use Rattle.std.proofs.lemmas.Bool.{cases_eq, cases_lt}
 use Rattle.snb_base.specs.Spellings.{Num}
 use Rattle.snb_schema.specs.declared.column.Value.{Value}
 use Rattle.snb_schema.specs.declared.op.Op.{Op}
-use Rattle.snb_schema.specs.declared.op.OpKind.{OpKind}
+use Rattle.snb_schema.specs.declared.op.InsertKind.{InsertKind}
 use Rattle.snb_schema.specs.Columns.{SpellsAll}
 use Rattle.snb_schema.specs.ParameterLines.{query_columns}
 use Rattle.snb_schema.specs.UpdateLines.{IsBadInsert, Names, kind_number, line_columns}
@@ -24,11 +24,11 @@ use Rattle.snb_streams.proofs.InsertFacts.{spells_insert}
 use Rattle.snb_streams.proofs.ParameterFacts.{told_query, told_stop}
 
 -- the text is the number of this kind
-abbrev IsNumberOf : List ℕ → OpKind → Type 0
+abbrev IsNumberOf : List ℕ → InsertKind → Type 0
 IsNumberOf x kind = Num x (kind_number kind) (kind_number kind)
 
 -- it is, or it isn't
-number_of_kind : (x : List ℕ) (kind : OpKind) → IsNumberOf x kind ⊎ ¬ IsNumberOf x kind
+number_of_kind : (x : List ℕ) (kind : InsertKind) → IsNumberOf x kind ⊎ ¬ IsNumberOf x kind
 number_of_kind x kind = elim (number_or_not x (kind_number kind)) [
   | inr never ↦ inr (never (kind_number kind))
   | inl f ↦ elim (cases_eq f.0 (kind_number kind)) [
@@ -38,12 +38,12 @@ number_of_kind x kind = elim (number_or_not x (kind_number kind)) [
 ]
 
 -- one of these kinds is first, or among the others
-first_or_later : (k kind : OpKind) (ks : List OpKind) → Contains (k ∷ ks) kind → (k ≡ kind) ⊎ Contains ks kind
+first_or_later : (k kind : InsertKind) (ks : List InsertKind) → Contains (k ∷ ks) kind → (k ≡ kind) ⊎ Contains ks kind
 first_or_later k kind ks (zero, l, at) = inl at
 first_or_later k kind ks (suc n, l, at) = inr (n, omega arith, at)
 
 -- the text is the number of one of these kinds, or of none
-one_of_kinds : (x : List ℕ) (allowed : List OpKind) → ((kind : OpKind) × Contains allowed kind × IsNumberOf x kind) ⊎ ((kind : OpKind) → Contains allowed kind → ¬ IsNumberOf x kind)
+one_of_kinds : (x : List ℕ) (allowed : List InsertKind) → ((kind : InsertKind) × Contains allowed kind × IsNumberOf x kind) ⊎ ((kind : InsertKind) → Contains allowed kind → ¬ IsNumberOf x kind)
 one_of_kinds x [] = inr (λ kind h. (let l = h.1 in absurd (omega arith)))
 one_of_kinds x (k ∷ ks) = elim (number_of_kind x k) [
   | inl here ↦ inl (k, (zero, omega arith, refl), here)
@@ -57,7 +57,7 @@ one_of_kinds x (k ∷ ks) = elim (number_of_kind x k) [
 ]
 
 -- fields name one of these kinds, or none
-named_or_not : (allowed : List OpKind) (fs : List (List ℕ)) → ((kind : OpKind) × Names allowed fs kind) ⊎ ((kind : OpKind) → ¬ Names allowed fs kind)
+named_or_not : (allowed : List InsertKind) (fs : List (List ℕ)) → ((kind : InsertKind) × Names allowed fs kind) ⊎ ((kind : InsertKind) → ¬ Names allowed fs kind)
 named_or_not allowed [] = inr (λ kind s. s)
 named_or_not allowed (t₁ ∷ []) = inr (λ kind s. s)
 named_or_not allowed (t₁ ∷ t₂ ∷ []) = inr (λ kind s. s)
@@ -67,7 +67,7 @@ named_or_not allowed (t₁ ∷ t₂ ∷ x ∷ fs) = elim (one_of_kinds x allowed
 ]
 
 -- fields that spell values of all columns are an insert, or two of them don't go together
-whole : TakenAgain → (allowed : List OpKind) (kind : OpKind) (fs : List (List ℕ)) (vs : List Value) → Names allowed fs kind → length fs ≡ length (line_columns kind)
+whole : TakenAgain → (allowed : List InsertKind) (kind : InsertKind) (fs : List (List ℕ)) (vs : List Value) → Names allowed fs kind → length fs ≡ length (line_columns kind)
     → SpellsAll (line_columns kind) (take (length (line_columns kind)) fs) vs → ((t : ℕ) × (t_d : ℕ) × (op : Op) × SpellsInsert allowed fs t t_d op) ⊎ ((column : ℕ) × IsBadInsert allowed fs column)
 whole again allowed kind fs vs names long s = go (clash_at kind vs) refl
   where

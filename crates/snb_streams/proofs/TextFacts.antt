@@ -3,8 +3,8 @@ use Rattle.std.proofs.Common.{◌≡◌, ◌∙◌, ℕ, List, refl, sym, inl, i
 use Rattle.std.specs.List.{Contains}
 use Rattle.std.proofs.lemmas.Bool.{cases_Bool}
 use Rattle.snb_schema.specs.declared.op.Op.{Op}
-use Rattle.snb_schema.specs.declared.op.OpKind.{OpKind}
-use Rattle.snb_schema.specs.declared.op.OpKind.TheVariants as kinds
+use Rattle.snb_schema.specs.declared.op.InsertKind.{InsertKind}
+use Rattle.snb_schema.specs.declared.op.InsertKind.TheVariants as kinds
 use Rattle.snb_schema.specs.Lines.{begins_with_mark, fields}
 use Rattle.snb_schema.specs.UpdateLines.{IsLine, all_inserts, kind_of}
 use Rattle.snb_streams.specs.Laws.{InsertOrColumn, InsertsAreRight, LineOrColumn, LinesAreRight, OneBadLine, OneFault}
@@ -12,7 +12,7 @@ use Rattle.snb_streams.proofs.CaseFacts.{IsTextCase, text_from_case, text_to_cas
 use Rattle.snb_streams.proofs.PlainFacts.{one_line_or_not}
 
 -- each kind is one of the eight
-one_of_all : (kind : OpKind) → Contains all_inserts kind
+one_of_all : (kind : InsertKind) → Contains all_inserts kind
 one_of_all kinds.AddPerson = (0, omega arith, refl)
 one_of_all kinds.LikePost = (1, omega arith, refl)
 one_of_all kinds.LikeComment = (2, omega arith, refl)

@@ -1,7 +1,7 @@
 -- Laws of the lines of the update streams.
 use Rattle.std.specs.Prelude.{◌≡◌, ◌⊎◌, ℕ, List}
 use Rattle.snb_schema.specs.declared.op.Op.{Op}
-use Rattle.snb_schema.specs.declared.op.OpKind.{OpKind}
+use Rattle.snb_schema.specs.declared.op.InsertKind.{InsertKind}
 use Rattle.snb_schema.specs.declared.query.Query.{Query}
 use Rattle.snb_schema.specs.ParameterLines.{IsBadQuery, SpellsQuery}
 use Rattle.snb_schema.specs.Queries.{IsComplex}
@@ -14,7 +14,7 @@ OneInsert = (line : List ℕ) (t t_d : ℕ) (op : Op) (u u_d : ℕ) (oq : Op) �
 
 -- fields spell one insert of some kinds at most
 abbrev pub OneInsertOfFields : Type 0
-OneInsertOfFields = (allowed : List OpKind) (fs : List (List ℕ)) (t t_d : ℕ) (op : Op) (u u_d : ℕ) (oq : Op) → SpellsInsert allowed fs t t_d op → SpellsInsert allowed fs u u_d oq → (t ≡ u) × (t_d ≡ u_d) × (op ≡ oq)
+OneInsertOfFields = (allowed : List InsertKind) (fs : List (List ℕ)) (t t_d : ℕ) (op : Op) (u u_d : ℕ) (oq : Op) → SpellsInsert allowed fs t t_d op → SpellsInsert allowed fs u u_d oq → (t ≡ u) × (t_d ≡ u_d) × (op ≡ oq)
 
 -- the canonical line of an insert that has a line is one of its lines
 abbrev pub OwnInsertLine : Type 0
@@ -22,15 +22,15 @@ OwnInsertLine = (line : List ℕ) (t t_d : ℕ) (op : Op) → IsLine line t t_d 
 
 -- fields are bad in one column at most
 abbrev pub OneFault : Type 0
-OneFault = (allowed : List OpKind) (fs : List (List ℕ)) (a b : ℕ) → IsBadInsert allowed fs a → IsBadInsert allowed fs b → a ≡ b
+OneFault = (allowed : List InsertKind) (fs : List (List ℕ)) (a b : ℕ) → IsBadInsert allowed fs a → IsBadInsert allowed fs b → a ≡ b
 
 -- and in none where they spell an insert
 abbrev pub InsertsAreRight : Type 0
-InsertsAreRight = (allowed : List OpKind) (fs : List (List ℕ)) (t t_d : ℕ) (op : Op) (c : ℕ) → SpellsInsert allowed fs t t_d op → ¬ IsBadInsert allowed fs c
+InsertsAreRight = (allowed : List InsertKind) (fs : List (List ℕ)) (t t_d : ℕ) (op : Op) (c : ℕ) → SpellsInsert allowed fs t t_d op → ¬ IsBadInsert allowed fs c
 
 -- fields spell an insert of one of these kinds, or they have a bad column
 abbrev pub InsertOrColumn : Type 0
-InsertOrColumn = (allowed : List OpKind) (fs : List (List ℕ)) → ((t : ℕ) × (t_d : ℕ) × (op : Op) × SpellsInsert allowed fs t t_d op) ⊎ ((column : ℕ) × IsBadInsert allowed fs column)
+InsertOrColumn = (allowed : List InsertKind) (fs : List (List ℕ)) → ((t : ℕ) × (t_d : ℕ) × (op : Op) × SpellsInsert allowed fs t t_d op) ⊎ ((column : ℕ) × IsBadInsert allowed fs column)
 
 -- each text is the line of an insert, or it has a bad column
 abbrev pub LineOrColumn : Type 0

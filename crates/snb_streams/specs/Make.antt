@@ -4,8 +4,8 @@ use Rattle.snb_schema.specs.declared.column.Value.{Value}
 use Rattle.snb_schema.specs.declared.column.Value.TheVariants.{Digits, SmallDigits, NoId, Letters, Texts, Ids, Pairs}
 use Rattle.snb_schema.specs.declared.op.Op.{Op}
 use Rattle.snb_schema.specs.declared.op.Op.TheVariants.{AddPerson, LikePost, LikeComment, AddForum, AddMember, AddPost, AddComment, AddFriend}
-use Rattle.snb_schema.specs.declared.op.OpKind.{OpKind}
-use Rattle.snb_schema.specs.declared.op.OpKind.TheVariants as kinds
+use Rattle.snb_schema.specs.declared.op.InsertKind.{InsertKind}
+use Rattle.snb_schema.specs.declared.op.InsertKind.TheVariants as kinds
 use Rattle.snb_schema.specs.declared.op.Parent.{Parent}
 use Rattle.snb_schema.specs.declared.op.Parent.TheVariants as parents
 use Rattle.snb_input_fields.specs.Values.{first_ids, first_number, first_optional, first_pairs, first_small, first_text, first_texts, starts_twice}
@@ -17,7 +17,7 @@ parent_by None (Some comment) = parents.Comment comment
 parent_by None None = parents.Post 0
 
 -- the insert of this kind that has these values
-abbrev pub op_by : OpKind → List Value → Op
+abbrev pub op_by : InsertKind → List Value → Op
 op_by kinds.AddPerson vs =
     AddPerson (first_number vs) (first_text (drop 1 vs)) (first_text (drop 1 (drop 1 vs))) (first_text (drop 1 (drop 1 (drop 1 vs)))) (first_number (drop 1 (drop 1 (drop 1 (drop 1 vs)))))
     (first_number (drop 1 (drop 1 (drop 1 (drop 1 (drop 1 vs)))))) (first_text (drop 1 (drop 1 (drop 1 (drop 1 (drop 1 (drop 1 vs)))))))
@@ -72,7 +72,7 @@ are_no_parent (Pairs pairs ∷ rest) = false
 
 -- two of the first values of a line with an insert of this kind don't go together, and the second is in this column: a friendship with
 -- oneself, or a comment with no parent or two
-abbrev pub clash_at : OpKind → List Value → Option ℕ
+abbrev pub clash_at : InsertKind → List Value → Option ℕ
 clash_at kinds.AddPerson vs = None
 clash_at kinds.LikePost vs = None
 clash_at kinds.LikeComment vs = None

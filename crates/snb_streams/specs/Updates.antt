@@ -3,12 +3,12 @@ use Rattle.std.specs.Prelude.{◌≡◌, ◌⊎◌, ℕ, List, [], Some}
 use Rattle.snb_schema.specs.declared.file.FileId.{FileId}
 use Rattle.snb_schema.specs.declared.file.FileKind.{FileKind}
 use Rattle.snb_schema.specs.declared.file.FileKind.TheVariants as files
-use Rattle.snb_schema.specs.declared.op.OpKind.{OpKind}
+use Rattle.snb_schema.specs.declared.op.InsertKind.{InsertKind}
 use Rattle.snb_schema.specs.UpdateLines.{forum_inserts, person_inserts}
 use Rattle.snb_input_lines.specs.Feeding.{Reader, at_begin}
 
 -- the inserts of a kind of file; one that is no stream has none
-abbrev pub allowed_in : FileKind → List OpKind
+abbrev pub allowed_in : FileKind → List InsertKind
 allowed_in files.PersonStream = person_inserts
 allowed_in files.ForumStream = forum_inserts
 allowed_in (files.Table t) = []

@@ -1,11 +1,11 @@
 //! The numbers and the columns of the eight inserts.
 
 ghost use Rattle.std.specs.Prelude.{◌≡◌, ◌≢◌, Contains, MatchOption};
-ghost use Rattle.snb_schema.specs.declared.op.OpKind.{OpKind as Kind};
+ghost use Rattle.snb_schema.specs.declared.op.InsertKind.{InsertKind as Kind};
 ghost use Rattle.snb_schema.specs.UpdateLines.{kind_number, line_columns};
 
 use snb_schema::limits::{MAX_ID, MAX_LENGTH, MAX_TIME};
-use snb_schema::{Column, OpKind};
+use snb_schema::{Column, InsertKind};
 
 const TIME: Column = Column::Number { most: MAX_TIME };
 
@@ -91,39 +91,39 @@ const COMMENT: [Column; 14] = [
 const FRIEND: [Column; 6] = [TIME, TIME, Column::Number { most: 8 }, ID, ID, Column::Date];
 
 /// The number by which a line names the insert.
-pub fn number_of(kind: OpKind) -> u64
+pub fn number_of(kind: InsertKind) -> u64
     ensures { result ≡ kind_number kind }
 {
     match kind {
-        OpKind::AddPerson => 1,
-        OpKind::LikePost => 2,
-        OpKind::LikeComment => 3,
-        OpKind::AddForum => 4,
-        OpKind::AddMember => 5,
-        OpKind::AddPost => 6,
-        OpKind::AddComment => 7,
-        OpKind::AddFriend => 8,
+        InsertKind::AddPerson => 1,
+        InsertKind::LikePost => 2,
+        InsertKind::LikeComment => 3,
+        InsertKind::AddForum => 4,
+        InsertKind::AddMember => 5,
+        InsertKind::AddPost => 6,
+        InsertKind::AddComment => 7,
+        InsertKind::AddFriend => 8,
     }
 }
 
 /// The columns of a line with the insert, its two times and its number included.
-pub fn columns_of(kind: OpKind) -> &'static [Column]
+pub fn columns_of(kind: InsertKind) -> &'static [Column]
     ensures { result.now ≡ line_columns kind }
 {
     match kind {
-        OpKind::AddPerson => &PERSON,
-        OpKind::LikePost => &POST_LIKE,
-        OpKind::LikeComment => &COMMENT_LIKE,
-        OpKind::AddForum => &FORUM,
-        OpKind::AddMember => &MEMBER,
-        OpKind::AddPost => &POST,
-        OpKind::AddComment => &COMMENT,
-        OpKind::AddFriend => &FRIEND,
+        InsertKind::AddPerson => &PERSON,
+        InsertKind::LikePost => &POST_LIKE,
+        InsertKind::LikeComment => &COMMENT_LIKE,
+        InsertKind::AddForum => &FORUM,
+        InsertKind::AddMember => &MEMBER,
+        InsertKind::AddPost => &POST,
+        InsertKind::AddComment => &COMMENT,
+        InsertKind::AddFriend => &FRIEND,
     }
 }
 
 /// The insert of this number, where it is one of these.
-pub fn kind_of_number(kinds: &[OpKind], number: u64) -> Option<OpKind>
+pub fn kind_of_number(kinds: &[InsertKind], number: u64) -> Option<InsertKind>
     ensures { MatchOption result ((kind : Kind) → Contains kinds.now kind → kind_number kind ≢ number)
         (λ kind. Contains kinds.now kind × (kind_number kind ≡ number)) }
 {

@@ -3,7 +3,7 @@
 ghost use Rattle.std.specs.Prelude.{◌≡◌, All, Contains, IfOk, IsUtf8, MatchOption};
 ghost use Rattle.std.specs.Option.{unwrap_or};
 ghost use Rattle.snb_base.specs.Spellings.{Num};
-ghost use Rattle.snb_schema.specs.declared.op.OpKind.{OpKind as Kind};
+ghost use Rattle.snb_schema.specs.declared.op.InsertKind.{InsertKind as Kind};
 ghost use Rattle.snb_schema.specs.Faults.{OnBadColumn};
 ghost use Rattle.snb_schema.specs.UpdateLines.{IsBadInsert, IsBadLine, IsLine, Names, kind_number};
 ghost use Rattle.snb_streams.specs.Make.{clash_at};
@@ -16,32 +16,32 @@ use snb_base::read_number;
 use snb_input_fields::law::taken_again;
 use snb_input_fields::{Values, read_values};
 use snb_input_lines::Record;
-use snb_schema::{Line, LineFault, Op, OpKind, Value};
+use snb_schema::{Line, LineFault, Op, InsertKind, Value};
 use std::alloc::Global;
 
 /// The inserts of a person stream.
-pub const PERSON_INSERTS: [OpKind; 2] = [OpKind::AddPerson, OpKind::AddFriend];
+pub const PERSON_INSERTS: [InsertKind; 2] = [InsertKind::AddPerson, InsertKind::AddFriend];
 
 /// The inserts of a forum stream.
-pub const FORUM_INSERTS: [OpKind; 6] = [
-    OpKind::LikePost,
-    OpKind::LikeComment,
-    OpKind::AddForum,
-    OpKind::AddMember,
-    OpKind::AddPost,
-    OpKind::AddComment,
+pub const FORUM_INSERTS: [InsertKind; 6] = [
+    InsertKind::LikePost,
+    InsertKind::LikeComment,
+    InsertKind::AddForum,
+    InsertKind::AddMember,
+    InsertKind::AddPost,
+    InsertKind::AddComment,
 ];
 
 /// The eight inserts.
-pub const ALL_INSERTS: [OpKind; 8] = [
-    OpKind::AddPerson,
-    OpKind::LikePost,
-    OpKind::LikeComment,
-    OpKind::AddForum,
-    OpKind::AddMember,
-    OpKind::AddPost,
-    OpKind::AddComment,
-    OpKind::AddFriend,
+pub const ALL_INSERTS: [InsertKind; 8] = [
+    InsertKind::AddPerson,
+    InsertKind::LikePost,
+    InsertKind::LikeComment,
+    InsertKind::AddForum,
+    InsertKind::AddMember,
+    InsertKind::AddPost,
+    InsertKind::AddComment,
+    InsertKind::AddFriend,
 ];
 
 // The greatest number of an insert.
@@ -59,7 +59,7 @@ pub struct Insert {
 }
 
 // The one of these inserts whose number is the field.
-fn kind_in(kinds: &[OpKind], field: &[u8]) -> Option<OpKind>
+fn kind_in(kinds: &[InsertKind], field: &[u8]) -> Option<InsertKind>
     ensures { MatchOption result ((kind : Kind) → Contains kinds.now kind → ¬ Num field.now (kind_number kind) (kind_number kind))
         (λ kind. Contains kinds.now kind × Num field.now (kind_number kind) (kind_number kind)) }
 {
@@ -70,7 +70,7 @@ fn kind_in(kinds: &[OpKind], field: &[u8]) -> Option<OpKind>
 }
 
 // The one of these inserts that the third field names.
-fn named_kind(alloc: Global, kinds: &[OpKind], fields: &Record) -> Result<OpKind, LineFault>
+fn named_kind(alloc: Global, kinds: &[InsertKind], fields: &Record) -> Result<InsertKind, LineFault>
     requires { All IsUtf8 fields.now }
     ensures ok { IfOk result (Names kinds.now fields.now) }
     ensures bad { OnBadColumn result (IsBadInsert kinds.now fields.now) }
@@ -90,7 +90,7 @@ fn named_kind(alloc: Global, kinds: &[OpKind], fields: &Record) -> Result<OpKind
 
 // The bad column of fields that stop before this one, where these are the values before it: two of
 // them may not go together already.
-fn first_bad(kind: OpKind, values: &[Value], column: u32) -> u32
+fn first_bad(kind: InsertKind, values: &[Value], column: u32) -> u32
     ensures { result ≡ unwrap_or (clash_at kind values.now) column }
 {
     clash_at(kind, values).unwrap_or(column)
@@ -103,7 +103,7 @@ fn first_bad(kind: OpKind, values: &[Value], column: u32) -> u32
 /// go with one before it, as in a friendship with oneself, or in a comment with no parent or two.
 ///
 /// The fields are UTF-8. Lines are those of LDBC SNB Interactive v1's update streams.
-pub fn read_insert(alloc: Global, kinds: &[OpKind], fields: &Record) -> Result<Insert, LineFault>
+pub fn read_insert(alloc: Global, kinds: &[InsertKind], fields: &Record) -> Result<Insert, LineFault>
     requires { All IsUtf8 fields.now }
     ensures ok { IfOk result (λ i. SpellsInsert kinds.now fields.now i.t i.t_d i.op) }
     ensures bad { OnBadColumn result (IsBadInsert kinds.now fields.now) }

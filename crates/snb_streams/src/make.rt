@@ -6,7 +6,7 @@ ghost use Rattle.snb_input_fields.specs.Values.{first_optional};
 
 use snb_input_fields::Values;
 use snb_input_fields::values::starts_twice;
-use snb_schema::{Op, OpKind, Parent, Value};
+use snb_schema::{Op, InsertKind, Parent, Value};
 
 // How many values stand before the two parents of a comment.
 const BEFORE_PARENTS: usize = 11;
@@ -34,11 +34,11 @@ fn parent(values: &mut Values) -> Parent
 }
 
 /// The insert of this kind that has these values.
-pub fn make_op(kind: OpKind, values: &mut Values) -> Op
+pub fn make_op(kind: InsertKind, values: &mut Values) -> Op
     ensures { result ≡ op_by kind values.old }
 {
     match kind {
-        OpKind::AddPerson => Op::AddPerson {
+        InsertKind::AddPerson => Op::AddPerson {
             person_id: values.number(),
             first_name: values.text(),
             last_name: values.text(),
@@ -54,29 +54,29 @@ pub fn make_op(kind: OpKind, values: &mut Values) -> Op
             study_at: values.pairs(),
             work_at: values.pairs(),
         },
-        OpKind::LikePost => Op::LikePost {
+        InsertKind::LikePost => Op::LikePost {
             person_id: values.number(),
             post_id: values.number(),
             date: values.number(),
         },
-        OpKind::LikeComment => Op::LikeComment {
+        InsertKind::LikeComment => Op::LikeComment {
             person_id: values.number(),
             comment_id: values.number(),
             date: values.number(),
         },
-        OpKind::AddForum => Op::AddForum {
+        InsertKind::AddForum => Op::AddForum {
             forum_id: values.number(),
             title: values.text(),
             date: values.number(),
             moderator_id: values.number(),
             tag_ids: values.ids(),
         },
-        OpKind::AddMember => Op::AddMember {
+        InsertKind::AddMember => Op::AddMember {
             person_id: values.number(),
             forum_id: values.number(),
             join_date: values.number(),
         },
-        OpKind::AddPost => Op::AddPost {
+        InsertKind::AddPost => Op::AddPost {
             post_id: values.number(),
             image_file: values.text(),
             date: values.number(),
@@ -90,7 +90,7 @@ pub fn make_op(kind: OpKind, values: &mut Values) -> Op
             country_id: values.number(),
             tag_ids: values.ids(),
         },
-        OpKind::AddComment => Op::AddComment {
+        InsertKind::AddComment => Op::AddComment {
             comment_id: values.number(),
             date: values.number(),
             location_ip: values.text(),
@@ -102,7 +102,7 @@ pub fn make_op(kind: OpKind, values: &mut Values) -> Op
             parent: parent(values),
             tag_ids: values.ids(),
         },
-        OpKind::AddFriend => Op::AddFriend {
+        InsertKind::AddFriend => Op::AddFriend {
             person1_id: values.number(),
             person2_id: values.number(),
             date: values.number(),
@@ -134,24 +134,24 @@ fn are_no_parent(values: &[Value]) -> bool
 
 /// The column, counted from 1, of the second of two values that don't go together in a line with an
 /// insert of this kind, where these are its first values.
-pub fn clash_at(kind: OpKind, values: &[Value]) -> Option<u32>
+pub fn clash_at(kind: InsertKind, values: &[Value]) -> Option<u32>
     ensures { result ≡ clash_at kind values.now }
 {
     match kind {
-        OpKind::AddPerson => None,
-        OpKind::LikePost => None,
-        OpKind::LikeComment => None,
-        OpKind::AddForum => None,
-        OpKind::AddMember => None,
-        OpKind::AddPost => None,
-        OpKind::AddComment => {
+        InsertKind::AddPerson => None,
+        InsertKind::LikePost => None,
+        InsertKind::LikeComment => None,
+        InsertKind::AddForum => None,
+        InsertKind::AddMember => None,
+        InsertKind::AddPost => None,
+        InsertKind::AddComment => {
             if are_no_parent(after(values, BEFORE_PARENTS)) {
                 Some(SECOND_PARENT)
             } else {
                 None
             }
         }
-        OpKind::AddFriend => {
+        InsertKind::AddFriend => {
             if starts_twice(after(values, BEFORE_FRIENDS)) {
                 Some(SECOND_FRIEND)
             } else {

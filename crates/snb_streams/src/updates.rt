@@ -12,14 +12,14 @@ use crate::line::{FORUM_INSERTS, PERSON_INSERTS};
 use crate::lines::StreamLines;
 use crate::order::InOrder;
 use snb_input_lines::LineReader;
-use snb_schema::{Fault, FileId, FileKind, Line, OpKind};
+use snb_schema::{Fault, FileId, FileKind, Line, InsertKind};
 use std::alloc::Global;
 use std::marker::Model;
 use std::mem;
 
 /// The inserts that the lines of a kind of file may be: those of a person stream, those of a forum
 /// stream, and none of any other file.
-pub fn inserts_of(kind: FileKind) -> &'static [OpKind]
+pub fn inserts_of(kind: FileKind) -> &'static [InsertKind]
     ensures { result.now ≡ allowed_in kind }
 {
     match kind {

@@ -3,7 +3,7 @@
 ghost use Rattle.std.specs.Prelude.{◌≡◌, ◌++◌, ◌∷◌, [], OnOk, OnErr, map};
 ghost use Rattle.std.specs.List.{join_with_byte};
 ghost use Rattle.snb_schema.specs.declared.column.Value.TheVariants.{Digits};
-ghost use Rattle.snb_schema.specs.declared.op.OpKind.TheVariants as kinds;
+ghost use Rattle.snb_schema.specs.declared.op.InsertKind.TheVariants as kinds;
 ghost use Rattle.snb_schema.specs.Columns.{canonical_field};
 ghost use Rattle.snb_schema.specs.UpdateLines.{canonical_line, kind_of, parent_comment, parent_post};
 ghost use Rattle.snb_input_fields.specs.Cells.{value_of};

@@ -1,5 +1,5 @@
 -- Facts on what a call answers, by its words and by what its command finds.
-use Rattle.std.specs.Prelude.{◌↔◌}
+use Rattle.std.specs.Prelude.{◌↔◌, MatchBool}
 use Rattle.std.proofs.Common.{arith, ◌≡◌, ◌≢◌, ℕ, ◌≤◌, ◌⊎◌, ◌++◌, Bool, true, false, nat_eq, List, Option, Some, None, refl, sym, subst, ap, ◌∙◌, inl, inr}
 use Rattle.std.proofs.lemmas.Bool.{eq-eqb, eqb-true}
 use Rattle.snb_base.specs.Outbox.{Written, joined}
@@ -9,7 +9,7 @@ use Rattle.snb_input_files.specs.Walk.{Held, IsHeldTold}
 use Rattle.snb_schema.specs.declared.refusal.Refusal.{Refusal}
 use Rattle.snb_schema.specs.Frequencies.{FrequencyTable}
 use Rattle.snb_tool_words.specs.declared.command.Command.{Command}
-use Rattle.snb_tool_words.specs.declared.command.Command.TheVariants.{Audit, Check, Expect, Run, Read, Trial, Validate}
+use Rattle.snb_tool_words.specs.declared.command.Command.TheVariants.{Audit, Check, Expect, Latency, Run, Read, Trial, Validate}
 use Rattle.snb_tool_words.specs.Commands.{IsLineOf}
 use Rattle.snb_tool_words.specs.Laws.{WordsAreOne}
 use Rattle.snb_tool.specs.Inputs.{at_first, Found, IsFine, IsFoundTold, IsWrong}
@@ -23,17 +23,18 @@ use Rattle.snb_validation_check.specs.Laws.{FindingIsOne}
 use Rattle.snb_loader.specs.Dataset.{IsDataset}
 use Rattle.snb_auditor_log.specs.declared.verdict.AuditVerdict.{AuditVerdict}
 use Rattle.snb_auditor_log.specs.declared.verdict.AuditVerdict.TheVariants.{Judged, Miscounted, Mismatched}
-use Rattle.snb_auditor_log.specs.AuditVerdicts.{IsInOrder}
-use Rattle.snb_auditor_log.specs.Laws.{AcceptedInOrder}
-use Rattle.snb_auditor_log.specs.VerdictTexts.{audit_status, verdict_status}
+use Rattle.snb_auditor_log.specs.AuditVerdicts.{IsInOrder, is_whole}
+use Rattle.snb_auditor_log.specs.Laws.{AcceptedInOrder, WholeExactly}
+use Rattle.snb_auditor_log.specs.VerdictTexts.{audit_status, audit_text, verdict_status}
 use Rattle.snb_auditor.specs.declared.verdict.Verdict.{Verdict}
 use Rattle.snb_auditor.specs.declared.verdict.Verdict.TheVariants.{Violated, Halted, Incomplete, TooLate, Accepted}
 use Rattle.snb_workers.specs.Counts.{logged_of}
 use Rattle.snb_workers.specs.Laws.{CountsOfARun}
+use Rattle.snb_workers.specs.Miscounts.{events_of}
 use Rattle.snb_schema.specs.declared.row.Row.{Row}
-use Rattle.snb_tool.specs.Laws.{AnswersHaveStatus, AuditInShort, IsAuditInShort, IsRunInShort, IsValidateInShort, RefusalIsOne, RefusedOrNot, RunInShort, ValidateInShort}
-use Rattle.snb_tool.specs.Outcome.{IsAnswer, TellsVerdict, IsDone, IsDoneAnswer, IsJudged, IsRefused, IsRun, IsValidated}
-use Rattle.snb_tool.specs.Output.{HasBegun, HasWritten, Wrote}
+use Rattle.snb_tool.specs.Laws.{AnswersHaveStatus, AuditInShort, IsAuditInShort, IsLatencyInShort, IsRunInShort, IsValidateInShort, LatencyInShort, RefusalIsOne, RefusedOrNot, RunInShort, ValidateInShort}
+use Rattle.snb_tool.specs.Outcome.{IsAnswer, ShowsSummary, TellsLatencies, TellsVerdict, IsDone, IsDoneAnswer, IsJudged, IsRefused, IsRun, IsValidated}
+use Rattle.snb_tool.specs.Output.{HasBegun, HasWritten, Wrote, on_screen}
 use Rattle.snb_tool.specs.Outside.{Ends, IsReadOnly, OutOfMemory, Outside, ReadFault, Whole, WriteFault}
 
 -- ---- statuses
@@ -62,12 +63,19 @@ outcome_low : (first : Option Difference) → (outcome_status first ≡ 0) ⊎ (
 outcome_low None = inl refl
 outcome_low (Some d) = inr refl
 
+-- and so is that of latencies
+told_low : {P Q : Written → Type 0} (whole : Bool) (status : ℕ) (texts : Written) → MatchBool whole ((status ≡ 0) × P texts) ((status ≡ 1) × Q texts)
+    → (status ≡ 0) ⊎ (status ≡ 1) ⊎ (status ≡ 2) ⊎ (status ≡ 3)
+told_low true status texts told = inl told.0
+told_low false status texts told = inr (inl told.0)
+
 -- a command that is done has the status 0, or 1
 done_low : (command : Command) (found : Found) (fixed : Option ℕ) (status : ℕ) (texts : Written) → IsDone command found fixed status texts
     → (status ≡ 0) ⊎ (status ≡ 1) ⊎ (status ≡ 2) ⊎ (status ≡ 3)
 done_low (Check folder table) found fixed status texts d = inl d.0
 done_low (Run folder workers ratio table) found fixed status texts d = inl d.0
 done_low (Audit folder log ratio table) found fixed status texts d = low_by status (audit_status d.verdict) d.status_is (audit_low d.verdict)
+done_low (Latency folder log ratio table) found fixed status texts d = told_low (is_whole d.verdict) status texts d.told
 done_low (Expect folder table) found fixed status texts d = inl d.0
 done_low (Validate folder cases) found fixed status texts d = low_by status (tally_status d.tally) d.status_is (outcome_low d.tally.first)
 done_low (Read folder query) found fixed status texts d = inl d.0
@@ -233,16 +241,16 @@ audited_short : AcceptedInOrder → (files : Files) (folder log : List ℕ) (rat
     → IsFoundTold (Some files) (Audit folder log ratio table) found → TellsVerdict found.held found.beside ratio table status texts → new ≡ joined old texts
     → IsAuditInShort files folder log ratio table status old new
 audited_short in_order files folder log ratio table status old new texts found told done e =
-    let j : IsJudged (held_in folder files) found.beside ratio table done.verdict =
-    subst (λ (h : Held). IsJudged h found.beside ratio table done.verdict) (told_files folder files found.held told.0) done.judged in
+    let j : IsJudged (held_in folder files) found.beside ratio table done.plan done.header done.logged done.verdict =
+    subst (λ (h : Held). IsJudged h found.beside ratio table done.plan done.header done.logged done.verdict) (told_files folder files found.held told.0) done.judged in
     record {
       graph = j.graph;
-      plan = j.plan;
+      plan = done.plan;
       input = j.input;
-      header = j.header;
-      logged = j.logged;
-      said = subst (λ (b : Option (List ℕ)). IsLogOf b j.header j.logged) told.1 j.log;
-      exactly = subst (λ (n : ℕ). (n ≡ 0) ↔ IsInOrder j.graph j.plan j.header j.logged) (sym done.status_is) (in_order j.graph j.plan j.header j.logged done.verdict j.judged);
+      header = done.header;
+      logged = done.logged;
+      said = subst (λ (b : Option (List ℕ)). IsLogOf b done.header done.logged) told.1 j.log;
+      exactly = subst (λ (n : ℕ). (n ≡ 0) ↔ IsInOrder j.graph done.plan done.header done.logged) (sym done.status_is) (in_order j.graph done.plan done.header done.logged done.verdict j.judged);
       verdict = done.verdict;
       judged = j.judged;
       screen = ap (λ (w : Written). w.screen) e ∙ ap (λ (w : Written). old.screen ++ w.screen) done.shown;
@@ -260,6 +268,68 @@ audit_in_short words_one in_order words files fixed folder log ratio table statu
 audit_in_short words_one in_order words files fixed folder log ratio table status old new line low (texts, inr (c, l, (found, told, inl done)), w) =
     let same = words_one words c (Audit folder log ratio table) l line in
     audited_short in_order files folder log ratio table status old new texts found
+    (subst (λ (d : Command). IsFoundTold (Some files) d found) same told)
+    (subst (λ (d : Command). IsDone d found fixed status texts) same done.1) (added old new texts w)
+
+-- ---- latencies in short
+
+-- where a run is whole, or not, what is told of it
+module _ (whole : Bool) (status : ℕ) (texts : Written) (P Q : Written → Type 0) (told : MatchBool whole ((status ≡ 0) × P texts) ((status ≡ 1) × Q texts)) where
+  told_exactly : (status ≡ 0) ↔ (whole ≡ true)
+  told_exactly = by whole told
+    where
+      by : (b : Bool) → MatchBool b ((status ≡ 0) × P texts) ((status ≡ 1) × Q texts) → (status ≡ 0) ↔ (b ≡ true)
+      by true t = (λ zero. refl, λ is. t.0)
+      by false t = (λ zero. absurd (let one = t.0 in omega (arith, one, zero)), λ is. absurd cc)
+
+  told_summary : status ≡ 0 → P texts
+  told_summary zero = by whole told
+    where
+      by : (b : Bool) → MatchBool b ((status ≡ 0) × P texts) ((status ≡ 1) × Q texts) → P texts
+      by true t = t.1
+      by false t = absurd (let one = t.0 in omega (arith, one, zero))
+
+  told_verdict : status ≡ 1 → Q texts
+  told_verdict one = by whole told
+    where
+      by : (b : Bool) → MatchBool b ((status ≡ 0) × P texts) ((status ≡ 1) × Q texts) → Q texts
+      by true t = absurd (let zero = t.0 in omega (arith, one, zero))
+      by false t = t.1
+
+measured_short : WholeExactly → (files : Files) (folder log : List ℕ) (ratio : ℕ) (table : FrequencyTable) (status : ℕ) (old new texts : Written) (found : Found)
+    → IsFoundTold (Some files) (Latency folder log ratio table) found → TellsLatencies found.held found.beside ratio table status texts → new ≡ joined old texts
+    → IsLatencyInShort files folder log ratio table status old new
+measured_short exactly files folder log ratio table status old new texts found told done e =
+    let j : IsJudged (held_in folder files) found.beside ratio table done.plan done.header done.logged done.verdict =
+    subst (λ (h : Held). IsJudged h found.beside ratio table done.plan done.header done.logged done.verdict) (told_files folder files found.held told.0) done.judged in
+    let law = exactly j.graph done.plan done.header done.logged done.verdict j.judged in
+    let P : Written → Type 0 = ShowsSummary done.plan (events_of done.logged) in
+    let Q : Written → Type 0 = λ (t : Written). t ≡ on_screen (audit_text done.verdict) in
+    let whole = told_exactly (is_whole done.verdict) status texts P Q done.told in
+    record {
+      graph = j.graph;
+      plan = done.plan;
+      input = j.input;
+      header = done.header;
+      logged = done.logged;
+      said = subst (λ (b : Option (List ℕ)). IsLogOf b done.header done.logged) told.1 j.log;
+      exactly = (λ zero. law.0 (whole.0 zero), λ is. whole.1 (law.1 is));
+      summary = λ zero. let s = told_summary (is_whole done.verdict) status texts P Q done.told zero in
+          (s.measures, s.summary, ap (λ (w : Written). w.screen) e ∙ ap (λ (w : Written). old.screen ++ w.screen) s.shown);
+      verdict = λ one. (
+        done.verdict,
+        j.judged,
+        ap (λ (w : Written). w.screen) e ∙ ap (λ (w : Written). old.screen ++ w.screen) (told_verdict (is_whole done.verdict) status texts P Q done.told one),
+      );
+    }
+
+pub latency_in_short : WordsAreOne → WholeExactly → LatencyInShort
+latency_in_short words_one exactly words files fixed folder log ratio table status old new line low (texts, inl usage, w) = not_low status 2 low usage.0 (omega arith)
+latency_in_short words_one exactly words files fixed folder log ratio table status old new line low (texts, inr (c, l, (found, told, inr bad)), w) =
+    not_low status 3 low bad.2.0 (omega arith)
+latency_in_short words_one exactly words files fixed folder log ratio table status old new line low (texts, inr (c, l, (found, told, inl done)), w) =
+    let same = words_one words c (Latency folder log ratio table) l line in
+    measured_short exactly files folder log ratio table status old new texts found
     (subst (λ (d : Command). IsFoundTold (Some files) d found) same told)
     (subst (λ (d : Command). IsDone d found fixed status texts) same done.1) (added old new texts w)
 

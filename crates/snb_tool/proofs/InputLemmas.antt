@@ -19,8 +19,8 @@ use Rattle.snb_loader.specs.Params.{AreParams, IsParamsAnswer, params_checks}
 use Rattle.snb_loader.proofs.Laws.{SameLanes, SameParams, dataset_below, lanes_below, lanes_from, once_append, once_single, params_from}
 use Rattle.snb_plan.specs.Closed.{IsClosed, IsFirstWrong}
 use Rattle.snb_plan.specs.PlanLaws.{PlanIsOne}
-use Rattle.snb_plan.specs.declared.plan.PlanFault.{PlanFault}
-use Rattle.snb_plan.specs.declared.plan.PlanFault.TheVariants as plan_faults
+use Rattle.snb_schema.specs.declared.fault.PlanFault.{PlanFault}
+use Rattle.snb_schema.specs.declared.fault.PlanFault.TheVariants as plan_faults
 use Rattle.snb_plan.specs.Plans.{IsPlan, OnRefused, Plan, read_count, updates_in}
 use Rattle.snb_plan.proofs.Laws.{closed_is_one}
 use Rattle.snb_schema.specs.declared.limits.TheConstants.{MAX_READS}
@@ -35,15 +35,19 @@ use Rattle.snb_schema.specs.QueryLists.{QueryLists}
 use Rattle.snb_graph_model.specs.Graphs.{HoldsKey}
 use Rattle.snb_graph_model.specs.Soundness.{Sound}
 use Rattle.snb_tool_words.specs.declared.command.Command.{Command}
-use Rattle.snb_tool_words.specs.declared.command.Command.TheVariants.{Audit, Check, Expect, Run, Read, Trial, Validate}
+use Rattle.snb_tool_words.specs.declared.command.Command.TheVariants.{Audit, Check, Expect, Latency, Run, Read, Trial, Validate}
 use Rattle.snb_tool.specs.declared.input.Input.{Input}
+use Rattle.snb_auditor_log.specs.declared.audit.Audited.{Audited}
 use Rattle.snb_auditor_log.specs.Audited.{IsAuditAnswer}
+use Rattle.snb_tool.specs.declared.audit.Judged.{Judged}
+use Rattle.snb_tool.specs.Outcome.{IsJudged}
+use Rattle.snb_input_files.specs.Loading.{load_for_plan}
 use Rattle.snb_auditor_log.specs.LogFiles.{log_checks}
 use Rattle.snb_auditor_log.specs.declared.verdict.AuditVerdict.{AuditVerdict}
 use Rattle.snb_validation_check.specs.declared.text.Tally.{Tally}
 use Rattle.snb_validation_check.specs.CasesFile.{IsCasesAnswer, cases_checks}
 use Rattle.snb_validation_check.specs.Laws.{CasesRefuseOnce, CasesRefusedOrNot}
-use Rattle.snb_tool.specs.Endings.{IsTallyAnswer, IsInputAnswer, IsJudgedAnswer, IsMade, IsMadeAnswer, IsOpen, IsReplyAnswer, IsReplyLine, load_for}
+use Rattle.snb_tool.specs.Endings.{IsTallyAnswer, IsInputAnswer, IsJudgedAnswer, IsMade, IsMadeAnswer, IsOpen, IsReplyAnswer, IsReplyLine}
 use Rattle.snb_tool.specs.Inputs.{AreBadCases, ArePlanned, AreTooMany, Found, IsNotClosed, after_dataset, after_streams, at_first, checks_of, plan_checks}
 
 -- what is so of a fault is so of the answer that passes it on
@@ -139,6 +143,7 @@ once one each (Trial size workers) found = no_checks
 once one each (Check folder table) found = plan_once one 1000000 table found.held each
 once one each (Run folder workers ratio table) found = plan_once one ratio table found.held each
 once one each (Audit folder log ratio table) found = once_append (plan_checks ratio table found.held) (log_checks found.beside) (plan_once one ratio table found.held each) (each.log found.beside)
+once one each (Latency folder log ratio table) found = once_append (plan_checks ratio table found.held) (log_checks found.beside) (plan_once one ratio table found.held each) (each.log found.beside)
 once one each (Expect folder table) found = plan_once one 1000000 table found.held each
 once one each (Validate folder cases) found =
     once_append (dataset_checks at_first found.held) (AreBadCases found.held found.beside ∷ []) (each.dataset at_first found.held)
@@ -348,7 +353,7 @@ made_few (Err e) plan same q = absurd same
 module _ (graph : List Row) (lanes : LineLanes) (lists : QueryLists) (table : FrequencyTable) (ratio : ℕ) where
   -- or isn't, since the plan isn't closed
   pub open_made : (plan : Plan) (closed : Result (Unit {0}) PlanFault) (load : Load) → IsPlan lanes lists table ratio plan → read_count table (update_count lanes) ≤ MAX_READS
-      → OnRefused closed (IsFirstWrong (HoldsKey graph) (updates_in plan)) → MatchResult closed (λ x. ◌≡◌ {A = Result (Unit {0}) Load} (Err load) (Ok x)) (λ e. load ≡ load_for e) → IsMadeAnswer graph lanes lists table ratio (Err load)
+      → OnRefused closed (IsFirstWrong (HoldsKey graph) (updates_in plan)) → MatchResult closed (λ x. ◌≡◌ {A = Result (Unit {0}) Load} (Err load) (Ok x)) (λ e. load ≡ load_for_plan e) → IsMadeAnswer graph lanes lists table ratio (Err load)
   open_made plan (Ok x) load is few wrong same = absurd cc
   open_made plan (Err (plan_faults.Refused r)) load is few wrong same =
       subst (λ (l : Load). IsMadeAnswer graph lanes lists table ratio (Err l)) (sym same) (inr (record { plan = plan; is_plan = is; few = few; wrong = wrong }))
@@ -396,28 +401,24 @@ module _ (contents : Option Files) (folder log : List ℕ) (ratio : ℕ) (table 
   judged_no_input ReadFault h = tt
   judged_no_input Memory h = tt
 
-  pub judged_by_log : (input : Input) (result : Result AuditVerdict Load) → IsInputAnswer contents folder ratio table (Ok input)
-      → IsAuditAnswer input.graph input.plan contents log result → IsJudgedAnswer contents folder log ratio table result
-  judged_by_log input (Ok verdict) h a = (
+  pub judged_by_log : (input : Input) (audited : Audited) (judged : Judged) → judged.plan ≡ input.plan → judged.audited ≡ audited → IsInputAnswer contents folder ratio table (Ok input)
+      → IsAuditAnswer input.graph input.plan contents log (Ok audited) → IsJudgedAnswer contents folder log ratio table (Ok judged)
+  judged_by_log input audited judged plans audits h a = (
     h.0,
     a.0,
     h.1,
     a.1,
     none_append (plan_checks ratio table h.0) (log_checks a.0) h.2.clean a.2.clean,
-    record {
-      graph = input.graph;
-      plan = input.plan;
-      input = h.2.is;
-      header = a.2.header;
-      logged = a.2.logged;
-      log = a.2.says;
-      judged = a.2.judged;
-    },
+    subst (λ (p : Plan). IsJudged h.0 a.0 ratio table p judged.audited.log.header judged.audited.log.logged.items judged.audited.verdict) (sym plans)
+        (subst (λ (x : Audited). IsJudged h.0 a.0 ratio table input.plan x.log.header x.log.logged.items x.verdict) (sym audits)
+        (record { graph = input.graph; input = h.2.is; log = a.2.says; judged = a.2.judged })),
   )
-  judged_by_log input (Err (Refused r)) h a =
-      (h.0, a.0, h.1, a.1, first_later (plan_checks ratio table h.0) (log_checks a.0) r h.2.clean a.2)
-  judged_by_log input (Err ReadFault) h a = tt
-  judged_by_log input (Err Memory) h a = tt
+
+  pub judged_no_log : (input : Input) (load : Load) → IsInputAnswer contents folder ratio table (Ok input)
+      → IsAuditAnswer input.graph input.plan contents log (Err load) → IsJudgedAnswer contents folder log ratio table (Err load)
+  judged_no_log input (Refused r) h a = (h.0, a.0, h.1, a.1, first_later (plan_checks ratio table h.0) (log_checks a.0) r h.2.clean a.2)
+  judged_no_log input ReadFault h a = tt
+  judged_no_log input Memory h a = tt
 
 -- ---- of `validate`
 

@@ -10,29 +10,33 @@ use Rattle.snb_schema.specs.declared.query.Query.{Query}
 use Rattle.snb_input_files.specs.declared.load.Load.{Load}
 use Rattle.snb_input_files.specs.declared.load.Load.TheVariants as loads
 use Rattle.snb_input_files.specs.Loading.{IsTold, is_read_fault}
-use Rattle.std.specs.Prelude.{IfSome, ◌≢◌, Result}
+use Rattle.std.specs.Prelude.{IfSome, ◌≢◌, MatchBool, Result, true}
 use Rattle.snb_schema.specs.declared.row.Row.{Row}
 use Rattle.snb_schema.specs.Frequencies.{FrequencyTable}
 use Rattle.snb_history.specs.RunTexts.{header_of, log_text}
 use Rattle.snb_schema.specs.ScreenTexts.{refusal_text, summary_text}
 use Rattle.snb_graph_model.specs.FinalText.{final_text}
 use Rattle.snb_graph_model.specs.Graphs.{HasGained}
-use Rattle.snb_plan.specs.Plans.{queries_in, updates_in}
+use Rattle.snb_history.specs.Rules.{IsComplete, IsLegal}
+use Rattle.snb_plan.specs.Plans.{queries_in, schedule_of, updates_in}
 use Rattle.snb_workers_replay.specs.Replay.{all_rows}
 use Rattle.snb_tool_texts.specs.Answers.{answers_text}
 use Rattle.snb_tool_words.specs.declared.command.Command.{Command}
-use Rattle.snb_tool_words.specs.declared.command.Command.TheVariants.{Audit, Check, Expect, Run, Read, Trial, Validate}
+use Rattle.snb_tool_words.specs.declared.command.Command.TheVariants.{Audit, Check, Expect, Latency, Run, Read, Trial, Validate}
 use Rattle.snb_workers.specs.Counts.{logged_of}
 use Rattle.snb_workers.specs.declared.run.Outcome.{Outcome}
+use Rattle.snb_workers.specs.Miscounts.{events_of}
 use Rattle.snb_workers.specs.Runs.{HasRun}
+use Rattle.snb_tool.specs.declared.audit.Judged.{Judged}
 use Rattle.snb_tool.specs.declared.deliver.Finished.{Finished}
 use Rattle.snb_tool.specs.declared.input.Input.{Input}
-use Rattle.snb_auditor_log.specs.declared.verdict.AuditVerdict.{AuditVerdict}
+use Rattle.snb_auditor_log.specs.AuditVerdicts.{is_whole}
+use Rattle.snb_auditor_log.specs.Laws.{WholeExactly}
 use Rattle.snb_auditor_log.specs.VerdictTexts.{audit_status, audit_text}
 use Rattle.snb_validation_check.specs.declared.text.Tally.{Tally}
 use Rattle.snb_validation_check.specs.CheckTexts.{tally_status, tally_text}
 use Rattle.snb_tool.specs.Endings.{AreTexts, Delivers, Finishes, IsDoneWith, IsFinished, IsInputAnswer, IsJudgedAnswer, IsReplyAnswer, IsTallyAnswer, IsTrialInput, bytes_of}
-use Rattle.snb_tool.specs.Outcome.{IsCommandAnswer, IsLeft, check_of}
+use Rattle.snb_tool.specs.Outcome.{IsCommandAnswer, IsLeft, ShowsSummary, check_of}
 use Rattle.snb_tool.specs.Output.{HasBegun, on_screen}
 use Rattle.snb_tool.specs.Outside.{Ends, OutOfMemory, Outside, ReadFault, Whole, WriteFault}
 
@@ -191,14 +195,52 @@ module _ (contents : Option Files) (folder log : List ℕ) (ratio : ℕ) (table 
   audit_not loads.ReadFault h = tt
   audit_not loads.Memory h = tt
 
-  pub audit_done : (verdict : AuditVerdict) (status : ℕ) (texts : Written) → IsJudgedAnswer contents folder log ratio table (Ok verdict) → status ≡ audit_status verdict
-      → texts ≡ on_screen (audit_text verdict) → IsDoneWith (Audit folder log ratio table) contents fixed status texts
-  audit_done verdict status texts h s e = (
+  pub audit_done : (judged : Judged) (status : ℕ) (texts : Written) → IsJudgedAnswer contents folder log ratio table (Ok judged) → status ≡ audit_status judged.audited.verdict
+      → texts ≡ on_screen (audit_text judged.audited.verdict) → IsDoneWith (Audit folder log ratio table) contents fixed status texts
+  audit_done judged status texts h s e = (
     record { held = h.0; beside = h.1 },
     (h.2, beside_told contents log h.1 h.3),
     h.4,
-    record { verdict = verdict; judged = h.5; status_is = s; shown = e },
+    record {
+      plan = judged.plan;
+      header = judged.audited.log.header;
+      logged = judged.audited.log.logged.items;
+      verdict = judged.audited.verdict;
+      judged = h.5;
+      status_is = s;
+      shown = e;
+    },
   )
+
+  pub latency_not : (load : Load) → IsJudgedAnswer contents folder log ratio table (Err load) → IsFinished (Latency folder log ratio table) contents fixed (Err load)
+  latency_not (loads.Refused r) h = (record { held = h.0; beside = h.1 }, (h.2, beside_told contents log h.1 h.3), h.4)
+  latency_not loads.ReadFault h = tt
+  latency_not loads.Memory h = tt
+
+  pub latency_done : (judged : Judged) (status : ℕ) (texts : Written) → IsJudgedAnswer contents folder log ratio table (Ok judged)
+      → MatchBool (is_whole judged.audited.verdict) ((status ≡ 0) × ShowsSummary judged.plan (events_of judged.audited.log.logged.items) texts)
+      ((status ≡ 1) × (texts ≡ on_screen (audit_text judged.audited.verdict)))
+      → IsDoneWith (Latency folder log ratio table) contents fixed status texts
+  latency_done judged status texts h told = (
+    record { held = h.0; beside = h.1 },
+    (h.2, beside_told contents log h.1 h.3),
+    h.4,
+    record {
+      plan = judged.plan;
+      header = judged.audited.log.header;
+      logged = judged.audited.log.logged.items;
+      verdict = judged.audited.verdict;
+      judged = h.5;
+      told = told;
+    },
+  )
+
+  -- a log that is judged to be that of a whole run has a legal, complete history
+  pub judged_whole : WholeExactly → (judged : Judged) → IsJudgedAnswer contents folder log ratio table (Ok judged) → is_whole judged.audited.verdict ≡ true
+      → ((workers : ℕ) × IsLegal (schedule_of judged.plan) workers (events_of judged.audited.log.logged.items)) × IsComplete (schedule_of judged.plan) (events_of judged.audited.log.logged.items)
+  judged_whole exactly judged h is =
+      let run = (exactly h.5.graph judged.plan judged.audited.log.header judged.audited.log.logged.items judged.audited.verdict h.5.judged).0 is in
+      ((judged.audited.log.header.workers, run.legal), run.complete)
 
 module _ (contents : Option Files) (folder cases : List ℕ) (fixed : Option ℕ) where
   pub validate_not : (load : Load) → IsTallyAnswer contents folder cases (Err load) → IsFinished (Validate folder cases) contents fixed (Err load)

@@ -2,7 +2,6 @@
 use Rattle.std.specs.Prelude.{◌≡◌, ℕ, ◌<◌, ◌≤◌, ◌⊎◌, List, [], ◌∷◌, ◌++◌, length, Option, Result, Ok, Err, Vec}
 use Rattle.std.specs.declared.alloc.Global.{Global}
 use Rattle.snb_auditor_log.specs.LogFiles.{log_checks}
-use Rattle.snb_auditor_log.specs.declared.verdict.AuditVerdict.{AuditVerdict}
 use Rattle.snb_base.specs.declared.outbox.Outbox.{Ghosts as Outboxes}
 use Rattle.snb_base.specs.Outbox.{Written}
 use Rattle.snb_base.specs.Shelf.{Files, Rose}
@@ -28,13 +27,12 @@ use Rattle.snb_schema.specs.ScreenTexts.{refusal_text, summary_text}
 use Rattle.snb_graph_model.specs.FinalText.{final_text}
 use Rattle.snb_graph_model.specs.Graphs.{HoldsKey}
 use Rattle.snb_tool_texts.specs.Answers.{answers_text, bytes_in}
-use Rattle.snb_plan.specs.declared.plan.PlanFault.{PlanFault}
-use Rattle.snb_plan.specs.declared.plan.PlanFault.TheVariants as plan_faults
 use Rattle.snb_plan.specs.Closed.{IsClosed, IsFirstWrong}
 use Rattle.snb_plan.specs.Plans.{IsOfStreams, IsPlan, Plan, queries_in, read_count, updates_in}
 use Rattle.snb_workers.specs.Counts.{logged_of}
 use Rattle.snb_workers.specs.declared.run.Outcome.{Outcome as RunOutcome}
 use Rattle.snb_tool_words.specs.declared.command.Command.{Command}
+use Rattle.snb_tool.specs.declared.audit.Judged.{Judged}
 use Rattle.snb_tool.specs.declared.deliver.Finished.{Finished}
 use Rattle.snb_tool.specs.declared.deliver.Output.{Output}
 use Rattle.snb_tool.specs.declared.input.Input.{Input}
@@ -87,11 +85,6 @@ IsFinished command contents fixed (Err Memory) = Unit {0}
 pub record IsLoaded (held : Held) (ratio : ℕ) (frequencies : FrequencyTable) (input : Input) : Type 0 where
   pub clean : NoneOf (plan_checks ratio frequencies held)
   pub is : IsInput held ratio frequencies input.graph input.plan
-
--- how a fault of a plan stops the loading of its input
-abbrev pub load_for : PlanFault → Load
-load_for (plan_faults.Refused r) = Refused r
-load_for plan_faults.Memory = Memory
 
 -- of lanes, lists, frequencies and a ratio this is the plan, which has no more reads than there may be and is closed over the graph
 pub record IsMade (graph : List Row) (lanes : LineLanes) (lists : QueryLists) (frequencies : FrequencyTable) (ratio : ℕ) (input : Input) : Type 0 where
@@ -168,20 +161,20 @@ IsReplyAnswer contents folder query (Err (Refused r)) = (held : Held) × IsHeldT
 IsReplyAnswer contents folder query (Err ReadFault) = Unit {0}
 IsReplyAnswer contents folder query (Err Memory) = Unit {0}
 
--- what is tried for an audit, in order: the files of the plan, then the log
+-- what is tried for an audit and for latencies, in order: the files of the plan, then the log
 abbrev pub audit_checks : ℕ → FrequencyTable → Held → Option (List ℕ) → List {1} (Refusal → Type 0)
 audit_checks ratio frequencies held beside = plan_checks ratio frequencies held ++ log_checks beside
 
 -- what the judging of a log answers: there are files of a plan and a log, which are those that the shelf tells where it tells any, of which
--- nothing is wrong and this is the verdict, or which are refused so
-abbrev pub IsJudgedAnswer : Option Files → List ℕ → List ℕ → ℕ → FrequencyTable → Result AuditVerdict Load → Type 0
-IsJudgedAnswer contents folder log ratio frequencies (Ok verdict) =
+-- nothing is wrong, and these are their plan, what the log says, and the verdict on it; or which are refused so
+abbrev pub IsJudgedAnswer : Option Files → List ℕ → List ℕ → ℕ → FrequencyTable → Result Judged Load → Type 0
+IsJudgedAnswer contents folder log ratio frequencies (Ok j) =
     (held : Held)
     × (beside : Option (List ℕ))
     × IsHeldTold contents folder held
     × IsTold contents log beside
     × NoneOf (audit_checks ratio frequencies held beside)
-    × IsJudged held beside ratio frequencies verdict
+    × IsJudged held beside ratio frequencies j.plan j.audited.log.header j.audited.log.logged.items j.audited.verdict
 IsJudgedAnswer contents folder log ratio frequencies (Err (Refused r)) =
     (held : Held)
     × (beside : Option (List ℕ))

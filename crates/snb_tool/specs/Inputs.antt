@@ -20,7 +20,7 @@ use Rattle.snb_schema.specs.LineLanes.{LineLanes, update_count}
 use Rattle.snb_schema.specs.QueryLists.{QueryLists}
 use Rattle.snb_graph_model.specs.Graphs.{HoldsKey}
 use Rattle.snb_tool_words.specs.declared.command.Command.{Command}
-use Rattle.snb_tool_words.specs.declared.command.Command.TheVariants.{Audit, Check, Expect, Run, Read, Trial, Validate}
+use Rattle.snb_tool_words.specs.declared.command.Command.TheVariants.{Audit, Check, Expect, Latency, Run, Read, Trial, Validate}
 use Rattle.snb_tool_words.specs.Commands.{beside_of, folder_of}
 
 -- before the first file nothing is read
@@ -83,12 +83,13 @@ pub record AreBadCases (held : Held) (beside : Option (List ℕ)) (r : Refusal) 
   pub dataset : IsDataset at_first held graph
   pub refused : FirstOf (cases_checks graph beside) r
 
--- what a command tries of what it finds, in order; `check` and `expect` have the ratio 1, `audit` looks at the log last, and `validate` at the
--- cases; a trial finds nothing that could be wrong
+-- what a command tries of what it finds, in order; `check` and `expect` have the ratio 1, `audit` and `latency` look at the log last, and `validate`
+-- at the cases; a trial finds nothing that could be wrong
 abbrev pub checks_of : Command → Found → List {1} (Refusal → Type 0)
 checks_of (Check folder frequencies) found = plan_checks 1000000 frequencies found.held
 checks_of (Run folder workers ratio frequencies) found = plan_checks ratio frequencies found.held
 checks_of (Audit folder log ratio frequencies) found = plan_checks ratio frequencies found.held ++ log_checks found.beside
+checks_of (Latency folder log ratio frequencies) found = plan_checks ratio frequencies found.held ++ log_checks found.beside
 checks_of (Expect folder frequencies) found = plan_checks 1000000 frequencies found.held
 checks_of (Validate folder cases) found = dataset_checks at_first found.held ++ AreBadCases found.held found.beside ∷ []
 checks_of (Read folder query) found = dataset_checks at_first found.held

@@ -2,7 +2,7 @@
 use Rattle.std.specs.Prelude.{◌≡◌, ◌≤◌, ℕ, ◌⊎◌, ◌↔◌, ◌++◌, List, length, Option, Some}
 use Rattle.snb_auditor_log.specs.LogFiles.{IsLogOf}
 use Rattle.snb_auditor_log.specs.declared.verdict.AuditVerdict.{AuditVerdict}
-use Rattle.snb_auditor_log.specs.AuditVerdicts.{IsAuditVerdict, IsInOrder}
+use Rattle.snb_auditor_log.specs.AuditVerdicts.{IsAuditVerdict, IsInOrder, IsWhole}
 use Rattle.snb_auditor_log.specs.VerdictTexts.{audit_text}
 use Rattle.snb_base.specs.Outbox.{Written}
 use Rattle.snb_validation_cases.specs.declared.case.Case.{Case}
@@ -32,11 +32,16 @@ use Rattle.snb_history.specs.Rules.{IsComplete, IsLegal}
 use Rattle.snb_history.specs.RunTexts.{header_of, log_text}
 use Rattle.snb_runlog.specs.Laws.{ReadsBack}
 use Rattle.snb_graph_model.specs.FinalText.{final_text}
+use Rattle.snb_summary.specs.declared.summary.Measure.{Measure}
+use Rattle.snb_summary.specs.Summaries.{IsSummary}
+use Rattle.snb_summary.specs.SummaryTexts.{measures_text}
+use Rattle.snb_summary.specs.Works.{run_of}
 use Rattle.snb_tool_texts.specs.Answers.{answers_text}
 use Rattle.snb_tool_words.specs.declared.command.Command.{Command}
-use Rattle.snb_tool_words.specs.declared.command.Command.TheVariants.{Audit, Expect, Run, Validate}
+use Rattle.snb_tool_words.specs.declared.command.Command.TheVariants.{Audit, Expect, Latency, Run, Validate}
 use Rattle.snb_tool_words.specs.Commands.{IsLineOf}
 use Rattle.snb_workers.specs.Counts.{TellsCounts}
+use Rattle.snb_workers.specs.Miscounts.{events_of}
 use Rattle.snb_workers.specs.declared.done.Answered.{Answered}
 use Rattle.snb_workers.specs.Runs.{AreReplies}
 use Rattle.snb_tool.specs.Inputs.{Found, IsFine, IsInput, at_first, checks_of}
@@ -111,6 +116,29 @@ AuditInShort =
     → IsLineOf words (Audit folder log ratio frequencies) → (status ≡ 0) ⊎ (status ≡ 1)
     → HasWritten (Some old) (Some new) (IsAnswer words (Some files) fixed status)
     → IsAuditInShort files folder log ratio frequencies status old new
+
+-- what `latency` that is done says, where the files and the channels are told: the log of this name says one header and one list of events with
+-- their counts; the status is 0 exactly where its history is legal and complete on the plan of the files, no count that is stated is wrong, and
+-- the number of operations, where it is stated, is the plan's; with status 0 the text of the summary of the history was added to the screen, and
+-- else that of the verdict
+pub record IsLatencyInShort (files : Files) (folder log : List ℕ) (ratio : ℕ) (frequencies : FrequencyTable) (status : ℕ) (old new : Written) : Type 0 where
+  pub graph : List Row
+  pub plan : Plan
+  pub input : IsInput (held_in folder files) ratio frequencies graph plan
+  pub header : Header
+  pub logged : List Logged
+  pub said : IsLogOf (files log) header logged
+  pub exactly : (status ≡ 0) ↔ IsWhole graph plan header logged
+  pub summary : status ≡ 0 → (measures : List Measure) × IsSummary (run_of plan (events_of logged)) measures × (new.screen ≡ old.screen ++ measures_text measures)
+  pub verdict : status ≡ 1 → (verdict : AuditVerdict) × IsAuditVerdict graph plan header logged verdict × (new.screen ≡ old.screen ++ audit_text verdict)
+
+-- status 0 or 1 of `latency` says that
+abbrev pub LatencyInShort : Type 0
+LatencyInShort =
+    (words : List (List ℕ)) (files : Files) (fixed : Option ℕ) (folder log : List ℕ) (ratio : ℕ) (frequencies : FrequencyTable) (status : ℕ) (old new : Written)
+    → IsLineOf words (Latency folder log ratio frequencies) → (status ≡ 0) ⊎ (status ≡ 1)
+    → HasWritten (Some old) (Some new) (IsAnswer words (Some files) fixed status)
+    → IsLatencyInShort files folder log ratio frequencies status old new
 
 -- what a validation that is done says, where the files and the channels are told: the file of this name says these cases; the status is 0 exactly
 -- where each reply that they have is the one on the graph of the tables with the inserts before it; and the text of what is found was added to

@@ -1,9 +1,9 @@
 -- What a call of the program answers and writes.
-use Rattle.std.specs.Prelude.{◌≡◌, ℕ, ◌+◌, List, [], ◌∷◌, ◌++◌, length, Option, ◌⊎◌}
+use Rattle.std.specs.Prelude.{◌≡◌, ℕ, ◌+◌, List, [], ◌∷◌, ◌++◌, length, Option, ◌⊎◌, MatchBool}
 use Rattle.serde_json.specs.Written.{compact_text}
 use Rattle.snb_auditor_log.specs.LogFiles.{IsLogOf}
 use Rattle.snb_auditor_log.specs.declared.verdict.AuditVerdict.{AuditVerdict}
-use Rattle.snb_auditor_log.specs.AuditVerdicts.{IsAuditVerdict}
+use Rattle.snb_auditor_log.specs.AuditVerdicts.{IsAuditVerdict, is_whole}
 use Rattle.snb_auditor_log.specs.VerdictTexts.{audit_status, audit_text}
 use Rattle.snb_base.specs.Outbox.{Written}
 use Rattle.snb_validation_cases.specs.declared.case.Case.{Case}
@@ -31,15 +31,20 @@ use Rattle.snb_history.specs.RunTexts.{header_of, log_text}
 use Rattle.snb_runlog.specs.Laws.{ReadsBack}
 use Rattle.snb_schema.specs.ScreenTexts.{refusal_text, summary_text, usage_text}
 use Rattle.snb_graph_model.specs.FinalText.{final_text}
+use Rattle.snb_summary.specs.declared.summary.Measure.{Measure}
+use Rattle.snb_summary.specs.Summaries.{IsSummary}
+use Rattle.snb_summary.specs.SummaryTexts.{measures_text}
+use Rattle.snb_summary.specs.Works.{run_of}
 use Rattle.snb_tool_texts.specs.Answers.{answers_text}
 use Rattle.snb_tool_texts.specs.Counts.{check_text}
 use Rattle.snb_trial.specs.Trial.{dataset, lanes, least_ratio, lists, read_frequencies}
 use Rattle.snb_validation.specs.ReplyData.{reply_data}
 use Rattle.snb_workers.specs.Counts.{logged_of}
+use Rattle.snb_workers.specs.Miscounts.{events_of}
 use Rattle.snb_workers.specs.declared.done.Answered.{Answered}
 use Rattle.snb_workers.specs.Runs.{HasRun}
 use Rattle.snb_tool_words.specs.declared.command.Command.{Command}
-use Rattle.snb_tool_words.specs.declared.command.Command.TheVariants.{Audit, Check, Expect, Run, Read, Trial, Validate}
+use Rattle.snb_tool_words.specs.declared.command.Command.TheVariants.{Audit, Check, Expect, Latency, Run, Read, Trial, Validate}
 use Rattle.snb_tool_words.specs.Commands.{IsLineOf, IsOtherLine}
 use Rattle.snb_tool.specs.Inputs.{Found, IsFine, IsFoundTold, IsInput, IsWrong, at_first, checks_of}
 use Rattle.snb_tool.specs.Output.{HasBegun, HasWritten, on_screen}
@@ -95,23 +100,39 @@ pub record IsTried (size workers : ℕ) (fixed : Option ℕ) (texts : Written) :
   pub is_plan : IsPlan (lanes size) (lists size) read_frequencies least_ratio plan
   pub left : IsLeft workers dataset plan fixed texts
 
--- nothing is wrong with the files of a plan, these bytes are a log that says a header and events with their counts, and this is the verdict on
--- it by the plan over the dataset
-pub record IsJudged (held : Held) (beside : Option (List ℕ)) (ratio : ℕ) (frequencies : FrequencyTable) (verdict : AuditVerdict) : Type 0 where
+-- nothing is wrong with the files of a plan, which is this; these bytes are a log that says this header and these events with their counts; and this
+-- is the verdict on it by the plan over the dataset
+pub record IsJudged (held : Held) (beside : Option (List ℕ)) (ratio : ℕ) (frequencies : FrequencyTable) (plan : Plan) (header : Header) (logged : List Logged) (verdict : AuditVerdict) : Type 0 where
   pub graph : List Row
-  pub plan : Plan
   pub input : IsInput held ratio frequencies graph plan
-  pub header : Header
-  pub logged : List Logged
   pub log : IsLogOf beside header logged
   pub judged : IsAuditVerdict graph plan header logged verdict
 
 -- the status and the text tell a verdict on the log
 pub record TellsVerdict (held : Held) (beside : Option (List ℕ)) (ratio : ℕ) (frequencies : FrequencyTable) (status : ℕ) (texts : Written) : Type 0 where
+  pub plan : Plan
+  pub header : Header
+  pub logged : List Logged
   pub verdict : AuditVerdict
-  pub judged : IsJudged held beside ratio frequencies verdict
+  pub judged : IsJudged held beside ratio frequencies plan header logged verdict
   pub status_is : status ≡ audit_status verdict
   pub shown : texts ≡ on_screen (audit_text verdict)
+
+-- the text is that of the summary of a history of the plan
+pub record ShowsSummary (plan : Plan) (h : List Event) (texts : Written) : Type 0 where
+  pub measures : List Measure
+  pub summary : IsSummary (run_of plan h) measures
+  pub shown : texts ≡ on_screen (measures_text measures)
+
+-- nothing is wrong with the files and the log. Where the verdict on the log is that the run is accepted or late, the status is 0, and the text that of
+-- the summary of its history; else the status is 1, and the text that of the verdict
+pub record TellsLatencies (held : Held) (beside : Option (List ℕ)) (ratio : ℕ) (frequencies : FrequencyTable) (status : ℕ) (texts : Written) : Type 0 where
+  pub plan : Plan
+  pub header : Header
+  pub logged : List Logged
+  pub verdict : AuditVerdict
+  pub judged : IsJudged held beside ratio frequencies plan header logged verdict
+  pub told : MatchBool (is_whole verdict) ((status ≡ 0) × ShowsSummary plan (events_of logged) texts) ((status ≡ 1) × (texts ≡ on_screen (audit_text verdict)))
 
 -- the two texts of the cases of a plan: the cases, and how many operations there are
 abbrev pub expected_texts : Plan → List Case → Written
@@ -156,6 +177,7 @@ abbrev pub IsDone : Command → Found → Option ℕ → ℕ → Written → Typ
 IsDone (Check folder frequencies) found fixed status texts = (status ≡ 0) × IsChecked found.held frequencies texts
 IsDone (Run folder workers ratio frequencies) found fixed status texts = (status ≡ 0) × IsRun found.held workers ratio frequencies fixed texts
 IsDone (Audit folder log ratio frequencies) found fixed status texts = TellsVerdict found.held found.beside ratio frequencies status texts
+IsDone (Latency folder log ratio frequencies) found fixed status texts = TellsLatencies found.held found.beside ratio frequencies status texts
 IsDone (Expect folder frequencies) found fixed status texts = (status ≡ 0) × IsExpected found.held frequencies texts
 IsDone (Validate folder cases) found fixed status texts = IsValidated found.held found.beside status texts
 IsDone (Read folder query) found fixed status texts = (status ≡ 0) × IsRead found.held query texts

@@ -9,28 +9,45 @@ ghost use Rattle.snb_tool.specs.Endings.{IsFinished, IsJudgedAnswer};
 use crate::deliver::Finished;
 use crate::input::load_input;
 use snb_auditor_log::verdict_text::{status_of, verdict_line};
-use snb_auditor_log::{AuditVerdict, audit_log};
+use snb_auditor_log::{Audited, audit_log};
 use snb_base::Shelf;
 use snb_input_files::Load;
+use snb_plan::Plan;
 use snb_ratio::Ratio;
 use snb_schema::Frequencies;
 use std::alloc::Global;
 
-// Reads the tables, the streams and the parameter files of a folder, and a log, and judges the log by their
-// plan over their dataset.
-fn verdict_of<S: Shelf>(
+/// The plan of the files of a folder, and a log with the verdict on it.
+pub struct Judged {
+    pub plan: Plan,
+    pub audited: Audited,
+}
+
+impl Drop for Judged {
+    fn drop(self) {
+        let Judged {
+            plan: _,
+            audited: _,
+        } = self;
+    }
+}
+
+/// Reads the tables, the streams and the parameter files of a folder, and a log, and judges the log by their
+/// plan over their dataset.
+pub fn judge<S: Shelf>(
     alloc: Global,
     shelf: &mut S,
     folder: &str,
     log: &str,
     ratio: Ratio,
     frequencies: Frequencies,
-) -> Result<AuditVerdict, Load>
+) -> Result<Judged, Load>
     ensures answer { IsJudgedAnswer (S.contents shelf.old) folder.now log.now ratio frequencies result }
     ensures read { IsRead (is_read_fault result) (S.contents shelf.old) (S.faults shelf.old) (S.contents shelf.new) (S.faults shelf.new) }
 {
-    let input = load_input(alloc, shelf, folder, ratio, frequencies)?;
-    audit_log(alloc, shelf, &input.plan, &input.graph, log)
+    let (graph, plan) = load_input(alloc, shelf, folder, ratio, frequencies)?.into_parts();
+    let audited = audit_log(alloc, shelf, &plan, &graph, log)?;
+    Ok(Judged { plan, audited })
 }
 
 /// Reads the tables, the streams and the parameter files of a folder, and a log, and judges the log by their
@@ -46,7 +63,9 @@ pub fn audit<S: Shelf>(
     ensures answer { (fixed : Option ℕ) → IsFinished (Audit folder.now log.now ratio frequencies) (S.contents shelf.old) fixed result }
     ensures read { IsRead (is_read_fault result) (S.contents shelf.old) (S.faults shelf.old) (S.contents shelf.new) (S.faults shelf.new) }
 {
-    let verdict = verdict_of(alloc, shelf, folder, log, ratio, frequencies)?;
+    let verdict = judge(alloc, shelf, folder, log, ratio, frequencies)?
+        .audited
+        .verdict;
     let text = verdict_line(alloc, verdict)?;
     Ok(Finished::shown(alloc, text, status_of(verdict)))
 }

@@ -11,7 +11,7 @@ ghost use Rattle.snb_schema.specs.QueryLists.{HaveParameters};
 ghost use Rattle.snb_schema.specs.StreamLines.{AreOfStreams};
 ghost use Rattle.snb_graph_model.specs.Graphs.{HoldsKey};
 ghost use Rattle.snb_graph_model.specs.Soundness.{Sound};
-ghost use Rattle.snb_tool.specs.Endings.{IsInputAnswer, IsMadeAnswer, load_for};
+ghost use Rattle.snb_tool.specs.Endings.{IsInputAnswer, IsMadeAnswer};
 
 use snb_base::Shelf;
 use snb_graph::Graph;
@@ -20,7 +20,7 @@ use snb_input_files::{Load, Used};
 use snb_loader::law::{one_dataset, one_lanes, one_params};
 use snb_loader::{load_dataset, load_lanes, load_params};
 use snb_plan::law::plan_is_one;
-use snb_plan::{Plan, PlanFault};
+use snb_plan::Plan;
 use snb_ratio::Ratio;
 use snb_schema::{Frequencies, Lanes, Lists};
 use std::alloc::Global;
@@ -47,16 +47,6 @@ impl Input {
     }
 }
 
-// A fault of a plan as one of an input.
-fn load_of(fault: PlanFault) -> Load
-    ensures { result ≡ load_for fault }
-{
-    match fault {
-        PlanFault::Refused { refusal } => Load::Refused { refusal },
-        PlanFault::Memory => Load::Memory,
-    }
-}
-
 // Makes the plan of what was read of a folder, which must be closed over the dataset.
 fn input_of(
     alloc: Global,
@@ -71,8 +61,8 @@ fn input_of(
     requires parameters { HaveParameters lists frequencies }
     ensures { IsMadeAnswer graph lanes lists frequencies ratio result }
 {
-    let plan = Plan::make(alloc, lanes, lists, frequencies, ratio).map_err(load_of)?;
-    plan.closed(alloc, &graph).map_err(load_of)?;
+    let plan = Plan::make(alloc, lanes, lists, frequencies, ratio)?;
+    plan.closed(alloc, &graph)?;
     Ok(Input { graph, plan })
 }
 

@@ -1,8 +1,8 @@
 //! Laws of what the program answers. The functions only cite other laws; their contracts are the laws.
 
-ghost use Rattle.snb_tool.specs.Laws.{AnswersHaveStatus, AuditInShort, ExpectInShort, ExpectedIsValid, RefusalIsOne, RefusedOrNot, RunInShort, ValidateInShort};
+ghost use Rattle.snb_tool.specs.Laws.{AnswersHaveStatus, AuditInShort, ExpectInShort, ExpectedIsValid, LatencyInShort, RefusalIsOne, RefusedOrNot, RunInShort, ValidateInShort};
 
-use snb_auditor_log::law::{accepted_in_order, one_log_refusal};
+use snb_auditor_log::law::{accepted_in_order, one_log_refusal, whole_exactly};
 use snb_loader::law::{one_dataset, one_lanes, one_params};
 use snb_plan::law::plan_is_one;
 use snb_tool_words::law::one_command;
@@ -51,6 +51,17 @@ pub fn audit_in_short()
 {
     one_command();
     accepted_in_order();
+}
+
+/// Where the files and the screen are told, status 0 or 1 of `latency` says: the log of this name says one header
+/// and one list of events with their counts; the status is 0 exactly if the history is legal and complete on the
+/// plan of the files, no count that is stated is wrong, and the number of operations, where it is stated, is the
+/// plan's; and with status 0 the text of the summary of the history was added to the screen.
+pub fn latency_in_short()
+    ensures { LatencyInShort }
+{
+    one_command();
+    whole_exactly();
 }
 
 /// Where the files and the screen are told, status 0 or 1 of `validate` says: the file of this name says some

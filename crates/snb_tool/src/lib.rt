@@ -7,6 +7,7 @@ mod deliver;
 mod expect;
 mod finish;
 mod input;
+mod latency;
 pub mod law;
 mod read;
 mod run;

@@ -15,6 +15,7 @@ use crate::check::check;
 use crate::deliver::Finished;
 use crate::expect::expect;
 use crate::finish::{finish, show_as};
+use crate::latency::latency;
 use crate::law::{answers_have_status, refusal_is_one};
 use crate::read::read;
 use crate::run::run;
@@ -29,7 +30,7 @@ use std::thread::Threads;
 
 /// What is shown for words that aren't a line of the program's.
 const USAGE: &str =
-    "usage: snb COMMAND, where COMMAND is check, run, audit, expect, validate, read or trial\n";
+    "usage: snb COMMAND, where COMMAND is check, run, audit, latency, expect, validate, read or trial\n";
 
 // Does what a command says, and answers it.
 fn obey<R: AllocGlobal + Threads + Wait + Sync, S: Shelf, C: Clock + Sync, G: Gate + Sync>(
@@ -71,6 +72,19 @@ fn obey<R: AllocGlobal + Threads + Wait + Sync, S: Shelf, C: Clock + Sync, G: Ga
             ratio,
             frequencies,
         } => audit(
+            alloc,
+            shelf,
+            folder.as_str(),
+            log.as_str(),
+            *ratio,
+            *frequencies,
+        ),
+        Command::Latency {
+            folder,
+            log,
+            ratio,
+            frequencies,
+        } => latency(
             alloc,
             shelf,
             folder.as_str(),
@@ -134,6 +148,12 @@ fn answer<
 ///   there are and how many of them were on time, started at most 1000 milliseconds after they were due: it
 ///   is accepted where these are at least 95 of 100. The log is a file of its own, and its path isn't taken
 ///   from `DIR`.
+/// - `latency DIR LOG` reads what `audit` reads. Where the log is that of a whole run, of which `audit` says that it
+///   is accepted or late, it shows the summary of the run: for each kind of operation how many there were, and
+///   the least, the 50th, 90th, 95th and 99th percentile and the greatest of their latencies, from Start to
+///   Finish; of their lateness, from the due time to the Start; and of their slack, from the last Finish of all
+///   that they wait for to the Start. A percentile p of n values is the one of rank p hundredths of n, rounded
+///   up. Else it shows what `audit` shows.
 /// - `expect DIR` reads what `check` reads, and writes the cases of the plan, a file by which `validate` checks
 ///   the replies of a database: a line for each operation in the order of their numbers, with the insert, or
 ///   with the query and the reply to it on the dataset with the inserts before it. It shows how many there are.
@@ -141,9 +161,9 @@ fn answer<
 ///   replies that are due. Each read is answered on the tables with the inserts of the cases before it. It
 ///   shows how many reads there are where all replies are those that are due, and else the first that
 ///   isn't, with its line, the one that is due and the one that is given.
-/// - `check`, `run`, `audit` and `expect` take the option `--freq L`, where L has `q:f` for complex queries q and
-///   their frequencies f, by rising q and with commas between; without it no read is planned. `run` and `audit`
-///   take `--ratio R`, by which due times are stretched; it is 1 without it.
+/// - `check`, `run`, `audit`, `latency` and `expect` take the option `--freq L`, where L has `q:f` for complex queries q and
+///   their frequencies f, by rising q and with commas between; without it no read is planned. `run`, `audit`
+///   and `latency` take `--ratio R`, by which due times are stretched; it is 1 without it.
 /// - `read DIR KIND P1 P2 P3` reads the tables and shows the reply to one read: its answer, and those of
 ///   the short reads that follow. KIND is `IS1` to `IS7`, `IC1`, `IC2`, `IC7`, `IC8`, `IC9`, `IC11` or
 ///   `IC13`, with as many parameters as it has: an id of a person or a message for a short read, of a
@@ -162,10 +182,10 @@ fn answer<
 ///
 /// Answers the exit status:
 ///
-/// - 0: done, and all texts are written whole; of `audit`, the log is accepted; of `validate`, no reply
-///   differs.
-/// - 1: of `audit` and `validate` alone: the log isn't accepted, or a reply differs, and why is on the
-///   screen.
+/// - 0: done, and all texts are written whole; of `audit`, the log is accepted; of `latency`, it is accepted or
+///   late; of `validate`, no reply differs.
+/// - 1: of `audit`, `latency` and `validate` alone: the log isn't accepted, nor late for `latency`, or a reply
+///   differs, and why is on the screen.
 /// - 2: the words are no line of the program's; nothing was read, and the usage is on the screen.
 /// - 3: the first thing that is wrong with the files is on the screen, and nothing was run.
 /// - 4: the shelf failed; nothing was written. With any other status its count of faults is as it was.

@@ -6,7 +6,7 @@ use Rattle.snb_ratio.specs.Ratios.{OneRatio}
 use Rattle.snb_schema.specs.Frequencies.{FrequenciesAreOne, FrequencyTable}
 use Rattle.snb_schema.specs.declared.query.Query.{Query}
 use Rattle.snb_tool_words.specs.declared.command.Command.{Command}
-use Rattle.snb_tool_words.specs.declared.command.Command.TheVariants.{Check, Run, Audit, Expect, Validate, Read, Trial}
+use Rattle.snb_tool_words.specs.declared.command.Command.TheVariants.{Check, Run, Audit, Latency, Expect, Validate, Read, Trial}
 use Rattle.snb_tool_words.specs.declared.options.Options.{Options}
 use Rattle.snb_columns.specs.Laws.{OneList}
 use Rattle.snb_tool_words.specs.Commands.{AreOf, IsLineOf, IsOtherLine, IsReadOf, IsRunnable, form_of}
@@ -44,6 +44,7 @@ runnable words (Some (Check folder table)) line = tt
 runnable words (Some (Run folder workers ratio table)) line =
     subst (λ (o : Option ℕ). IfSome o IsNumberOfWorkers) line.are.is_said.1 (say_workers no_options line.line.options line.said line.line.say tt)
 runnable words (Some (Audit folder log ratio table)) line = tt
+runnable words (Some (Latency folder log ratio table)) line = tt
 runnable words (Some (Expect folder table)) line = tt
 runnable words (Some (Validate folder cases)) line = tt
 runnable words (Some (Read folder query)) line = tt
@@ -60,6 +61,9 @@ module _ (P : Command → Type 0) where
 
   pub at_audit : ((folder log : List ℕ) (ratio : ℕ) (table : FrequencyTable) → P (Audit folder log ratio table)) → (command : Command) → codes "audit" ≡ (form_of command).name → P command
   at_audit each command named = search rules
+
+  pub at_latency : ((folder log : List ℕ) (ratio : ℕ) (table : FrequencyTable) → P (Latency folder log ratio table)) → (command : Command) → codes "latency" ≡ (form_of command).name → P command
+  at_latency each command named = search rules
 
   pub at_expect : ((folder : List ℕ) (table : FrequencyTable) → P (Expect folder table)) → (command : Command) → codes "expect" ≡ (form_of command).name → P command
   at_expect each command named = search rules
@@ -78,6 +82,7 @@ parts_one : OneList → (name : List ℕ) (plain : List (List ℕ)) (said : Opti
 parts_one list name plain said (Check f s) d x y = at_check (λ (d : Command). AreOf d name plain said → Check f s ≡ d) (λ g t y. cc) d (sym x.named ∙ y.named) y
 parts_one list name plain said (Run f n a s) d x y = at_run (λ (d : Command). AreOf d name plain said → Run f n a s ≡ d) (λ g m b t y. cc) d (sym x.named ∙ y.named) y
 parts_one list name plain said (Audit f l a s) d x y = at_audit (λ (d : Command). AreOf d name plain said → Audit f l a s ≡ d) (λ g k b t y. cc) d (sym x.named ∙ y.named) y
+parts_one list name plain said (Latency f l a s) d x y = at_latency (λ (d : Command). AreOf d name plain said → Latency f l a s ≡ d) (λ g k b t y. cc) d (sym x.named ∙ y.named) y
 parts_one list name plain said (Expect f s) d x y = at_expect (λ (d : Command). AreOf d name plain said → Expect f s ≡ d) (λ g t y. cc) d (sym x.named ∙ y.named) y
 parts_one list name plain said (Validate f l) d x y = at_validate (λ (d : Command). AreOf d name plain said → Validate f l ≡ d) (λ g k y. cc) d (sym x.named ∙ y.named) y
 parts_one list name plain said (Read f r) d x y = at_read (λ (d : Command). AreOf d name plain said → Read f r ≡ d)

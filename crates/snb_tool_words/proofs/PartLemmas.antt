@@ -7,14 +7,14 @@ use Rattle.snb_schema.specs.declared.limits.TheConstants.{MAX_WORKERS}
 use Rattle.snb_schema.specs.declared.limits.TheConstants.{MAX_TRIAL}
 use Rattle.snb_schema.specs.declared.query.Query.{Query}
 use Rattle.snb_tool_words.specs.declared.command.Command.{Command}
-use Rattle.snb_tool_words.specs.declared.command.Command.TheVariants.{Check, Run, Audit, Expect, Validate, Read, Trial}
+use Rattle.snb_tool_words.specs.declared.command.Command.TheVariants.{Check, Run, Audit, Latency, Expect, Validate, Read, Trial}
 use Rattle.snb_tool_words.specs.declared.options.OptionName.{OptionName}
 use Rattle.snb_tool_words.specs.declared.options.OptionName.TheVariants.{Workers, Ratio, Frequencies}
 use Rattle.snb_tool_words.specs.declared.options.Options.{Options}
 use Rattle.snb_tool_words.specs.Commands.{AreOf, IsReadOf, IsTrialOf}
 use Rattle.snb_tool_words.specs.Options.{AreSuited, frequencies_of, ratio_of}
 use Rattle.snb_tool_words.specs.Words.{texts_of}
-use Rattle.snb_tool_words.proofs.CommandLemmas.{at_audit, at_check, at_expect, at_read, at_run, at_trial, at_validate}
+use Rattle.snb_tool_words.proofs.CommandLemmas.{at_audit, at_check, at_expect, at_latency, at_read, at_run, at_trial, at_validate}
 
 -- the parts are those of a command of this name
 abbrev pub AreSome : List ℕ → List (List ℕ) → Options → Type 0
@@ -73,6 +73,12 @@ module _ (name : List ℕ) (ws : List (Bor (List ℕ))) (said : Options) (r : Bo
   audit_parts e = by_name name (codes "audit") (texts_of ws) said (Suits ws said 2 (Ratio ∷ Frequencies ∷ []) []) r e
       (λ s. let w = two_words ws s.0 in (Audit w.0 w.1 (ratio_of said) (frequencies_of said), record { named = refl; suited = s.1; is_said = (w.2, refl, refl) }))
       (λ p. at_audit (λ c. AreOf c (codes "audit") (texts_of ws) said → Suits ws said 2 (Ratio ∷ Frequencies ∷ []) [])
+      (λ folder log ratio table are. (as_long ws _ are.is_said.0, are.suited)) p.0 p.1.named p.1)
+
+  pub latency_parts : name ≡ codes "latency" → (IsTrue r ↔ Suits ws said 2 (Ratio ∷ Frequencies ∷ []) []) → IsTrue r ↔ AreSome name (texts_of ws) said
+  latency_parts e = by_name name (codes "latency") (texts_of ws) said (Suits ws said 2 (Ratio ∷ Frequencies ∷ []) []) r e
+      (λ s. let w = two_words ws s.0 in (Latency w.0 w.1 (ratio_of said) (frequencies_of said), record { named = refl; suited = s.1; is_said = (w.2, refl, refl) }))
+      (λ p. at_latency (λ c. AreOf c (codes "latency") (texts_of ws) said → Suits ws said 2 (Ratio ∷ Frequencies ∷ []) [])
       (λ folder log ratio table are. (as_long ws _ are.is_said.0, are.suited)) p.0 p.1.named p.1)
 
   pub validate_parts : name ≡ codes "validate" → (IsTrue r ↔ Suits ws said 2 [] []) → IsTrue r ↔ AreSome name (texts_of ws) said

@@ -6,15 +6,15 @@ use Rattle.clap.specs.Takes.{takes}
 use Rattle.clap.specs.Walk.{Text, first_of, nothing_held, walk_from}
 use Rattle.snb_schema.specs.Frequencies.{FrequencyTable}
 use Rattle.snb_tool_words.specs.declared.command.Command.{Command}
-use Rattle.snb_tool_words.specs.declared.command.Command.TheVariants.{Check, Run, Audit, Expect, Validate, Trial}
+use Rattle.snb_tool_words.specs.declared.command.Command.TheVariants.{Check, Run, Audit, Latency, Expect, Validate, Trial}
 use Rattle.snb_tool_words.specs.declared.options.OptionName.{OptionName}
-use Rattle.snb_tool_words.specs.declared.options.OptionName.TheVariants.{Frequencies}
+use Rattle.snb_tool_words.specs.declared.options.OptionName.TheVariants.{Frequencies, Ratio}
 use Rattle.snb_tool_words.specs.declared.options.Options.{Options}
 use Rattle.snb_tool_words.specs.Commands.{IsLineOf, IsTrialOf, form_of}
 use Rattle.snb_tool_words.specs.Options.{frequencies_of, no_options, ratio_of}
 use Rattle.snb_tool_words.specs.Taken.{AreFound, IsLineBy, line_app}
 use Rattle.snb_tool_words.specs.Words.{IsPlainWord}
-use Rattle.snb_tool_words.proofs.CommandLemmas.{at_audit, at_check, at_expect, at_run, at_trial, at_validate}
+use Rattle.snb_tool_words.proofs.CommandLemmas.{at_audit, at_check, at_expect, at_latency, at_run, at_trial, at_validate}
 use Rattle.snb_tool_words.proofs.TakenLemmas.{OptionsRun, as_found, long_name, options_run}
 use Rattle.snb_tool_words.proofs.WalkFacts.{Given, IsBuilt, IsOption, IsPlaced, Runs, finds, first, placed, value_of}
 
@@ -107,7 +107,7 @@ pub expect_line : (words : List Text) → IsLineBy (codes "expect") words → Is
 expect_line words (command, named, line) =
     at_expect (λ c. IsLineOf words c → IsFrequenciesLine Expect words) (λ folder table line. frequencies_line Expect words folder table line line.are.is_said.0 line.are.is_said.1 refl) command named line
 
--- and those of a run, an audit and a validation
+-- and those of a run, of an audit and of latencies, and of a validation
 abbrev pub run_app : App
 run_app = line_app (codes "folder" ∷ []) (codes "workers" ∷ codes "ratio" ∷ codes "freq" ∷ [])
 
@@ -133,30 +133,38 @@ run_line words (command, named, line) = at_run (λ c. IsLineOf words c → IsRun
     ))
     command named line
 
-abbrev pub audit_app : App
-audit_app = line_app (codes "folder" ∷ codes "log" ∷ []) (codes "ratio" ∷ codes "freq" ∷ [])
+abbrev pub log_app : App
+log_app = line_app (codes "folder" ∷ codes "log" ∷ []) (codes "ratio" ∷ codes "freq" ∷ [])
 
-abbrev pub IsAuditLine : List Text → Type 0
-IsAuditLine words = (folder log : Text) × (said : Options) × IsLineOf words (Audit folder log (ratio_of said) (frequencies_of said))
-    × IsTaken audit_app words ((codes "folder", folder) ∷ (codes "log", log) ∷ []) said
+-- the line of a command of a folder, a log, a ratio and frequencies
+abbrev pub IsLogLine : (List ℕ → List ℕ → ℕ → FrequencyTable → Command) → List Text → Type 0
+IsLogLine C words = (folder log : Text) × (said : Options) × IsLineOf words (C folder log (ratio_of said) (frequencies_of said))
+    × IsTaken log_app words ((codes "folder", folder) ∷ (codes "log", log) ∷ []) said
 
-audit_built : IsBuilt audit_app (built audit_app).top
-audit_built = record { simple = refl; named = refl; built_is = refl; own = refl; none = (refl, (refl, (refl, (refl, tt)))); defaults = refl; valid = λ rows. refl }
+log_built : IsBuilt log_app (built log_app).top
+log_built = record { simple = refl; named = refl; built_is = refl; own = refl; none = (refl, (refl, (refl, (refl, tt)))); defaults = refl; valid = λ rows. refl }
 
-pub audit_line : (words : List Text) → IsLineBy (codes "audit") words → IsAuditLine words
-audit_line words (command, named, line) = at_audit (λ c. IsLineOf words c → IsAuditLine words)
-    (λ folder log ratio table line. (
-      folder,
-      log,
-      line.said,
-      subst (λ (r : ℕ). IsLineOf words (Audit folder log r (frequencies_of line.said))) line.are.is_said.1
-          (subst (λ (t : FrequencyTable). IsLineOf words (Audit folder log ratio t)) line.are.is_said.2 line),
-      two_places audit_app (built audit_app).top audit_built words _ line
-          (record { by_long = refl; by_id = refl; name = refl; dashes = refl; same = refl }, (record { by_long = refl; by_id = refl; name = refl; dashes = refl; same = refl }, tt))
-          (codes "folder") (codes "log") folder log line.are.is_said.0 (record { by_index = refl; by_id = refl; after = refl }) (record { by_index = refl; by_id = refl; after = refl }) refl
-          (record { workers = refl; ratio = refl; frequencies = refl }),
-    ))
-    command named line
+log_line : (C : List ℕ → List ℕ → ℕ → FrequencyTable → Command) (words : List Text) (folder log : Text) (ratio : ℕ) (table : FrequencyTable) (line : IsLineOf words (C folder log ratio table))
+    → line.plain ≡ folder ∷ log ∷ [] → ratio ≡ ratio_of line.said → table ≡ frequencies_of line.said → (form_of (C folder log ratio table)).admitted ≡ Ratio ∷ Frequencies ∷ [] → IsLogLine C words
+log_line C words folder log ratio table line plain is are admitted = (
+  folder,
+  log,
+  line.said,
+  subst (λ (r : ℕ). IsLineOf words (C folder log r (frequencies_of line.said))) is (subst (λ (t : FrequencyTable). IsLineOf words (C folder log ratio t)) are line),
+  two_places log_app (built log_app).top log_built words (C folder log ratio table) line
+      (subst (Each (λ o. IsOption (built log_app).top.rules (long_name o))) (sym admitted)
+      (record { by_long = refl; by_id = refl; name = refl; dashes = refl; same = refl }, (record { by_long = refl; by_id = refl; name = refl; dashes = refl; same = refl }, tt)))
+      (codes "folder") (codes "log") folder log plain (record { by_index = refl; by_id = refl; after = refl }) (record { by_index = refl; by_id = refl; after = refl }) refl
+      (record { workers = refl; ratio = refl; frequencies = refl }),
+)
+
+pub audit_line : (words : List Text) → IsLineBy (codes "audit") words → IsLogLine Audit words
+audit_line words (command, named, line) = at_audit (λ c. IsLineOf words c → IsLogLine Audit words)
+    (λ folder log ratio table line. log_line Audit words folder log ratio table line line.are.is_said.0 line.are.is_said.1 line.are.is_said.2 refl) command named line
+
+pub latency_line : (words : List Text) → IsLineBy (codes "latency") words → IsLogLine Latency words
+latency_line words (command, named, line) = at_latency (λ c. IsLineOf words c → IsLogLine Latency words)
+    (λ folder log ratio table line. log_line Latency words folder log ratio table line line.are.is_said.0 line.are.is_said.1 line.are.is_said.2 refl) command named line
 
 abbrev pub validate_app : App
 validate_app = line_app (codes "folder" ∷ codes "cases" ∷ []) []
@@ -209,3 +217,8 @@ trial_line words (command, named, line) = at_trial (λ c. IsLineOf words c → I
 pub folder_line : (expects : Bool) (words : List Text) → (expects ≡ false → IsLineBy (codes "check") words) → (expects ≡ true → IsLineBy (codes "expect") words) → IsFrequenciesLine (cond expects Expect Check) words
 folder_line false words check expect = check_line words (check refl)
 folder_line true words check expect = expect_line words (expect refl)
+
+-- and of these two
+pub judged_line : (measures : Bool) (words : List Text) → (measures ≡ false → IsLineBy (codes "audit") words) → (measures ≡ true → IsLineBy (codes "latency") words) → IsLogLine (cond measures Latency Audit) words
+judged_line false words audit latency = audit_line words (audit refl)
+judged_line true words audit latency = latency_line words (latency refl)

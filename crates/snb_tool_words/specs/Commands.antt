@@ -6,7 +6,7 @@ use Rattle.snb_schema.specs.declared.query.Query.{Query}
 use Rattle.snb_schema.specs.Columns.{SpellsAll}
 use Rattle.snb_schema.specs.ReadKinds.{kind_of, parameter_columns, parameter_values, read_word}
 use Rattle.snb_tool_words.specs.declared.command.Command.{Command}
-use Rattle.snb_tool_words.specs.declared.command.Command.TheVariants.{Check, Run, Audit, Expect, Validate, Read, Trial}
+use Rattle.snb_tool_words.specs.declared.command.Command.TheVariants.{Check, Run, Audit, Latency, Expect, Validate, Read, Trial}
 use Rattle.snb_schema.specs.declared.limits.TheConstants.{MAX_TRIAL}
 use Rattle.snb_tool_words.specs.declared.options.OptionName.{OptionName}
 use Rattle.snb_tool_words.specs.declared.options.OptionName.TheVariants.{Workers, Ratio, Frequencies}
@@ -25,6 +25,7 @@ abbrev pub form_of : Command → Form
 form_of (Check folder frequencies) = record { name = codes "check"; admitted = Frequencies ∷ []; needed = [] }
 form_of (Run folder workers ratio frequencies) = record { name = codes "run"; admitted = Workers ∷ Ratio ∷ Frequencies ∷ []; needed = Workers ∷ [] }
 form_of (Audit folder log ratio frequencies) = record { name = codes "audit"; admitted = Ratio ∷ Frequencies ∷ []; needed = [] }
+form_of (Latency folder log ratio frequencies) = record { name = codes "latency"; admitted = Ratio ∷ Frequencies ∷ []; needed = [] }
 form_of (Expect folder frequencies) = record { name = codes "expect"; admitted = Frequencies ∷ []; needed = [] }
 form_of (Validate folder cases) = record { name = codes "validate"; admitted = []; needed = [] }
 form_of (Read folder query) = record { name = codes "read"; admitted = []; needed = [] }
@@ -39,13 +40,15 @@ abbrev pub IsTrialOf : List ℕ → List ℕ → ℕ → ℕ → Type 0
 IsTrialOf first second size workers = (Num first size MAX_TRIAL × (1 ≤ size)) × (Num second workers MAX_WORKERS × (1 ≤ workers))
 
 -- what the plain words and the options of a command's line say: a folder; for `check` and `expect` frequencies; for a run the number of workers,
--- a ratio and frequencies; for an audit the file of a log, a ratio and frequencies; for a validation the file of the cases; for a read its kind
--- and its parameters. Of a trial they say a size and a number of workers
+-- a ratio and frequencies; for an audit and for latencies the file of a log, a ratio and frequencies; for a validation the file of the cases; for
+-- a read its kind and its parameters. Of a trial they say a size and a number of workers
 abbrev pub IsSaid : Command → List (List ℕ) → Options → Type 0
 IsSaid (Check folder frequencies) plain said = (plain ≡ folder ∷ []) × (frequencies ≡ frequencies_of said)
 IsSaid (Run folder workers ratio frequencies) plain said =
     (plain ≡ folder ∷ []) × (said.workers ≡ Some workers) × (ratio ≡ ratio_of said) × (frequencies ≡ frequencies_of said)
 IsSaid (Audit folder log ratio frequencies) plain said =
+    (plain ≡ folder ∷ log ∷ []) × (ratio ≡ ratio_of said) × (frequencies ≡ frequencies_of said)
+IsSaid (Latency folder log ratio frequencies) plain said =
     (plain ≡ folder ∷ log ∷ []) × (ratio ≡ ratio_of said) × (frequencies ≡ frequencies_of said)
 IsSaid (Expect folder frequencies) plain said = (plain ≡ folder ∷ []) × (frequencies ≡ frequencies_of said)
 IsSaid (Validate folder cases) plain said = plain ≡ folder ∷ cases ∷ []
@@ -75,6 +78,7 @@ abbrev pub IsRunnable : Command → Type 0
 IsRunnable (Check folder frequencies) = Unit {0}
 IsRunnable (Run folder workers ratio frequencies) = (1 ≤ workers) × (workers ≤ MAX_WORKERS)
 IsRunnable (Audit folder log ratio frequencies) = Unit {0}
+IsRunnable (Latency folder log ratio frequencies) = Unit {0}
 IsRunnable (Expect folder frequencies) = Unit {0}
 IsRunnable (Validate folder cases) = Unit {0}
 IsRunnable (Read folder query) = Unit {0}
@@ -85,6 +89,7 @@ abbrev pub folder_of : Command → Option (List ℕ)
 folder_of (Check folder frequencies) = Some folder
 folder_of (Run folder workers ratio frequencies) = Some folder
 folder_of (Audit folder log ratio frequencies) = Some folder
+folder_of (Latency folder log ratio frequencies) = Some folder
 folder_of (Expect folder frequencies) = Some folder
 folder_of (Validate folder cases) = Some folder
 folder_of (Read folder query) = Some folder
@@ -95,6 +100,7 @@ abbrev pub beside_of : Command → Option (List ℕ)
 beside_of (Check folder frequencies) = None
 beside_of (Run folder workers ratio frequencies) = None
 beside_of (Audit folder log ratio frequencies) = Some log
+beside_of (Latency folder log ratio frequencies) = Some log
 beside_of (Expect folder frequencies) = None
 beside_of (Validate folder cases) = Some cases
 beside_of (Read folder query) = None

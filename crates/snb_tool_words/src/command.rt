@@ -48,6 +48,17 @@ pub enum Command {
         /// How often each complex query is asked.
         frequencies: Frequencies,
     },
+    /// `latency DIR LOG`, with `--ratio R` and `--freq L` or without.
+    Latency {
+        /// The folder.
+        folder: Text,
+        /// The file of the log.
+        log: Text,
+        /// By how much the due times are stretched.
+        ratio: Ratio,
+        /// How often each complex query is asked.
+        frequencies: Frequencies,
+    },
     /// `expect DIR`, with `--freq L` or without.
     Expect {
         /// The folder.
@@ -97,6 +108,12 @@ impl Drop for Command {
                 ratio: _,
                 frequencies: _,
             } => {}
+            Command::Latency {
+                folder: _,
+                log: _,
+                ratio: _,
+                frequencies: _,
+            } => {}
             Command::Expect {
                 folder: _,
                 frequencies: _,
@@ -117,7 +134,7 @@ impl Drop for Command {
     }
 }
 
-// The options of `check` and `expect`, of `run` and of `audit`, and those that `run` needs.
+// The options of `check` and `expect`, of `run`, and of `audit` and `latency`, and those that `run` needs.
 const OF_CHECK: [OptionName; 1] = [OptionName::Frequencies];
 
 const OF_RUN: [OptionName; 3] = [
@@ -161,6 +178,7 @@ fn is_command(line: &Line<'_, '_>) -> bool
         "check" => line.suits(1, &OF_CHECK, &[]),
         "run" => line.suits(1, &OF_RUN, &NEEDED_BY_RUN),
         "audit" => line.suits(2, &OF_AUDIT, &[]),
+        "latency" => line.suits(2, &OF_AUDIT, &[]),
         "expect" => line.suits(1, &OF_CHECK, &[]),
         "validate" => line.suits(2, &[], &[]),
         "read" => is_read_line(line),
@@ -208,18 +226,31 @@ fn take_run(alloc: Global, words: &[&str]) -> Result<Command, AllocError>
     })
 }
 
-// The audit that the words say.
-fn take_audit(alloc: Global, words: &[&str]) -> Result<Command, AllocError>
-    requires { IsLineBy (codes "audit") (texts_of words.now) }
+// The audit, or the `latency`, that the words say.
+fn take_of_log(alloc: Global, measures: bool, words: &[&str]) -> Result<Command, AllocError>
+    requires audit { measures ≡ false → IsLineBy (codes "audit") (texts_of words.now) }
+    requires latency { measures ≡ true → IsLineBy (codes "latency") (texts_of words.now) }
     ensures { IfOk result (IsLineOf (texts_of words.now)) }
 {
     let matches = matches_in(alloc, &["folder", "log"], &["ratio", "freq"], words)?;
     let said = options_in(&matches);
+    let folder = text_at(alloc, &matches, "folder")?;
+    let log = text_at(alloc, &matches, "log")?;
+    let ratio = said.ratio_or_one();
+    let frequencies = said.frequencies_or_none();
+    if measures {
+        return Ok(Command::Latency {
+            folder,
+            log,
+            ratio,
+            frequencies,
+        });
+    }
     Ok(Command::Audit {
-        folder: text_at(alloc, &matches, "folder")?,
-        log: text_at(alloc, &matches, "log")?,
-        ratio: said.ratio_or_one(),
-        frequencies: said.frequencies_or_none(),
+        folder,
+        log,
+        ratio,
+        frequencies,
     })
 }
 
@@ -267,7 +298,8 @@ fn take(alloc: Global, name: &str, words: &[&str]) -> Result<Command, AllocError
     match name {
         "check" => take_of_folder(alloc, false, words),
         "run" => take_run(alloc, words),
-        "audit" => take_audit(alloc, words),
+        "audit" => take_of_log(alloc, false, words),
+        "latency" => take_of_log(alloc, true, words),
         "expect" => take_of_folder(alloc, true, words),
         "validate" => take_validate(alloc, words),
         "read" => take_read(alloc, words),

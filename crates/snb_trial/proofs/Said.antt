@@ -4,7 +4,7 @@ use Rattle.std.specs.List.Sorted.{IsStrictlyIncreasing}
 use Rattle.snb_ratio.specs.Ratios.{SpellsRatio}
 use Rattle.snb_schema.specs.Frequencies.{FrequencyTable, HasFrequencies, frequency_at, SpellsFrequencies, SpellsFrequency}
 use Rattle.snb_schema.specs.Queries.{IsComplex}
-use Rattle.snb_schema.proofs.PlaceFacts.{frequent_complex}
+use Rattle.snb_schema.proofs.Laws.{frequent_complex}
 use Rattle.snb_trial.specs.Laws.{NamesTwo}
 use Rattle.snb_trial.specs.Trial.{least_ratio, read_frequencies}
 

@@ -16,7 +16,7 @@ use Rattle.snb_schema.specs.declared.column.Value.{Value}
 use Rattle.snb_schema.specs.declared.column.Value.TheVariants.{Digits, SmallDigits, NoId, Letters, Texts, Ids, Pairs}
 use Rattle.snb_schema.specs.declared.limits.TheConstants.{MAX_TIME, MAX_TRIAL}
 use Rattle.snb_schema.specs.declared.op.Line.{Line}
-use Rattle.snb_schema.specs.declared.op.OpKind.{OpKind}
+use Rattle.snb_schema.specs.declared.op.InsertKind.{InsertKind}
 use Rattle.snb_schema.specs.Columns.{Spells, SpellsAll, canonical_field, no_id}
 use Rattle.snb_schema.specs.Lines.{HasNoBar, HasNoEnd}
 use Rattle.snb_schema.specs.StreamLines.{AreOfStream, AreOfStreams, IsOfLine}
@@ -246,7 +246,7 @@ forum_kind Post i le = (4, omega arith, refl)
 forum_kind Comment i le = (5, omega arith, refl)
 forum_kind Like i le = (0, omega arith, refl)
 
-of_stream : OwnLineOfValues → (l n : ℕ) (kinds : List OpKind) → n ≤ MAX_TRIAL → ((which : Seven) (i : ℕ) → lane_number which i ≡ l → Contains kinds (kind_of (entry_of which i).op))
+of_stream : OwnLineOfValues → (l n : ℕ) (kinds : List InsertKind) → n ≤ MAX_TRIAL → ((which : Seven) (i : ℕ) → lane_number which i ≡ l → Contains kinds (kind_of (entry_of which i).op))
     → AreOfStream kinds (lane (of_lane l) n)
 of_stream own l n kinds few theirs = record {
   of_lines = all_of IsOfLine (lane (of_lane l) n) (λ x c. of_line x (line_in n l x c));

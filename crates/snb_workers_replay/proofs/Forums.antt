@@ -8,7 +8,7 @@ use Rattle.std.proofs.lemmas.Option.{same_Some}
 use Rattle.snb_schema.specs.declared.op.Line.{Line}
 use Rattle.snb_schema.specs.declared.op.Op.{Op}
 use Rattle.snb_schema.specs.declared.op.Op.TheVariants as ops
-use Rattle.snb_schema.specs.declared.op.OpKind.TheVariants as inserts
+use Rattle.snb_schema.specs.declared.op.InsertKind.TheVariants as inserts
 use Rattle.snb_schema.specs.declared.refusal.Missing.{Missing}
 use Rattle.snb_history.specs.declared.step.LaneKind.{LaneKind}
 use Rattle.snb_history.specs.declared.step.LaneKind.TheVariants as lane_kinds

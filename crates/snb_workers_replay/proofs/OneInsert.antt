@@ -8,7 +8,7 @@ use Rattle.std.proofs.lemmas.Str.{IsUtf8-from_ascii, IsUtf8-nil}
 use Rattle.snb_base.specs.Spellings.{Num}
 use Rattle.snb_base.proofs.Laws.{contains_cases, contains_here}
 use Rattle.snb_history.specs.declared.event.Event.TheVariants.{Start, Finish}
-use Rattle.snb_schema.proofs.PlaceFacts.{each_same}
+use Rattle.snb_schema.proofs.Laws.{each_same}
 use Rattle.snb_schema.specs.QueryPlaces.{place_of, values_of}
 use Rattle.snb_schema.specs.declared.op.Line.{Line}
 use Rattle.snb_schema.specs.declared.row.Row.{Row}

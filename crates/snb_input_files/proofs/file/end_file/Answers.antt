@@ -15,7 +15,7 @@ end_to-requires-clause-fits g c = at_grammar g.G.Grammar.language (g.P.FileSink.
 pub returns-in-Err-clause-end : goal.returns-in-Err-clause-end
 returns-in-Err-clause-end g c =
     λ begun past start text at f.
-    end_err (format_in g.G.Grammar.language g.P.FileSink.stage begun) (g.P.FileSink.stage.heard begun) g.P.Sink.meaning.takes c.args.file (g.P.FileSink.stage.grammar_of c.args.file) c.in-Err.fault c.load_of.result c.args.used past text c.end_to.new.self.known c.load_of.ensures
+    end_err (format_in g.G.Grammar.language g.P.FileSink.stage begun) (g.P.FileSink.stage.heard begun) g.P.Sink.meaning.takes c.args.file (g.P.FileSink.stage.grammar_of c.args.file) c.in-Err.fault c.from.result c.args.used past text c.end_to.new.self.known c.from.ensures
     (on_bad_more c.in-Err.fault _ (λ r. FirstOf (file_checks (format_in g.G.Grammar.language g.P.FileSink.stage begun) (opening c.args.file c.args.used.bytes c.args.used.rows past text) text) r) (c.in-Err.ensures.bad c.requires.good)
     (λ r h. end_bad (format_in g.G.Grammar.language g.P.FileSink.stage begun) (g.P.FileSink.stage.heard begun) g.P.Sink.meaning.takes c.args.file (g.P.FileSink.stage.grammar_of c.args.file) g.P.Sink.meaning.refuses (c.requires.right begun).hears (c.requires.right begun).lawful g.P.Sink.meaning.ends (c.requires.right begun).ended c.args.used past start text c.args.reader.now c.args.sink at f c.requires.few
     (RowSame g.P.Sink.meaning.same) c.end_to.new.self c.end_to.new.sink r

@@ -14,7 +14,7 @@ feed_to-requires-clause-fits g c = at_grammar g.G.Grammar.language (g.P.FileSink
 
 pub returns-in-Err-clause-refused : goal.returns-in-Err-clause-refused
 returns-in-Err-clause-refused g c = λ begun.
-    refused_bad (Unit {0}) c.in-Err.fault c.load_of.result _ (IsBadPiece (format_in g.G.Grammar.language g.P.FileSink.stage begun) (g.P.FileSink.stage.heard begun) g.P.Sink.meaning.takes c.args.file (g.P.FileSink.stage.grammar_of c.args.file) c.args.most c.args.reader.now c.args.sink.now c.args.piece.now) c.load_of.ensures
+    refused_bad (Unit {0}) c.in-Err.fault c.from.result _ (IsBadPiece (format_in g.G.Grammar.language g.P.FileSink.stage begun) (g.P.FileSink.stage.heard begun) g.P.Sink.meaning.takes c.args.file (g.P.FileSink.stage.grammar_of c.args.file) c.args.most c.args.reader.now c.args.sink.now c.args.piece.now) c.from.ensures
     (c.in-Err.ensures.bad c.requires.good)
     (λ r h. bad_piece (format_in g.G.Grammar.language g.P.FileSink.stage begun) (g.P.FileSink.stage.heard begun) g.P.Sink.meaning.takes c.args.file (g.P.FileSink.stage.grammar_of c.args.file) g.P.Sink.meaning.refuses (c.requires.right begun).hears (c.requires.right begun).lawful c.args.most c.args.reader.now c.args.sink.now c.args.piece.now c.min-kept.result
     (let k = c.min-kept.ensures in let f = c.fed.ensures in omega (arith, k, f)) c.requires.few (RowSame g.P.Sink.meaning.same) c.feed_to.new.self c.feed_to.new.sink r

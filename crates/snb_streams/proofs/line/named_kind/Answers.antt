@@ -1,7 +1,7 @@
 use Rattle.std.proofs.Common.{◌≡◌, ◌+◌, ℕ, arith, take, inl, refl}
 use Rattle.snb_schema.specs.Columns.{SpellsAll, StopsAfter}
 use Rattle.snb_schema.specs.UpdateLines.{IsBadInsert}
-use Rattle.snb_schema.specs.declared.op.OpKind.{OpKind}
+use Rattle.snb_schema.specs.declared.op.InsertKind.{InsertKind}
 use Rattle.snb_streams.proofs.FaultFacts.{bad_weaker, third_bad, time_bad, times}
 use Rattle.snb_streams.proofs.KindFacts.{field_none, field_there, third_named, third_unnamed}
 use Rattle.snb_streams.proofs.line.named_kind.Goals as goal
@@ -32,7 +32,7 @@ pub returns-clause-bad : goal.returns-clause-bad
 returns-clause-bad c =
     let there = field_there c.get.result c.in-Some.third c.args.fields.now 2 c.get.ensures.value c.in-Some.is in
     let long = there.0 in
-    bad_weaker (Unit {0}) OpKind c.in-Err.fault
+    bad_weaker (Unit {0}) InsertKind c.in-Err.fault
     (λ column. (n : ℕ) × StopsAfter times c.args.fields.now n × (column ≡ n + 1) × SpellsAll (take n times) (take n c.args.fields.now) c.read_values.new.values.items)
     (IsBadInsert c.args.kinds.now c.args.fields.now)
     (λ column stop. time_bad c.args.kinds.now c.args.fields.now stop.0 column (omega arith) (third_unnamed c.args.kinds.now c.args.fields.now c.in-Some.third.now there.1 c.in_default-kind_in.ensures) stop.1 stop.2)

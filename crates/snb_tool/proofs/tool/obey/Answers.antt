@@ -40,3 +40,6 @@ returns-in-Validate-clause-answer g c = rw (c.in-Validate.is, ← c.as_str-in-Va
 
 pub returns-in-Expect-clause-answer : goal.returns-in-Expect-clause-answer
 returns-in-Expect-clause-answer g c = rw (c.in-Expect.is, ← c.as_str-in-Expect.ensures) (c.expect.ensures.answer (g.C.Clock.fixed c.args.clock.now))
+
+pub returns-in-Latency-clause-answer : goal.returns-in-Latency-clause-answer
+returns-in-Latency-clause-answer g c = rw (c.in-Latency.is, ← c.as_str-in-Latency.ensures, ← c.as_str-in-Latency-2.ensures) (c.latency.ensures.answer (g.C.Clock.fixed c.args.clock.now))

@@ -1,4 +1,4 @@
-use Rattle.snb_tool_words.proofs.PartLemmas.{audit_parts, check_parts, expect_parts, run_parts, validate_parts}
+use Rattle.snb_tool_words.proofs.PartLemmas.{audit_parts, check_parts, expect_parts, latency_parts, run_parts, validate_parts}
 use Rattle.snb_tool_words.proofs.command.is_command.Goals as goal
 
 pub returns-in-check : goal.returns-in-check
@@ -15,3 +15,6 @@ returns-in-expect c = expect_parts c.args.line.now.name.now c.args.line.now.plai
 
 pub returns-in-validate : goal.returns-in-validate
 returns-in-validate c = validate_parts c.args.line.now.name.now c.args.line.now.plain.now c.args.line.now.said c.suits-in-validate.result c.in-validate.is c.suits-in-validate.ensures
+
+pub returns-in-latency : goal.returns-in-latency
+returns-in-latency c = latency_parts c.args.line.now.name.now c.args.line.now.plain.now c.args.line.now.said c.suits-in-latency.result c.in-latency.is c.suits-in-latency.ensures

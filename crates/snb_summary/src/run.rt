@@ -1,0 +1,28 @@
+//! The summary of a history of a plan.
+
+ghost use Rattle.std.specs.Prelude.{ℕ, IfOk};
+ghost use Rattle.snb_history.specs.Rules.{IsComplete, IsLegal};
+ghost use Rattle.snb_plan.specs.Plans.{schedule_of};
+ghost use Rattle.snb_summary.specs.Summaries.{IsSummary};
+ghost use Rattle.snb_summary.specs.Works.{run_of};
+
+use crate::summary::{Summary, measures_of};
+use crate::times::Times;
+use crate::works::kinds_of;
+use snb_plan::Plan;
+use snb_history::Event;
+use std::alloc::{AllocError, Global};
+
+/// The summary of a run: for each kind in order, and each measure in order, what is told of it, where it
+/// has a value. The events are a legal, complete history of the plan for some number of workers.
+pub fn summarise(alloc: Global, plan: &Plan, events: &[Event]) -> Result<Summary, AllocError>
+    requires legal { (workers : ℕ) × IsLegal (schedule_of plan.now) workers events.now }
+    requires complete { IsComplete (schedule_of plan.now) events.now }
+    ensures { IfOk result (IsSummary (run_of plan.now events.now)) }
+{
+    let kinds = kinds_of(alloc, plan)?;
+    let schedule = plan.schedule();
+    let times = Times::of(alloc, schedule, events)?;
+    let measures = measures_of(alloc, schedule, &kinds, &times)?;
+    Ok(Summary::of(measures))
+}
