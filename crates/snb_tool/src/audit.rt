@@ -45,8 +45,9 @@ pub fn judge<S: Shelf>(
     ensures answer { IsJudgedAnswer (S.contents shelf.old) folder.now log.now ratio frequencies result }
     ensures read { IsRead (is_read_fault result) (S.contents shelf.old) (S.faults shelf.old) (S.contents shelf.new) (S.faults shelf.new) }
 {
-    let (graph, plan) = load_input(alloc, shelf, folder, ratio, frequencies)?.into_parts();
-    let audited = audit_log(alloc, shelf, &plan, &graph, log)?;
+    let input = load_input(alloc, shelf, folder, ratio, frequencies)?;
+    let audited = audit_log(alloc, shelf, &input.plan, &input.graph, log)?;
+    let (_, plan) = input.into_parts();
     Ok(Judged { plan, audited })
 }
 
@@ -63,9 +64,8 @@ pub fn audit<S: Shelf>(
     ensures answer { (fixed : Option ℕ) → IsFinished (Audit folder.now log.now ratio frequencies) (S.contents shelf.old) fixed result }
     ensures read { IsRead (is_read_fault result) (S.contents shelf.old) (S.faults shelf.old) (S.contents shelf.new) (S.faults shelf.new) }
 {
-    let verdict = judge(alloc, shelf, folder, log, ratio, frequencies)?
-        .audited
-        .verdict;
+    let judged = judge(alloc, shelf, folder, log, ratio, frequencies)?;
+    let verdict = judged.audited.verdict;
     let text = verdict_line(alloc, verdict)?;
     Ok(Finished::shown(alloc, text, status_of(verdict)))
 }
