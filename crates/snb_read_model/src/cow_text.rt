@@ -96,9 +96,9 @@ impl<'a> CowText<'a> {
     }
 
     /// An equal text of its own.
-    pub fn try_copy(&self) -> Result<CowText<'static>, AllocError>
+    pub fn try_copy(&self) -> Result<Text, AllocError>
         ensures { IfOk result (λ w. w ≡ self.now) }
     {
-        Ok(CowText::own(self.text().try_copy()?))
+        self.text().try_copy()
     }
 }
