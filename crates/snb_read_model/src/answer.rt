@@ -95,4 +95,11 @@ impl Answer<Text> {
             items,
         })
     }
+
+    /// An equal list, with texts of its own.
+    pub fn try_copy(&self) -> Result<Answer<Text>, AllocError>
+        ensures { IfOk result (λ copy. copy ≡ self.now) }
+    {
+        self.lend()?.try_copy()
+    }
 }

@@ -95,4 +95,11 @@ impl AnswerRow<Text> {
             items,
         })
     }
+
+    /// An equal list, with texts of its own.
+    pub fn try_copy(&self) -> Result<AnswerRow<Text>, AllocError>
+        ensures { IfOk result (λ copy. copy ≡ self.now) }
+    {
+        self.lend()?.try_copy()
+    }
 }

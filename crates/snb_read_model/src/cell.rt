@@ -89,4 +89,11 @@ impl Cell<Text> {
             }),
         }
     }
+
+    /// An equal cell, with texts of its own.
+    pub fn try_copy(&self) -> Result<Cell<Text>, AllocError>
+        ensures { IfOk result (λ c. c ≡ self.now) }
+    {
+        self.lend()?.try_copy()
+    }
 }

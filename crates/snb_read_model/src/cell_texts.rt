@@ -73,4 +73,11 @@ impl CellTexts<Text> {
             items,
         })
     }
+
+    /// An equal list, with texts of its own.
+    pub fn try_copy(&self) -> Result<CellTexts<Text>, AllocError>
+        ensures { IfOk result (λ w. w ≡ self.now) }
+    {
+        self.lend()?.try_copy()
+    }
 }

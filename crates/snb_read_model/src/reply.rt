@@ -96,4 +96,11 @@ impl Reply<Text> {
             items,
         })
     }
+
+    /// An equal list, with texts of its own.
+    pub fn try_copy(&self) -> Result<Reply<Text>, AllocError>
+        ensures { IfOk result (λ copy. copy ≡ self.now) }
+    {
+        self.lend()?.try_copy()
+    }
 }

@@ -93,4 +93,11 @@ impl Stays<Text> {
             items,
         })
     }
+
+    /// An equal list, with texts of its own.
+    pub fn try_copy(&self) -> Result<Stays<Text>, AllocError>
+        ensures { IfOk result (λ s. s ≡ self.now) }
+    {
+        self.lend()?.try_copy()
+    }
 }
