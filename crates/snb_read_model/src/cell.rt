@@ -75,19 +75,20 @@ impl Cell<Text> {
     pub fn lend(&self) -> Result<Cell<CowText<'_>>, AllocError>
         ensures { IfOk result (λ c. c ≡ self.now) }
     {
-        match self {
-            Cell::Number { value } => Ok(Cell::Number { value: *value }),
-            Cell::Flag { value } => Ok(Cell::Flag { value: *value }),
-            Cell::Words { text } => Ok(Cell::Words {
+        let lent = match self {
+            Cell::Number { value } => Cell::Number { value: *value },
+            Cell::Flag { value } => Cell::Flag { value: *value },
+            Cell::Words { text } => Cell::Words {
                 text: CowText::lent(text),
-            }),
-            Cell::List { texts } => Ok(Cell::List {
+            },
+            Cell::List { texts } => Cell::List {
                 texts: texts.lend()?,
-            }),
-            Cell::Stays { stays } => Ok(Cell::Stays {
+            },
+            Cell::Stays { stays } => Cell::Stays {
                 stays: stays.lend()?,
-            }),
-        }
+            },
+        };
+        Ok(lent)
     }
 
     /// An equal cell, with texts of its own.

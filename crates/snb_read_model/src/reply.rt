@@ -49,6 +49,19 @@ impl<T: Drop> Reply<T> {
         Reply { alloc, items }
     }
 
+    /// The reply of a query's own answer and the answers that follow it.
+    pub fn with_tail(
+        alloc: Global,
+        own: Answer<T>,
+        tail: Vec<Answer<T>>,
+    ) -> Result<Reply<T>, AllocError>
+        ensures { IfOk result (λ reply. reply ≡ own ∷ tail.items) }
+    {
+        let mut items = tail;
+        items.insert(0, own)?;
+        Ok(Reply { alloc, items })
+    }
+
     /// The answers in order.
     pub fn as_slice(&self) -> &[Answer<T>]
         ensures { result.now ≡ self.now }

@@ -3,15 +3,14 @@ use Rattle.std.proofs.Common.{◌≡◌, ◌∙◌, ℕ, List, [], ◌∷◌, ap
 use Rattle.snb_schema.specs.declared.row.Row.{Row}
 use Rattle.snb_schema.specs.declared.table.Table.TheVariants as table
 use Rattle.snb_read_order.specs.Laws.{OneFirst}
-use Rattle.snb_read_model.specs.declared.cell.Cell.{Cell}
 use Rattle.snb_read_model.specs.declared.cell.Cell.TheVariants as cell
 use Rattle.snb_graph_model.specs.Around.{ends, organisations, persons, places, study, words, work}
-use Rattle.snb_read_model.specs.Cells.{column, number}
+use Rattle.snb_read_model.specs.Cells.{Cell, column, number}
 use Rattle.snb_read_model.specs.ComplexReads.{AreStays, Ic1, Ic11, IsJob, IsNamesake, IsStay, Stay, is_named, jobs, stay_cmp}
 use Rattle.snb_read_model.specs.Order.{Answers, Falling, First, FirstOf, Rising, Whole}
-use Rattle.snb_read_replies.proofs.OneAnswers.{one_answers, one_stays, one_texts, same_only, same_zip}
-use Rattle.snb_reach.proofs.Laws.{one_within}
-use Rattle.snb_read_replies.proofs.Ties.{falling_words, rising, three_ties}
+use Rattle.snb_read_laws.proofs.OneAnswers.{one_answers, one_stays, one_texts, same_only, same_zip}
+use Rattle.snb_read_laws.proofs.OneWithin.{one_within}
+use Rattle.snb_read_laws.proofs.Ties.{falling_words, rising, three_ties}
 
 module _ (g : List Row) where
   one_stay : (s : ℕ × ℕ) (a b : Stay) → IsStay g s a → IsStay g s b → a ≡ b

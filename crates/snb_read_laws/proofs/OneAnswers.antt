@@ -5,13 +5,13 @@ use Rattle.std.specs.Cmp.Lexicographic.{slice_cmp}
 use Rattle.std.specs.List.{AllZip, Contains}
 use Rattle.std.specs.Ordering.{nat_cmp}
 use Rattle.std.specs.declared.cmp.Ordering.TheVariants.{Equal}
-use Rattle.snb_read_model.specs.declared.cell.Cell.{Cell}
+use Rattle.snb_read_model.specs.Cells.{Cell}
 use Rattle.snb_read_model.specs.ComplexReads.{Stay, stay_cmp}
 use Rattle.snb_read_model.specs.Order.{Answers, Cut, FirstOf, Way, by}
 use Rattle.snb_base.proofs.Laws.{contains_cases, contains_here, contains_there}
 use Rattle.snb_graph_model.proofs.Laws.{contains_none}
 use Rattle.snb_read_order.specs.Laws.{OneFirst}
-use Rattle.snb_read_replies.proofs.Ties.{by_total, equal_stays, equal_texts, stay_total}
+use Rattle.snb_read_laws.proofs.Ties.{by_total, equal_stays, equal_texts, stay_total}
 
 -- a list has one element in one way
 pub same_only : {X : Type 0} (xs : List X) (a b : X) → xs ≡ a ∷ [] → xs ≡ b ∷ [] → a ≡ b

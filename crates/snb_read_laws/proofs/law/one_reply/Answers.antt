@@ -1,5 +1,5 @@
-use Rattle.snb_read_replies.proofs.OneReply.{one_answer, one_reply}
-use Rattle.snb_read_replies.proofs.law.one_reply.Goals as goal
+use Rattle.snb_read_laws.proofs.OneReply.{one_answer, one_reply}
+use Rattle.snb_read_laws.proofs.law.one_reply.Goals as goal
 
 pub returns-clause-answer : goal.returns-clause-answer
 returns-clause-answer c =

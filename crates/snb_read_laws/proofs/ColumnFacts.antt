@@ -5,7 +5,7 @@ use Rattle.std.proofs.lemmas.List.Elements.{All-cons}
 use Rattle.snb_schema.specs.declared.query.Query.{Query}
 use Rattle.snb_schema.specs.declared.query.Query.TheVariants as queries
 use Rattle.snb_schema.specs.declared.row.Row.{Row}
-use Rattle.snb_read_model.specs.declared.cell.Cell.{Cell}
+use Rattle.snb_read_model.specs.Cells.{Cell}
 use Rattle.snb_read_model.specs.Order.{Answers, Cut, Way, by}
 use Rattle.snb_read_model.specs.Replies.{IsAnswer}
 use Rattle.snb_read_order.proofs.Laws.{chosen}

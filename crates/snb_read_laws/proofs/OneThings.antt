@@ -19,7 +19,7 @@ use Rattle.snb_graph_model.proofs.Laws.{chosen_from, comment_only, contains_none
 use Rattle.snb_base.proofs.Laws.{contains_cases}
 use Rattle.snb_graph_model.specs.Around.{Message, authors, comment_shown, message_in, messages, person_in, persons, post_shown, with_id}
 use Rattle.snb_read_model.specs.ShortReads.{IsAuthor}
-use Rattle.snb_read_replies.proofs.OneAnswers.{same_only}
+use Rattle.snb_read_laws.proofs.OneAnswers.{same_only}
 
 -- what a list of one element holds is that element
 in_one : {X : Type 0} (x y : X) → Contains (x ∷ []) y → x ≡ y

@@ -7,15 +7,14 @@ use Rattle.snb_graph_model.specs.Graphs.{IsGraph}
 use Rattle.snb_graph_model.specs.Soundness.{Sound}
 use Rattle.snb_graph_integrity.specs.SoundLaws.{MessagesHaveOneRoot, RepliesAreHeld}
 use Rattle.snb_read_order.specs.Laws.{OneFirst}
-use Rattle.snb_read_model.specs.declared.cell.Cell.{Cell}
 use Rattle.snb_read_model.specs.declared.cell.Cell.TheVariants.{Flag, Words}
 use Rattle.snb_graph_model.specs.Around.{Message, authors, comments, containers, ends, forums, friends, is_friend, messages, persons, replies, with_id}
-use Rattle.snb_read_model.specs.Cells.{column, number}
+use Rattle.snb_read_model.specs.Cells.{Cell, column, number}
 use Rattle.snb_read_model.specs.Order.{Falling, First, Rising, Whole}
 use Rattle.snb_read_model.specs.ShortReads.{Is1, Is2, Is3, Is4, Is5, Is6, Is7, IsAuthor, IsCreator, IsForum, IsFriend, IsProfile, IsRecent, IsReplyTo}
-use Rattle.snb_read_replies.proofs.OneAnswers.{one_answers, same_only}
-use Rattle.snb_read_replies.proofs.OneThings.{one_author, one_message, one_person, one_root}
-use Rattle.snb_read_replies.proofs.Ties.{falling, rising, three_ties, two_ties}
+use Rattle.snb_read_laws.proofs.OneAnswers.{one_answers, same_only}
+use Rattle.snb_read_laws.proofs.OneThings.{one_author, one_message, one_person, one_root}
+use Rattle.snb_read_laws.proofs.Ties.{falling, rising, three_ties, two_ties}
 
 module _ (first : OneFirst (List Cell)) (g : List Row) (graph : IsGraph g) where
   one_profile : (p : Person) (a b : List Cell) → IsProfile g p a → IsProfile g p b → a ≡ b

@@ -7,9 +7,8 @@ use Rattle.std.specs.Cmp.Lexicographic.{slice_cmp}
 use Rattle.std.specs.Ordering.{int_cmp, nat_cmp, ordering_then}
 use Rattle.std.specs.declared.cmp.Ordering.{Ordering}
 use Rattle.std.specs.declared.cmp.Ordering.TheVariants.{Less, Equal, Greater}
-use Rattle.snb_read_model.specs.declared.cell.Cell.{Cell}
 use Rattle.snb_read_model.specs.declared.cell.Cell.TheVariants.{Words}
-use Rattle.snb_read_model.specs.Cells.{cell_cmp, column, number, number_in, text_in}
+use Rattle.snb_read_model.specs.Cells.{Cell, cell_cmp, column, number, number_in, text_in}
 use Rattle.snb_read_model.specs.ComplexReads.{Stay, stay_cmp}
 use Rattle.snb_read_model.specs.Order.{Falling, Rising, Way, by, way_cmp}
 

@@ -4,16 +4,16 @@ use Rattle.std.specs.List.{AllZip}
 use Rattle.snb_schema.specs.declared.query.Query.TheVariants as query
 use Rattle.snb_graph_integrity.specs.SoundLaws.{MessagesHaveOneAuthor, MessagesHaveOneRoot, RepliesAreHeld}
 use Rattle.snb_read_order.specs.Laws.{OneFirst}
-use Rattle.snb_read_model.specs.declared.cell.Cell.{Cell}
+use Rattle.snb_read_model.specs.Cells.{Cell}
 use Rattle.snb_read_model.specs.declared.cell.Cell.TheVariants as cell
 use Rattle.snb_read_model.specs.ComplexReads.{Stay}
 use Rattle.snb_read_model.specs.Replies.{IsAnswer, tail_reads}
-use Rattle.snb_read_replies.proofs.OneAnswers.{same_zip}
-use Rattle.snb_read_replies.proofs.OneNamed.{one_ic1, one_ic11}
-use Rattle.snb_read_replies.proofs.OneLength.{one_length}
-use Rattle.snb_read_replies.proofs.OneSent.{one_ic2, one_ic7, one_ic8, one_ic9}
-use Rattle.snb_read_replies.proofs.OneShort.{one_is1, one_is2, one_is3, one_is4, one_is5, one_is6, one_is7}
-use Rattle.snb_read_replies.specs.Laws.{OneAnswer, OneReply}
+use Rattle.snb_read_laws.proofs.OneAnswers.{same_zip}
+use Rattle.snb_read_laws.proofs.OneNamed.{one_ic1, one_ic11}
+use Rattle.snb_read_laws.proofs.OneLength.{one_length}
+use Rattle.snb_read_laws.proofs.OneSent.{one_ic2, one_ic7, one_ic8, one_ic9}
+use Rattle.snb_read_laws.proofs.OneShort.{one_is1, one_is2, one_is3, one_is4, one_is5, one_is6, one_is7}
+use Rattle.snb_read_laws.specs.Laws.{OneAnswer, OneReply}
 
 module _ (cells : OneFirst (List Cell)) (texts : OneFirst (List ℕ)) (stays : OneFirst Stay)
     (authors : MessagesHaveOneAuthor) (roots : MessagesHaveOneRoot) (held : RepliesAreHeld) where

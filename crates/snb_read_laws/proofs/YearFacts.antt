@@ -14,7 +14,7 @@ use Rattle.snb_schema.specs.Layouts.{shape_columns}
 use Rattle.snb_schema.specs.RowLines.{values}
 use Rattle.snb_schema.specs.TableRows.{AreWithin, IsTableRow}
 use Rattle.snb_graph_model.specs.Graphs.{IsGraph, rows}
-use Rattle.snb_read_model.specs.declared.cell.Cell.{Cell}
+use Rattle.snb_read_model.specs.Cells.{Cell}
 use Rattle.snb_read_model.specs.declared.cell.Cell.TheVariants as cell
 use Rattle.snb_graph_model.specs.Around.{stay_in}
 use Rattle.snb_read_model.specs.ComplexReads.{AreStays, IsNamesake, IsStay, Stay, stay_cmp}
@@ -23,8 +23,8 @@ use Rattle.snb_read_model.specs.Replies.{IsAnswer}
 use Rattle.snb_graph_model.proofs.Laws.{chosen_from, in_rows}
 use Rattle.snb_read_order.proofs.Laws.{chosen}
 use Rattle.snb_read_model.specs.Columns.{Column, Stays, HasColumns, IsOfColumn, columns_of}
-use Rattle.snb_read_replies.specs.Laws.{AnswersHaveYears, HasYears}
-use Rattle.snb_read_replies.proofs.ColumnFacts.{columns_of_answer, rows_have}
+use Rattle.snb_read_laws.specs.Laws.{AnswersHaveYears, HasYears}
+use Rattle.snb_read_laws.proofs.ColumnFacts.{columns_of_answer, rows_have}
 
 -- ---- rows without stays
 

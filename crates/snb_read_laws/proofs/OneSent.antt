@@ -10,17 +10,16 @@ use Rattle.snb_graph_integrity.specs.SoundLaws.{MessagesHaveOneAuthor}
 use Rattle.snb_read_order.specs.Laws.{OneFirst}
 use Rattle.snb_base.proofs.Laws.{contains_cases, contains_here, contains_there}
 use Rattle.snb_graph_model.proofs.Laws.{any_from, contains_none, in_filter}
-use Rattle.snb_read_model.specs.declared.cell.Cell.{Cell}
 use Rattle.snb_read_model.specs.declared.cell.Cell.TheVariants as cell
 use Rattle.snb_read_model.specs.declared.like.Like.{Like}
 use Rattle.snb_graph_model.specs.Around.{Message, comments, friends, is_friend, likes, messages, persons, replies, with_id}
-use Rattle.snb_read_model.specs.Cells.{column, number}
+use Rattle.snb_read_model.specs.Cells.{Cell, column, number}
 use Rattle.snb_read_model.specs.ComplexReads.{Ic2, Ic7, Ic8, Ic9, IsAnswered, IsLiked, IsSent, beats, best_likes, latest, liked, messages_of, minutes}
 use Rattle.snb_read_model.specs.Order.{Answers, Falling, First, Rising}
-use Rattle.snb_read_replies.proofs.OneAnswers.{one_answers, same_only}
-use Rattle.snb_reach.proofs.Laws.{one_within}
-use Rattle.snb_read_replies.proofs.OneThings.{one_author, one_sender, sent_date}
-use Rattle.snb_read_replies.proofs.Ties.{falling, rising, two_ties}
+use Rattle.snb_read_laws.proofs.OneAnswers.{one_answers, same_only}
+use Rattle.snb_read_laws.proofs.OneWithin.{one_within}
+use Rattle.snb_read_laws.proofs.OneThings.{one_author, one_sender, sent_date}
+use Rattle.snb_read_laws.proofs.Ties.{falling, rising, two_ties}
 
 -- ---- what joined lists hold
 
