@@ -1,0 +1,4 @@
+mod Answering
+mod Following
+mod Images
+mod Order
