@@ -21,9 +21,8 @@ use Rattle.snb_schema.specs.declared.table.Table.TheVariants as table
 use Rattle.snb_graph_integrity.specs.SoundLaws.{NumbersFit}
 use Rattle.snb_graph_model.specs.Graphs.{IsGraph}
 use Rattle.snb_read_order.proofs.Laws.{answers_from, answers_mapped, chosen, then_assoc, zip_with}
-use Rattle.snb_read_model.specs.declared.cell.Cell.{Cell}
 use Rattle.snb_read_model.specs.declared.cell.Cell.TheVariants as cell
-use Rattle.snb_read_model.specs.Cells.{cell_cmp, number}
+use Rattle.snb_read_model.specs.Cells.{Cell, cell_cmp, number}
 use Rattle.snb_graph_model.specs.Around.{ends, organisations, places, work}
 use Rattle.snb_read_model.specs.ComplexReads.{IsAt, IsJob, is_in}
 use Rattle.snb_read_model.specs.Order.{Answers, Falling, First, FirstOf, Rising, by}

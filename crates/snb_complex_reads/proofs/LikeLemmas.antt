@@ -17,7 +17,7 @@ use Rattle.snb_graph_model.specs.Graphs.{IsGraph}
 use Rattle.snb_graph_model.specs.Soundness.{Held}
 use Rattle.snb_read_order.proofs.Laws.{answers_from, two_columns}
 use Rattle.snb_graph_model.proofs.Laws.{Liked, like_there}
-use Rattle.snb_read_model.specs.declared.cell.Cell.{Cell}
+use Rattle.snb_read_model.specs.Cells.{Cell}
 use Rattle.snb_read_model.specs.declared.like.Like.{Like}
 use Rattle.snb_graph_model.specs.Around.{likes, messages}
 use Rattle.snb_read_model.specs.ComplexReads.{IsLiked, beats, best_likes, liked}

@@ -8,7 +8,7 @@ use Rattle.std.specs.List.{All, filter, flat_map, swap}
 use Rattle.std.specs.List.Sorted.{IsPermutation, IsSorted}
 use Rattle.std.specs.declared.cmp.Ordering.{Ordering}
 use Rattle.snb_read_order.proofs.Laws.{zip_moved}
-use Rattle.snb_read_model.specs.declared.cell.Cell.{Cell}
+use Rattle.snb_read_model.specs.Cells.{Cell}
 use Rattle.snb_read_model.specs.Order.{Answers, Cut, FirstOf, Way, Whole}
 use Rattle.snb_complex_reads.specs.Found.{HasAppended}
 

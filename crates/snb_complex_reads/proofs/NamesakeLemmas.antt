@@ -23,9 +23,8 @@ use Rattle.snb_graph_model.specs.Soundness.{Held, Sound}
 use Rattle.snb_read_order.specs.Laws.{SomeFirst}
 use Rattle.snb_read_order.proofs.Laws.{answers_from, answers_mapped, chosen, then_assoc, zip_push, zip_with}
 use Rattle.snb_graph_model.proofs.Laws.{end_only, end_there}
-use Rattle.snb_read_model.specs.declared.cell.Cell.{Cell}
 use Rattle.snb_read_model.specs.declared.cell.Cell.TheVariants as cell
-use Rattle.snb_read_model.specs.Cells.{cell_cmp, number}
+use Rattle.snb_read_model.specs.Cells.{Cell, cell_cmp, number}
 use Rattle.snb_graph_model.specs.Around.{ends, persons, study, words, work}
 use Rattle.snb_read_model.specs.ComplexReads.{AreStays, IsNamesake, IsStay, Stay, is_named, stay_cmp}
 use Rattle.snb_read_model.specs.Distance.{IsPerson, IsWithin}

@@ -20,13 +20,11 @@ use Rattle.snb_read_order.specs.Laws.{SomeFirst}
 use Rattle.snb_read_order.proofs.Laws.{zip_length}
 use Rattle.snb_graph_model.proofs.Laws.{contains_none, in_filter}
 use Rattle.snb_graph_rows.proofs.Laws.{contains_cases, contains_here, contains_there}
-use Rattle.snb_read_model.specs.declared.cell.Cell.{Cell}
-use Rattle.snb_read_model.specs.Cells.{cell_cmp, number}
+use Rattle.snb_read_model.specs.Cells.{Cell, cell_cmp, number}
 use Rattle.snb_read_model.specs.ComplexReads.{Ic1, IsNamesake, Stay, is_named}
 use Rattle.snb_read_model.specs.Distance.{IsWithin}
 use Rattle.snb_read_model.specs.Order.{Answers, First, FirstOf, Rising, Way, Whole, by}
-use Rattle.snb_read_laws.proofs.Laws.{by_total, near_held, some_namesake, some_within, some_zip}
-use Rattle.snb_reach.proofs.Laws.{one_within}
+use Rattle.snb_read_laws.proofs.Laws.{by_total, near_held, one_within, some_namesake, some_within, some_zip}
 use Rattle.snb_complex_reads.proofs.Columns.{number_cmp}
 use Rattle.snb_complex_reads.proofs.Moves.{answers_moved}
 

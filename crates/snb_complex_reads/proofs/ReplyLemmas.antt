@@ -17,7 +17,7 @@ use Rattle.snb_graph_model.specs.Graphs.{IsGraph}
 use Rattle.snb_graph_model.specs.Soundness.{Sound}
 use Rattle.snb_read_order.proofs.Laws.{answers_from, two_columns}
 use Rattle.snb_graph_model.proofs.Laws.{HasComment, comment_alone, replied_there}
-use Rattle.snb_read_model.specs.declared.cell.Cell.{Cell}
+use Rattle.snb_read_model.specs.Cells.{Cell}
 use Rattle.snb_graph_model.specs.Around.{comment_shown, comments, replies}
 use Rattle.snb_read_model.specs.ComplexReads.{IsAnswered}
 use Rattle.snb_read_model.specs.Order.{Answers, Falling, First, FirstOf, Rising, by}

@@ -21,11 +21,11 @@ use Rattle.snb_graph_model.proofs.Laws.{any_from, friend_here, friend_tells, fri
 use Rattle.snb_graph_rows.proofs.Laws.{contains_map, map_contains}
 use Rattle.snb_read_model.specs.ComplexReads.{is_named}
 use Rattle.snb_read_model.specs.Distance.{IsDistance, IsPerson, IsWithin, Walk}
-use Rattle.snb_read_laws.proofs.Laws.{some_within}
+use Rattle.snb_read_laws.proofs.Laws.{Rises, same_rising, some_within}
 use Rattle.snb_short_reads.proofs.Laws.{person_at}
 use Rattle.snb_short_reads.specs.Lookups.{IsOnlyPerson}
 use Rattle.snb_reach.specs.Distances.{AreDistances}
-use Rattle.snb_reach.proofs.Laws.{Rises, friend_turned, last_step, one_distance, same_rising}
+use Rattle.snb_reach.proofs.Laws.{friend_turned, last_step, one_distance}
 use Rattle.snb_complex_reads.proofs.FoundLemmas.{walk_held}
 use Rattle.snb_complex_reads.proofs.NamesakeLemmas.{near_is}
 use Rattle.snb_complex_reads.specs.Namesakes.{AreNamesakesWithin, IsNamesakeFound, IsNearFound, Namesake, namesake_of}

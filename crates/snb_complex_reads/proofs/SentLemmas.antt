@@ -10,7 +10,7 @@ use Rattle.snb_schema.specs.declared.row.Row.{Row}
 use Rattle.snb_graph_integrity.specs.SoundLaws.{NumbersFit}
 use Rattle.snb_graph_model.specs.Graphs.{IsGraph}
 use Rattle.snb_read_order.proofs.Laws.{answers_from, two_columns}
-use Rattle.snb_read_model.specs.declared.cell.Cell.{Cell}
+use Rattle.snb_read_model.specs.Cells.{Cell}
 use Rattle.snb_graph_model.specs.Around.{messages}
 use Rattle.snb_read_model.specs.ComplexReads.{IsSent, latest, messages_of}
 use Rattle.snb_read_model.specs.Distance.{IsPerson}

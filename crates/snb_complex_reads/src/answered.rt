@@ -10,13 +10,17 @@ ghost use Rattle.snb_graph_model.specs.Soundness.{Sound};
 
 use snb_graph::Graph;
 use snb_graph_integrity::law::sound_graphs;
-use snb_read_model::{Answer, AnswerRow, Cell};
+use snb_read_model::{Answer, AnswerRow, Cell, CowText};
 use snb_read_order::first_of;
 use snb_short_reads::lookups::{author_id, known, words};
 use std::alloc::{AllocError, Global};
 
 // The row of a reply: (comment, date).
-fn reply_row(alloc: Global, graph: &Graph, reply: (u64, u64)) -> Result<AnswerRow<'_>, AllocError>
+fn reply_row(
+    alloc: Global,
+    graph: &Graph,
+    reply: (u64, u64),
+) -> Result<AnswerRow<CowText<'_>>, AllocError>
     requires sound { Sound graph.now }
     requires found { IsCommentFound graph.now reply }
     ensures { IfOk result (IsAnswered graph.now reply) }
@@ -42,7 +46,7 @@ fn reply_rows<'a>(
     alloc: Global,
     graph: &'a Graph,
     replies: &[(u64, u64)],
-) -> Result<Answer<'a>, AllocError>
+) -> Result<Answer<CowText<'a>>, AllocError>
     requires sound { Sound graph.now }
     requires found { All (IsCommentFound graph.now) replies.now }
     ensures { IfOk result (AllZip (IsAnswered graph.now) replies.now) }
@@ -59,7 +63,7 @@ fn latest_replies(
     alloc: Global,
     graph: &Graph,
     found: Vec<(u64, u64)>,
-) -> Result<Answer<'_>, AllocError>
+) -> Result<Answer<CowText<'_>>, AllocError>
     requires sound { Sound graph.now }
     requires found { All (IsCommentFound graph.now) found.items }
     ensures { IfOk result (Answers found.items (IsAnswered graph.now) (Falling 4 ∷ Rising 5 ∷ []) (First 20)) }
@@ -83,7 +87,7 @@ fn add_replies(graph: &Graph, message: u64, found: &mut Vec<(u64, u64)>) -> Resu
 /// Complex read 8: the twenty latest direct replies to a person's messages, each with its author; of replies
 /// of one date the one of the lower id first. A person who isn't held gives no rows.
 /// The condition: the graph is sound.
-pub fn ic8(alloc: Global, graph: &Graph, person: u64) -> Result<Answer<'_>, AllocError>
+pub fn ic8(alloc: Global, graph: &Graph, person: u64) -> Result<Answer<CowText<'_>>, AllocError>
     requires sound { Sound graph.now }
     ensures { IfOk result (Ic8 graph.now person) }
 {

@@ -17,7 +17,7 @@ use snb_base::Text;
 use snb_graph::Graph;
 use snb_graph_integrity::law::sound_graphs;
 use snb_reach::reach::within;
-use snb_read_model::{Answer, AnswerRow, Cell};
+use snb_read_model::{Answer, AnswerRow, Cell, CowText};
 use snb_read_order::first_of;
 use snb_short_reads::lookups::{known, words};
 use std::alloc::{AllocError, Global};
@@ -28,7 +28,7 @@ fn job_row<'a>(
     alloc: Global,
     graph: &'a Graph,
     job: &((u64, u64, u64), &'a Text),
-) -> Result<AnswerRow<'a>, AllocError>
+) -> Result<AnswerRow<CowText<'a>>, AllocError>
     requires { IsJobFound graph.now job.now }
     ensures { IfOk result (IsJob graph.now (job_of job.now)) }
 {
@@ -48,7 +48,7 @@ fn job_rows<'a>(
     alloc: Global,
     graph: &'a Graph,
     jobs: &[((u64, u64, u64), &'a Text)],
-) -> Result<Answer<'a>, AllocError>
+) -> Result<Answer<CowText<'a>>, AllocError>
     requires { All (IsJobFound graph.now) jobs.now }
     ensures { IfOk result (AllZip (λ job row. IsJob graph.now (job_of job) row) jobs.now) }
 {
@@ -64,7 +64,7 @@ fn first_jobs<'a>(
     alloc: Global,
     graph: &'a Graph,
     found: Vec<((u64, u64, u64), &'a Text)>,
-) -> Result<Answer<'a>, AllocError>
+) -> Result<Answer<CowText<'a>>, AllocError>
     requires { All (IsJobFound graph.now) found.items }
     ensures { IfOk result (Answers (map job_of found.entry.items) (IsJob graph.now) (Rising 5 ∷ Rising 1 ∷ Falling 4 ∷ []) (First 10)) }
 {
@@ -139,7 +139,7 @@ pub fn ic11<'a>(
     person: u64,
     country: &str,
     year: u32,
-) -> Result<Answer<'a>, AllocError>
+) -> Result<Answer<CowText<'a>>, AllocError>
     requires sound { Sound graph.now }
     ensures { IfOk result (Ic11 graph.now person country.now year) }
 {

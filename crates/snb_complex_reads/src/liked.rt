@@ -12,7 +12,7 @@ ghost use Rattle.snb_graph_model.specs.Soundness.{Sound};
 
 use snb_graph::Graph;
 use snb_graph_integrity::law::sound_graphs;
-use snb_read_model::{Answer, AnswerRow, Cell, Like};
+use snb_read_model::{Answer, AnswerRow, Cell, CowText, Like};
 use snb_read_order::{first_of, in_order};
 use snb_short_reads::lookups::{are_friends, known, shown, words};
 use std::alloc::{AllocError, Global};
@@ -32,7 +32,7 @@ fn like_row<'a>(
     graph: &'a Graph,
     start: u64,
     like: &Like,
-) -> Result<AnswerRow<'a>, AllocError>
+) -> Result<AnswerRow<CowText<'a>>, AllocError>
     requires { IsLikeFound graph.now like.now }
     ensures { IfOk result (IsLiked graph.now start like.now) }
 {
@@ -64,7 +64,7 @@ fn like_rows<'a>(
     graph: &'a Graph,
     start: u64,
     likes: &[Like],
-) -> Result<Answer<'a>, AllocError>
+) -> Result<Answer<CowText<'a>>, AllocError>
     requires { All (IsLikeFound graph.now) likes.now }
     ensures { IfOk result (AllZip (IsLiked graph.now start) likes.now) }
 {
@@ -81,7 +81,7 @@ fn latest_likes(
     graph: &Graph,
     start: u64,
     likes: Vec<Like>,
-) -> Result<Answer<'_>, AllocError>
+) -> Result<Answer<CowText<'_>>, AllocError>
     requires { All (IsLikeFound graph.now) likes.items }
     ensures { IfOk result (Answers likes.items (IsLiked graph.now start) (Falling 4 ∷ Rising 1 ∷ []) (First 20)) }
 {
@@ -155,7 +155,7 @@ fn add_likes(graph: &Graph, message: (u64, u64), found: &mut Vec<Like>) -> Resul
 /// of one date that of the message of the lowest id; the twenty latest of them, of one date that of the
 /// person of the lower id first. A person who isn't held gives no rows.
 /// The condition: the graph is sound.
-pub fn ic7(alloc: Global, graph: &Graph, person: u64) -> Result<Answer<'_>, AllocError>
+pub fn ic7(alloc: Global, graph: &Graph, person: u64) -> Result<Answer<CowText<'_>>, AllocError>
     requires sound { Sound graph.now }
     ensures { IfOk result (Ic7 graph.now person) }
 {

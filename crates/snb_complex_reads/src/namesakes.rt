@@ -20,7 +20,7 @@ use snb_graph::{Graph, Links};
 use snb_graph_integrity::law::sound_graphs;
 use snb_graph_tables::Words;
 use snb_reach::reach::{distances, listed, within};
-use snb_read_model::{Answer, AnswerRow, Cell, CowText, CowTexts, Stays};
+use snb_read_model::{Answer, AnswerRow, Cell, CellTexts, CowText, Stays};
 use snb_read_order::law::first_is_some;
 use snb_read_order::{first_of, in_order};
 use snb_schema::{Person, Table};
@@ -29,7 +29,7 @@ use std::alloc::{AllocError, Global};
 use std::collections::HashMap;
 
 // The texts of a walk, in byte order.
-fn sorted<'a>(alloc: Global, texts: Words<'a>) -> Result<CowTexts<'a>, AllocError>
+fn sorted<'a>(alloc: Global, texts: Words<'a>) -> Result<CellTexts<CowText<'a>>, AllocError>
     ensures { IfOk result (FirstOf (slice_cmp nat_cmp) Whole texts.entry) }
 {
     let mut lent = Vec::new(alloc);
@@ -37,7 +37,7 @@ fn sorted<'a>(alloc: Global, texts: Words<'a>) -> Result<CowTexts<'a>, AllocErro
         lent.push(CowText::lent(text))?;
     }
     let ordered = in_order(lent, |a: &CowText<'_>, b: &CowText<'_>| a.compare(b));
-    Ok(CowTexts::from_vec(alloc, ordered))
+    Ok(CellTexts::from_vec(alloc, ordered))
 }
 
 // The names of a stay: (organisation, year).
@@ -55,7 +55,11 @@ fn stay(graph: &Graph, stay: (u64, u64)) -> (CowText<'_>, u32, CowText<'_>)
 }
 
 // The names of the stays of a walk, in order.
-fn stays<'a>(alloc: Global, graph: &'a Graph, found: Links<'_>) -> Result<Stays<'a>, AllocError>
+fn stays<'a>(
+    alloc: Global,
+    graph: &'a Graph,
+    found: Links<'_>,
+) -> Result<Stays<CowText<'a>>, AllocError>
     requires sound { Sound graph.now }
     requires found { All (IsStayFound graph.now) (rest found) }
     ensures { IfOk result (AreStays graph.now (rest found.entry)) }
@@ -79,7 +83,7 @@ fn namesake_row<'a>(
     alloc: Global,
     graph: &'a Graph,
     one: &(&'a Person, u64),
-) -> Result<AnswerRow<'a>, AllocError>
+) -> Result<AnswerRow<CowText<'a>>, AllocError>
     requires sound { Sound graph.now }
     requires found { IsNamesakeFound graph.now one.now }
     ensures { IfOk result (IsNamesake graph.now (namesake_of one.now)) }
@@ -120,7 +124,7 @@ fn namesake_rows<'a>(
     alloc: Global,
     graph: &'a Graph,
     found: &[(&'a Person, u64)],
-) -> Result<Answer<'a>, AllocError>
+) -> Result<Answer<CowText<'a>>, AllocError>
     requires sound { Sound graph.now }
     requires found { All (IsNamesakeFound graph.now) found.now }
     ensures { IfOk result (AllZip (λ one row. IsNamesake graph.now (namesake_of one) row) found.now) }
@@ -137,7 +141,7 @@ fn first_namesakes<'a>(
     alloc: Global,
     graph: &'a Graph,
     found: Vec<(&'a Person, u64)>,
-) -> Result<Answer<'a>, AllocError>
+) -> Result<Answer<CowText<'a>>, AllocError>
     requires sound { Sound graph.now }
     requires found { All (IsNamesakeFound graph.now) found.items }
     ensures { IfOk result (Answers (map namesake_of found.entry.items) (IsNamesake graph.now) (Rising 3 ∷ Rising 2 ∷ Rising 1 ∷ []) (First 20)) }
@@ -199,7 +203,7 @@ pub fn ic1<'a>(
     graph: &'a Graph,
     person: u64,
     first_name: &str,
-) -> Result<Answer<'a>, AllocError>
+) -> Result<Answer<CowText<'a>>, AllocError>
     requires sound { Sound graph.now }
     ensures { IfOk result (Ic1 graph.now person first_name.now) }
 {
@@ -207,7 +211,7 @@ pub fn ic1<'a>(
     sound_graphs();
     first_is_some::<Text>();
     first_is_some::<(Text, u32, Text)>();
-    first_is_some::<AnswerRow>();
+    first_is_some::<AnswerRow<Text>>();
     let met = distances(alloc, graph, person, 2)?;
     // Where persons are few in comparison, a look at each of their names takes less time than to look up
     // those who are met.

@@ -10,7 +10,7 @@ ghost use Rattle.snb_graph_model.specs.Soundness.{Sound};
 use snb_graph::Graph;
 use snb_graph_integrity::law::sound_graphs;
 use snb_reach::reach::within;
-use snb_read_model::{Answer, AnswerRow, Cell};
+use snb_read_model::{Answer, AnswerRow, Cell, CowText};
 use snb_read_order::TopK;
 use snb_short_reads::lookups::{known, shown, words};
 use std::alloc::{AllocError, Global};
@@ -20,7 +20,7 @@ fn sent_row(
     alloc: Global,
     graph: &Graph,
     sent: (u64, u64, u64),
-) -> Result<AnswerRow<'_>, AllocError>
+) -> Result<AnswerRow<CowText<'_>>, AllocError>
     requires { IsSentFound graph.now sent }
     ensures { IfOk result (IsSent graph.now sent) }
 {
@@ -46,7 +46,7 @@ fn sent_rows<'a>(
     alloc: Global,
     graph: &'a Graph,
     messages: &[(u64, u64, u64)],
-) -> Result<Answer<'a>, AllocError>
+) -> Result<Answer<CowText<'a>>, AllocError>
     requires { All (IsSentFound graph.now) messages.now }
     ensures { IfOk result (AllZip (IsSent graph.now) messages.now) }
 {
@@ -77,7 +77,7 @@ fn latest_sent(
     alloc: Global,
     graph: &Graph,
     top: TopK<(u64, u64, u64)>,
-) -> Result<Answer<'_>, AllocError>
+) -> Result<Answer<CowText<'_>>, AllocError>
     requires { (found : List (ℕ × ℕ × ℕ)) × IsLatest found top × All (IsSentFound graph.now) found }
     ensures { IfOk result (λ answer. (found : List (ℕ × ℕ × ℕ)) → IsLatest found top → All (IsSentFound graph.now) found
         → Answers found (IsSent graph.now) latest (First 20) answer) }
@@ -130,7 +130,7 @@ pub fn ic2(
     graph: &Graph,
     person: u64,
     max_date: u64,
-) -> Result<Answer<'_>, AllocError>
+) -> Result<Answer<CowText<'_>>, AllocError>
     requires sound { Sound graph.now }
     ensures { IfOk result (Ic2 graph.now person max_date) }
 {
@@ -151,7 +151,7 @@ pub fn ic9(
     graph: &Graph,
     person: u64,
     max_date: u64,
-) -> Result<Answer<'_>, AllocError>
+) -> Result<Answer<CowText<'_>>, AllocError>
     requires sound { Sound graph.now }
     ensures { IfOk result (Ic9 graph.now person max_date) }
 {

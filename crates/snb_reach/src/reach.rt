@@ -12,7 +12,7 @@ use crate::levels::{grow, others};
 use crate::near::Near;
 use crate::sides::between;
 use snb_graph::Graph;
-use snb_read_model::{Answer, AnswerRow, Cell};
+use snb_read_model::{Answer, AnswerRow, Cell, CowText};
 use std::alloc::{AllocError, Global};
 use std::collections::HashMap;
 
@@ -83,7 +83,12 @@ pub fn shortest(alloc: Global, graph: &Graph, from: u64, to: u64) -> Result<i64,
 /// Complex read 13 of LDBC's Social Network Benchmark, Interactive workload v1: one row, with the
 /// length of a shortest walk from one person to another, or -1 where there is none.
 /// The condition: each node that a row of the graph refers to is held.
-pub fn ic13(alloc: Global, graph: &Graph, from: u64, to: u64) -> Result<Answer<'_>, AllocError>
+pub fn ic13(
+    alloc: Global,
+    graph: &Graph,
+    from: u64,
+    to: u64,
+) -> Result<Answer<CowText<'_>>, AllocError>
     requires held { Held graph.now }
     ensures { IfOk result (Ic13 graph.now from to) }
 {

@@ -1,16 +1,13 @@
 -- There is an answer, where each thing shows a row.
 use Rattle.std.proofs.Common.{◌≡◌, List, [], ◌∷◌, inl, inr, map, refl}
-use Rattle.std.proofs.lemmas.Cmp.{back_total, int_cmp_total, nat_cmp_total, nat_list_cmp_total, on_total, then_total}
 use Rattle.std.proofs.lemmas.List.Elements.{Contains-append_cases}
-use Rattle.std.specs.Cmp.{IsTotalOrder}
 use Rattle.std.specs.List.{AllZip, Contains, flat_map}
 use Rattle.snb_read_order.specs.Laws.{SomeFirst}
 use Rattle.snb_base.proofs.Laws.{contains_cases, contains_here, contains_there}
 use Rattle.snb_graph_model.proofs.Laws.{contains_none}
-use Rattle.snb_read_model.specs.declared.cell.Cell.{Cell}
-use Rattle.snb_read_model.specs.Cells.{cell_cmp, column, number_in, text_in}
-use Rattle.snb_read_model.specs.ComplexReads.{Stay, stay_cmp}
-use Rattle.snb_read_model.specs.Order.{Answers, Cut, Falling, Rising, Way, by, way_cmp}
+use Rattle.snb_read_model.specs.Cells.{Cell}
+use Rattle.snb_read_model.specs.Order.{Answers, Cut, Way, by}
+use Rattle.snb_read_laws.proofs.Ties.{by_total}
 
 -- ---- what joined lists hold
 
@@ -27,22 +24,6 @@ in_flat f (x ∷ xs) y c = elim (Contains-append_cases (f x) (flat_map f xs) y c
   | inl d ↦ (x, contains_here x xs, d)
   | inr d ↦ (let (z, there, held) = in_flat f xs y d in (z, contains_there x xs z there, held))
 ]
-
--- ---- the orders are total
-
-cell_total : IsTotalOrder cell_cmp
-cell_total = then_total (on_total number_in int_cmp_total) (on_total text_in nat_list_cmp_total)
-
-way_total : (w : Way) → IsTotalOrder (way_cmp w)
-way_total (Rising n) = on_total (column n) cell_total
-way_total (Falling n) = back_total (on_total (column n) cell_total)
-
-pub by_total : (order : List Way) → IsTotalOrder (by order)
-by_total [] = record { antisymm = λ x y. refl; trans = λ x y z e f. cc; congr = λ x y z e. refl }
-by_total (w ∷ ws) = then_total (way_total w) (by_total ws)
-
-pub stay_total : IsTotalOrder stay_cmp
-stay_total = then_total (on_total (λ (s : Stay). s.0) nat_list_cmp_total) (then_total (on_total (λ (s : Stay). s.1) nat_cmp_total) (on_total (λ (s : Stay). s.2) nat_list_cmp_total))
 
 -- ---- rows beside things
 

@@ -18,14 +18,15 @@ use Rattle.snb_graph_model.specs.Graphs.{HasKey, IsGraph, rows}
 use Rattle.snb_graph_model.specs.Soundness.{Sound}
 use Rattle.snb_read_order.specs.Laws.{SomeFirst}
 use Rattle.snb_graph_model.proofs.Laws.{chosen_from, end_only, in_filter, in_rows}
-use Rattle.snb_read_model.specs.declared.cell.Cell.{Cell}
+use Rattle.snb_read_model.specs.Cells.{Cell}
 use Rattle.snb_graph_model.specs.Around.{ends, places, stay_in, study, words, work}
 use Rattle.snb_read_model.specs.ComplexReads.{AreStays, Ic1, Ic11, Ic9, IsJob, IsNamesake, IsStay, Stay, is_in, is_named, jobs, stay_cmp}
 use Rattle.snb_read_model.specs.Distance.{IsPerson}
 use Rattle.snb_read_model.specs.Order.{Falling, First, Rising, Whole}
 use Rattle.snb_read_laws.proofs.Lookups.{any, link_at, organisation_at, person_at, place_at, sites}
 use Rattle.snb_read_laws.proofs.Near.{near_held, some_within}
-use Rattle.snb_read_laws.proofs.SomeAnswers.{in_flat, in_map, some_answers, some_zip, stay_total}
+use Rattle.snb_read_laws.proofs.SomeAnswers.{in_flat, in_map, some_answers, some_zip}
+use Rattle.snb_read_laws.proofs.Ties.{stay_total}
 use Rattle.snb_read_laws.proofs.SomeSent.{some_latest}
 use Rattle.snb_read_laws.proofs.SomeShort.{city_only, lives}
 

@@ -7,7 +7,7 @@ use Rattle.snb_graph_integrity.specs.SoundLaws.{MessagesAreOfOneKind, MessagesHa
 use Rattle.snb_graph_model.specs.Graphs.{IsGraph}
 use Rattle.snb_graph_model.specs.Soundness.{Sound}
 use Rattle.snb_read_order.specs.Laws.{SomeFirst}
-use Rattle.snb_read_model.specs.declared.cell.Cell.{Cell}
+use Rattle.snb_read_model.specs.Cells.{Cell}
 use Rattle.snb_read_model.specs.ComplexReads.{Stay}
 use Rattle.snb_read_model.specs.Replies.{IsAnswer, tail_reads}
 use Rattle.snb_read_laws.proofs.Near.{some_length}

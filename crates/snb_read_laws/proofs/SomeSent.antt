@@ -10,7 +10,7 @@ use Rattle.snb_graph_model.specs.Messages.{HasMessage}
 use Rattle.snb_graph_model.specs.Soundness.{Sound}
 use Rattle.snb_read_order.specs.Laws.{SomeFirst}
 use Rattle.snb_graph_model.proofs.Laws.{in_filter, like_there}
-use Rattle.snb_read_model.specs.declared.cell.Cell.{Cell}
+use Rattle.snb_read_model.specs.Cells.{Cell}
 use Rattle.snb_read_model.specs.declared.like.Like.{Like}
 use Rattle.snb_graph_model.specs.Around.{friends, likes, messages, replies}
 use Rattle.snb_read_model.specs.ComplexReads.{Ic2, Ic7, Ic8, IsAnswered, IsLiked, IsSent, beats, best_likes, latest, liked, messages_of}

@@ -14,7 +14,7 @@ use Rattle.snb_graph_model.specs.Messages.{HasMessage, IsRoot}
 use Rattle.snb_graph_model.specs.Soundness.{Sound}
 use Rattle.snb_read_order.specs.Laws.{SomeFirst}
 use Rattle.snb_graph_model.proofs.Laws.{container_only, end_only, friend_there, replied_there, sent_there}
-use Rattle.snb_read_model.specs.declared.cell.Cell.{Cell}
+use Rattle.snb_read_model.specs.Cells.{Cell}
 use Rattle.snb_graph_model.specs.Around.{containers, ends, forums, friends, messages, persons, replies, with_id}
 use Rattle.snb_read_model.specs.Distance.{IsPerson}
 use Rattle.snb_read_model.specs.Order.{Falling, First, Rising, Whole}

@@ -1,4 +1,4 @@
-//! That each read of LDBC's Social Network Benchmark, Interactive workload v1, has a reply.
+//! That each read of LDBC's Social Network Benchmark, Interactive workload v1, has one reply, and what stands in it.
 #![tactic(auto)]
 
 pub mod law;

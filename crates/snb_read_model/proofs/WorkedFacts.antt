@@ -7,7 +7,7 @@ use Rattle.snb_schema.specs.declared.row.Row.{Row}
 use Rattle.snb_schema.specs.declared.table.Kind.TheVariants as kinds
 use Rattle.snb_schema.specs.RowKeys.{node_key, row_key}
 use Rattle.snb_graph_model.specs.Graphs.{HasKey}
-use Rattle.snb_read_model.specs.declared.cell.Cell.{Cell}
+use Rattle.snb_read_model.specs.Cells.{Cell}
 use Rattle.snb_graph_model.specs.Around.{is_friend}
 use Rattle.snb_read_model.specs.Distance.{IsPerson, Walk}
 use Rattle.snb_read_model.specs.Order.{Answers, Cut, Way, cut_at}

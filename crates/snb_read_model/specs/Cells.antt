@@ -3,8 +3,12 @@ use Rattle.std.specs.Prelude.{ℕ, ◌-◌, ℤ, pos, List, [], slice_index_or}
 use Rattle.std.specs.Cmp.Lexicographic.{slice_cmp}
 use Rattle.std.specs.Ordering.{nat_cmp, int_cmp, then_cmp, on}
 use Rattle.std.specs.declared.cmp.Ordering.{Ordering}
-use Rattle.snb_read_model.specs.declared.cell.Cell.{Cell}
+use Rattle.snb_read_model.specs.declared.cell.Cell.{Cell as CellOf}
 use Rattle.snb_read_model.specs.declared.cell.Cell.TheVariants.{Number, Words}
+
+-- a cell; its texts are seen as their UTF-8 bytes, whosever they are
+abbrev pub Cell : Type 0
+Cell = CellOf (List ℕ)
 
 -- the cell of a number
 abbrev pub number : ℕ → Cell

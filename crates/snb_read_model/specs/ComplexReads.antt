@@ -11,10 +11,9 @@ use Rattle.snb_schema.specs.declared.nodes.Place.{Place}
 use Rattle.snb_schema.specs.declared.person.Person.{Person}
 use Rattle.snb_schema.specs.declared.row.Row.{Row}
 use Rattle.snb_schema.specs.declared.table.Table.TheVariants as table
-use Rattle.snb_read_model.specs.declared.cell.Cell.{Cell}
 use Rattle.snb_read_model.specs.declared.cell.Cell.TheVariants as cell
 use Rattle.snb_read_model.specs.declared.like.Like.{Like}
-use Rattle.snb_read_model.specs.Cells.{number}
+use Rattle.snb_read_model.specs.Cells.{Cell, number}
 use Rattle.snb_read_model.specs.Distance.{IsLength, IsWithin}
 use Rattle.snb_read_model.specs.Order.{Answers, FirstOf, Whole, First, Way, Rising, Falling}
 use Rattle.snb_read_model.specs.ShortReads.{IsAuthor}

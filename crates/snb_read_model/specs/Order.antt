@@ -5,8 +5,7 @@ use Rattle.std.specs.List.Sorted.{IsPermutation, IsSorted}
 use Rattle.std.specs.Ordering.{ordering_then, on, flip_args}
 use Rattle.std.specs.declared.cmp.Ordering.{Ordering}
 use Rattle.std.specs.declared.cmp.Ordering.TheVariants.{Equal}
-use Rattle.snb_read_model.specs.declared.cell.Cell.{Cell}
-use Rattle.snb_read_model.specs.Cells.{cell_cmp, column}
+use Rattle.snb_read_model.specs.Cells.{Cell, cell_cmp, column}
 
 -- how many rows an answer keeps
 pub data Cut : Type 0 where

@@ -4,9 +4,8 @@ use Rattle.std.specs.List.{AllZip}
 use Rattle.snb_schema.specs.declared.query.Query.{Query}
 use Rattle.snb_schema.specs.declared.query.Query.TheVariants as query
 use Rattle.snb_schema.specs.declared.row.Row.{Row}
-use Rattle.snb_read_model.specs.declared.cell.Cell.{Cell}
 use Rattle.snb_read_model.specs.ComplexReads.{Ic1, Ic2, Ic7, Ic8, Ic9, Ic11, Ic13}
-use Rattle.snb_read_model.specs.Cells.{column, number_in}
+use Rattle.snb_read_model.specs.Cells.{Cell, column, number_in}
 use Rattle.snb_read_model.specs.ShortReads.{Is1, Is2, Is3, Is4, Is5, Is6, Is7}
 
 -- the id that a number is; below 0 it is 0

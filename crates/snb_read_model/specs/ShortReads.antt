@@ -5,10 +5,9 @@ use Rattle.snb_schema.specs.declared.person.Person.{Person}
 use Rattle.snb_schema.specs.declared.row.Row.{Row}
 use Rattle.snb_schema.specs.declared.table.Table.TheVariants as table
 use Rattle.snb_graph_model.specs.Messages.{IsRoot}
-use Rattle.snb_read_model.specs.declared.cell.Cell.{Cell}
 use Rattle.snb_read_model.specs.declared.cell.Cell.TheVariants.{Flag, Words}
 use Rattle.snb_graph_model.specs.Around.{Message, authors, comments, containers, ends, forums, friends, is_friend, messages, persons, replies, with_id}
-use Rattle.snb_read_model.specs.Cells.{number}
+use Rattle.snb_read_model.specs.Cells.{Cell, number}
 use Rattle.snb_read_model.specs.Order.{Answers, Whole, First, Rising, Falling}
 
 module _ (g : List Row) where

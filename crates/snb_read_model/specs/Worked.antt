@@ -3,9 +3,8 @@ use Rattle.std.specs.Prelude.{ℕ, List, [], ◌∷◌, codes, pos, negsuc, true
 use Rattle.snb_schema.specs.declared.row.Row.{Row}
 use Rattle.snb_schema.specs.declared.row.Row.TheVariants as row
 use Rattle.snb_schema.specs.declared.table.Table.TheVariants as table
-use Rattle.snb_read_model.specs.declared.cell.Cell.{Cell}
 use Rattle.snb_read_model.specs.declared.cell.Cell.TheVariants.{Flag, Number, Words}
-use Rattle.snb_read_model.specs.Cells.{number}
+use Rattle.snb_read_model.specs.Cells.{Cell, number}
 
 -- ["Ann","Lee",0,"1.1.1.1","Firefox",1,"female",1000]
 abbrev pub profile_of_ann : List Cell

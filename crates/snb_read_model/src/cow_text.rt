@@ -81,11 +81,11 @@ impl<'a> CowText<'a> {
         self.text().as_str()
     }
 
-    /// Whether two texts are one. Takes no memory.
-    pub fn same(&self, other: &CowText<'_>) -> bool
+    /// Whether it is this text. Takes no memory.
+    pub fn same(&self, other: &Text) -> bool
         ensures { IsTrue result ↔ (self.now ≡ other.now) }
     {
-        *self.text() == *other.text()
+        *self.text() == *other
     }
 
     /// How two texts stand to one another by their bytes. Takes no memory.
@@ -95,10 +95,10 @@ impl<'a> CowText<'a> {
         self.text().cmp(other.text())
     }
 
-    /// An equal text of its own.
-    pub fn try_copy(&self) -> Result<CowText<'static>, AllocError>
+    /// An equal text, as one's own.
+    pub fn try_copy(&self) -> Result<Text, AllocError>
         ensures { IfOk result (λ w. w ≡ self.now) }
     {
-        Ok(CowText::own(self.text().try_copy()?))
+        self.text().try_copy()
     }
 }

@@ -3,35 +3,37 @@
 ghost use Rattle.std.specs.Prelude.{◌≡◌, ◌∷◌, ◌++◌, [], IfOk, OnOk, OnErr};
 
 use crate::answer::Answer;
+use crate::cow_text::CowText;
+use snb_base::Text;
 use std::alloc::{AllocError, Global};
 use std::marker::Model;
 
 /// What a query is replied: its own answer, and the answers of the short reads that follow. A contract
 /// sees the answers in order.
-pub struct Reply<'a> {
+pub struct Reply<T> {
     alloc: Global,
-    items: Vec<Answer<'a>>,
+    items: Vec<Answer<T>>,
 }
 
 // Written out, so that letting one go is one call wherever it happens.
-impl<'a> Drop for Reply<'a> {
+impl<T: Drop> Drop for Reply<T> {
     fn drop(self) {
         let Reply { alloc: _, items: _ } = self;
     }
 }
 
-impl<'a> Model for Reply<'a> {
+impl<T> Model for Reply<T> {
     ghost use Rattle.std.specs.Prelude.{List};
     ghost use Rattle.snb_read_model.specs.declared.cell.Cell.{Cell};
 
-    ghost Value = { List (List (List Cell)) };
+    ghost Value = { List (List (List (Cell T))) };
 
     ghost view = { λ v. v.items.items };
 }
 
-impl<'a> Reply<'a> {
+impl<T: Drop> Reply<T> {
     /// The empty list. Takes no memory.
-    pub fn new(alloc: Global) -> Reply<'a>
+    pub fn new(alloc: Global) -> Reply<T>
         ensures { result ≡ [] }
     {
         Reply {
@@ -41,30 +43,45 @@ impl<'a> Reply<'a> {
     }
 
     /// The list that the vector has. Takes no memory.
-    pub fn from_vec(alloc: Global, items: Vec<Answer<'a>>) -> Reply<'a>
-        ensures { result ≡ items.entry.items }
+    pub fn from_vec(alloc: Global, items: Vec<Answer<T>>) -> Reply<T>
+        ensures { result ≡ items.items }
     {
         Reply { alloc, items }
     }
 
+    /// The reply of a query's own answer and the answers that follow it.
+    pub fn with_tail(
+        alloc: Global,
+        own: Answer<T>,
+        tail: Vec<Answer<T>>,
+    ) -> Result<Reply<T>, AllocError>
+        ensures { IfOk result (λ reply. reply ≡ own ∷ tail.items) }
+    {
+        let mut items = tail;
+        items.insert(0, own)?;
+        Ok(Reply { alloc, items })
+    }
+
     /// The answers in order.
-    pub fn as_slice(&self) -> &[Answer<'a>]
+    pub fn as_slice(&self) -> &[Answer<T>]
         ensures { result.now ≡ self.now }
     {
         self.items.as_slice()
     }
 
     /// Appends an answer. Want of memory leaves the list as it was.
-    pub fn push(&mut self, one: Answer<'a>) -> Result<(), AllocError>
-        ensures ok { OnOk result (self.new ≡ self.old ++ one.entry ∷ []) }
+    pub fn push(&mut self, one: Answer<T>) -> Result<(), AllocError>
+        ensures ok { OnOk result (self.new ≡ self.old ++ one ∷ []) }
         ensures err { OnErr result (self.new ≡ self.old) }
     {
         self.items.push(one)?;
         Ok(())
     }
+}
 
+impl<'a> Reply<CowText<'a>> {
     /// An equal list, with texts of its own.
-    pub fn try_copy(&self) -> Result<Reply<'static>, AllocError>
+    pub fn try_copy(&self) -> Result<Reply<Text>, AllocError>
         ensures { IfOk result (λ copy. copy ≡ self.now) }
     {
         let mut items = Vec::new(self.alloc);
@@ -75,5 +92,28 @@ impl<'a> Reply<'a> {
             alloc: self.alloc,
             items,
         })
+    }
+}
+
+impl Reply<Text> {
+    /// An equal list, whose texts are lent.
+    pub fn lend(&self) -> Result<Reply<CowText<'_>>, AllocError>
+        ensures { IfOk result (λ copy. copy ≡ self.now) }
+    {
+        let mut items = Vec::new(self.alloc);
+        for one in &self.items {
+            items.push(one.lend()?)?;
+        }
+        Ok(Reply {
+            alloc: self.alloc,
+            items,
+        })
+    }
+
+    /// An equal list, with texts of its own.
+    pub fn try_copy(&self) -> Result<Reply<Text>, AllocError>
+        ensures { IfOk result (λ copy. copy ≡ self.now) }
+    {
+        self.lend()?.try_copy()
     }
 }

@@ -1,6 +1,6 @@
 //! The tail of a reply: whom and which message the short reads that follow ask about.
 
-ghost use Rattle.std.specs.Prelude.{◌≡◌, ◌-◌, ◌<◌, ◌≤◌, length};
+ghost use Rattle.std.specs.Prelude.{◌≡◌, ◌-◌, ◌<◌, ◌≤◌, length, IfOk};
 ghost use Rattle.snb_read_model.specs.Cells.{column};
 ghost use Rattle.snb_read_model.specs.Replies.{id_at, id_of, tail_reads};
 ghost use Rattle.snb_read_model.specs.Columns.{HaveColumns, IsOfColumn, Number};
@@ -9,7 +9,9 @@ ghost use Rattle.snb_read_model.specs.Tails.{queries_of};
 use crate::answer::Answer;
 use crate::answer_row::AnswerRow;
 use crate::cell::Cell;
+use crate::cow_text::CowText;
 use snb_schema::Query;
+use std::alloc::{AllocError, Global};
 
 /// Whom and which message the short reads ask about that follow an answer.
 #[derive(Clone, Copy)]
@@ -20,6 +22,27 @@ pub struct Tail {
     pub message: Option<u64>,
 }
 
+impl Tail {
+    /// The short reads of the tail, in the order in which their answers follow.
+    pub fn queries(self, alloc: Global) -> Result<Vec<Query>, AllocError>
+        ensures { IfOk result (λ queries. queries.items ≡ queries_of self) }
+    {
+        let mut queries = Vec::new(alloc);
+        if let Some(person) = self.person {
+            queries.push(Query::Is1 { person })?;
+            queries.push(Query::Is2 { person })?;
+            queries.push(Query::Is3 { person })?;
+        }
+        if let Some(message) = self.message {
+            queries.push(Query::Is4 { message })?;
+            queries.push(Query::Is5 { message })?;
+            queries.push(Query::Is6 { message })?;
+            queries.push(Query::Is7 { message })?;
+        }
+        Ok(queries)
+    }
+}
+
 // The id that a number is, 0 where it is below zero.
 fn id_of(value: i64) -> u64
     ensures { result ≡ id_of value }
@@ -28,7 +51,7 @@ fn id_of(value: i64) -> u64
 }
 
 // The id in a column of a row, counted from 1. A number below zero is no id, and stands for 0.
-fn id_at(row: &AnswerRow<'_>, at: usize) -> u64
+fn id_at(row: &AnswerRow<CowText<'_>>, at: usize) -> u64
     requires first { 1 ≤ at }
     requires last { at ≤ length row.now }
     requires number { IsOfColumn Number (column at row.now) }
@@ -47,7 +70,7 @@ fn id_at(row: &AnswerRow<'_>, at: usize) -> u64
 ///
 /// An id below zero, which no answer on a graph has, stands for 0.
 /// The condition: each row has the columns of the read.
-pub fn tail_of(query: &Query, answer: &Answer<'_>) -> Tail
+pub fn tail_of(query: &Query, answer: &Answer<CowText<'_>>) -> Tail
     requires columns { HaveColumns query.now answer.now }
     ensures { tail_reads query.now answer.now ≡ queries_of result }
 {

@@ -13,8 +13,7 @@ use Rattle.std.specs.Ordering.{int_cmp, is_lt, nat_cmp, ordering_then}
 use Rattle.std.specs.declared.cmp.Ordering.{Ordering}
 use Rattle.std.specs.declared.cmp.Ordering.TheVariants.{Less, Equal, Greater}
 use denote.Ref.{Bor}
-use Rattle.snb_read_model.specs.declared.cell.Cell.{Cell}
-use Rattle.snb_read_model.specs.Cells.{cell_cmp, number}
+use Rattle.snb_read_model.specs.Cells.{Cell, cell_cmp, number}
 use Rattle.snb_read_order.specs.TopK.{IsTopK, Kept, not_after}
 use Rattle.snb_read_model.specs.Order.{Answers, Cut, Whole, First, FirstOf, Way, by, cut_at}
 

@@ -2,5 +2,4 @@
 //! the answers of the short reads that follow it.
 #![tactic(auto)]
 
-pub mod law;
 pub mod reply;

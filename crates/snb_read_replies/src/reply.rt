@@ -1,8 +1,8 @@
 //! A query's answer, with the answers of the short reads that follow it.
 
-ghost use Rattle.std.specs.Prelude.{IfOk, OnOk};
-ghost use Rattle.snb_read_model.specs.Replies.{IsAnswer, IsReply, message_reads, person_reads};
-ghost use Rattle.snb_read_replies.specs.Tails.{HasAnswered};
+ghost use Rattle.std.specs.Prelude.{IfOk};
+ghost use Rattle.std.specs.List.{AllZip};
+ghost use Rattle.snb_read_model.specs.Replies.{IsAnswer, IsReply};
 ghost use Rattle.snb_graph_model.specs.Soundness.{Sound};
 
 use snb_complex_reads::answered::ic8;
@@ -13,14 +13,18 @@ use snb_complex_reads::sent::{ic2, ic9};
 use snb_graph::Graph;
 use snb_reach::reach::ic13;
 use snb_read_model::tail::tail_of;
-use snb_read_model::{Answer, Reply};
+use snb_read_model::{Answer, CowText, Reply};
 use snb_schema::Query;
 use snb_short_reads::messages::{is4, is5, is6, is7};
 use snb_short_reads::persons::{is1, is2, is3};
 use std::alloc::{AllocError, Global};
 
 // The query's own answer.
-fn own_answer<'a>(alloc: Global, graph: &'a Graph, query: &Query) -> Result<Answer<'a>, AllocError>
+fn own_answer<'a>(
+    alloc: Global,
+    graph: &'a Graph,
+    query: &Query,
+) -> Result<Answer<CowText<'a>>, AllocError>
     requires sound { Sound graph.now }
     ensures { IfOk result (IsAnswer graph.now query.now) }
 {
@@ -46,54 +50,34 @@ fn own_answer<'a>(alloc: Global, graph: &'a Graph, query: &Query) -> Result<Answ
     }
 }
 
-// Adds the answers of the short reads of a person.
-fn push_person<'a>(
+// The answers to queries, each its own.
+fn own_answers<'a>(
     alloc: Global,
     graph: &'a Graph,
-    person: u64,
-    reply: &mut Reply<'a>,
-) -> Result<(), AllocError>
+    queries: &[Query],
+) -> Result<Vec<Answer<CowText<'a>>>, AllocError>
     requires sound { Sound graph.now }
-    ensures { OnOk result (HasAnswered graph.now (person_reads person) reply.old reply.new) }
+    ensures { IfOk result (λ answers. AllZip (IsAnswer graph.now) queries.now answers.items) }
 {
-    reply.push(is1(alloc, graph, person)?)?;
-    reply.push(is2(alloc, graph, person)?)?;
-    reply.push(is3(alloc, graph, person)?)?;
-    Ok(())
-}
-
-// Adds the answers of the short reads of a message.
-fn push_message<'a>(
-    alloc: Global,
-    graph: &'a Graph,
-    message: u64,
-    reply: &mut Reply<'a>,
-) -> Result<(), AllocError>
-    requires sound { Sound graph.now }
-    ensures { OnOk result (HasAnswered graph.now (message_reads message) reply.old reply.new) }
-{
-    reply.push(is4(alloc, graph, message)?)?;
-    reply.push(is5(alloc, graph, message)?)?;
-    reply.push(is6(alloc, graph, message)?)?;
-    reply.push(is7(alloc, graph, message)?)?;
-    Ok(())
+    let mut answers = Vec::new(alloc);
+    for query in queries {
+        answers.push(own_answer(alloc, graph, query)?)?;
+    }
+    Ok(answers)
 }
 
 /// The reply to a query: its own answer, and then the answers of the short reads that follow it.
 /// The condition: the graph is sound.
-pub fn answer<'a>(alloc: Global, graph: &'a Graph, query: &Query) -> Result<Reply<'a>, AllocError>
+pub fn answer<'a>(
+    alloc: Global,
+    graph: &'a Graph,
+    query: &Query,
+) -> Result<Reply<CowText<'a>>, AllocError>
     requires sound { Sound graph.now }
     ensures { IfOk result (IsReply graph.now query.now) }
 {
     let own = own_answer(alloc, graph, query)?;
-    let tail = tail_of(query, &own);
-    let mut reply = Reply::new(alloc);
-    reply.push(own)?;
-    if let Some(person) = tail.person {
-        push_person(alloc, graph, person, &mut reply)?;
-    }
-    if let Some(message) = tail.message {
-        push_message(alloc, graph, message, &mut reply)?;
-    }
-    Ok(reply)
+    let follow = tail_of(query, &own).queries(alloc)?;
+    let tail = own_answers(alloc, graph, &follow)?;
+    Reply::with_tail(alloc, own, tail)
 }

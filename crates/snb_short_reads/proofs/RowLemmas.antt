@@ -14,7 +14,7 @@ use Rattle.snb_graph_model.specs.Graphs.{IsGraph}
 use Rattle.snb_graph_model.specs.Soundness.{Sound}
 use Rattle.snb_read_order.proofs.Laws.{answers_from, answers_mapped, answers_whole, chosen, then_assoc, three_columns, two_columns, zip_with}
 use Rattle.snb_graph_model.proofs.Laws.{person_named}
-use Rattle.snb_read_model.specs.declared.cell.Cell.{Cell}
+use Rattle.snb_read_model.specs.Cells.{Cell}
 use Rattle.snb_graph_model.specs.Around.{authors, friends, messages, replies}
 use Rattle.snb_read_model.specs.Order.{Falling, First, FirstOf, Rising, Whole, by}
 use Rattle.snb_read_model.specs.ShortReads.{Is2, Is3, Is7, IsFriend, IsRecent, IsReplyTo}

@@ -20,7 +20,7 @@ use snb_schema::{Forum, Held, Key, Person, Post, Table};
 use std::alloc::{AllocError, Global};
 
 /// The cell of a text, which lends it. Takes no memory.
-pub fn words(text: &Text) -> Cell<'_>
+pub fn words(text: &Text) -> Cell<CowText<'_>>
     ensures { result ≡ Words text.now }
 {
     Cell::Words {

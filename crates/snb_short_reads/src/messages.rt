@@ -12,13 +12,13 @@ use crate::persons::only;
 use crate::roots::root;
 use snb_graph::Graph;
 use snb_graph_integrity::law::sound_graphs;
-use snb_read_model::{Answer, AnswerRow, Cell};
+use snb_read_model::{Answer, AnswerRow, Cell, CowText};
 use snb_read_order::in_order;
 use std::alloc::{AllocError, Global};
 
 /// Short read 4: the message. One that isn't held gives no rows.
 /// The condition: the graph is sound.
-pub fn is4(alloc: Global, graph: &Graph, message: u64) -> Result<Answer<'_>, AllocError>
+pub fn is4(alloc: Global, graph: &Graph, message: u64) -> Result<Answer<CowText<'_>>, AllocError>
     requires sound { Sound graph.now }
     ensures { IfOk result (Is4 graph.now message) }
 {
@@ -30,7 +30,7 @@ pub fn is4(alloc: Global, graph: &Graph, message: u64) -> Result<Answer<'_>, All
 }
 
 // The row of a message's creator.
-fn creator(alloc: Global, graph: &Graph, message: u64) -> Result<AnswerRow<'_>, AllocError>
+fn creator(alloc: Global, graph: &Graph, message: u64) -> Result<AnswerRow<CowText<'_>>, AllocError>
     requires sound { Sound graph.now }
     requires held { HasMessage graph.now message }
     ensures { IfOk result (IsCreator graph.now message) }
@@ -46,7 +46,7 @@ fn creator(alloc: Global, graph: &Graph, message: u64) -> Result<AnswerRow<'_>, 
 
 /// Short read 5: the creator of a message. A message that isn't held gives no rows.
 /// The condition: the graph is sound.
-pub fn is5(alloc: Global, graph: &Graph, message: u64) -> Result<Answer<'_>, AllocError>
+pub fn is5(alloc: Global, graph: &Graph, message: u64) -> Result<Answer<CowText<'_>>, AllocError>
     requires sound { Sound graph.now }
     ensures { IfOk result (Is5 graph.now message) }
 {
@@ -57,7 +57,11 @@ pub fn is5(alloc: Global, graph: &Graph, message: u64) -> Result<Answer<'_>, All
 }
 
 // The row of the forum of a message's root.
-fn forum_row(alloc: Global, graph: &Graph, message: u64) -> Result<AnswerRow<'_>, AllocError>
+fn forum_row(
+    alloc: Global,
+    graph: &Graph,
+    message: u64,
+) -> Result<AnswerRow<CowText<'_>>, AllocError>
     requires sound { Sound graph.now }
     requires held { HasMessage graph.now message }
     ensures { IfOk result (IsForum graph.now message) }
@@ -77,7 +81,7 @@ fn forum_row(alloc: Global, graph: &Graph, message: u64) -> Result<AnswerRow<'_>
 /// Short read 6: the forum of the post at a message's root, with its moderator. A message that isn't
 /// held gives no rows.
 /// The condition: the graph is sound.
-pub fn is6(alloc: Global, graph: &Graph, message: u64) -> Result<Answer<'_>, AllocError>
+pub fn is6(alloc: Global, graph: &Graph, message: u64) -> Result<Answer<CowText<'_>>, AllocError>
     requires sound { Sound graph.now }
     ensures { IfOk result (Is6 graph.now message) }
 {
@@ -107,7 +111,7 @@ fn reply_row(
     graph: &Graph,
     message: u64,
     reply: (u64, u64, u64),
-) -> Result<AnswerRow<'_>, AllocError>
+) -> Result<AnswerRow<CowText<'_>>, AllocError>
     requires sound { Sound graph.now }
     requires found { IsReplyFound graph.now message reply }
     ensures { IfOk result (IsReplyTo graph.now message (without_author reply)) }
@@ -136,7 +140,7 @@ fn reply_rows<'a>(
     graph: &'a Graph,
     message: u64,
     found: &[(u64, u64, u64)],
-) -> Result<Answer<'a>, AllocError>
+) -> Result<Answer<CowText<'a>>, AllocError>
     requires sound { Sound graph.now }
     requires found { All (IsReplyFound graph.now message) found.now }
     ensures { IfOk result (AllZip (λ z row. IsReplyTo graph.now message (without_author z) row) found.now) }
@@ -152,7 +156,7 @@ fn reply_rows<'a>(
 /// that author is a friend of the message's; of replies of one date those of the author of the lower id
 /// first, and of these the one of the lower id. A message that isn't held gives no rows.
 /// The condition: the graph is sound.
-pub fn is7(alloc: Global, graph: &Graph, message: u64) -> Result<Answer<'_>, AllocError>
+pub fn is7(alloc: Global, graph: &Graph, message: u64) -> Result<Answer<CowText<'_>>, AllocError>
     requires sound { Sound graph.now }
     ensures { IfOk result (Is7 graph.now message) }
 {

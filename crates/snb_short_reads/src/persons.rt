@@ -11,13 +11,16 @@ use crate::lookups::{author_id, city, collected, known, shown, words};
 use crate::roots::root;
 use snb_graph::Graph;
 use snb_graph_integrity::law::sound_graphs;
-use snb_read_model::{Answer, AnswerRow, Cell};
+use snb_read_model::{Answer, AnswerRow, Cell, CowText};
 use snb_read_order::{first_of, in_order};
 use snb_schema::Person;
 use std::alloc::{AllocError, Global};
 
 // The answer of one row.
-pub(crate) fn only<'a>(alloc: Global, row: AnswerRow<'a>) -> Result<Answer<'a>, AllocError>
+pub(crate) fn only<'a>(
+    alloc: Global,
+    row: AnswerRow<CowText<'a>>,
+) -> Result<Answer<CowText<'a>>, AllocError>
     ensures { IfOk result (λ answer. answer ≡ row.entry ∷ []) }
 {
     let mut answer = Answer::new(alloc);
@@ -30,7 +33,7 @@ fn profile<'a>(
     alloc: Global,
     graph: &Graph,
     person: &'a Person,
-) -> Result<AnswerRow<'a>, AllocError>
+) -> Result<AnswerRow<CowText<'a>>, AllocError>
     requires sound { Sound graph.now }
     requires held { Contains graph.now (row.Person person.now) }
     ensures { IfOk result (IsProfile graph.now person.now) }
@@ -52,7 +55,7 @@ fn profile<'a>(
 
 /// Short read 1: the person. One who isn't held gives no rows.
 /// The condition: the graph is sound.
-pub fn is1(alloc: Global, graph: &Graph, person: u64) -> Result<Answer<'_>, AllocError>
+pub fn is1(alloc: Global, graph: &Graph, person: u64) -> Result<Answer<CowText<'_>>, AllocError>
     requires sound { Sound graph.now }
     ensures { IfOk result (Is1 graph.now person) }
 {
@@ -64,7 +67,11 @@ pub fn is1(alloc: Global, graph: &Graph, person: u64) -> Result<Answer<'_>, Allo
 }
 
 // The row of a message.
-fn recent(alloc: Global, graph: &Graph, message: (u64, u64)) -> Result<AnswerRow<'_>, AllocError>
+fn recent(
+    alloc: Global,
+    graph: &Graph,
+    message: (u64, u64),
+) -> Result<AnswerRow<CowText<'_>>, AllocError>
     requires sound { Sound graph.now }
     requires found { IsMessageFound graph.now message }
     ensures { IfOk result (IsRecent graph.now message) }
@@ -93,7 +100,7 @@ fn recents<'a>(
     alloc: Global,
     graph: &'a Graph,
     messages: &[(u64, u64)],
-) -> Result<Answer<'a>, AllocError>
+) -> Result<Answer<CowText<'a>>, AllocError>
     requires sound { Sound graph.now }
     requires found { All (IsMessageFound graph.now) messages.now }
     ensures { IfOk result (AllZip (IsRecent graph.now) messages.now) }
@@ -109,7 +116,7 @@ fn recents<'a>(
 /// author; of messages of one date the one of the greater id first. A person who isn't held gives no
 /// rows.
 /// The condition: the graph is sound.
-pub fn is2(alloc: Global, graph: &Graph, person: u64) -> Result<Answer<'_>, AllocError>
+pub fn is2(alloc: Global, graph: &Graph, person: u64) -> Result<Answer<CowText<'_>>, AllocError>
     requires sound { Sound graph.now }
     ensures { IfOk result (Is2 graph.now person) }
 {
@@ -121,7 +128,11 @@ pub fn is2(alloc: Global, graph: &Graph, person: u64) -> Result<Answer<'_>, Allo
 }
 
 // The row of a friend.
-fn friend_row(alloc: Global, graph: &Graph, friend: (u64, u64)) -> Result<AnswerRow<'_>, AllocError>
+fn friend_row(
+    alloc: Global,
+    graph: &Graph,
+    friend: (u64, u64),
+) -> Result<AnswerRow<CowText<'_>>, AllocError>
     requires { IsFriendFound graph.now friend }
     ensures { IfOk result (IsFriend graph.now friend) }
 {
@@ -140,7 +151,7 @@ fn friend_rows<'a>(
     alloc: Global,
     graph: &'a Graph,
     friends: &[(u64, u64)],
-) -> Result<Answer<'a>, AllocError>
+) -> Result<Answer<CowText<'a>>, AllocError>
     requires { All (IsFriendFound graph.now) friends.now }
     ensures { IfOk result (AllZip (IsFriend graph.now) friends.now) }
 {
@@ -154,7 +165,7 @@ fn friend_rows<'a>(
 /// Short read 3: the friends of a person, from the latest friendship on; of friendships of one date the
 /// friend of the lower id first. A person who isn't held gives no rows.
 /// The condition: the graph is sound.
-pub fn is3(alloc: Global, graph: &Graph, person: u64) -> Result<Answer<'_>, AllocError>
+pub fn is3(alloc: Global, graph: &Graph, person: u64) -> Result<Answer<CowText<'_>>, AllocError>
     requires sound { Sound graph.now }
     ensures { IfOk result (Is3 graph.now person) }
 {

@@ -4,13 +4,13 @@ use crate::dataset::{Dataset, graph_of};
 use snb_graph::Graph;
 use snb_reach::Near;
 use snb_reach::reach::{ic13, shortest, within};
-use snb_read_model::Cell;
+use snb_read_model::{Cell, CowText};
 use snb_test_script::{Flaw, List};
 use std::alloc::{AllocError, Global};
 use std::marker::Model;
 
 // Adds a cell that is a number.
-fn add_cell(alloc: Global, list: &mut List, cell: &Cell<'_>) -> Result<(), AllocError> {
+fn add_cell(alloc: Global, list: &mut List, cell: &Cell<CowText<'_>>) -> Result<(), AllocError> {
     match cell {
         Cell::Number { value } => {
             let item = format!(in alloc; "{value}")?;

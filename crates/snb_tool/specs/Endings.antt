@@ -12,7 +12,7 @@ use Rattle.snb_input_files.specs.Walk.{Held, IsHeldTold}
 use Rattle.snb_input_files.specs.declared.load.Load.{Load}
 use Rattle.snb_input_files.specs.declared.load.Load.TheVariants.{Refused, ReadFault, Memory}
 use Rattle.snb_loader.specs.Dataset.{IsDataset, dataset_checks}
-use Rattle.snb_read_model.specs.declared.cell.Cell.{Cell}
+use Rattle.snb_read_model.specs.Cells.{Cell}
 use Rattle.snb_read_model.specs.Replies.{IsReply}
 use Rattle.snb_schema.specs.declared.limits.TheConstants.{MAX_READS}
 use Rattle.snb_schema.specs.declared.query.Query.{Query}

@@ -17,7 +17,7 @@ use Rattle.snb_loader.specs.Dataset.{IsDataset}
 use Rattle.snb_validation_expect.specs.CaseTexts.{cases_text, count_text}
 use Rattle.snb_validation_expect.specs.Expected.{AreExpected, AreReadBack}
 use Rattle.snb_plan.specs.Plans.{IsOfStreams, IsPlan, Plan, queries_in, updates_in}
-use Rattle.snb_read_model.specs.declared.cell.Cell.{Cell}
+use Rattle.snb_read_model.specs.Cells.{Cell}
 use Rattle.snb_read_model.specs.Replies.{IsReply}
 use Rattle.snb_workers_replay.specs.Replay.{all_rows}
 use Rattle.snb_history.specs.declared.event.Event.{Event}

@@ -17,7 +17,7 @@ use Rattle.serde_json.specs.View.{items_of}
 use Rattle.serde_json.specs.Written.{compact_text, items_outline, outline}
 use Rattle.serde_json.proofs.Numbers.{number_of-decimal, number_of-negative}
 use Rattle.serde_json.proofs.Texts.{print-outline}
-use Rattle.snb_read_model.specs.declared.cell.Cell.{Cell}
+use Rattle.snb_read_model.specs.Cells.{Cell}
 use Rattle.snb_read_model.specs.declared.cell.Cell.TheVariants as cell
 use Rattle.snb_validation.specs.Laws.{AreOfTypes, IsOfType, IsSigned64, as_written, reply_as_written}
 use Rattle.snb_validation.specs.ReplyData.{array_of, cell_data, reply_data, stay_data}

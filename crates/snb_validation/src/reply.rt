@@ -20,7 +20,7 @@ use std::mem;
 /// of cells. A number, a flag or a text is a number, a truth value or a string; a list of texts is an
 /// array of strings, and a stay an array of the name, the year and the name of the place. `serde_json`
 /// reads from that text the array that was written. Want of memory leaves the bytes as they were.
-pub fn reply_text(reply: &Reply<'_>, to: &mut Vec<u8>) -> Result<(), AllocError>
+pub fn reply_text(reply: &Reply<CowText<'_>>, to: &mut Vec<u8>) -> Result<(), AllocError>
     ensures ok { OnOk result (to.new.items ≡ to.old.items ++ compact_text (reply_data reply.now)) }
     ensures back { OnOk result
         (read (compact_text (reply_data reply.now)) ≡ Some (reply_data reply.now)) }
@@ -40,7 +40,7 @@ pub fn reply_text(reply: &Reply<'_>, to: &mut Vec<u8>) -> Result<(), AllocError>
 }
 
 /// The value of a reply, whose numbers are of 64 bits with a sign, and the years of its stays of 32.
-pub fn reply_value(alloc: Global, reply: &Reply<'_>) -> Result<Value, AllocError>
+pub fn reply_value(alloc: Global, reply: &Reply<CowText<'_>>) -> Result<Value, AllocError>
     ensures value { IfOk result (λ v. view v ≡ reply_data reply.now) }
     ensures types { OnOk result (AreOfTypes reply.now) }
 {
@@ -51,7 +51,7 @@ pub fn reply_value(alloc: Global, reply: &Reply<'_>) -> Result<Value, AllocError
     Ok(Value::Array(values))
 }
 
-fn answer_value(alloc: Global, answer: &Answer<'_>) -> Result<Value, AllocError>
+fn answer_value(alloc: Global, answer: &Answer<CowText<'_>>) -> Result<Value, AllocError>
     ensures value { IfOk result (λ v. view v ≡ array_of (array_of cell_data) answer.now) }
     ensures types { OnOk result (AllByRecursion (AllByRecursion IsOfType) answer.now) }
 {
@@ -62,7 +62,7 @@ fn answer_value(alloc: Global, answer: &Answer<'_>) -> Result<Value, AllocError>
     Ok(Value::Array(values))
 }
 
-fn row_value(alloc: Global, row: &AnswerRow<'_>) -> Result<Value, AllocError>
+fn row_value(alloc: Global, row: &AnswerRow<CowText<'_>>) -> Result<Value, AllocError>
     ensures value { IfOk result (λ v. view v ≡ array_of cell_data row.now) }
     ensures types { OnOk result (AllByRecursion IsOfType row.now) }
 {
@@ -73,7 +73,7 @@ fn row_value(alloc: Global, row: &AnswerRow<'_>) -> Result<Value, AllocError>
     Ok(Value::Array(values))
 }
 
-fn cell_value(alloc: Global, cell: &Cell<'_>) -> Result<Value, AllocError>
+fn cell_value(alloc: Global, cell: &Cell<CowText<'_>>) -> Result<Value, AllocError>
     ensures value { IfOk result (λ v. view v ≡ cell_data cell.now) }
     ensures types { OnOk result (IsOfType cell.now) }
 {

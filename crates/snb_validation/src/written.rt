@@ -12,7 +12,7 @@ use snb_read_model::{Answer, AnswerRow, Cell, CowText, Reply};
 use std::alloc::AllocError;
 
 // Writes a reply's array. Want of memory leaves some of its tokens written, here and below.
-pub(crate) fn write_reply(to: &mut Writer, reply: &Reply<'_>) -> Result<(), AllocError>
+pub(crate) fn write_reply(to: &mut Writer, reply: &Reply<CowText<'_>>) -> Result<(), AllocError>
     ensures written { WritesData result to.old to.new (reply_data reply.now) }
     ensures types { OnOk result (AreOfTypes reply.now) }
 {
@@ -24,7 +24,7 @@ pub(crate) fn write_reply(to: &mut Writer, reply: &Reply<'_>) -> Result<(), Allo
     Ok(())
 }
 
-fn write_answer(to: &mut Writer, answer: &Answer<'_>) -> Result<(), AllocError>
+fn write_answer(to: &mut Writer, answer: &Answer<CowText<'_>>) -> Result<(), AllocError>
     ensures written { WritesData result to.old to.new (array_of (array_of cell_data) answer.now) }
     ensures types { OnOk result (AllByRecursion (AllByRecursion IsOfType) answer.now) }
 {
@@ -36,7 +36,7 @@ fn write_answer(to: &mut Writer, answer: &Answer<'_>) -> Result<(), AllocError>
     Ok(())
 }
 
-fn write_row(to: &mut Writer, row: &AnswerRow<'_>) -> Result<(), AllocError>
+fn write_row(to: &mut Writer, row: &AnswerRow<CowText<'_>>) -> Result<(), AllocError>
     ensures written { WritesData result to.old to.new (array_of cell_data row.now) }
     ensures types { OnOk result (AllByRecursion IsOfType row.now) }
 {
@@ -48,7 +48,7 @@ fn write_row(to: &mut Writer, row: &AnswerRow<'_>) -> Result<(), AllocError>
     Ok(())
 }
 
-fn write_cell(to: &mut Writer, cell: &Cell<'_>) -> Result<(), AllocError>
+fn write_cell(to: &mut Writer, cell: &Cell<CowText<'_>>) -> Result<(), AllocError>
     ensures written { WritesData result to.old to.new (cell_data cell.now) }
     ensures types { OnOk result (IsOfType cell.now) }
 {

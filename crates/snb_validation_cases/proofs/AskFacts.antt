@@ -4,7 +4,7 @@ use Rattle.serde_json.specs.Data.{Data}
 use Rattle.snb_schema.specs.declared.query.Query.{Query}
 use Rattle.snb_schema.specs.declared.read_kind.ReadKind.{ReadKind}
 use Rattle.snb_schema.specs.ReadKinds.{kind_of, read_word}
-use Rattle.snb_read_model.specs.declared.cell.Cell.{Cell}
+use Rattle.snb_read_model.specs.Cells.{Cell}
 use Rattle.snb_validation_cases.specs.Cases.{IsAskOf}
 use Rattle.snb_validation_cases.specs.Parameters.{AreOfKind, AreParameters}
 use Rattle.snb_validation_cases.specs.Replies.{IsReplyTo}

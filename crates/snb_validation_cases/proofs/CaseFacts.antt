@@ -9,7 +9,7 @@ use Rattle.snb_schema.specs.declared.op.Line.{Line}
 use Rattle.snb_schema.specs.declared.query.Query.{Query}
 use Rattle.snb_schema.specs.Faults.{OnBadColumn}
 use Rattle.snb_schema.specs.UpdateLines.{IsBadLine}
-use Rattle.snb_read_model.specs.declared.cell.Cell.{Cell}
+use Rattle.snb_read_model.specs.Cells.{Cell}
 use Rattle.snb_validation_cases.specs.CaseFile.{header_data}
 use Rattle.snb_validation_cases.specs.Cases.{IsAsk, IsAskOf, IsInsert, IsInsertLine}
 

@@ -5,7 +5,7 @@ use Rattle.snb_schema.specs.declared.op.Line.{Line}
 use Rattle.snb_schema.specs.declared.query.Query.{Query}
 use Rattle.snb_schema.specs.ReadKinds.{kind_of}
 use Rattle.snb_schema.specs.UpdateLines.{IsLine}
-use Rattle.snb_read_model.specs.declared.cell.Cell.{Cell}
+use Rattle.snb_read_model.specs.Cells.{Cell}
 use Rattle.snb_input_lines.specs.Laws.{IsExact}
 use Rattle.snb_streams.specs.Laws.{OneInsert}
 use Rattle.snb_validation_cases.specs.declared.case.Case.{Case}

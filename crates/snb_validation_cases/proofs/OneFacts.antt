@@ -10,7 +10,7 @@ use Rattle.snb_schema.specs.declared.column.Value.{Value}
 use Rattle.snb_schema.specs.declared.column.Value.TheVariants.{Digits, SmallDigits, Letters}
 use Rattle.snb_schema.specs.declared.limits.TheConstants.{MAX_TIME, MAX_YEAR}
 use Rattle.snb_schema.specs.declared.query.Query.{Query}
-use Rattle.snb_read_model.specs.declared.cell.Cell.{Cell}
+use Rattle.snb_read_model.specs.Cells.{Cell}
 use Rattle.snb_read_model.specs.declared.cell.Cell.TheVariants as cell
 use Rattle.snb_read_model.specs.Replies.{tail_reads}
 use Rattle.snb_read_model.specs.Columns.{Column, Number, Flag, Words, Texts, Stays, IsOfColumn, columns_of}

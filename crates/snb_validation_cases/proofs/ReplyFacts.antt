@@ -5,7 +5,7 @@ use Rattle.std.specs.List.{AllZip}
 use Rattle.std.proofs.lemmas.List.Elements.{All-cons}
 use Rattle.serde_json.specs.Data.{Data}
 use Rattle.snb_schema.specs.declared.query.Query.{Query}
-use Rattle.snb_read_model.specs.declared.cell.Cell.{Cell}
+use Rattle.snb_read_model.specs.Cells.{Cell}
 use Rattle.snb_read_model.specs.declared.cell.Cell.TheVariants as cell
 use Rattle.snb_read_model.specs.Columns.{Column, Texts, Stays, HasColumns, HaveColumns, IsOfColumn, columns_of}
 use Rattle.snb_validation_cases.specs.Replies.{IsCellIn, IsRow, IsStay}

@@ -1,6 +1,6 @@
 -- The columns of rows, as the reader of cells has them. Cited by contracts of private functions alone.
 use Rattle.serde_json.specs.Data.{Data}
-use Rattle.snb_read_model.specs.declared.cell.Cell.{Cell}
+use Rattle.snb_read_model.specs.Cells.{Cell}
 use Rattle.snb_read_model.specs.Columns.{Column, Number, Flag, Words, Texts, Stays}
 use Rattle.snb_validation_cases.specs.declared.cells.CellColumn.{CellColumn}
 use Rattle.snb_validation_cases.specs.declared.cells.CellColumn.TheVariants as cells

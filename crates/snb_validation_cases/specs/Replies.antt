@@ -5,7 +5,7 @@ use Rattle.serde_json.specs.Data.{Data}
 use Rattle.serde_json.specs.Find.{as_bool, as_i64, as_number}
 use Rattle.snb_schema.specs.declared.limits.TheConstants.{MAX_YEAR}
 use Rattle.snb_schema.specs.declared.query.Query.{Query}
-use Rattle.snb_read_model.specs.declared.cell.Cell.{Cell}
+use Rattle.snb_read_model.specs.Cells.{Cell}
 use Rattle.snb_read_model.specs.declared.cell.Cell.TheVariants as cell
 use Rattle.snb_read_model.specs.Replies.{tail_reads}
 use Rattle.snb_read_model.specs.Columns.{Column, IsOfColumn, columns_of}

@@ -1,5 +1,6 @@
 //! What a line of a file of cases says.
 
+use snb_base::Text;
 use snb_read_model::Reply;
 use snb_schema::{Line, Query};
 
@@ -8,7 +9,7 @@ pub enum Case {
     /// The insert of this line, which is line 1 of its text.
     Insert { line: Line },
     /// The query, and the reply that is due to it.
-    Ask { query: Query, reply: Reply<'static> },
+    Ask { query: Query, reply: Reply<Text> },
 }
 
 impl Drop for Case {

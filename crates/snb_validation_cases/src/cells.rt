@@ -3,7 +3,7 @@
 ghost use Rattle.std.specs.Prelude.{◌≡◌, ℕ, List, IfOk, MatchOption, map};
 ghost use Rattle.std.specs.List.{AllZip};
 ghost use Rattle.serde_json.specs.View.{view};
-ghost use Rattle.snb_read_model.specs.declared.cell.Cell.{Cell as AnyCell};
+ghost use Rattle.snb_read_model.specs.Cells.{Cell as AnyCell};
 ghost use Rattle.snb_read_model.specs.Columns.{Number, Flag, Words as WordsColumn, Texts as TextsColumn, Stays as StaysColumn, columns_of as read_columns};
 ghost use Rattle.snb_validation_cases.specs.CellColumns.{IsCellOf, column_of};
 ghost use Rattle.snb_validation_cases.specs.Replies.{AreStay, IsCellIn, IsStay, IsStayOf};
@@ -11,7 +11,8 @@ ghost use Rattle.snb_validation_cases.specs.Values.{IsArray};
 
 use crate::values::{items_in, number_in, text_in, texts_in};
 use serde_json::Value;
-use snb_read_model::{Cell, CowText, Stays};
+use snb_base::Text;
+use snb_read_model::{Cell, Stays};
 use snb_schema::Query;
 use snb_schema::limits::MAX_YEAR;
 use std::alloc::{AllocError, Global};
@@ -154,7 +155,7 @@ pub fn columns_of(query: &Query) -> &'static [CellColumn]
 }
 
 // The number that a value is.
-fn integer_in(value: &Value) -> Option<Cell<'static>>
+fn integer_in(value: &Value) -> Option<Cell<Text>>
     ensures { MatchOption result ((cell : AnyCell) → ¬ IsCellIn Number (view value.now) cell) (IsCellIn Number (view value.now)) }
 {
     match value.as_i64() {
@@ -164,7 +165,7 @@ fn integer_in(value: &Value) -> Option<Cell<'static>>
 }
 
 // The truth value that a value is.
-fn flag_in(value: &Value) -> Option<Cell<'static>>
+fn flag_in(value: &Value) -> Option<Cell<Text>>
     ensures { MatchOption result ((cell : AnyCell) → ¬ IsCellIn Flag (view value.now) cell) (IsCellIn Flag (view value.now)) }
 {
     match value.as_bool() {
@@ -174,21 +175,19 @@ fn flag_in(value: &Value) -> Option<Cell<'static>>
 }
 
 // The text that a value is.
-fn words_in(alloc: Global, value: &Value) -> Result<Option<Cell<'static>>, AllocError>
+fn words_in(alloc: Global, value: &Value) -> Result<Option<Cell<Text>>, AllocError>
     ensures { IfOk result (λ found. MatchOption found
         ((cell : AnyCell) → ¬ IsCellIn WordsColumn (view value.now) cell)
         (IsCellIn WordsColumn (view value.now))) }
 {
     match text_in(alloc, value)? {
-        Some(text) => Ok(Some(Cell::Words {
-            text: CowText::own(text),
-        })),
+        Some(text) => Ok(Some(Cell::Words { text })),
         None => Ok(None),
     }
 }
 
 // The texts that a value is.
-fn list_in(alloc: Global, value: &Value) -> Result<Option<Cell<'static>>, AllocError>
+fn list_in(alloc: Global, value: &Value) -> Result<Option<Cell<Text>>, AllocError>
     ensures { IfOk result (λ found. MatchOption found
         ((cell : AnyCell) → ¬ IsCellIn TextsColumn (view value.now) cell)
         (IsCellIn TextsColumn (view value.now))) }
@@ -205,7 +204,7 @@ fn stay_of(
     name: &Value,
     year: &Value,
     place: &Value,
-) -> Result<Option<(CowText<'static>, u32, CowText<'static>)>, AllocError>
+) -> Result<Option<(Text, u32, Text)>, AllocError>
     ensures { IfOk result (λ found. MatchOption found
         ((stay : List ℕ × ℕ × List ℕ) → ¬ IsStayOf (view name.now) (view year.now) (view place.now) stay)
         (IsStayOf (view name.now) (view year.now) (view place.now))) }
@@ -219,14 +218,11 @@ fn stay_of(
     let Some(place) = text_in(alloc, place)? else {
         return Ok(None);
     };
-    Ok(Some((CowText::own(name), year as u32, CowText::own(place))))
+    Ok(Some((name, year as u32, place)))
 }
 
 // The stay that these values are.
-fn stay_of_items(
-    alloc: Global,
-    items: &[Value],
-) -> Result<Option<(CowText<'static>, u32, CowText<'static>)>, AllocError>
+fn stay_of_items(alloc: Global, items: &[Value]) -> Result<Option<(Text, u32, Text)>, AllocError>
     ensures { IfOk result (λ found. MatchOption found
         ((stay : List ℕ × ℕ × List ℕ) → ¬ AreStay (map view items.now) stay)
         (AreStay (map view items.now))) }
@@ -238,10 +234,7 @@ fn stay_of_items(
 }
 
 // The stay that a value is.
-fn stay_in(
-    alloc: Global,
-    value: &Value,
-) -> Result<Option<(CowText<'static>, u32, CowText<'static>)>, AllocError>
+fn stay_in(alloc: Global, value: &Value) -> Result<Option<(Text, u32, Text)>, AllocError>
     ensures { IfOk result (λ found. MatchOption found
         ((stay : List ℕ × ℕ × List ℕ) → ¬ IsStay (view value.now) stay)
         (IsStay (view value.now))) }
@@ -253,7 +246,7 @@ fn stay_in(
 }
 
 // The stays that these values are.
-fn stays_of(alloc: Global, items: &[Value]) -> Result<Option<Stays<'static>>, AllocError>
+fn stays_of(alloc: Global, items: &[Value]) -> Result<Option<Stays<Text>>, AllocError>
     ensures { IfOk result (λ found. MatchOption found
         ((stays : List (List ℕ × ℕ × List ℕ)) → ¬ AllZip IsStay (map view items.now) stays)
         (AllZip IsStay (map view items.now))) }
@@ -269,7 +262,7 @@ fn stays_of(alloc: Global, items: &[Value]) -> Result<Option<Stays<'static>>, Al
 }
 
 // The array of stays that a value is.
-fn array_of_stays(alloc: Global, value: &Value) -> Result<Option<Stays<'static>>, AllocError>
+fn array_of_stays(alloc: Global, value: &Value) -> Result<Option<Stays<Text>>, AllocError>
     ensures { IfOk result (λ found. MatchOption found
         ((stays : List (List ℕ × ℕ × List ℕ)) → ¬ IsArray (AllZip IsStay) (view value.now) stays)
         (IsArray (AllZip IsStay) (view value.now))) }
@@ -281,7 +274,7 @@ fn array_of_stays(alloc: Global, value: &Value) -> Result<Option<Stays<'static>>
 }
 
 // The stays that a value is.
-fn stays_in(alloc: Global, value: &Value) -> Result<Option<Cell<'static>>, AllocError>
+fn stays_in(alloc: Global, value: &Value) -> Result<Option<Cell<Text>>, AllocError>
     ensures { IfOk result (λ found. MatchOption found
         ((cell : AnyCell) → ¬ IsCellIn StaysColumn (view value.now) cell)
         (IsCellIn StaysColumn (view value.now))) }
@@ -297,7 +290,7 @@ pub fn cell_in(
     alloc: Global,
     column: CellColumn,
     value: &Value,
-) -> Result<Option<Cell<'static>>, AllocError>
+) -> Result<Option<Cell<Text>>, AllocError>
     ensures { IfOk result (λ found. MatchOption found
         ((cell : AnyCell) → ¬ IsCellOf column (view value.now) cell)
         (IsCellOf column (view value.now))) }

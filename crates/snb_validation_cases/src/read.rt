@@ -8,7 +8,7 @@ ghost use Rattle.snb_schema.specs.declared.query.Query.{Query as AnyQuery};
 ghost use Rattle.snb_schema.specs.declared.read_kind.ReadKind.{ReadKind as AnyKind};
 ghost use Rattle.snb_schema.specs.ReadKinds.{read_word};
 ghost use Rattle.snb_schema.specs.UpdateLines.{IsLine};
-ghost use Rattle.snb_read_model.specs.declared.cell.Cell.{Cell as AnyCell};
+ghost use Rattle.snb_read_model.specs.Cells.{Cell as AnyCell};
 ghost use Rattle.snb_validation_cases.specs.declared.case.Case.{Case as AnyCase};
 ghost use Rattle.snb_validation_cases.specs.Cases.{IsAsk, IsAskOf, IsCase, IsInsert, IsInsertLine, OnBadCase, SpellsCase, SpellsNone};
 ghost use Rattle.snb_validation_cases.specs.Values.{IsText};
@@ -18,6 +18,7 @@ use crate::members::{asked_parts, held_alone};
 use crate::parameters::query_in;
 use crate::replies::reply_in;
 use serde_json::Value;
+use snb_base::Text;
 use snb_read_model::Reply;
 use snb_schema::{Line, LineFault, Query, ReadKind};
 use snb_streams::law::one_bad_line;
@@ -95,7 +96,7 @@ fn ask_of(
     params: &Value,
     word: &Value,
     held: &Value,
-) -> Result<Option<(Query, Reply<'static>)>, AllocError>
+) -> Result<Option<(Query, Reply<Text>)>, AllocError>
     ensures { IfOk result (λ found. MatchOption found
         ((query : AnyQuery) (reply : List (List (List AnyCell))) → ¬ IsAskOf (view params.now) (view word.now) (view held.now) query reply)
         (λ ask. IsAskOf (view params.now) (view word.now) (view held.now) ask.0 ask.1)) }
@@ -113,7 +114,7 @@ fn ask_of(
 }
 
 // The query and the reply that a value is.
-fn ask_in(alloc: Global, value: &Value) -> Result<Option<(Query, Reply<'static>)>, AllocError>
+fn ask_in(alloc: Global, value: &Value) -> Result<Option<(Query, Reply<Text>)>, AllocError>
     ensures { IfOk result (λ found. MatchOption found
         ((query : AnyQuery) (reply : List (List (List AnyCell))) → ¬ IsAsk (view value.now) query reply)
         (λ ask. IsAsk (view value.now) ask.0 ask.1)) }

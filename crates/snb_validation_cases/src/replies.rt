@@ -1,12 +1,11 @@
 //! The replies that JSON values are.
 
-ghost use Rattle.std.specs.Prelude.{◌≡◌, ◌∷◌, ◌++◌, List, IfOk, MatchOption, OnOk, map, ⊤};
+ghost use Rattle.std.specs.Prelude.{◌≡◌, ◌∷◌, List, IfOk, MatchOption, map, ⊤};
 ghost use Rattle.std.specs.List.{AllZip};
 ghost use Rattle.serde_json.specs.View.{view};
-ghost use Rattle.snb_read_model.specs.declared.cell.Cell.{Cell as AnyCell};
-ghost use Rattle.snb_read_model.specs.Replies.{message_reads, person_reads, tail_reads};
+ghost use Rattle.snb_read_model.specs.Cells.{Cell as AnyCell};
+ghost use Rattle.snb_read_model.specs.Replies.{tail_reads};
 ghost use Rattle.snb_read_model.specs.Columns.{HaveColumns, columns_of as read_columns};
-ghost use Rattle.snb_read_model.specs.Tails.{queries_of};
 ghost use Rattle.snb_validation_cases.specs.CellColumns.{IsCellOf};
 ghost use Rattle.snb_validation_cases.specs.Replies.{AreReply, IsAnswerTo, IsCellIn, IsReplyTo, IsRow};
 ghost use Rattle.snb_validation_cases.specs.Values.{AreAlong};
@@ -14,8 +13,9 @@ ghost use Rattle.snb_validation_cases.specs.Values.{AreAlong};
 use crate::cells::{CellColumn, cell_in, columns_of};
 use crate::values::items_in;
 use serde_json::Value;
+use snb_base::Text;
 use snb_read_model::tail::tail_of;
-use snb_read_model::{Answer, AnswerRow, Cell, Reply, Tail};
+use snb_read_model::{Answer, AnswerRow, Reply};
 use snb_schema::Query;
 use std::alloc::{AllocError, Global};
 
@@ -24,7 +24,7 @@ fn cells_of(
     alloc: Global,
     columns: &[CellColumn],
     items: &[Value],
-) -> Result<Option<AnswerRow<'static>>, AllocError>
+) -> Result<Option<AnswerRow<Text>>, AllocError>
     ensures { IfOk result (λ found. MatchOption found
         ((cells : List AnyCell) → ¬ AreAlong IsCellOf columns.now (map view items.now) cells)
         (AreAlong IsCellOf columns.now (map view items.now))) }
@@ -47,7 +47,7 @@ fn row_of(
     alloc: Global,
     query: &Query,
     items: &[Value],
-) -> Result<Option<AnswerRow<'static>>, AllocError>
+) -> Result<Option<AnswerRow<Text>>, AllocError>
     ensures { IfOk result (λ found. MatchOption found
         ((row : List AnyCell) → ¬ AreAlong IsCellIn (read_columns query.now) (map view items.now) row)
         (AreAlong IsCellIn (read_columns query.now) (map view items.now))) }
@@ -60,7 +60,7 @@ fn row_in(
     alloc: Global,
     query: &Query,
     value: &Value,
-) -> Result<Option<AnswerRow<'static>>, AllocError>
+) -> Result<Option<AnswerRow<Text>>, AllocError>
     ensures { IfOk result (λ found. MatchOption found
         ((row : List AnyCell) → ¬ IsRow query.now (view value.now) row)
         (IsRow query.now (view value.now))) }
@@ -76,7 +76,7 @@ fn rows_of(
     alloc: Global,
     query: &Query,
     items: &[Value],
-) -> Result<Option<Answer<'static>>, AllocError>
+) -> Result<Option<Answer<Text>>, AllocError>
     ensures { IfOk result (λ found. MatchOption found
         ((rows : List (List AnyCell)) → ¬ AllZip (IsRow query.now) (map view items.now) rows)
         (AllZip (IsRow query.now) (map view items.now))) }
@@ -96,7 +96,7 @@ fn answer_in(
     alloc: Global,
     query: &Query,
     value: &Value,
-) -> Result<Option<Answer<'static>>, AllocError>
+) -> Result<Option<Answer<Text>>, AllocError>
     ensures columns { IfOk result (λ found. MatchOption found ⊤ (HaveColumns query.now)) }
     ensures found { IfOk result (λ found. MatchOption found
         ((answer : List (List AnyCell)) → ¬ IsAnswerTo query.now (view value.now) answer)
@@ -108,47 +108,12 @@ fn answer_in(
     }
 }
 
-// The short reads of a tail.
-fn tail_queries(alloc: Global, tail: Tail) -> Result<Vec<Query>, AllocError>
-    ensures { IfOk result (λ queries. queries.items ≡ queries_of tail) }
-{
-    let mut queries = Vec::new(alloc);
-    if let Some(person) = tail.person {
-        push_person(person, &mut queries)?;
-    }
-    if let Some(message) = tail.message {
-        push_message(message, &mut queries)?;
-    }
-    Ok(queries)
-}
-
-// Adds the short reads of a person.
-fn push_person(person: u64, queries: &mut Vec<Query>) -> Result<(), AllocError>
-    ensures { OnOk result (queries.new.items ≡ queries.old.items ++ person_reads person) }
-{
-    queries.push(Query::Is1 { person })?;
-    queries.push(Query::Is2 { person })?;
-    queries.push(Query::Is3 { person })?;
-    Ok(())
-}
-
-// Adds the short reads of a message.
-fn push_message(message: u64, queries: &mut Vec<Query>) -> Result<(), AllocError>
-    ensures { OnOk result (queries.new.items ≡ queries.old.items ++ message_reads message) }
-{
-    queries.push(Query::Is4 { message })?;
-    queries.push(Query::Is5 { message })?;
-    queries.push(Query::Is6 { message })?;
-    queries.push(Query::Is7 { message })?;
-    Ok(())
-}
-
 // The answers to these queries that values are.
 fn answers_of(
     alloc: Global,
     queries: &[Query],
     items: &[Value],
-) -> Result<Option<Vec<Answer<'static>>>, AllocError>
+) -> Result<Option<Vec<Answer<Text>>>, AllocError>
     ensures { IfOk result (λ found. MatchOption found
         ((answers : List (List (List AnyCell))) → ¬ AreAlong IsAnswerTo queries.now (map view items.now) answers)
         (λ answers. AreAlong IsAnswerTo queries.now (map view items.now) answers.items)) }
@@ -170,29 +135,16 @@ fn answers_of(
 fn tail_in(
     alloc: Global,
     query: &Query,
-    own: &Answer,
+    own: &Answer<Text>,
     items: &[Value],
-) -> Result<Option<Vec<Answer<'static>>>, AllocError>
+) -> Result<Option<Vec<Answer<Text>>>, AllocError>
     requires { HaveColumns query.now own.now }
     ensures { IfOk result (λ found. MatchOption found
         ((answers : List (List (List AnyCell))) → ¬ AreAlong IsAnswerTo (tail_reads query.now own.now) (map view items.now) answers)
         (λ answers. AreAlong IsAnswerTo (tail_reads query.now own.now) (map view items.now) answers.items)) }
 {
-    let queries = tail_queries(alloc, tail_of(query, own))?;
+    let queries = tail_of(query, &own.lend()?).queries(alloc)?;
     answers_of(alloc, queries.as_slice(), items)
-}
-
-// The reply whose own answer is this, and whose tail is these.
-fn joined(
-    alloc: Global,
-    own: Answer<'static>,
-    tail: Vec<Answer<'static>>,
-) -> Result<Reply<'static>, AllocError>
-    ensures { IfOk result (λ reply. reply ≡ own.entry ∷ tail.entry.items) }
-{
-    let mut answers = tail;
-    answers.insert(0, own)?;
-    Ok(Reply::from_vec(alloc, answers))
 }
 
 // The reply to a query that values are.
@@ -200,7 +152,7 @@ fn reply_of(
     alloc: Global,
     query: &Query,
     items: &[Value],
-) -> Result<Option<Reply<'static>>, AllocError>
+) -> Result<Option<Reply<Text>>, AllocError>
     ensures { IfOk result (λ found. MatchOption found
         ((reply : List (List (List AnyCell))) → ¬ AreReply query.now (map view items.now) reply)
         (AreReply query.now (map view items.now))) }
@@ -214,7 +166,7 @@ fn reply_of(
     let Some(tail) = tail_in(alloc, query, &own, others)? else {
         return Ok(None);
     };
-    Ok(Some(joined(alloc, own, tail)?))
+    Ok(Some(Reply::with_tail(alloc, own, tail)?))
 }
 
 /// The reply to a query that a value is.
@@ -222,7 +174,7 @@ pub fn reply_in(
     alloc: Global,
     query: &Query,
     value: &Value,
-) -> Result<Option<Reply<'static>>, AllocError>
+) -> Result<Option<Reply<Text>>, AllocError>
     ensures { IfOk result (λ found. MatchOption found
         ((reply : List (List (List AnyCell))) → ¬ IsReplyTo query.now (view value.now) reply)
         (IsReplyTo query.now (view value.now))) }

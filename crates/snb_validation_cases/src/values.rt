@@ -8,7 +8,7 @@ ghost use Rattle.snb_validation_cases.specs.Values.{IsArray, IsNumberTo, IsText}
 
 use serde_json::Value;
 use snb_base::Text;
-use snb_read_model::{CowText, CowTexts};
+use snb_read_model::CellTexts;
 use std::alloc::{AllocError, Global};
 
 /// The number from 0 up to `most` that a value is.
@@ -49,7 +49,7 @@ pub fn items_in(value: &Value) -> Option<&[Value]>
 }
 
 // The texts that these values are.
-fn texts_of(alloc: Global, items: &[Value]) -> Result<Option<CowTexts<'static>>, AllocError>
+fn texts_of(alloc: Global, items: &[Value]) -> Result<Option<CellTexts<Text>>, AllocError>
     ensures { IfOk result (λ found. MatchOption found
         ((texts : List (List ℕ)) → ¬ AllZip IsText (map view items.now) texts)
         (AllZip IsText (map view items.now))) }
@@ -59,13 +59,13 @@ fn texts_of(alloc: Global, items: &[Value]) -> Result<Option<CowTexts<'static>>,
         let Some(text) = text_in(alloc, item)? else {
             return Ok(None);
         };
-        texts.push(CowText::own(text))?;
+        texts.push(text)?;
     }
-    Ok(Some(CowTexts::from_vec(alloc, texts)))
+    Ok(Some(CellTexts::from_vec(alloc, texts)))
 }
 
 /// The array of texts that a value is.
-pub fn texts_in(alloc: Global, value: &Value) -> Result<Option<CowTexts<'static>>, AllocError>
+pub fn texts_in(alloc: Global, value: &Value) -> Result<Option<CellTexts<Text>>, AllocError>
     ensures { IfOk result (λ found. MatchOption found
         ((texts : List (List ℕ)) → ¬ IsArray (AllZip IsText) (view value.now) texts)
         (IsArray (AllZip IsText) (view value.now))) }

@@ -6,9 +6,9 @@ use Rattle.snb_schema.specs.declared.row.Row.{Row}
 use Rattle.snb_base.proofs.Laws.{push_split}
 use Rattle.snb_graph_model.specs.Laws.{GraphsAreTheirRows}
 use Rattle.snb_graph_model.specs.Soundness.{Sound}
-use Rattle.snb_read_model.specs.declared.cell.Cell.{Cell}
+use Rattle.snb_read_model.specs.Cells.{Cell}
 use Rattle.snb_read_model.specs.Replies.{IsReply}
-use Rattle.snb_read_replies.specs.Laws.{OneReply}
+use Rattle.snb_read_laws.specs.Laws.{OneReply}
 use Rattle.snb_validation_cases.specs.declared.case.Case.TheVariants.{Insert, Ask}
 use Rattle.snb_validation_cases.specs.declared.case.CaseAt.{CaseAt}
 use Rattle.snb_validation_check.specs.declared.difference.Difference.{Difference}

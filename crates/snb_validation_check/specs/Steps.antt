@@ -7,7 +7,7 @@ use Rattle.snb_schema.specs.Inserts.{rows_of}
 use Rattle.snb_schema.specs.References.{refs_of}
 use Rattle.snb_graph_model.specs.Graphs.{HasGained}
 use Rattle.snb_inserts.specs.Applying.{HasLine, IsDuplicate, IsFirstMissing}
-use Rattle.snb_read_model.specs.declared.cell.Cell.{Cell}
+use Rattle.snb_read_model.specs.Cells.{Cell}
 use Rattle.snb_read_model.specs.Replies.{IsReply}
 use Rattle.snb_validation_cases.specs.declared.case.Case.{Case}
 use Rattle.snb_validation_cases.specs.declared.case.Case.TheVariants.{Insert, Ask}

@@ -12,6 +12,7 @@ ghost use Rattle.snb_validation_check.specs.Steps.{HasCompared, HasText, IsTaken
 
 use crate::difference::Difference;
 use crate::same::same_reply;
+use snb_base::Text;
 use snb_graph::Graph;
 use snb_inserts::Applied;
 use snb_inserts::apply::apply;
@@ -68,7 +69,7 @@ fn compared(
     graph: &Graph,
     line: u32,
     query: &Query,
-    due: &Reply<'_>,
+    due: &Reply<Text>,
 ) -> Result<Option<Difference>, AllocError>
     requires sound { Sound graph.now }
     ensures { IfOk result (HasCompared graph.now line query.now due.now None) }
@@ -107,7 +108,7 @@ impl Checker {
     }
 
     // Takes a read.
-    fn ask(&mut self, query: &Query, due: &Reply<'_>, number: u32) -> Result<(), AllocError>
+    fn ask(&mut self, query: &Query, due: &Reply<Text>, number: u32) -> Result<(), AllocError>
         ensures graph { self.new.graph ≡ self.old.graph }
         ensures ok { OnOk result (HasCompared self.old.graph number query.now due.now self.old.first self.new.first) }
         ensures err { OnErr result (self.new ≡ self.old) }

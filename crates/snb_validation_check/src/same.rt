@@ -1,11 +1,12 @@
-//! Whether two replies are one, down to the cells.
+//! Whether two replies are one, down to the cells. The first one's texts are lent, the other's its own.
 
 ghost use Rattle.std.specs.Prelude.{◌≡◌, ◌↔◌, ℕ, List, IsTrue};
 
+use snb_base::Text;
 use snb_read_model::{Answer, AnswerRow, Cell, CowText, Reply};
 
 // Whether two stays have the same names and year.
-fn same_stay(a: &(CowText<'_>, u32, CowText<'_>), b: &(CowText<'_>, u32, CowText<'_>)) -> bool
+fn same_stay(a: &(CowText<'_>, u32, CowText<'_>), b: &(Text, u32, Text)) -> bool
     ensures { IsTrue result ↔ (a.now ≡ b.now) }
 {
     if a.1 != b.1 {
@@ -18,7 +19,7 @@ fn same_stay(a: &(CowText<'_>, u32, CowText<'_>), b: &(CowText<'_>, u32, CowText
 }
 
 // Whether two lists of stays are one.
-fn same_stays(a: &[(CowText<'_>, u32, CowText<'_>)], b: &[(CowText<'_>, u32, CowText<'_>)]) -> bool
+fn same_stays(a: &[(CowText<'_>, u32, CowText<'_>)], b: &[(Text, u32, Text)]) -> bool
     ensures { IsTrue result ↔ (a.now ≡ b.now) }
 {
     if a.len() != b.len() {
@@ -33,7 +34,7 @@ fn same_stays(a: &[(CowText<'_>, u32, CowText<'_>)], b: &[(CowText<'_>, u32, Cow
 }
 
 // Whether two lists of texts are one.
-fn same_texts(a: &[CowText<'_>], b: &[CowText<'_>]) -> bool
+fn same_texts(a: &[CowText<'_>], b: &[Text]) -> bool
     ensures { IsTrue result ↔ (a.now ≡ b.now) }
 {
     if a.len() != b.len() {
@@ -48,7 +49,7 @@ fn same_texts(a: &[CowText<'_>], b: &[CowText<'_>]) -> bool
 }
 
 // Whether two cells are one.
-fn same_cell(a: &Cell<'_>, b: &Cell<'_>) -> bool
+fn same_cell(a: &Cell<CowText<'_>>, b: &Cell<Text>) -> bool
     ensures { IsTrue result ↔ (a.now ≡ b.now) }
 {
     match a {
@@ -76,7 +77,7 @@ fn same_cell(a: &Cell<'_>, b: &Cell<'_>) -> bool
 }
 
 // Whether two rows are one.
-fn same_row(a: &[Cell<'_>], b: &[Cell<'_>]) -> bool
+fn same_row(a: &[Cell<CowText<'_>>], b: &[Cell<Text>]) -> bool
     ensures { IsTrue result ↔ (a.now ≡ b.now) }
 {
     if a.len() != b.len() {
@@ -91,7 +92,7 @@ fn same_row(a: &[Cell<'_>], b: &[Cell<'_>]) -> bool
 }
 
 // Whether two answers are one.
-fn same_answer(a: &[AnswerRow<'_>], b: &[AnswerRow<'_>]) -> bool
+fn same_answer(a: &[AnswerRow<CowText<'_>>], b: &[AnswerRow<Text>]) -> bool
     ensures { IsTrue result ↔ (a.now ≡ b.now) }
 {
     if a.len() != b.len() {
@@ -106,7 +107,7 @@ fn same_answer(a: &[AnswerRow<'_>], b: &[AnswerRow<'_>]) -> bool
 }
 
 // Whether two lists of answers are one.
-fn same_answers(a: &[Answer<'_>], b: &[Answer<'_>]) -> bool
+fn same_answers(a: &[Answer<CowText<'_>>], b: &[Answer<Text>]) -> bool
     ensures { IsTrue result ↔ (a.now ≡ b.now) }
 {
     if a.len() != b.len() {
@@ -122,7 +123,7 @@ fn same_answers(a: &[Answer<'_>], b: &[Answer<'_>]) -> bool
 
 /// Whether two replies are one: the same answers in the same order, each with the same rows in the same
 /// order, each with the same cells. Takes no memory.
-pub(crate) fn same_reply(a: &Reply<'_>, b: &Reply<'_>) -> bool
+pub(crate) fn same_reply(a: &Reply<CowText<'_>>, b: &Reply<Text>) -> bool
     ensures { IsTrue result ↔ (a.now ≡ b.now) }
 {
     same_answers(a.as_slice(), b.as_slice())

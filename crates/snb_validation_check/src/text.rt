@@ -27,9 +27,9 @@ fn difference_lines(alloc: Global, one: &Difference) -> Result<Vec<u8>, AllocErr
 {
     let line = one.line;
     let mut text = format!(in alloc; "differs line {line}\nexpected ")?.into_bytes();
-    reply_text(&one.expected, &mut text)?;
+    reply_text(&one.expected.lend()?, &mut text)?;
     text.extend_from_slice(b"\ngiven ")?;
-    reply_text(&one.given, &mut text)?;
+    reply_text(&one.given.lend()?, &mut text)?;
     text.push(b'\n')?;
     Ok(text)
 }

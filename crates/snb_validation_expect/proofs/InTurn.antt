@@ -9,7 +9,7 @@ use Rattle.snb_schema.specs.Inserts.{rows_of}
 use Rattle.snb_plan.specs.declared.plan.Source.{Source}
 use Rattle.snb_plan.specs.Plans.{Operation, Plan, Work, queries_in, query_from}
 use Rattle.snb_plan.specs.Plans as plans
-use Rattle.snb_read_model.specs.declared.cell.Cell.{Cell}
+use Rattle.snb_read_model.specs.Cells.{Cell}
 use Rattle.snb_workers_replay.specs.Replay.{insert_in, rows_before}
 use Rattle.snb_validation_cases.specs.declared.case.Case.{Case}
 use Rattle.snb_validation_cases.specs.declared.case.Case.TheVariants.{Ask}

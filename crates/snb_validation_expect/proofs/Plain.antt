@@ -8,7 +8,7 @@ use Rattle.snb_schema.specs.declared.column.Value.{Value}
 use Rattle.snb_schema.specs.declared.column.Value.TheVariants as value
 use Rattle.snb_schema.specs.declared.query.Query.{Query}
 use Rattle.snb_schema.specs.ReadKinds.{parameter_values}
-use Rattle.snb_read_model.specs.declared.cell.Cell.{Cell}
+use Rattle.snb_read_model.specs.Cells.{Cell}
 use Rattle.snb_validation.specs.ReplyData.{array_of}
 use Rattle.snb_validation.proofs.Laws.{reply_low, reply_plain}
 use Rattle.snb_validation_cases.specs.declared.case.Case.TheVariants.{Ask}

@@ -19,12 +19,12 @@ use Rattle.snb_schema.specs.Columns.{Spells, SpellsAll}
 use Rattle.snb_schema.specs.ReadKinds.{kind_of, parameter_columns, parameter_values}
 use Rattle.snb_schema.specs.UpdateLines.{IsLine, canonical_line}
 use Rattle.snb_graph_model.specs.Graphs.{IsGraph}
-use Rattle.snb_read_model.specs.declared.cell.Cell.{Cell}
+use Rattle.snb_read_model.specs.Cells.{Cell}
 use Rattle.snb_read_model.specs.declared.cell.Cell.TheVariants as cell
 use Rattle.snb_read_model.specs.Replies.{IsAnswer, IsReply, tail_reads}
 use Rattle.snb_read_model.specs.Columns.{HaveColumns, IsOfColumn, columns_of}
 use Rattle.snb_read_model.specs.Columns as shown
-use Rattle.snb_read_replies.specs.Laws.{AnswersHaveColumns, AnswersHaveYears, HasYears}
+use Rattle.snb_read_laws.specs.Laws.{AnswersHaveColumns, AnswersHaveYears, HasYears}
 use Rattle.snb_validation.specs.Laws.{AreOfTypes, IsOfType}
 use Rattle.snb_validation.specs.ReplyData.{array_of, cell_data, reply_data, stay_data}
 use Rattle.snb_validation_cases.specs.Cases.{SpellsCase}

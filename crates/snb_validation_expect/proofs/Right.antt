@@ -17,7 +17,7 @@ use Rattle.snb_plan.specs.declared.plan.Source.{Source}
 use Rattle.snb_plan.specs.Plans.{Plan, Work}
 use Rattle.snb_plan.specs.Plans as plans
 use Rattle.snb_inserts.specs.Applying.{IsFirstMissing, IsThere, IsWelcome}
-use Rattle.snb_read_model.specs.declared.cell.Cell.{Cell}
+use Rattle.snb_read_model.specs.Cells.{Cell}
 use Rattle.snb_read_model.specs.Replies.{IsReply}
 use Rattle.snb_workers_replay.specs.Laws.{IsReplayed, WelcomeInOrder}
 use Rattle.snb_workers_replay.specs.Replay.{IsBefore, insert_in, rows_before}

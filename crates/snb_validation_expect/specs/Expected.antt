@@ -7,7 +7,7 @@ use Rattle.snb_schema.specs.declared.row.Row.{Row}
 use Rattle.snb_schema.specs.ReadKinds.{kind_of, parameter_columns, parameter_values}
 use Rattle.snb_plan.specs.Plans.{Operation, Plan, Work, queries_in}
 use Rattle.snb_plan.specs.Plans as plans
-use Rattle.snb_read_model.specs.declared.cell.Cell.{Cell}
+use Rattle.snb_read_model.specs.Cells.{Cell}
 use Rattle.snb_read_model.specs.Replies.{IsReply}
 use Rattle.snb_workers_replay.specs.Replay.{IsBefore}
 use Rattle.snb_validation_cases.specs.Cases.{SpellsCase}

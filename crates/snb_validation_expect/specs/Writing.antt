@@ -7,7 +7,7 @@ use Rattle.snb_schema.specs.declared.op.Line.{Line}
 use Rattle.snb_schema.specs.declared.query.Query.{Query}
 use Rattle.snb_schema.specs.declared.row.Row.{Row}
 use Rattle.snb_graph_model.specs.Soundness.{Sound}
-use Rattle.snb_read_model.specs.declared.cell.Cell.{Cell}
+use Rattle.snb_read_model.specs.Cells.{Cell}
 use Rattle.snb_read_model.specs.Replies.{IsReply}
 use Rattle.snb_plan.specs.Plans.{Plan, queries_in}
 use Rattle.snb_workers_replay.specs.Laws.{IsReplayed}

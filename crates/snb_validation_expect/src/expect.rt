@@ -16,7 +16,7 @@ use crate::lines::{put_ask, put_insert};
 use snb_graph::Graph;
 use snb_inserts::apply_welcome;
 use snb_plan::{Plan, Task};
-use snb_read_replies::law::answers_have_columns;
+use snb_read_laws::law::answers_have_columns;
 use snb_read_replies::reply::answer;
 use snb_schema::{Line, Query};
 use snb_workers_replay::law::order_is_welcome;

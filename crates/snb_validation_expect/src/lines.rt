@@ -18,7 +18,7 @@ ghost use Rattle.snb_validation_expect.specs.Writing.{IsJsonText};
 
 use crate::params::params_value;
 use serde_json::{Map, Value, put};
-use snb_read_model::Reply;
+use snb_read_model::{CowText, Reply};
 use snb_schema::{Line, Query};
 use snb_streams::law::own_line;
 use snb_streams::write_line;
@@ -50,7 +50,7 @@ fn insert_value(alloc: Global, line: &str) -> Result<Value, AllocError>
 }
 
 // The value of a read and its reply.
-fn ask_value(alloc: Global, query: &Query, reply: &Reply<'_>) -> Result<Value, AllocError>
+fn ask_value(alloc: Global, query: &Query, reply: &Reply<CowText<'_>>) -> Result<Value, AllocError>
     ensures value { IfOk result (λ v. view v ≡ case_data (Ask query.now reply.now)) }
     ensures types { OnOk result (AreOfTypes reply.now) }
 {
@@ -88,7 +88,7 @@ pub fn put_insert(alloc: Global, line: &Line, to: &mut Vec<u8>) -> Result<(), Al
 pub fn put_ask(
     alloc: Global,
     query: &Query,
-    reply: &Reply<'_>,
+    reply: &Reply<CowText<'_>>,
     to: &mut Vec<u8>,
 ) -> Result<(), AllocError>
     ensures ok { OnOk result (to.new.items ≡ to.old.items ++ case_line (Ask query.now reply.now)) }

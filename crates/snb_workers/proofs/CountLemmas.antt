@@ -23,7 +23,7 @@ use Rattle.snb_graph_model.specs.Laws.{GraphsAreTheirRows}
 use Rattle.snb_graph_model.specs.Soundness.{Sound}
 use Rattle.snb_plan.specs.Plans.{Ask, Insert, Operation, Plan, Work, schedule_of}
 use Rattle.snb_read_model.specs.Replies.{IsReply}
-use Rattle.snb_read_replies.specs.Laws.{OneReply}
+use Rattle.snb_read_laws.specs.Laws.{OneReply}
 use Rattle.snb_validation.specs.ReplyData.{reply_data}
 use Rattle.snb_workers_replay.specs.Laws.{IsReplayed, PrefixesAreSound}
 use Rattle.snb_workers_replay.specs.Replay.{IsAfter}

@@ -20,7 +20,7 @@ use Rattle.snb_graph_model.specs.Laws.{GraphsAreTheirRows}
 use Rattle.snb_graph_model.specs.Soundness.{Sound}
 use Rattle.snb_plan.specs.Closed.{IsClosed}
 use Rattle.snb_plan.specs.Plans.{Ask, Insert, Operation, Plan, Work, schedule_of, updates_in}
-use Rattle.snb_read_replies.specs.Laws.{OneReply}
+use Rattle.snb_read_laws.specs.Laws.{OneReply}
 use Rattle.snb_workers_replay.specs.Laws.{IsReplayed, PrefixesAreSound}
 use Rattle.snb_workers_replay.specs.Replay.{IsAfter}
 use Rattle.snb_workers.specs.declared.miscount.Miscount.{Miscount}

@@ -5,7 +5,7 @@ use Rattle.snb_history.specs.declared.event.Event.TheVariants.{Start, Finish, Ha
 use Rattle.snb_history.specs.declared.logged.Logged.{Logged}
 use Rattle.snb_schema.specs.declared.row.Row.{Row}
 use Rattle.snb_plan.specs.Plans.{Ask, Insert, Operation, Plan, Work}
-use Rattle.snb_read_model.specs.declared.cell.Cell.{Cell}
+use Rattle.snb_read_model.specs.Cells.{Cell}
 use Rattle.snb_read_model.specs.Replies.{IsReply}
 use Rattle.snb_workers_replay.specs.Replay.{IsAfter}
 use Rattle.snb_workers.specs.declared.done.Answered.{Answered}

@@ -8,7 +8,7 @@ use Rattle.snb_history.specs.Rules.{IsLegal}
 use Rattle.snb_graph_model.specs.Graphs.{IsGraph}
 use Rattle.snb_graph_model.specs.Soundness.{Sound}
 use Rattle.snb_plan.specs.Plans.{Plan, schedule_of}
-use Rattle.snb_read_model.specs.declared.cell.Cell.{Cell}
+use Rattle.snb_read_model.specs.Cells.{Cell}
 use Rattle.snb_read_model.specs.Replies.{IsReply}
 use Rattle.snb_validation.specs.ReplyData.{reply_data}
 use Rattle.snb_workers_replay.specs.Laws.{IsReplayed}

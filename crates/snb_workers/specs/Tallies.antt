@@ -10,7 +10,7 @@ use Rattle.snb_history.specs.Rules.{IsLegal}
 use Rattle.snb_graph_model.specs.Graphs.{HoldsKey}
 use Rattle.snb_plan.specs.Closed.{IsClosed}
 use Rattle.snb_plan.specs.Plans.{Ask, Insert, Operation, Plan, Work, schedule_of, updates_in}
-use Rattle.snb_read_model.specs.declared.cell.Cell.{Cell}
+use Rattle.snb_read_model.specs.Cells.{Cell}
 use Rattle.snb_read_model.specs.Replies.{IsReply}
 use Rattle.snb_workers.specs.declared.miscount.Miscount.{Miscount}
 use Rattle.snb_workers.specs.declared.tally.Tally.{Tally}

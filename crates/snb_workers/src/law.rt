@@ -5,7 +5,7 @@ ghost use Rattle.snb_workers.specs.Laws.{CountsOfARun, FinishesAreOfOperations, 
 
 use snb_graph_model::law::graphs_are_their_rows;
 use snb_history::law::once_each;
-use snb_read_replies::law::one_reply;
+use snb_read_laws::law::one_reply;
 use snb_workers_replay::law::replay_is_welcome;
 
 /// In a legal history of a plan, the operation of each Finish is one of the plan.

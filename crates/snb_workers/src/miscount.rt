@@ -19,7 +19,7 @@ use snb_graph_model::law::graphs_are_their_rows;
 use snb_history::law::{legal_is_short, prefix_is_legal};
 use snb_history::{Event, Logged};
 use snb_plan::{Plan, Task};
-use snb_read_replies::law::one_reply;
+use snb_read_laws::law::one_reply;
 use snb_read_replies::reply::answer;
 use snb_workers_replay::law::replay_is_welcome;
 use std::alloc::{AllocError, Global};

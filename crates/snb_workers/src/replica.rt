@@ -17,7 +17,7 @@ use snb_history::Event;
 use snb_history::law::{legal_is_short, prefix_is_legal};
 use snb_inserts::apply_welcome;
 use snb_plan::{Plan, Task};
-use snb_read_model::Reply;
+use snb_read_model::{CowText, Reply};
 use snb_read_replies::reply::answer;
 use snb_schema::{Line, Query};
 use snb_validation::reply_text;
@@ -73,7 +73,7 @@ impl ReplyText {
 }
 
 /// How many rows the first answer of a reply has. Takes no memory; 2^32 rows or more count as want of it.
-pub fn count_first_rows(reply: &Reply<'_>) -> Result<u32, AllocError>
+pub fn count_first_rows(reply: &Reply<CowText<'_>>) -> Result<u32, AllocError>
     ensures ok { IfOk result (λ rows. rows ≡ first_rows reply.now) }
     ensures err { OnErr result (2 ^ 32 ≤ first_rows reply.now) }
 {
@@ -176,7 +176,7 @@ impl Replica {
     }
 
     /// The reply to a query on its graph.
-    pub fn answer(&self, alloc: Global, query: &Query) -> Result<Reply<'_>, AllocError>
+    pub fn answer(&self, alloc: Global, query: &Query) -> Result<Reply<CowText<'_>>, AllocError>
         ensures { IfOk result (IsReply self.now.graph query.now) }
     {
         answer(alloc, &self.graph, query)

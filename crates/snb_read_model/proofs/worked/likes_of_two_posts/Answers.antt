@@ -1,6 +1,6 @@
 use Rattle.std.proofs.Common.{zero, suc, List, [], ◌∷◌, refl, arith}
 use Rattle.std.specs.List.Sorted.{IsSorted}
-use Rattle.snb_read_model.specs.declared.cell.Cell.{Cell}
+use Rattle.snb_read_model.specs.Cells.{Cell}
 use Rattle.snb_read_model.specs.Order.{Falling, Rising, by}
 use Rattle.snb_read_model.specs.Worked.{like_of_bob, like_of_cy, like_of_di}
 use Rattle.snb_read_model.proofs.worked.likes_of_two_posts.Goals as goal

@@ -1,4 +1,4 @@
-use Rattle.snb_read_replies.proofs.ColumnFacts.{columns_of_answer}
+use Rattle.snb_read_laws.proofs.Laws.{columns_of_answer}
 use Rattle.snb_read_replies.proofs.reply.answer.Goals as goal
 
 pub tail_of-tail-requires : goal.tail_of-tail-requires
