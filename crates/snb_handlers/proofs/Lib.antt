@@ -1,4 +1,3 @@
 mod Answering
-mod Following
 mod Images
 mod Order

@@ -1,12 +1,7 @@
 -- A table of handlers, and the kinds of reads that have one.
-use Rattle.std.specs.Prelude.{◌≡◌, ◌++◌, ℕ, ◌<◌, List, Contains, map}
-use Rattle.std.specs.List.{AllZip}
-use Rattle.snb_schema.specs.declared.query.Query.{Query}
+use Rattle.std.specs.Prelude.{ℕ, ◌<◌, List, Contains, map}
 use Rattle.snb_schema.specs.declared.read_kind.ReadKind.{ReadKind}
 use Rattle.snb_schema.specs.declared.read_kind.ReadKind.TheVariants.{Is1, Is2, Is3, Is4, Is5, Is6, Is7, Ic1, Ic2, Ic7, Ic8, Ic9, Ic11, Ic13}
-use Rattle.snb_schema.specs.declared.row.Row.{Row}
-use Rattle.snb_read_model.specs.Cells.{Cell}
-use Rattle.snb_read_model.specs.Replies.{IsAnswer}
 use Rattle.snb_handlers.specs.declared.handler.Handler.{Handler}
 use Rattle.snb_handlers.specs.declared.handlers.Handlers.{Handlers}
 
@@ -49,9 +44,3 @@ HasAll there = (kind : ReadKind) → Contains there kind
 pub record IsFirstMissing (there : List ReadKind) (kind : ReadKind) : Type 0 where
   pub lacking : ¬ Contains there kind
   pub before : (earlier : ReadKind) → place_of earlier < place_of kind → Contains there earlier
-
--- the answers to these queries were added to a reply. Cited by a contract of a private function alone
-pub record HasAnswered (g : List Row) (asked : List Query) (old new : List (List (List Cell))) : Type 0 where
-  pub more : List (List (List Cell))
-  pub added : new ≡ old ++ more
-  pub answers : AllZip (IsAnswer g) asked more

@@ -1,17 +1,17 @@
 //! How handlers are registered and asked.
 
 ghost use Rattle.std.specs.Prelude.{◌≡◌, ◌↔◌, ◌∷◌, ◌++◌, [], Contains, Err, IfOk, IsTrue, MatchOption, OnErr, OnOk};
+ghost use Rattle.std.specs.List.{AllZip};
 ghost use Rattle.snb_schema.specs.ReadKinds.{kind_of};
 ghost use Rattle.snb_graph_model.specs.Soundness.{Sound};
 ghost use Rattle.snb_read_model.specs.Replies.{IsAnswer, IsReply};
-ghost use Rattle.snb_handlers.specs.Table.{HasAll, HasAnswered, IsFirstMissing, handlers_of, kinds, kinds_in};
+ghost use Rattle.snb_handlers.specs.Table.{HasAll, IsFirstMissing, handlers_of, kinds, kinds_in};
 
 use crate::handler::Handler;
 use crate::handlers::Handlers;
 use crate::kinds::{KINDS, place_of};
 use snb_base::Text;
 use snb_graph::Graph;
-use snb_read_laws::law::answers_have_columns;
 use snb_read_model::tail::tail_of;
 use snb_read_model::{Answer, Reply};
 use snb_schema::{Query, ReadKind};
@@ -100,21 +100,17 @@ impl Handlers {
         }
     }
 
-    // Adds the answers to these queries.
-    fn follow(
-        &self,
-        graph: &Graph,
-        queries: &[Query],
-        reply: &mut Reply<Text>,
-    ) -> Result<(), AllocError>
+    // The answers to queries, each by the handler of its kind.
+    fn answers(&self, graph: &Graph, queries: &[Query]) -> Result<Vec<Answer<Text>>, AllocError>
         requires sound { Sound graph.now }
         requires all { HasAll (kinds self.now) }
-        ensures { OnOk result (HasAnswered graph.now queries.now reply.old reply.new) }
+        ensures { IfOk result (λ answers. AllZip (IsAnswer graph.now) queries.now answers.items) }
     {
+        let mut answers = Vec::new(self.alloc);
         for query in queries {
-            reply.push(self.answer(graph, query)?)?;
+            answers.push(self.answer(graph, query)?)?;
         }
-        Ok(())
+        Ok(answers)
     }
 
     /// The reply to a query: its own answer, and then the answers of the short reads that follow it, each by the
@@ -125,12 +121,9 @@ impl Handlers {
         requires all { HasAll (kinds self.now) }
         ensures { IfOk result (IsReply graph.now query.now) }
     {
-        answers_have_columns();
         let own = self.answer(graph, query)?;
-        let tail = tail_of(query, &own.lend()?);
-        let mut reply = Reply::new(self.alloc);
-        reply.push(own)?;
-        self.follow(graph, &tail.queries(self.alloc)?, &mut reply)?;
-        Ok(reply)
+        let follow = tail_of(query, &own.lend()?).queries(self.alloc)?;
+        let tail = self.answers(graph, &follow)?;
+        Reply::with_tail(self.alloc, own, tail)
     }
 }
