@@ -1,11 +1,9 @@
 -- The order of the kinds.
-use Rattle.std.proofs.Common.{◌≡◌, ◌∙◌, ℕ, ◌<◌, ◌+◌, List, [], ◌∷◌, arith, ap, sym, refl, get_or, subst, lit<, below_more}
-use Rattle.std.proofs.lemmas.List.{get_or-map}
-use Rattle.std.proofs.lemmas.List.FromFn.{get_or-range_with_len}
+use Rattle.std.proofs.Common.{◌≡◌, ◌∙◌, ℕ, ◌<◌, ◌+◌, List, [], ◌∷◌, ap, sym, refl, get_or, subst, lit<, below_more}
 use Rattle.std.specs.List.{Contains}
 use Rattle.snb_schema.specs.declared.read_kind.ReadKind.{ReadKind}
 use Rattle.snb_schema.specs.declared.read_kind.ReadKind.TheVariants.{Is1, Is2, Is3, Is4, Is5, Is6, Is7, Ic1, Ic2, Ic7, Ic8, Ic9, Ic11, Ic13}
-use Rattle.snb_handlers.specs.Table.{IsFirstMissing, place_of}
+use Rattle.snb_handlers.specs.Table.{place_of}
 
 -- the kinds in order
 abbrev pub in_order : List ReadKind
@@ -32,10 +30,6 @@ at_place Ic9 = refl
 at_place Ic11 = refl
 at_place Ic13 = refl
 
--- two kinds have two places
-pub same_place : (j k : ReadKind) → place_of j ≡ place_of k → j ≡ k
-same_place j k e = sym (at_place j) ∙ ap kind_at e ∙ at_place k
-
 -- there are fourteen places
 pub place_below : (k : ReadKind) → place_of k < 14
 place_below Is1 = lit< tt
@@ -53,10 +47,6 @@ place_below Ic9 = lit< tt
 place_below Ic11 = lit< tt
 place_below Ic13 = lit< tt
 
--- and the kind at a place has that place
-place_at : (n : ℕ) → n < 14 → place_of (kind_at n) ≡ n
-place_at n below = sym (get_or-map place_of in_order n Is1 0 below) ∙ get_or-range_with_len 0 14 n 0 below ∙ omega arith
-
 -- where the kinds before a place are there, and then the one at it
 pub one_more : (there : List ReadKind) (n : ℕ) → ((k : ReadKind) → place_of k < n → Contains there k) → Contains there (kind_at n)
     → (k : ReadKind) → place_of k < n + 1 → Contains there k
@@ -64,9 +54,3 @@ one_more there n before here k less =
     below_more (λ m. (j : ReadKind) → place_of j ≡ m → Contains there j) n
     (λ m l j e. before j (subst (λ (x : ℕ). x < n) (sym e) l))
     (λ j e. subst (Contains there) (ap kind_at (sym e) ∙ at_place j) here) (place_of k) less k refl
-
--- where the kinds before a place are there, and the one at it isn't
-pub first_missing : (there : List ReadKind) (n : ℕ) → n < 14 → ((k : ReadKind) → place_of k < n → Contains there k) → ¬ Contains there (kind_at n)
-    → IsFirstMissing there (kind_at n)
-first_missing there n below before lacking =
-    record { lacking = lacking; before = λ k less. before k (subst (λ (m : ℕ). place_of k < m) (place_at n below) less) }

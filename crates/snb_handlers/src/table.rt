@@ -55,7 +55,10 @@ impl Handlers {
     pub fn has(&self, kind: ReadKind) -> bool
         ensures { IsTrue result ↔ Contains (kinds self.now) kind }
     {
-        find(&self.items, kind).is_some()
+        match find(&self.items, kind) {
+            Some(_) => true,
+            None => false,
+        }
     }
 
     /// The first kind without a handler, in the order of `ReadKind`; None exactly where each kind has one. Takes

@@ -1,4 +1,4 @@
-use Rattle.std.proofs.Common.{◌≡◌, ◌∙◌, ap, sym, below_more}
+use Rattle.std.proofs.Common.{◌∙◌, ap, sym, below_more}
 use Rattle.snb_handlers.specs.Table.{place_of}
 use Rattle.snb_handlers.proofs.Images.{image_at}
 use Rattle.snb_handlers.proofs.table.find.Goals as goal
