@@ -1,0 +1,6 @@
+//! The calls of a script on a table of handlers that answer from the graph. `answer` makes a call.
+#![tactic(auto)]
+
+pub mod answer;
+mod cases;
+mod connector;
