@@ -102,4 +102,16 @@ impl Answer<Text> {
     {
         self.lend()?.try_copy()
     }
+
+    /// The list with the same texts, none of them copied.
+    pub fn into_cow<'a>(self) -> Result<Answer<CowText<'a>>, AllocError>
+        ensures { IfOk result (λ cow. cow ≡ self) }
+    {
+        let Answer { alloc, items } = self;
+        let mut cows = Vec::new(alloc);
+        for one in items {
+            cows.push(one.into_cow()?)?;
+        }
+        Ok(Answer { alloc, items: cows })
+    }
 }

@@ -102,4 +102,16 @@ impl AnswerRow<Text> {
     {
         self.lend()?.try_copy()
     }
+
+    /// The list with the same texts, none of them copied.
+    pub fn into_cow<'a>(self) -> Result<AnswerRow<CowText<'a>>, AllocError>
+        ensures { IfOk result (λ cow. cow ≡ self) }
+    {
+        let AnswerRow { alloc, items } = self;
+        let mut cows = Vec::new(alloc);
+        for one in items {
+            cows.push(one.into_cow()?)?;
+        }
+        Ok(AnswerRow { alloc, items: cows })
+    }
 }

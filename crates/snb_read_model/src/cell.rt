@@ -97,4 +97,24 @@ impl Cell<Text> {
     {
         self.lend()?.try_copy()
     }
+
+    /// The cell with the same texts, none of them copied.
+    pub fn into_cow<'a>(self) -> Result<Cell<CowText<'a>>, AllocError>
+        ensures { IfOk result (λ cow. cow ≡ self) }
+    {
+        let cow = match self {
+            Cell::Number { value } => Cell::Number { value },
+            Cell::Flag { value } => Cell::Flag { value },
+            Cell::Words { text } => Cell::Words {
+                text: CowText::own(text),
+            },
+            Cell::List { texts } => Cell::List {
+                texts: texts.into_cow()?,
+            },
+            Cell::Stays { stays } => Cell::Stays {
+                stays: stays.into_cow()?,
+            },
+        };
+        Ok(cow)
+    }
 }

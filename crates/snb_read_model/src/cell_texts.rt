@@ -80,4 +80,16 @@ impl CellTexts<Text> {
     {
         self.lend()?.try_copy()
     }
+
+    /// The list with the same texts, none of them copied.
+    pub fn into_cow<'a>(self) -> Result<CellTexts<CowText<'a>>, AllocError>
+        ensures { IfOk result (λ cow. cow ≡ self) }
+    {
+        let CellTexts { alloc, items } = self;
+        let mut cows = Vec::new(alloc);
+        for text in items {
+            cows.push(CowText::own(text))?;
+        }
+        Ok(CellTexts { alloc, items: cows })
+    }
 }

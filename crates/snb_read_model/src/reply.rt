@@ -116,4 +116,16 @@ impl Reply<Text> {
     {
         self.lend()?.try_copy()
     }
+
+    /// The list with the same texts, none of them copied.
+    pub fn into_cow<'a>(self) -> Result<Reply<CowText<'a>>, AllocError>
+        ensures { IfOk result (λ cow. cow ≡ self) }
+    {
+        let Reply { alloc, items } = self;
+        let mut cows = Vec::new(alloc);
+        for one in items {
+            cows.push(one.into_cow()?)?;
+        }
+        Ok(Reply { alloc, items: cows })
+    }
 }

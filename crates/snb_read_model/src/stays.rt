@@ -100,4 +100,16 @@ impl Stays<Text> {
     {
         self.lend()?.try_copy()
     }
+
+    /// The list with the same texts, none of them copied.
+    pub fn into_cow<'a>(self) -> Result<Stays<CowText<'a>>, AllocError>
+        ensures { IfOk result (λ cow. cow ≡ self) }
+    {
+        let Stays { alloc, items } = self;
+        let mut cows: Vec<(CowText<'a>, u32, CowText<'a>)> = Vec::new(alloc);
+        for (name, year, place) in items {
+            cows.push((CowText::own(name), year, CowText::own(place)))?;
+        }
+        Ok(Stays { alloc, items: cows })
+    }
 }
