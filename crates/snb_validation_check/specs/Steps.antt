@@ -38,11 +38,6 @@ abbrev pub IsKept : ℕ → List (List (List Cell)) → List (List (List Cell)) 
 IsKept line due given None = given ≡ due
 IsKept line due given (Some d) = (given ≢ due) × (d ≡ record { line = line; expected = due; given = given })
 
--- the reply that is due is the query's where there is no other one, and else that other one is
-abbrev pub IsOther : List Row → Query → List (List (List Cell)) → Option (List (List (List Cell))) → Type 0
-IsOther graph query due None = IsReply graph query due
-IsOther graph query due (Some given) = IsReply graph query given × (given ≢ due)
-
 -- what is kept already stays; else the reply on the graph is compared with the one that is due
 abbrev pub HasCompared : List Row → ℕ → Query → List (List (List Cell)) → Option Difference → Option Difference → Type 0
 HasCompared graph line query due (Some d) new = new ≡ Some d

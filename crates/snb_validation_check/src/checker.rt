@@ -13,6 +13,7 @@ ghost use Rattle.snb_validation_check.specs.Steps.{HasCompared, HasText, IsTaken
 
 use crate::difference::Difference;
 use crate::replier::{OwnReads, Replier};
+use crate::same::same_reply;
 use snb_base::Text;
 use snb_graph::Graph;
 use snb_handlers::Handlers;
@@ -77,14 +78,15 @@ fn compared<R: Replier>(
     requires sound { Sound graph.now }
     ensures { IfOk result (HasCompared graph.now line query.now due.now None) }
 {
-    match replier.other_reply(graph, query, due)? {
-        None => Ok(None),
-        Some(given) => Ok(Some(Difference {
-            line,
-            expected: due.try_copy()?,
-            given,
-        })),
+    let given = replier.reply_to(graph, query)?;
+    if same_reply(&given, due) {
+        return Ok(None);
     }
+    Ok(Some(Difference {
+        line,
+        expected: due.try_copy()?,
+        given: given.try_copy()?,
+    }))
 }
 
 impl Checker {
@@ -188,8 +190,7 @@ impl Checker {
         self.step_by(&OwnReads { alloc }, case, number)
     }
 
-    /// Takes the case of this line as `step` does, but the replies to reads are those of the handlers. They are the
-    /// graph's own, so that what comes of it is the same.
+    /// Takes the case of this line as `step` does, but asks the handlers for the replies to reads.
     /// The conditions: some line of an update stream is the insert's, and each kind of read has a handler.
     pub fn step_via(
         &mut self,

@@ -2,13 +2,11 @@
 
 ghost use Rattle.std.specs.Prelude.{IfOk};
 ghost use Rattle.snb_graph_model.specs.Soundness.{Sound};
-ghost use Rattle.snb_validation_check.specs.Steps.{IsOther};
+ghost use Rattle.snb_read_model.specs.Replies.{IsReply};
 
-use crate::same::same_reply;
-use snb_base::Text;
 use snb_graph::Graph;
 use snb_handlers::Handlers;
-use snb_read_model::Reply;
+use snb_read_model::{CowText, Reply};
 use snb_read_replies::reply::answer;
 use snb_schema::Query;
 use std::alloc::{AllocError, Global};
@@ -18,17 +16,15 @@ pub(crate) trait Replier {
     /// It has what it needs for that.
     ghost ready: { Self → Type 0 };
 
-    /// Its reply to a query, where that isn't the one that is due; None where it is. An error says that memory
-    /// doesn't suffice.
-    fn other_reply(
+    /// The reply to a query. An error says that memory doesn't suffice.
+    fn reply_to<'a>(
         &self,
-        graph: &Graph,
+        graph: &'a Graph,
         query: &Query,
-        due: &Reply<Text>,
-    ) -> Result<Option<Reply<Text>>, AllocError>
+    ) -> Result<Reply<CowText<'a>>, AllocError>
         requires ready { ready self.now }
         requires sound { Sound graph.now }
-        ensures { IfOk result (IsOther graph.now query.now due.now) };
+        ensures { IfOk result (IsReply graph.now query.now) };
 }
 
 /// The graph's own reads.
@@ -45,17 +41,12 @@ impl Drop for OwnReads {
 impl Replier for OwnReads {
     ghost ready = { λ _. Unit {0} };
 
-    fn other_reply(
+    fn reply_to<'a>(
         &self,
-        graph: &Graph,
+        graph: &'a Graph,
         query: &Query,
-        due: &Reply<Text>,
-    ) -> Result<Option<Reply<Text>>, AllocError> {
-        let given = answer(self.alloc, graph, query)?;
-        if same_reply(&given, due) {
-            return Ok(None);
-        }
-        Ok(Some(given.try_copy()?))
+    ) -> Result<Reply<CowText<'a>>, AllocError> {
+        answer(self.alloc, graph, query)
     }
 }
 
@@ -64,16 +55,11 @@ impl Replier for Handlers {
 
     ghost ready = { λ table. HasAll (kinds table) };
 
-    fn other_reply(
+    fn reply_to<'a>(
         &self,
-        graph: &Graph,
+        graph: &'a Graph,
         query: &Query,
-        due: &Reply<Text>,
-    ) -> Result<Option<Reply<Text>>, AllocError> {
-        let given = self.reply(graph, query)?;
-        if same_reply(&given.lend()?, due) {
-            return Ok(None);
-        }
-        Ok(Some(given))
+    ) -> Result<Reply<CowText<'a>>, AllocError> {
+        self.reply(graph, query)?.into_cow()
     }
 }
