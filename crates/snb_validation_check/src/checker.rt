@@ -56,8 +56,7 @@ impl Drop for Checker {
 
 impl Model for Checker {
     ghost use Rattle.snb_graph_model.specs.Soundness.{Sound};
-    ghost use Rattle.snb_handlers.specs.Table.{HasAll, kinds};
-ghost use Rattle.snb_validation_check.specs.Steps.{Checked};
+    ghost use Rattle.snb_validation_check.specs.Steps.{Checked};
 
     ghost Value = { Checked };
 
