@@ -1,10 +1,17 @@
 //! The calls of this crate by their words. To add one, write a function for it, and name it here.
 
 use crate::cases::graph_of;
-use crate::connector::checked;
-use snb_test_script::words::first_word;
+use crate::connector::{asked, checked};
+use snb_test_script::words::{first_word, number_of};
 use snb_test_script::{Files, Flaw};
 use std::alloc::Global;
+
+// `handler FOLDER PERSON`
+fn handler(alloc: Global, files: &Files, rest: &str) -> Result<String, Flaw> {
+    let (folder, person) = first_word(rest);
+    let graph = graph_of(alloc, files, folder)?;
+    asked(alloc, &graph, number_of(person)?)
+}
 
 // `handlers FOLDER FILE`
 fn handlers(alloc: Global, files: &Files, rest: &str) -> Result<String, Flaw> {
@@ -22,6 +29,7 @@ pub fn answer(
     rest: &str,
 ) -> Result<Option<String>, Flaw> {
     match call {
+        "handler" => Ok(Some(handler(alloc, files, rest)?)),
         "handlers" => Ok(Some(handlers(alloc, files, rest)?)),
         _ => Ok(None),
     }

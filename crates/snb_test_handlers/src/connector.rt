@@ -1,5 +1,4 @@
-//! A connector whose handlers answer from the graph, and count how often they are asked. docs/CONNECTORS.md explains
-//! it.
+//! Connectors whose handlers answer from the graph. docs/CONNECTORS.md explains them.
 
 ghost use Rattle.std.specs.Prelude.{◌≡◌, IfOk};
 ghost use Rattle.snb_schema.specs.declared.read_kind.ReadKind.TheVariants.{Is3};
@@ -8,41 +7,46 @@ ghost use Rattle.snb_graph_model.specs.Soundness.{Sound};
 ghost use Rattle.snb_read_model.specs.Replies.{IsAnswer};
 
 use crate::cases::check;
+use crate::told::{flaw_of, told_counts, told_rows};
 use snb_base::Text;
 use snb_graph::Graph;
-use snb_handlers::{Call, Handler, Handlers, KINDS, Register};
+use snb_handlers::{Call, Handler, Handlers, KINDS};
 use snb_read_model::Answer;
 use snb_read_replies::reply::own_answer;
 use snb_schema::{Query, ReadKind};
 use snb_short_reads::persons::is3;
-use snb_test_script::{Flaw, List};
+use snb_test_script::Flaw;
 use std::alloc::{AllocError, Global};
 use std::cell::Cell;
 use std::rc::Rc;
 
-// Why a handler isn't registered.
-fn flaw_of(why: Register) -> Flaw {
-    match why {
-        Register::Duplicate => Flaw::OtherValue,
-        Register::Memory => Flaw::Memory,
-    }
-}
-
-// Which handlers were asked, and how often, after what came of the cases.
-fn told(alloc: Global, came: &str, counts: &[(ReadKind, Rc<Cell<u64>>)]) -> Result<String, Flaw> {
-    let mut list = List::new(alloc);
-    list.add(came)?;
-    for (kind, count) in counts {
-        let count = count.get();
-        if count > 0 {
-            let word = kind.word();
-            list.add(format!(in alloc; "{word} {count}")?.as_str())?;
+/// Registers a handler of IS3 alone, and asks it for the friends of a person.
+pub(crate) fn asked(alloc: Global, graph: &Graph, person: u64) -> Result<String, Flaw>
+    requires { Sound graph.now }
+{
+    let call: Call = Box::new(alloc, move |graph: &Graph, query: &Query| -> Result<Answer<Text>, AllocError>
+        requires sound { Sound graph.now }
+        requires kind { kind_of query.now ≡ Is3 }
+        ensures { IfOk result (IsAnswer graph.now query.now) }
+    {
+        match query {
+            Query::Is3 { person } => is3(alloc, graph, *person)?.try_copy(),
+            _ => unreachable!(),
         }
+    })?;
+    let mut handlers = Handlers::new(alloc);
+    if let Err(why) = handlers.register(Handler::new(ReadKind::Is3, call)) {
+        return Err(flaw_of(why));
     }
-    list.told(alloc)
+    if !handlers.has(ReadKind::Is3) {
+        return Err(Flaw::OtherValue);
+    }
+    let answer = handlers.answer(graph, &Query::Is3 { person })?;
+    told_rows(alloc, &answer, handlers.missing())
 }
 
-/// Checks the cases of a file by a handler for each kind of read.
+/// Registers a handler for each kind of read, which counts how often it is asked, and checks the cases of a file by
+/// them.
 pub(crate) fn checked(alloc: Global, graph: Graph, file: &[u8]) -> Result<String, Flaw>
     requires { Sound graph }
 {
@@ -66,7 +70,7 @@ pub(crate) fn checked(alloc: Global, graph: Graph, file: &[u8]) -> Result<String
         Some(_) => Err(Flaw::OtherValue),
         None => {
             let came = check(alloc, &handlers, graph, file)?;
-            told(alloc, came.as_str(), &counts)
+            told_counts(alloc, came.as_str(), &counts)
         }
     }
 }
