@@ -19,8 +19,9 @@ use snb_short_reads::messages::{is4, is5, is6, is7};
 use snb_short_reads::persons::{is1, is2, is3};
 use std::alloc::{AllocError, Global};
 
-// The query's own answer.
-fn own_answer<'a>(
+/// The query's own answer, without those of the reads that follow it.
+/// The condition: the graph is sound.
+pub fn own_answer<'a>(
     alloc: Global,
     graph: &'a Graph,
     query: &Query,

@@ -2,5 +2,6 @@ mod Answering
 mod CasesFacts
 mod Inserting
 mod LawFacts
+pub mod Laws
 mod Refusing
 mod Telling

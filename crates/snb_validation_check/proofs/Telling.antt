@@ -37,7 +37,7 @@ cases_lawful rows exact header column = λ base. record {
 }
 
 -- a case that a value is has a line where it inserts
-has_text : (d : Data) (c : Case) → IsCase d c → HasText c
+pub has_text : (d : Data) (c : Case) → IsCase d c → HasText c
 has_text d (Insert line) is = (is.is_line.0, line.t, line.t_d, is.is_line.2)
 has_text d (Ask query reply) is = tt
 

@@ -8,16 +8,18 @@ ghost use Rattle.snb_schema.specs.References.{refs_of};
 ghost use Rattle.snb_graph_model.specs.Graphs.{HasGained};
 ghost use Rattle.snb_graph_model.specs.Soundness.{Sound};
 ghost use Rattle.snb_inserts.specs.Applying.{HasLine, IsDuplicate, IsFirstMissing};
+ghost use Rattle.snb_handlers.specs.Table.{HasAll, kinds};
 ghost use Rattle.snb_validation_check.specs.Steps.{HasCompared, HasText, IsTaken, IsUnmet, Steps};
 
 use crate::difference::Difference;
+use crate::replier::{OwnReads, Replier};
 use crate::same::same_reply;
 use snb_base::Text;
 use snb_graph::Graph;
+use snb_handlers::Handlers;
 use snb_inserts::Applied;
 use snb_inserts::apply::apply;
 use snb_read_model::Reply;
-use snb_read_replies::reply::answer;
 use snb_schema::{Missing, Op, Query};
 use snb_validation_cases::Case;
 use std::alloc::{AllocError, Global};
@@ -64,17 +66,18 @@ impl Model for Checker {
 }
 
 // What is kept of a read on the graph, where nothing is kept yet.
-fn compared(
-    alloc: Global,
+fn compared<R: Replier>(
+    replier: &R,
     graph: &Graph,
     line: u32,
     query: &Query,
     due: &Reply<Text>,
 ) -> Result<Option<Difference>, AllocError>
+    requires ready { R.ready replier.now }
     requires sound { Sound graph.now }
     ensures { IfOk result (HasCompared graph.now line query.now due.now None) }
 {
-    let given = answer(alloc, graph, query)?;
+    let given = replier.reply_to(graph, query)?;
     if same_reply(&given, due) {
         return Ok(None);
     }
@@ -108,13 +111,20 @@ impl Checker {
     }
 
     // Takes a read.
-    fn ask(&mut self, query: &Query, due: &Reply<Text>, number: u32) -> Result<(), AllocError>
+    fn ask<R: Replier>(
+        &mut self,
+        replier: &R,
+        query: &Query,
+        due: &Reply<Text>,
+        number: u32,
+    ) -> Result<(), AllocError>
+        requires ready { R.ready replier.now }
         ensures graph { self.new.graph ≡ self.old.graph }
         ensures ok { OnOk result (HasCompared self.old.graph number query.now due.now self.old.first self.new.first) }
         ensures err { OnErr result (self.new ≡ self.old) }
     {
         if self.first.is_none() {
-            self.first = compared(self.alloc, &self.graph, number, query, due)?;
+            self.first = compared(replier, &self.graph, number, query, due)?;
         }
         Ok(())
     }
@@ -129,6 +139,34 @@ impl Checker {
         ensures err { OnErr result (self.new ≡ self.old) }
     {
         apply(self.alloc, &mut self.graph, op)
+    }
+
+    // Takes the case of this line, where this one replies to reads.
+    fn step_by<R: Replier>(
+        &mut self,
+        replier: &R,
+        case: &Case,
+        number: u32,
+    ) -> Result<(), StepFault>
+        requires ready { R.ready replier.now }
+        requires text { HasText case.now }
+        ensures ok { OnOk result (Steps self.old case.now number self.new) }
+        ensures missing { (missing : MissingNode) → (result ≡ Err (StepFault.Missing missing)) ↔ IsUnmet self.old.graph case.now missing }
+        ensures duplicate { (result ≡ Err StepFault.Duplicate) ↔ IsTaken self.old.graph case.now }
+        ensures err { OnErr result (self.new ≡ self.old) }
+    {
+        match case {
+            Case::Insert { line } => match self.insert(&line.op) {
+                Ok(()) => Ok(()),
+                Err(Applied::Missing { missing }) => Err(StepFault::Missing { missing }),
+                Err(Applied::Duplicate) => Err(StepFault::Duplicate),
+                Err(Applied::Memory) => Err(StepFault::Memory),
+            },
+            Case::Ask { query, reply } => match self.ask(replier, query, reply, number) {
+                Ok(()) => Ok(()),
+                Err(_) => Err(StepFault::Memory),
+            },
+        }
     }
 
     /// Takes the case of this line. The rows of an insert go into the graph, also after a difference. A
@@ -147,18 +185,26 @@ impl Checker {
         ensures duplicate { (result ≡ Err StepFault.Duplicate) ↔ IsTaken self.old.graph case.now }
         ensures err { OnErr result (self.new ≡ self.old) }
     {
-        match case {
-            Case::Insert { line } => match self.insert(&line.op) {
-                Ok(()) => Ok(()),
-                Err(Applied::Missing { missing }) => Err(StepFault::Missing { missing }),
-                Err(Applied::Duplicate) => Err(StepFault::Duplicate),
-                Err(Applied::Memory) => Err(StepFault::Memory),
-            },
-            Case::Ask { query, reply } => match self.ask(query, reply, number) {
-                Ok(()) => Ok(()),
-                Err(_) => Err(StepFault::Memory),
-            },
-        }
+        let alloc = self.alloc;
+        self.step_by(&OwnReads { alloc }, case, number)
+    }
+
+    /// Takes the case of this line as `step` does, but asks the handlers for the replies to reads.
+    /// The conditions: some line of an update stream is the insert's, and each kind of read has a handler.
+    pub fn step_via(
+        &mut self,
+        handlers: &Handlers,
+        case: &Case,
+        number: u32,
+    ) -> Result<(), StepFault>
+        requires all { HasAll (kinds handlers.now) }
+        requires text { HasText case.now }
+        ensures ok { OnOk result (Steps self.old case.now number self.new) }
+        ensures missing { (missing : MissingNode) → (result ≡ Err (StepFault.Missing missing)) ↔ IsUnmet self.old.graph case.now missing }
+        ensures duplicate { (result ≡ Err StepFault.Duplicate) ↔ IsTaken self.old.graph case.now }
+        ensures err { OnErr result (self.new ≡ self.old) }
+    {
+        self.step_by(handlers, case, number)
     }
 
     /// The first case whose reply differs from the graph's, if there is one. Takes no memory.

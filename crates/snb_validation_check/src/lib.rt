@@ -6,6 +6,7 @@ pub mod checker;
 pub mod difference;
 pub mod file;
 pub mod law;
+mod replier;
 mod same;
 pub mod text;
 

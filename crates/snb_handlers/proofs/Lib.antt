@@ -1,0 +1,3 @@
+mod Answering
+mod Images
+mod Order

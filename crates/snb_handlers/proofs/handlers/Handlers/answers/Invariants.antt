@@ -1,0 +1,7 @@
+use Rattle.std.proofs.Common.{take}
+use Rattle.std.specs.List.{AllZip}
+use Rattle.snb_read_model.specs.Replies.{IsAnswer}
+use Rattle.snb_handlers.proofs.handlers.Handlers.answers.Given as goal
+
+abbrev pub invariant-loop-query : goal.invariant-loop-query
+invariant-loop-query g l = AllZip (IsAnswer l.graph) (take l.query-index l.queries) l.answers.items

@@ -1,0 +1,13 @@
+//! A table of handlers, one for each kind of read of LDBC's Social Network Benchmark, Interactive workload v1: what
+//! answers the reads in place of the graph's own, as a connector to a database does.
+#![tactic(auto)]
+
+pub mod handler;
+pub mod handlers;
+pub mod kinds;
+pub mod table;
+
+pub use handler::{Call, Handler};
+pub use handlers::Handlers;
+pub use kinds::KINDS;
+pub use table::Register;

@@ -1,0 +1,36 @@
+//! The calls of this crate by their words. To add one, write a function for it, and name it here.
+
+use crate::cases::graph_of;
+use crate::connector::{asked, checked};
+use snb_test_script::words::{first_word, number_of};
+use snb_test_script::{Files, Flaw};
+use std::alloc::Global;
+
+// `handler FOLDER PERSON`
+fn handler(alloc: Global, files: &Files, rest: &str) -> Result<String, Flaw> {
+    let (folder, person) = first_word(rest);
+    let graph = graph_of(alloc, files, folder)?;
+    asked(alloc, &graph, number_of(person)?)
+}
+
+// `handlers FOLDER FILE`
+fn handlers(alloc: Global, files: &Files, rest: &str) -> Result<String, Flaw> {
+    let (folder, file) = first_word(rest);
+    let graph = graph_of(alloc, files, folder)?;
+    checked(alloc, graph, files.bytes(file)?)
+}
+
+/// Makes the call of this word, over the files as they are, and tells what it answers; None where there is
+/// no such call. Nothing is left of one call for the next.
+pub fn answer(
+    alloc: Global,
+    files: &Files,
+    call: &str,
+    rest: &str,
+) -> Result<Option<String>, Flaw> {
+    match call {
+        "handler" => Ok(Some(handler(alloc, files, rest)?)),
+        "handlers" => Ok(Some(handlers(alloc, files, rest)?)),
+        _ => Ok(None),
+    }
+}

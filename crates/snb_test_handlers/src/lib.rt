@@ -1,0 +1,7 @@
+//! The calls of a script on handlers that answer from the graph. `answer` makes a call.
+#![tactic(auto)]
+
+pub mod answer;
+mod cases;
+mod connector;
+mod told;
