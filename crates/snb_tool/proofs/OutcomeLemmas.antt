@@ -10,9 +10,10 @@ use Rattle.snb_schema.specs.declared.query.Query.{Query}
 use Rattle.snb_input_files.specs.declared.load.Load.{Load}
 use Rattle.snb_input_files.specs.declared.load.Load.TheVariants as loads
 use Rattle.snb_input_files.specs.Loading.{IsTold, is_read_fault}
-use Rattle.std.specs.Prelude.{IfSome, ◌≢◌, MatchBool, Result, true}
+use Rattle.std.specs.Prelude.{IfSome, ◌≢◌, MatchBool, Bool, Result, true, false}
 use Rattle.snb_schema.specs.declared.row.Row.{Row}
 use Rattle.snb_schema.specs.Frequencies.{FrequencyTable}
+use Rattle.snb_history.specs.declared.logged.Logged.{Logged}
 use Rattle.snb_history.specs.RunTexts.{header_of, log_text}
 use Rattle.snb_schema.specs.ScreenTexts.{refusal_text, summary_text}
 use Rattle.snb_graph_model.specs.FinalText.{final_text}
@@ -217,7 +218,7 @@ module _ (contents : Option Files) (folder log : List ℕ) (ratio : ℕ) (table 
   latency_not loads.ReadFault h = tt
   latency_not loads.Memory h = tt
 
-  pub latency_done : (judged : Judged) (status : ℕ) (texts : Written) → IsJudgedAnswer contents folder log ratio table (Ok judged)
+  latency_done : (judged : Judged) (status : ℕ) (texts : Written) → IsJudgedAnswer contents folder log ratio table (Ok judged)
       → MatchBool (is_whole judged.audited.verdict) ((status ≡ 0) × ShowsSummary judged.plan (events_of judged.audited.log.logged.items) texts)
       ((status ≡ 1) × (texts ≡ on_screen (audit_text judged.audited.verdict)))
       → IsDoneWith (Latency folder log ratio table) contents fixed status texts
@@ -234,6 +235,24 @@ module _ (contents : Option Files) (folder log : List ℕ) (ratio : ℕ) (table 
       told = told;
     },
   )
+
+  -- what is shown of the log of a whole run
+  pub latency_summed : (judged : Judged) (status : ℕ) (texts shown : Written) (logged : List Logged) → IsJudgedAnswer contents folder log ratio table (Ok judged)
+      → is_whole judged.audited.verdict ≡ true → logged ≡ judged.audited.log.logged.items → status ≡ 0 → texts ≡ shown → ShowsSummary judged.plan (events_of logged) shown
+      → IsDoneWith (Latency folder log ratio table) contents fixed status texts
+  latency_summed judged status texts shown logged h whole same zero e shows =
+      latency_done judged status texts h
+      (subst (λ (b : Bool). MatchBool b ((status ≡ 0) × ShowsSummary judged.plan (events_of judged.audited.log.logged.items) texts) ((status ≡ 1) × (texts ≡ on_screen (audit_text judged.audited.verdict)))) (sym whole)
+      (zero, subst (λ (xs : List Logged). ShowsSummary judged.plan (events_of xs) texts) same (subst (λ (t : Written). ShowsSummary judged.plan (events_of logged) t) (sym e) shows)))
+
+  -- and of any other
+  pub latency_judged : (judged : Judged) (status : ℕ) (texts : Written) → IsJudgedAnswer contents folder log ratio table (Ok judged)
+      → is_whole judged.audited.verdict ≡ false → status ≡ 1 → texts ≡ on_screen (audit_text judged.audited.verdict)
+      → IsDoneWith (Latency folder log ratio table) contents fixed status texts
+  latency_judged judged status texts h whole one e =
+      latency_done judged status texts h
+      (subst (λ (b : Bool). MatchBool b ((status ≡ 0) × ShowsSummary judged.plan (events_of judged.audited.log.logged.items) texts) ((status ≡ 1) × (texts ≡ on_screen (audit_text judged.audited.verdict)))) (sym whole)
+      (one, e))
 
   -- a log that is judged to be that of a whole run has a legal, complete history
   pub judged_whole : WholeExactly → (judged : Judged) → IsJudgedAnswer contents folder log ratio table (Ok judged) → is_whole judged.audited.verdict ≡ true

@@ -3,7 +3,7 @@ use Rattle.snb_tool_words.specs.declared.command.Command.TheVariants.{Latency}
 use Rattle.snb_tool.specs.Endings.{IsFinished}
 use Rattle.snb_tool.specs.Output.{on_screen}
 use Rattle.snb_tool.proofs.InputLemmas.{passed}
-use Rattle.snb_tool.proofs.OutcomeLemmas.{judged_whole, latency_done, latency_not}
+use Rattle.snb_tool.proofs.OutcomeLemmas.{judged_whole, latency_judged, latency_not, latency_summed}
 use Rattle.snb_tool.proofs.latency.latency.Goals as goal
 
 pub returns-in_err-judged-clause-answer : goal.returns-in_err-judged-clause-answer
