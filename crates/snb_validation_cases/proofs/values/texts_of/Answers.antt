@@ -10,5 +10,5 @@ returns-in_default c xs h =
 pub items-preserved : goal.items-preserved
 items-preserved c =
     let seen = rw c.in-Some.is at c.in_ok-text.ensures in
-    rw (c.in_ok-push.ensures.items, c.own.ensures) (each_more IsText c.items.item-index c.args.items.now c.item-item.result c.items.texts.items c.in-Some.text
+    rw c.in_ok-push.ensures.items (each_more IsText c.items.item-index c.args.items.now c.item-item.result c.items.texts.items c.in-Some.text
     c.items-test.true c.items.invariant (rw (← c.item-item.is) seen))
