@@ -24,16 +24,19 @@ use std::rc::Rc;
 pub(crate) fn asked(alloc: Global, graph: &Graph, person: u64) -> Result<String, Flaw>
     requires { Sound graph.now }
 {
-    let call: Call = Box::new(alloc, move |graph: &Graph, query: &Query| -> Result<Answer<Text>, AllocError>
-        requires sound { Sound graph.now }
-        requires kind { kind_of query.now ≡ Is3 }
-        ensures { IfOk result (IsAnswer graph.now query.now) }
-    {
-        match query {
-            Query::Is3 { person } => is3(alloc, graph, *person)?.try_copy(),
-            _ => unreachable!(),
-        }
-    })?;
+    let call: Call = Box::new(
+        alloc,
+        move |graph: &Graph, query: &Query| -> Result<Answer<Text>, AllocError>
+            requires sound { Sound graph.now }
+            requires kind { kind_of query.now ≡ Is3 }
+            ensures { IfOk result (IsAnswer graph.now query.now) }
+        {
+            match query {
+                Query::Is3 { person } => is3(alloc, graph, *person)?.try_copy(),
+                _ => unreachable!(),
+            }
+        },
+    )?;
     let mut handlers = Handlers::new(alloc);
     if let Err(why) = handlers.register(Handler::new(ReadKind::Is3, call)) {
         return Err(flaw_of(why));
@@ -55,13 +58,16 @@ pub(crate) fn checked(alloc: Global, graph: Graph, file: &[u8]) -> Result<String
     for kind in KINDS {
         let count = Rc::new(alloc, Cell::new(0u64))?;
         counts.push((kind, count.clone()?))?;
-        let call: Call = Box::new(alloc, move |graph: &Graph, query: &Query| -> Result<Answer<Text>, AllocError>
-            requires { Sound graph.now }
-            ensures { IfOk result (IsAnswer graph.now query.now) }
-        {
-            count.set(count.get().saturating_add(1));
-            own_answer(alloc, graph, query)?.try_copy()
-        })?;
+        let call: Call = Box::new(
+            alloc,
+            move |graph: &Graph, query: &Query| -> Result<Answer<Text>, AllocError>
+                requires { Sound graph.now }
+                ensures { IfOk result (IsAnswer graph.now query.now) }
+            {
+                count.set(count.get().saturating_add(1));
+                own_answer(alloc, graph, query)?.try_copy()
+            },
+        )?;
         if let Err(why) = handlers.register(Handler::new(kind, call)) {
             return Err(flaw_of(why));
         }
