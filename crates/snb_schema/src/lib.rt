@@ -32,7 +32,7 @@ pub use lanes::Lanes;
 pub use layout::{KeyColumns, Shape};
 pub use lists::Lists;
 pub use nodes::{Comment, Forum, Named, Organisation, Place, Post};
-pub use op::{Line, Op, InsertKind, Parent};
+pub use op::{InsertKind, Line, Op, Parent};
 pub use person::Person;
 pub use query::{COMPLEX_QUERIES, Query};
 pub use read_kind::ReadKind;

@@ -16,7 +16,7 @@ use snb_base::read_number;
 use snb_input_fields::law::taken_again;
 use snb_input_fields::{Values, read_values};
 use snb_input_lines::Record;
-use snb_schema::{Line, LineFault, Op, InsertKind, Value};
+use snb_schema::{InsertKind, Line, LineFault, Op, Value};
 use std::alloc::Global;
 
 /// The inserts of a person stream.
@@ -103,7 +103,11 @@ fn first_bad(kind: InsertKind, values: &[Value], column: u32) -> u32
 /// go with one before it, as in a friendship with oneself, or in a comment with no parent or two.
 ///
 /// The fields are UTF-8. Lines are those of LDBC SNB Interactive v1's update streams.
-pub fn read_insert(alloc: Global, kinds: &[InsertKind], fields: &Record) -> Result<Insert, LineFault>
+pub fn read_insert(
+    alloc: Global,
+    kinds: &[InsertKind],
+    fields: &Record,
+) -> Result<Insert, LineFault>
     requires { All IsUtf8 fields.now }
     ensures ok { IfOk result (λ i. SpellsInsert kinds.now fields.now i.t i.t_d i.op) }
     ensures bad { OnBadColumn result (IsBadInsert kinds.now fields.now) }

@@ -6,7 +6,7 @@ ghost use Rattle.snb_input_fields.specs.Values.{first_optional};
 
 use snb_input_fields::Values;
 use snb_input_fields::values::starts_twice;
-use snb_schema::{Op, InsertKind, Parent, Value};
+use snb_schema::{InsertKind, Op, Parent, Value};
 
 // How many values stand before the two parents of a comment.
 const BEFORE_PARENTS: usize = 11;

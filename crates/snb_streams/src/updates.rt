@@ -12,7 +12,7 @@ use crate::line::{FORUM_INSERTS, PERSON_INSERTS};
 use crate::lines::StreamLines;
 use crate::order::InOrder;
 use snb_input_lines::LineReader;
-use snb_schema::{Fault, FileId, FileKind, Line, InsertKind};
+use snb_schema::{Fault, FileId, FileKind, InsertKind, Line};
 use std::alloc::Global;
 use std::marker::Model;
 use std::mem;

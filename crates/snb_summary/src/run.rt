@@ -9,8 +9,8 @@ ghost use Rattle.snb_summary.specs.Works.{run_of};
 use crate::summary::{Summary, measures_of};
 use crate::times::Times;
 use crate::works::kinds_of;
-use snb_plan::Plan;
 use snb_history::Event;
+use snb_plan::Plan;
 use std::alloc::{AllocError, Global};
 
 /// The summary of a run: for each kind in order, and each measure in order, what is told of it, where it

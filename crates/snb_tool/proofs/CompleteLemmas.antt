@@ -64,10 +64,10 @@ outcome_low None = inl refl
 outcome_low (Some d) = inr refl
 
 -- and so is that of latencies
-told_low : {P Q : Written → Type 0} (whole : Bool) (status : ℕ) (texts : Written) → MatchBool whole ((status ≡ 0) × P texts) ((status ≡ 1) × Q texts)
+told_low : (A B : Type 0) (whole : Bool) (status : ℕ) → MatchBool whole ((status ≡ 0) × A) ((status ≡ 1) × B)
     → (status ≡ 0) ⊎ (status ≡ 1) ⊎ (status ≡ 2) ⊎ (status ≡ 3)
-told_low true status texts told = inl told.0
-told_low false status texts told = inr (inl told.0)
+told_low A B true status told = inl told.0
+told_low A B false status told = inr (inl told.0)
 
 -- a command that is done has the status 0, or 1
 done_low : (command : Command) (found : Found) (fixed : Option ℕ) (status : ℕ) (texts : Written) → IsDone command found fixed status texts
@@ -75,7 +75,7 @@ done_low : (command : Command) (found : Found) (fixed : Option ℕ) (status : �
 done_low (Check folder table) found fixed status texts d = inl d.0
 done_low (Run folder workers ratio table) found fixed status texts d = inl d.0
 done_low (Audit folder log ratio table) found fixed status texts d = low_by status (audit_status d.verdict) d.status_is (audit_low d.verdict)
-done_low (Latency folder log ratio table) found fixed status texts d = told_low (is_whole d.verdict) status texts d.told
+done_low (Latency folder log ratio table) found fixed status texts d = told_low (ShowsSummary d.plan (events_of d.logged) texts) (texts ≡ on_screen (audit_text d.verdict)) (is_whole d.verdict) status d.told
 done_low (Expect folder table) found fixed status texts d = inl d.0
 done_low (Validate folder cases) found fixed status texts d = low_by status (tally_status d.tally) d.status_is (outcome_low d.tally.first)
 done_low (Read folder query) found fixed status texts d = inl d.0

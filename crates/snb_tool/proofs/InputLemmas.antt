@@ -1,7 +1,7 @@
 -- Facts on what a folder is refused for, and on what is read of it.
 use Rattle.std.proofs.Common.{◌≡◌, ℕ, false, ◌<◌, ◌≤◌, List, [], ◌∷◌, ◌++◌, Option, None, Some, Result, Ok, Err, Vec, refl, inl, inr, sym, subst, ap, ◌∙◌, arith}
 use Rattle.std.specs.declared.alloc.Global.{Global}
-use Rattle.std.specs.Result.{IfOk, IsErrAnd, MatchResult, OnOk}
+use Rattle.std.specs.Result.{IfOk, IsErrAnd}
 use Rattle.snb_base.specs.Shelf.{Files}
 use Rattle.snb_input_files.specs.declared.load.Load.{Load}
 use Rattle.snb_input_files.specs.declared.load.Load.TheVariants.{Refused, ReadFault, Memory}
@@ -341,24 +341,18 @@ module _ (stages : StagesJoin) (contents : Option Files) (folder : List ℕ) whe
 
 -- ---- of an input that was made
 
--- what is so of a plan that was made
-pub made_plan : (P : Plan → Type 0) (made : Result Plan PlanFault) (plan : Plan) → MatchResult made (λ x. ◌≡◌ {A = Result Plan Load} (Ok plan) (Ok x)) (λ e. ⊥) → IfOk made P → P plan
-made_plan P (Ok x) plan same p = (let e : x ≡ plan = cc in subst P e p)
-made_plan P (Err e) plan same p = absurd same
-
-pub made_few : {Q : Type 0} (made : Result Plan PlanFault) (plan : Plan) → MatchResult made (λ x. ◌≡◌ {A = Result Plan Load} (Ok plan) (Ok x)) (λ e. ⊥) → OnOk made Q → Q
-made_few (Ok x) plan same q = q
-made_few (Err e) plan same q = absurd same
-
 module _ (graph : List Row) (lanes : LineLanes) (lists : QueryLists) (table : FrequencyTable) (ratio : ℕ) where
-  -- or isn't, since the plan isn't closed
-  pub open_made : (plan : Plan) (closed : Result (Unit {0}) PlanFault) (load : Load) → IsPlan lanes lists table ratio plan → read_count table (update_count lanes) ≤ MAX_READS
-      → OnRefused closed (IsFirstWrong (HoldsKey graph) (updates_in plan)) → MatchResult closed (λ x. ◌≡◌ {A = Result (Unit {0}) Load} (Err load) (Ok x)) (λ e. load ≡ load_for_plan e) → IsMadeAnswer graph lanes lists table ratio (Err load)
-  open_made plan (Ok x) load is few wrong same = absurd cc
-  open_made plan (Err (plan_faults.Refused r)) load is few wrong same =
-      subst (λ (l : Load). IsMadeAnswer graph lanes lists table ratio (Err l)) (sym same) (inr (record { plan = plan; is_plan = is; few = few; wrong = wrong }))
-  open_made plan (Err plan_faults.Memory) load is few wrong same =
-      subst (λ (l : Load). IsMadeAnswer graph lanes lists table ratio (Err l)) (sym same) tt
+  -- or isn't, since there are too many reads
+  pub many_made : (fault : PlanFault) → OnRefused {A = Plan} (Err fault) (λ r. (r ≡ TooMany Reads) × (MAX_READS < read_count table (update_count lanes)))
+      → IsMadeAnswer graph lanes lists table ratio (Err (load_for_plan fault))
+  many_made (plan_faults.Refused r) many = inl many
+  many_made plan_faults.Memory many = tt
+
+  -- or since the plan isn't closed
+  pub open_made : (plan : Plan) (fault : PlanFault) → IsPlan lanes lists table ratio plan → read_count table (update_count lanes) ≤ MAX_READS
+      → OnRefused {A = Unit {0}} (Err fault) (IsFirstWrong (HoldsKey graph) (updates_in plan)) → IsMadeAnswer graph lanes lists table ratio (Err (load_for_plan fault))
+  open_made plan (plan_faults.Refused r) is few wrong = inr (record { plan = plan; is_plan = is; few = few; wrong = wrong })
+  open_made plan plan_faults.Memory is few wrong = tt
 
   pub made_closed : (result : Result Input Load) → IsMadeAnswer graph lanes lists table ratio result → IfOk result (λ i. IsClosed (HoldsKey i.graph) (updates_in i.plan))
   made_closed (Ok input) h = subst (λ (g : List Row). IsClosed (HoldsKey g) (updates_in input.plan)) (sym h.same) h.closed

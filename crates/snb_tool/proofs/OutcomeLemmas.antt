@@ -254,6 +254,7 @@ module _ (contents : Option Files) (folder log : List ℕ) (ratio : ℕ) (table 
       (subst (λ (b : Bool). MatchBool b ((status ≡ 0) × ShowsSummary judged.plan (events_of judged.audited.log.logged.items) texts) ((status ≡ 1) × (texts ≡ on_screen (audit_text judged.audited.verdict)))) (sym whole)
       (one, e))
 
+module _ (contents : Option Files) (folder log : List ℕ) (ratio : ℕ) (table : FrequencyTable) where
   -- a log that is judged to be that of a whole run has a legal, complete history
   pub judged_whole : WholeExactly → (judged : Judged) → IsJudgedAnswer contents folder log ratio table (Ok judged) → is_whole judged.audited.verdict ≡ true
       → ((workers : ℕ) × IsLegal (schedule_of judged.plan) workers (events_of judged.audited.log.logged.items)) × IsComplete (schedule_of judged.plan) (events_of judged.audited.log.logged.items)

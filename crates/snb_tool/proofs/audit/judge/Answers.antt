@@ -18,5 +18,5 @@ returns-in_err-audited-clause-answer g c =
 
 pub returns-clause-answer : goal.returns-clause-answer
 returns-clause-answer g c =
-    judged_by_log (g.S.Shelf.contents c.args.shelf.now) c.args.folder.now c.args.log.now c.args.ratio c.args.frequencies c.in_ok-input.input c.in_ok-audited.audited _ c.into_parts.ensures.1 refl c.in_ok-input.ensures.answer
+    judged_by_log (g.S.Shelf.contents c.args.shelf.now) c.args.folder.now c.args.log.now c.args.ratio c.args.frequencies c.in_ok-input.input c.in_ok-audited.audited _ c.into_parts-plan.ensures.1 refl c.in_ok-input.ensures.answer
     (subst (λ (o : Option Files). IsAuditAnswer c.in_ok-input.input.graph c.in_ok-input.input.plan o c.args.log.now (Ok c.in_ok-audited.audited)) c.in_ok-input.ensures.read.same c.in_ok-audited.ensures.answer)
