@@ -14,7 +14,8 @@ use snb_plan::Plan;
 use std::alloc::{AllocError, Global};
 
 /// The summary of a run: for each kind in order, and each measure in order, what is told of it, where it
-/// has a value. The events are a legal, complete history of the plan for some number of workers.
+/// has a value. An error says that memory doesn't suffice.
+/// The conditions: the events are a legal history of the plan for some number of workers, and a complete one.
 pub fn summarise(alloc: Global, plan: &Plan, events: &[Event]) -> Result<Summary, AllocError>
     requires legal { (workers : ℕ) × IsLegal (schedule_of plan.now) workers events.now }
     requires complete { IsComplete (schedule_of plan.now) events.now }

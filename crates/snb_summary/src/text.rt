@@ -79,8 +79,8 @@ fn put_measure(measure: Measure, to: &mut Vec<u8>) -> Result<(), AllocError>
     to.extend_from_slice("\n".as_bytes())
 }
 
-/// Appends the text of a summary: a first line with its version, and a line for each measure. On an
-/// error nothing is appended.
+/// Appends the text of a summary: a first line with its version, and a line for each measure. An error says that
+/// memory doesn't suffice, and then nothing is appended.
 pub fn measures_text(summary: &Summary, to: &mut Vec<u8>) -> Result<(), AllocError>
     ensures ok { OnOk result (to.new.items ≡ to.old.items ++ summary_text summary.now) }
     ensures err { OnErr result (to.new.items ≡ to.old.items) }

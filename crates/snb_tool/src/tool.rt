@@ -161,9 +161,9 @@ fn answer<
 ///   replies that are due. Each read is answered on the tables with the inserts of the cases before it. It
 ///   shows how many reads there are where all replies are those that are due, and else the first that
 ///   isn't, with its line, the one that is due and the one that is given.
-/// - `check`, `run`, `audit`, `latency` and `expect` take the option `--freq L`, where L has `q:f` for complex queries q and
-///   their frequencies f, by rising q and with commas between; without it no read is planned. `run`, `audit`
-///   and `latency` take `--ratio R`, by which due times are stretched; it is 1 without it.
+/// - `check`, `run`, `audit`, `latency` and `expect` take the option `--freq L`, where L has `q:f` for complex
+///   queries q and their frequencies f, by rising q and with commas between; without it no read is planned.
+///   `run`, `audit` and `latency` take `--ratio R`, by which due times are stretched; it is 1 without it.
 /// - `read DIR KIND P1 P2 P3` reads the tables and shows the reply to one read: its answer, and those of
 ///   the short reads that follow. KIND is `IS1` to `IS7`, `IC1`, `IC2`, `IC7`, `IC8`, `IC9`, `IC11` or
 ///   `IC13`, with as many parameters as it has: an id of a person or a message for a short read, of a
