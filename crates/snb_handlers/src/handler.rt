@@ -38,7 +38,7 @@ impl Handler {
     /// The handler of this kind that asks this closure. Takes no memory.
     ///
     /// The conditions: on each sound graph the closure may be called with each query of the kind, and an answer
-    /// that it gives is the definition's. An error of it says that memory doesn't suffice.
+    /// that it gives is the definition's. Of an error of it nothing is asked: it is passed on.
     pub fn new(kind: ReadKind, call: Call) -> Handler
         requires callable { (g : _) (q : _) → Sound g.now → kind_of q.now ≡ kind → pre call g q }
         requires answers { (g : _) (q : _) (r : _) → Sound g.now → kind_of q.now ≡ kind → post call g q r → IfOk r (IsAnswer g.now q.now) }
@@ -56,7 +56,7 @@ impl Handler {
         (self.call)(graph, query)
     }
 
-    /// The answer to a query of its kind. An error says that memory doesn't suffice.
+    /// The answer to a query of its kind. An error is the closure's.
     /// The conditions: the graph is sound, and the query is of the handler's kind.
     pub fn answer(&self, graph: &Graph, query: &Query) -> Result<Answer<Text>, AllocError>
         requires sound { Sound graph.now }

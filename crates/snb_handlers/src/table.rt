@@ -90,7 +90,7 @@ impl Handlers {
         }
     }
 
-    /// The answer to a query, by the handler of its kind. An error says that memory doesn't suffice.
+    /// The answer to a query, by the handler of its kind. An error is that of the handler's closure.
     /// The conditions: the graph is sound, and the kind has a handler.
     pub fn answer(&self, graph: &Graph, query: &Query) -> Result<Answer<Text>, AllocError>
         requires sound { Sound graph.now }
@@ -117,7 +117,7 @@ impl Handlers {
     }
 
     /// The reply to a query: its own answer, and then the answers of the short reads that follow it, each by the
-    /// handler of its kind. An error says that memory doesn't suffice.
+    /// handler of its kind. An error is that of a handler's closure, or says that memory doesn't suffice.
     /// The conditions: the graph is sound, and each kind has a handler.
     pub fn reply(&self, graph: &Graph, query: &Query) -> Result<Reply<Text>, AllocError>
         requires sound { Sound graph.now }

@@ -189,7 +189,8 @@ impl Checker {
         self.step_by(&OwnReads { alloc }, case, number)
     }
 
-    /// Takes the case of this line as `step` does, but asks the handlers for the replies to reads.
+    /// Takes the case of this line as `step` does, but asks the handlers for the replies to reads. An error of a
+    /// handler is `Memory` here too.
     /// The conditions: some line of an update stream is the insert's, and each kind of read has a handler.
     pub fn step_via(
         &mut self,

@@ -16,7 +16,7 @@ pub(crate) trait Replier {
     /// It has what it needs for that.
     ghost ready: { Self → Type 0 };
 
-    /// The reply to a query. An error says that memory doesn't suffice.
+    /// The reply to a query. An error says that memory doesn't suffice, or is a handler's.
     fn reply_to<'a>(
         &self,
         graph: &'a Graph,
