@@ -5,7 +5,6 @@ use Rattle.std.specs.declared.cmp.Ordering.{Ordering}
 use Rattle.std.specs.declared.cmp.Ordering.TheVariants.{Less, Equal, Greater}
 use Rattle.std.specs.Ordering.{is_eq, is_le, is_lt}
 use Rattle.std.specs.Cmp.{IsTotalOrder, eq_by_cmp_equiv}
-use Rattle.std.specs.Ordering.{eq_by_cmp}
 use Rattle.std.specs.BTreeMap.{insert_entry, is_at}
 use Rattle.std.specs.List.{AllByRecursion}
 use Rattle.std.specs.List.Sorted.{IsStrictlySortedBy}
@@ -16,7 +15,7 @@ use Rattle.std.proofs.lemmas.Map.{lookup-remove_entry}
 use Rattle.std.proofs.lemmas.Map.Entries.{lookup-filter-keys}
 use Rattle.std.proofs.lemmas.Map.Keys.{IsDistinct-from_sorted}
 use Rattle.snb_graph_maps.specs.Merged.{value_at, merged, Rises, AreParts, AreStored, most_entries}
-use Rattle.snb_graph_maps.proofs.MergedLemmas.{same_rows, rises-merged, rises-insert, value_at-merged, value_at-insert, value_at_tied, length-merged, length-insert, parts-all, parts-insert}
+use Rattle.snb_graph_maps.proofs.MergedLemmas.{same_rows, rises-merged, rises-insert, value_at-merged, value_at-insert, value_at_tied, length-merged, length-insert, parts-all, parts-insert, parts-remove}
 
 -- a filter by the keys
 pub keys_filter : {K X : Type 0} (p : K → Bool) (es : List (K × X)) → keys_of (filter (λ e. p e.0) es) ≡ filter p (keys_of es)
@@ -42,7 +41,7 @@ filter_twice p q (x ∷ xs) = elim (p x) as (λ b. filter q (cond b (x ∷ filte
   | false ↦ filter_twice p q xs
 ]
 
-equal : (r : Ordering) → is_eq r ≡ true → r ≡ Equal
+pub equal : (r : Ordering) → is_eq r ≡ true → r ≡ Equal
 equal Less e = absurd (false≢true e)
 equal Equal e = refl
 equal Greater e = absurd (false≢true e)
@@ -133,37 +132,6 @@ module _ {K X : Type 0} (R : K → K → Ordering) (o : IsTotalOrder R) (exact :
         few = omega (arith, ap length is, length-insert R o fs k v stored.parts.added_rises nones.0, count, room, length-merged R o es fs stored.parts);
       }
 
-  -- an entry more among the frozen ones is one more of all
-  pub merged-append : (es fs gs : List (K × X)) (k : K) (v : X) → AreParts R es fs → value_at R (merged R es fs) k ≡ None → gs ≡ insert_entry R es k v → merged R gs fs ≡ insert_entry R (merged R es fs) k v
-  merged-append es fs gs k v parts none is = ap (λ hs. merged R hs fs) is ∙ same_rows R o exact _ _ (rises-merged R o (insert_entry R es k v) fs (rises-insert R o es k v parts.frozen_rises)) (rises-insert R o (merged R es fs) k v (rises-merged R o es fs parts.frozen_rises)) (λ q.
-      value_at-merged R o (insert_entry R es k v) fs q
-      ∙ ap (option_or (value_at R fs q)) (value_at-insert R o es k v q)
-      ∙ by q (R q k) refl
-      ∙ sym (value_at-insert R o (merged R es fs) k v q ∙ ap (cond (eq_by_cmp R q k) (Some v)) (value_at-merged R o es fs q)))
-    where
-      hidden : (b : Bool) (x y : Option X) → (b ≡ true → x ≡ None) → option_or x (cond b (Some v) y) ≡ cond b (Some v) (option_or x y)
-      hidden true x y none = ap (λ z. option_or z (Some v)) (none refl)
-      hidden false x y none = refl
-
-      by : (q : K) (r : Ordering) → R q k ≡ r → option_or (value_at R fs q) (cond (eq_by_cmp R q k) (Some v) (value_at R es q)) ≡ cond (eq_by_cmp R q k) (Some v) (option_or (value_at R fs q) (value_at R es q))
-      by q r t = hidden (eq_by_cmp R q k) (value_at R fs q) (value_at R es q) (λ tied. sym (value_at_tied R o fs q k (equal (R q k) tied)) ∙ (none_in_parts es fs k none).0)
-
-  pub stored_settled : (es fs gs : List (K × X)) (k : K) (v : X) → AreStored R es fs → value_at R (merged R es fs) k ≡ None → gs ≡ insert_entry R es k v → length (merged R es fs) < most_entries → AreStored R gs fs
-  stored_settled es fs gs k v stored none is room =
-      let nones = none_in_parts es fs k none in
-      record {
-        parts = record {
-          frozen_rises = subst (Rises R) (sym is) (rises-insert R o es k v stored.parts.frozen_rises);
-          added_rises = stored.parts.added_rises;
-          apart = λ q some. apart q nones.0 (eq_by_cmp R q k) refl (subst IsSome (ap (λ hs. value_at R hs q) is ∙ value_at-insert R o es k v q) some);
-        };
-        few = omega (arith, ap length is, length-insert R o es k v stored.parts.frozen_rises nones.1, room, length-merged R o es fs stored.parts);
-      }
-    where
-      apart : (q : K) → value_at R fs k ≡ None → (b : Bool) → eq_by_cmp R q k ≡ b → IsSome (cond b (Some v) (value_at R es q)) → value_at R fs q ≡ None
-      apart q none true tied some = sym (value_at_tied R o fs q k (equal (R q k) tied)) ∙ none
-      apart q none false tied some = stored.parts.apart q some
-
   -- ---- an entry taken out
 
   all-remove : (P : K → Type 0) (test : K → Bool) (es : List (K × X)) → AllByRecursion P (keys_of es) → AllByRecursion P (keys_of (remove_entry test es))
@@ -196,6 +164,23 @@ module _ {K X : Type 0} (R : K → K → Ordering) (o : IsTotalOrder R) (exact :
       by q Less t = rw t refl
       by q Equal t = rw t (value_at_tied R o es k q t ∙ none)
       by q Greater t = rw t refl
+
+  length-remove_le : (test : K → Bool) (es : List (K × X)) → length (remove_entry test es) ≤ length es
+  length-remove_le test [] = omega arith
+  length-remove_le test (e ∷ es) = elim (test e.0) as (λ b. length (cond b es (e ∷ remove_entry test es)) ≤ length (e ∷ es)) [
+    | true ↦ omega arith
+    | false ↦ (let rest = length-remove_le test es in omega arith)
+  ]
+
+  pub stored_fewer : (es fs gs : List (K × X)) (k : K) → AreStored R es fs → gs ≡ remove_entry (is_at (R k)) fs → AreStored R es gs
+  stored_fewer es fs gs k stored is = record {
+    parts = parts-remove R o es fs gs k stored.parts is (subst (Rises R) (sym is) (rises-remove (is_at (R k)) fs stored.parts.added_rises));
+    few = omega (arith, stored.few, ap length is, length-remove_le (is_at (R k)) fs);
+  }
+
+  pub stored_none : (fs : List (K × X)) → fs ≡ [] → AreStored R [] fs
+  unfolding IsStrictlySortedBy
+  stored_none fs is = subst (AreStored R []) (sym is) (record { parts = record { frozen_rises = tt; added_rises = tt; apart = λ k some. refl }; few = omega arith })
 
   -- a key that is frozen isn't an added one
   pub found_frozen_first : (es fs : List (K × X)) (q : K) (v : X) → AreParts R es fs → value_at R es q ≡ Some v → value_at R (merged R es fs) q ≡ Some v

@@ -1,11 +1,11 @@
 -- Binary searches in lists in the order of their keys.
-use Rattle.std.proofs.Common.{◌≡◌, ℕ, zero, suc, ◌+◌, ◌<◌, ◌≤◌, ◌⊎◌, inl, inr, List, [], ◌∷◌, Some, None, Bool, true, false, cond, not, length, get_or, take, drop, filter, refl, sym, ◌∙◌, ap, subst, arith, slice_get}
+use Rattle.std.proofs.Common.{◌≡◌, ℕ, zero, suc, ◌+◌, ◌<◌, ◌≤◌, ◌⊎◌, inl, inr, List, [], ◌∷◌, Some, None, Bool, true, false, not, length, get_or, take, drop, filter, refl, sym, ◌∙◌, ap, subst, arith, slice_get}
 use mathlib.Core.Bool.{false≢true}
 use Rattle.std.specs.declared.cmp.Ordering.{Ordering}
 use Rattle.std.specs.declared.cmp.Ordering.TheVariants.{Less, Equal, Greater}
-use Rattle.std.specs.Ordering.{is_eq, is_le, is_lt, ordering_index, ordering_reverse}
+use Rattle.std.specs.Ordering.{is_le, is_lt, ordering_index, ordering_reverse}
 use Rattle.std.specs.Cmp.{IsTotalOrder, eq_by_cmp_equiv}
-use Rattle.std.specs.List.{All, AllWithin}
+use Rattle.std.specs.List.{AllWithin}
 use Rattle.std.specs.List.Sorted.{IsSortedBy, IsNonDecreasingBy, IsPartitionedBy}
 use Rattle.std.specs.Map.{keys_of}
 use Rattle.std.proofs.lemmas.List.Sorted.{searchable_from_sorted}
@@ -136,13 +136,3 @@ module _ {K X : Type 0} (R : K → K → Ordering) (o : IsTotalOrder R) (exact :
     ]
     | inr same ↦ ap (λ n. is_le (R (get_or es n d).0 q)) same ∙ passes
   ]
-
-  -- no key is above the last one
-  pub none_after : (es : List (K × X)) (last q : K) → All (λ k. is_lt (R last k) ≡ false) (keys_of es) → is_lt (R last q) ≡ true → value_at R es q ≡ None
-  none_after [] last q up after = refl
-  none_after (e ∷ es) last q up after = ap (λ b. cond b (Some e.1) (value_at R es q)) (apart (R q e.0) refl) ∙ none_after es last q (λ k d l. up (suc k) d (omega arith)) after
-    where
-      apart : (r : Ordering) → R q e.0 ≡ r → is_eq r ≡ false
-      apart Less is = refl
-      apart Equal is = absurd (false≢true (sym (up 0 e.0 (omega arith)) ∙ ap (λ k. is_lt (R last k)) (sym (exact q e.0 is)) ∙ after))
-      apart Greater is = refl

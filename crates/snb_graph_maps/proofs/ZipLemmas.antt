@@ -2,8 +2,7 @@
 use Rattle.std.proofs.Common.{◌≡◌, ℕ, zero, suc, ◌+◌, ◌-◌, ◌<◌, ◌≤◌, ◌++◌, inl, inr, List, [], ◌∷◌, Some, None, Bool, true, false, not, Result, Ok, Err, length, get_or, slice_get, map, take, drop, filter, refl, sym, ◌∙◌, ap, subst, arith}
 use Rattle.std.specs.declared.cmp.Ordering.{Ordering}
 use Rattle.std.specs.declared.cmp.Ordering.TheVariants.{Less, Equal, Greater}
-use Rattle.std.specs.Ordering.{is_le, is_lt, match_ordering, ordering_index, ordering_reverse}
-use Rattle.std.specs.BTreeMap.{insert_entry}
+use Rattle.std.specs.Ordering.{is_le, is_lt, ordering_index, ordering_reverse}
 use Rattle.std.specs.Cmp.{IsTotalOrder}
 use Rattle.std.specs.List.{AllWithin, zip}
 use Rattle.std.specs.List.Sorted.{IsNonDecreasingBy, IsPartitionedBy, IsSortedBy, IsStrictlySortedBy}
@@ -131,13 +130,3 @@ module _ {K X : Type 0} (R : K → K → Ordering) (o : IsTotalOrder R) (exact :
       let long : length (zip ks vs) ≡ length ks = zip_length ks vs same in
       missed_at R o exact (zip ks vs) q i h (within-zip (λ k. R k q ≡ Less) ks vs 0 i same le lo)
       (subst (λ n. AllWithin (λ (e : K × X). R e.0 q ≡ Greater) (zip ks vs) i n) (sym long) (within-zip (λ k. R k q ≡ Greater) ks vs i (length ks) same (omega arith) hi))
-
-  -- an entry above all goes to the end
-  pub insert_last : (ks : List K) (vs : List X) (q : K) (v : X) → length vs ≡ length ks → AllWithin (λ k. R k q ≡ Less) ks 0 (length ks) → insert_entry R (zip ks vs) q v ≡ zip ks vs ++ (q, v) ∷ []
-  insert_last [] [] q v same all = refl
-  insert_last [] (w ∷ vs) q v same all = absurd (omega arith)
-  insert_last (k ∷ ks) [] q v same all = absurd (omega arith)
-  insert_last (k ∷ ks) (w ∷ vs) q v same all =
-      let above : R q k ≡ Greater = o.antisymm q k ∙ ap ordering_reverse (all 0 k (omega arith) (omega arith)) in
-      ap (λ r. match_ordering r ((q, v) ∷ (k, w) ∷ zip ks vs) ((k, v) ∷ zip ks vs) ((k, w) ∷ insert_entry R (zip ks vs) q v)) above
-      ∙ ap (λ es. (k, w) ∷ es) (insert_last ks vs q v (omega arith) (λ j d l h. all (suc j) d (omega arith) (omega arith)))

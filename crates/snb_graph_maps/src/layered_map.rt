@@ -6,26 +6,27 @@ ghost use Rattle.std.specs.BTreeMap.{insert_entry, is_at};
 ghost use Rattle.std.specs.Map.{remove_entry};
 ghost use Rattle.std.specs.Ordering.{is_gt};
 ghost use Rattle.std.specs.Arc.{arc_value};
-ghost use Rattle.snb_graph_maps.specs.Merged.{value_at, all_of, entries_of, entries_within, is_before_end, is_up_to_end, most_entries, AreStored, HasAllOf, HasAppended, Rises};
+ghost use Rattle.snb_graph_maps.specs.Merged.{value_at, all_of, entries_of, entries_within, is_before_end, is_up_to_end, most_entries, AreStored, HasAllOf, Rises};
 ghost use Rattle.snb_graph_maps.specs.declared.layer.Layer.TheVariants as Layer;
 
+use crate::added::Added;
 use crate::kept::Apart;
 use crate::layer::Layer;
 use crate::sorted::{Sorted, Span};
 use crate::walk::Walk;
 use std::alloc::{AllocError, Global};
-use std::collections::BTreeMap;
 use std::marker::Model;
 use std::sync::Arc;
 
 // More entries than any memory holds, so that those of both parts can be counted.
 const MOST_ENTRIES: usize = 1152921504606846976;
 
-/// A map from keys to values. Its copies share the part that was frozen, a list in the order of keys.
+/// A map from keys to values. Its copies share the part that was frozen, a list in the order of keys. Until the
+/// first `freeze` entries may come in any order (`Layer::Frozen`).
 pub struct LayeredMap<K: Apart, V: Clone + Drop> {
     alloc: Global,
     frozen: Option<Arc<Sorted<K, V>>>,
-    added: BTreeMap<K, V>,
+    added: Added<K, V>,
 }
 
 impl<K: Apart, V: Clone + Drop> Drop for LayeredMap<K, V> {
@@ -45,9 +46,9 @@ impl<K: Apart, V: Clone + Drop> Model for LayeredMap<K, V> {
     // The frozen entries, and the others.
     ghost Value = { List (K × V) × List (K × V) };
 
-    ghost view = { λ s. (entries_of s.frozen, s.added.entries) };
+    ghost view = { λ s. (entries_of s.frozen, s.added) };
 
-    ghost invariant = { λ s. AreStored K.cmp (entries_of s.frozen) s.added.entries };
+    ghost invariant = { λ s. AreStored K.cmp (entries_of s.frozen) s.added };
 }
 
 // Adds clones of a key and a value after all entries.
@@ -81,69 +82,6 @@ fn cloned<K: Apart, V: Clone + Drop>(
     Ok(all)
 }
 
-// Adds an entry after the frozen ones, where nobody shares them and its key is above theirs, and else gives it
-// back.
-fn append<K: Apart, V: Clone + Drop>(
-    frozen: &mut Arc<Sorted<K, V>>,
-    key: K,
-    value: V,
-) -> Result<Option<(K, V)>, AllocError>
-    requires { Rises K.cmp (arc_value frozen.old) }
-    ensures ok { IfOk result (λ left. HasAppended K.cmp (arc_value frozen.old) key value left (arc_value frozen.new)) }
-    ensures err { OnErr result (arc_value frozen.new ≡ arc_value frozen.old) }
-{
-    match Arc::get_mut(frozen) {
-        Some(own) => own.append(key, value),
-        None => Ok(Some((key, value))),
-    }
-}
-
-// One entry.
-fn single<K: Apart, V: Clone + Drop>(
-    alloc: Global,
-    key: K,
-    value: V,
-) -> Result<Arc<Sorted<K, V>>, AllocError>
-    ensures { IfOk result (λ shared. arc_value shared ≡ (key, value) ∷ []) }
-{
-    let mut keys = Vec::new(alloc);
-    keys.push(key)?;
-    let mut values = Vec::new(alloc);
-    values.push(value)?;
-    Ok(Arc::new(alloc, Sorted::of(keys, values))?)
-}
-
-// `append` where there may be no frozen part yet.
-fn appended<K: Apart, V: Clone + Drop>(
-    alloc: Global,
-    frozen: &mut Option<Arc<Sorted<K, V>>>,
-    key: K,
-    value: V,
-) -> Result<Option<(K, V)>, AllocError>
-    requires { Rises K.cmp (entries_of frozen.old) }
-    ensures ok { IfOk result (λ left. HasAppended K.cmp (entries_of frozen.old) key value left (entries_of frozen.new)) }
-    ensures err { OnErr result (entries_of frozen.new ≡ entries_of frozen.old) }
-{
-    match frozen {
-        Some(shared) => append(shared, key, value),
-        None => {
-            *frozen = Some(single(alloc, key, value)?);
-            Ok(None)
-        }
-    }
-}
-
-// What is kept under a key in the added part. Where keys come in rising order, its last one tells that
-// a key is new.
-fn added_at<'a, K: Apart, V>(added: &'a BTreeMap<K, V>, key: &K) -> Option<&'a V>
-    ensures { option_copied result ≡ value_at K.cmp added.now.entries key.now }
-{
-    match added.last_key_value() {
-        Some((last, _)) if last.cmp(key).is_lt() => None,
-        _ => added.get(key),
-    }
-}
-
 impl<K: Apart, V: Clone + Drop> LayeredMap<K, V> {
     /// No entries. Takes no memory.
     pub fn empty(alloc: Global) -> Self
@@ -152,7 +90,7 @@ impl<K: Apart, V: Clone + Drop> LayeredMap<K, V> {
         LayeredMap {
             alloc,
             frozen: None,
-            added: BTreeMap::new(alloc),
+            added: Added::empty(alloc),
         }
     }
 
@@ -182,7 +120,7 @@ impl<K: Apart, V: Clone + Drop> LayeredMap<K, V> {
         let _ = &self.alloc;
         match self.frozen().find(key) {
             Some(value) => Some(value),
-            None => added_at(&self.added, key),
+            None => self.added.get(key),
         }
     }
 
@@ -205,7 +143,7 @@ impl<K: Apart, V: Clone + Drop> LayeredMap<K, V> {
         Ok(())
     }
 
-    // Adds an entry to the frozen ones, where it may go there, and else to the added ones.
+    // Adds an entry to those that are soon frozen, where nothing is frozen yet, and else to the added ones.
     fn settle(&mut self, key: K, value: V) -> Result<(), AllocError>
         requires new { value_at K.cmp (all_of K.cmp self.old) key ≡ None }
         requires room { length (all_of K.cmp self.old) < most_entries }
@@ -213,10 +151,10 @@ impl<K: Apart, V: Clone + Drop> LayeredMap<K, V> {
         ensures err { OnErr result (self.new ≡ self.old) }
         ensures more { OnOk result (HasAllOf self.old.0 self.new.0) }
     {
-        match appended(self.alloc, &mut self.frozen, key, value)? {
-            Some((key, value)) => self.insert(key, value),
-            None => Ok(()),
+        if self.frozen.is_none() {
+            self.added.load();
         }
+        self.insert(key, value)
     }
 
     /// Adds an entry to one of the parts. Want of memory leaves all as it was.
@@ -244,7 +182,7 @@ impl<K: Apart, V: Clone + Drop> LayeredMap<K, V> {
         ensures gone { all_of K.cmp self.new ≡ remove_entry (is_at (K.cmp key.now)) (all_of K.cmp self.old) }
         ensures frozen { self.new.0 ≡ self.old.0 }
     {
-        let _ = self.added.remove(key);
+        self.added.remove(key);
     }
 
     /// How many entries there are.
@@ -261,7 +199,7 @@ impl<K: Apart, V: Clone + Drop> LayeredMap<K, V> {
         ensures { result ≡ all_of K.cmp self.now }
     {
         let _ = &self.alloc;
-        Walk::over(self.frozen(), self.added.range(..))
+        Walk::over(self.frozen(), self.added.all())
     }
 
     /// The entries from one key on and before another, which isn't below the first, in order. Takes no
@@ -273,7 +211,8 @@ impl<K: Apart, V: Clone + Drop> LayeredMap<K, V> {
     {
         let _ = &self.alloc;
         let frozen = self.frozen().since(&from).before(&end);
-        Walk::over(frozen, self.added.range(from..end))
+        let added = self.added.range(from, end);
+        Walk::over(frozen, added)
     }
 
     /// The entries from one key up to another, which isn't below the first, in order. Takes no memory.
@@ -284,7 +223,21 @@ impl<K: Apart, V: Clone + Drop> LayeredMap<K, V> {
     {
         let _ = &self.alloc;
         let frozen = self.frozen().since(&from).through(&last);
-        Walk::over(frozen, self.added.range(from..=last))
+        let added = self.added.through(from, last);
+        Walk::over(frozen, added)
+    }
+
+    // All entries, in order: taken out where they may have come in any order, and else clones. Where memory doesn't
+    // suffice, the map is as it was.
+    fn whole(&mut self) -> Result<Sorted<K, V>, AllocError>
+        requires { (v w : V) → V.is_clone v w → w ≡ v }
+        ensures ok { IfOk result (λ all. all ≡ all_of K.cmp self.old) }
+        ensures err { OnErr result (self.new ≡ self.old) }
+    {
+        if self.frozen.is_none() && self.added.is_loaded() {
+            return self.added.take_sorted();
+        }
+        cloned(self.alloc, self.all(), self.len())
     }
 
     /// Makes all entries the frozen part, which copies share. Where memory doesn't suffice, the map is
@@ -295,12 +248,17 @@ impl<K: Apart, V: Clone + Drop> LayeredMap<K, V> {
         ensures ok { OnOk result (self.new ≡ (all_of K.cmp self.old, [])) }
         ensures err { OnErr result (self.new ≡ self.old) }
     {
-        if self.added.is_empty() {
+        if self.frozen.is_some() && self.added.is_empty() {
             return Ok(());
         }
-        let all = cloned(self.alloc, self.all(), self.len())?;
-        self.frozen = Some(Arc::new(self.alloc, all)?);
-        self.added = BTreeMap::new(self.alloc);
+        let none = Sorted::with_room(self.alloc, 0)?;
+        let mut shared = Arc::new(self.alloc, none)?;
+        let Some(all) = Arc::get_mut(&mut shared) else {
+            return Err(AllocError);
+        };
+        *all = self.whole()?;
+        self.frozen = Some(shared);
+        self.added = Added::empty(self.alloc);
         Ok(())
     }
 
@@ -318,7 +276,7 @@ impl<K: Apart, V: Clone + Drop> LayeredMap<K, V> {
         Ok(LayeredMap {
             alloc: self.alloc,
             frozen,
-            added: self.added.clone()?,
+            added: self.added.try_copy()?,
         })
     }
 }

@@ -7,7 +7,7 @@ ghost use Rattle.std.specs.Map.{keys_of};
 ghost use Rattle.std.specs.Map.Iter.{TakesFirst, deref_pair};
 ghost use Rattle.std.specs.List.{zip};
 ghost use Rattle.std.specs.BTreeMap.{insert_entry};
-ghost use Rattle.snb_graph_maps.specs.Merged.{HasAppended, Rises, first_key, value_at};
+ghost use Rattle.snb_graph_maps.specs.Merged.{Rises, first_key, value_at};
 
 use crate::kept::Apart;
 use std::alloc::{AllocError, Global};
@@ -180,18 +180,6 @@ impl<K: Apart, V: Drop> Sorted<K, V> {
         self.values.as_slice()
     }
 
-    // Whether a key is above all of these.
-    fn is_below(&self, key: &K) -> bool
-        requires { Rises K.cmp self.now }
-        ensures { result ≡ true → (v : V) → insert_entry K.cmp self.now key.now v ≡ self.now ++ (key.now, v) ∷ [] }
-    {
-        let _ = &self.values;
-        match self.keys.last() {
-            Some(last) => last.cmp(key).is_lt(),
-            None => true,
-        }
-    }
-
     // Adds an entry after all others. Want of memory leaves them as they were.
     pub(crate) fn push(&mut self, key: K, value: V) -> Result<(), AllocError>
         ensures ok { OnOk result (self.new ≡ self.old ++ (key, value) ∷ []) }
@@ -203,19 +191,5 @@ impl<K: Apart, V: Drop> Sorted<K, V> {
             return Err(AllocError);
         }
         Ok(())
-    }
-
-    // Adds an entry where its key is above all others, and else gives it back. Want of memory leaves the entries
-    // as they were.
-    pub(crate) fn append(&mut self, key: K, value: V) -> Result<Option<(K, V)>, AllocError>
-        requires { Rises K.cmp self.old }
-        ensures ok { IfOk result (λ left. HasAppended K.cmp self.old key value left self.new) }
-        ensures err { OnErr result (self.new ≡ self.old) }
-    {
-        if !self.is_below(&key) {
-            return Ok(Some((key, value)));
-        }
-        self.push(key, value)?;
-        Ok(None)
     }
 }

@@ -6,9 +6,9 @@ ghost use Rattle.std.specs.Map.Iter.{TakesFirst, deref_pair};
 ghost use Rattle.std.specs.Iterator.{at_most};
 ghost use Rattle.snb_graph_maps.specs.Merged.{AreParts, first_key, merged, takes_first};
 
+use crate::added::Rest;
 use crate::kept::Apart;
 use crate::sorted::Span;
-use std::collections::btree_map::Range;
 use std::marker::Model;
 use std::mem;
 
@@ -16,7 +16,7 @@ use std::mem;
 #[derive(Drop)]
 pub(crate) struct Front<'a, K: Apart, V> {
     next: Option<(&'a K, &'a V)>,
-    rest: Range<'a, K, V>,
+    rest: Rest<'a, K, V>,
 }
 
 impl<'a, K: Apart, V> Model for Front<'a, K, V> {
@@ -31,11 +31,11 @@ impl<'a, K: Apart, V> Model for Front<'a, K, V> {
 }
 
 impl<'a, K: Apart, V> Front<'a, K, V> {
-    pub(crate) fn of(mut rest: Range<'a, K, V>) -> Self
+    pub(crate) fn of(mut rest: Rest<'a, K, V>) -> Self
         ensures { result ≡ rest.entry }
     {
         Front {
-            next: rest.next(),
+            next: rest.take(),
             rest,
         }
     }
@@ -52,7 +52,7 @@ impl<'a, K: Apart, V> Front<'a, K, V> {
     fn take(&mut self) -> Option<(&'a K, &'a V)>
         ensures { TakesFirst deref_pair self.old result self.new }
     {
-        let next = self.rest.next();
+        let next = self.rest.take();
         mem::replace(&mut self.next, next)
     }
 }
@@ -88,7 +88,7 @@ impl<'a, K: Apart, V> Model for Walk<'a, K, V> {
 
 impl<'a, K: Apart, V> Walk<'a, K, V> {
     // A walk over both parts.
-    pub(crate) fn over(frozen: Span<'a, K, V>, added: Range<'a, K, V>) -> Walk<'a, K, V>
+    pub(crate) fn over(frozen: Span<'a, K, V>, added: Rest<'a, K, V>) -> Walk<'a, K, V>
         requires { AreParts K.cmp frozen added }
         ensures { result ≡ merged K.cmp frozen.entry added.entry }
     {

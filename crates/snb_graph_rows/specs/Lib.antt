@@ -1,5 +1,6 @@
 pub mod Keyed
 pub mod Edges
 pub mod KeysApart
+pub mod Mixed
 pub mod Pairs
 pub mod Rows

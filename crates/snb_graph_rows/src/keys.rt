@@ -1,11 +1,15 @@
 //! The keys of the maps.
 
 ghost use Rattle.std.proofs.Common.{rules};
+ghost use Rattle.std.specs.Cmp.Rules.{hashing};
+ghost use Rattle.std.specs.Prelude.{◌++◌};
+ghost use Rattle.std.specs.Hash as fed;
 
 use crate::kept::Key;
 use snb_base::Text;
 use snb_graph_maps::Apart;
 use snb_schema::Table;
+use std::hash::{Hash, Hasher};
 
 impl Key for u64 {
     ghost use Rattle.snb_graph_rows.specs.KeysApart.{id_name, id_order};
@@ -38,6 +42,41 @@ impl Drop for WordKey {
             person: _,
             text: _,
         } = self;
+    }
+}
+
+// Odd, and its bits are in no order: 2 to the 64 by the golden ratio.
+const SPREAD: u64 = 11400714819323198485;
+
+impl Hash for EdgeKey {
+    ghost use Rattle.std.specs.Hash as fed;
+    ghost use Rattle.snb_graph_rows.specs.Mixed.{mixed};
+
+    ghost hash_input = { λ a. fed.u64 (mixed a) };
+
+    ghost use Rattle.std.proofs.Common.{rules};
+    ghost use Rattle.std.specs.Cmp.Rules.{hashing};
+
+    ghost respects_eq = { Prim.search (hashing, rules) };
+
+    fn hash<H: Hasher>(&self, state: &mut H) {
+        let mixed = self
+            .first
+            .wrapping_mul(SPREAD)
+            .wrapping_add(self.second)
+            .wrapping_add(self.table as u64);
+        mixed.hash(state);
+    }
+}
+
+impl Hash for WordKey {
+    ghost hash_input = { λ a. fed.u64 a.person ++ fed.str a.text };
+
+    ghost respects_eq = { Prim.search (hashing, rules) };
+
+    fn hash<H: Hasher>(&self, state: &mut H) {
+        self.person.hash(state);
+        self.text.as_str().hash(state);
     }
 }
 

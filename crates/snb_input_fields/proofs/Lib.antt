@@ -4,3 +4,4 @@ pub mod Laws
 pub mod ReadingFacts
 pub mod WideFacts
 mod ReaderFacts
+pub mod SeenFacts

@@ -1,7 +1,9 @@
 //! Lists in fields, read element by element.
 
-ghost use Rattle.std.specs.Prelude.{◌≡◌, ◌≢◌, ◌&&◌, ◌++◌, ◌∷◌, ◌↔◌, ℕ, List, map, nat_eq, not, All, IsUtf8, IsTrue, IfOk, MatchOption};
+ghost use Rattle.std.specs.Prelude.{◌≡◌, ◌≢◌, ◌||◌, ◌++◌, ◌∷◌, ◌↔◌, ℕ, List, Some, map, nat_eq, not, All, IsUtf8, IsTrue, IfOk, MatchOption, OnOk};
+ghost use Rattle.std.specs.BTreeMap.{IsFromIterResult, get};
 ghost use Rattle.std.specs.List.{list_any};
+ghost use Rattle.std.specs.Ordering.{nat_cmp};
 ghost use Rattle.std.specs.Str.{bytes_eq};
 ghost use Rattle.snb_base.specs.Spellings.{HasOneYear, IdList, PairList, SpellsPair, WordList, elements, pair_eq};
 
@@ -9,6 +11,7 @@ use snb_base::number::one_spelling;
 use snb_base::{Numbers, Pairs, Text, Texts, read_number};
 use snb_schema::limits::{MAX_ID, MAX_YEAR};
 use std::alloc::{AllocError, Global};
+use std::collections::{BTreeMap, BTreeSet};
 use std::str;
 
 /// The text of the bytes.
@@ -29,44 +32,65 @@ fn parts_of<'a>(alloc: Global, field: &'a [u8]) -> Result<Vec<&'a [u8]>, AllocEr
     field.split(|b| *b == b';').collect(alloc)
 }
 
-// Whether the text is one of these.
-fn has_text(texts: &[Text], word: &[u8]) -> bool
-    ensures { result ≡ list_any (bytes_eq word.now) texts.now }
+// Notes a text, and tells whether it is new.
+fn note_text<'a>(seen: &mut BTreeSet<&'a [u8]>, word: &'a [u8]) -> Result<bool, AllocError>
+    ensures new { IfOk result (λ new. new ≡ not (list_any (bytes_eq word.now) (map (λ x. x.now) seen.old.keys))) }
+    ensures seen { OnOk result ((q : List ℕ) → list_any (bytes_eq q) (map (λ x. x.now) seen.new.keys) ≡ (bytes_eq q word.now || list_any (bytes_eq q) (map (λ x. x.now) seen.old.keys))) }
 {
-    texts.iter().any(|t| word == t.as_str().as_bytes())
+    Ok(seen.insert(word)?)
 }
 
-// Whether the id is one of these.
-fn has_id(ids: &[u64], id: u64) -> bool
-    ensures { result ≡ list_any (nat_eq id) ids.now }
+// Notes an id, and tells whether it is new.
+fn note_id(seen: &mut BTreeSet<u64>, id: u64) -> Result<bool, AllocError>
+    ensures new { IfOk result (λ new. new ≡ not (list_any (nat_eq id) seen.old.keys)) }
+    ensures seen { OnOk result ((q : ℕ) → list_any (nat_eq q) seen.new.keys ≡ (nat_eq q id || list_any (nat_eq q) seen.old.keys)) }
 {
-    ids.iter().any(|x| id == *x)
+    Ok(seen.insert(id)?)
 }
 
-// Whether the pair is one of these.
-fn has_pair(pairs: &[(u64, u32)], pair: (u64, u32)) -> bool
-    ensures { result ≡ list_any (pair_eq pair) pairs.now }
+// Notes a pair, and tells whether it is new.
+fn note_pair(seen: &mut BTreeSet<(u64, u32)>, pair: (u64, u32)) -> Result<bool, AllocError>
+    ensures new { IfOk result (λ new. new ≡ not (list_any (pair_eq pair) seen.old.keys)) }
+    ensures seen { OnOk result ((q : ℕ × ℕ) → list_any (pair_eq q) seen.new.keys ≡ (pair_eq q pair || list_any (pair_eq q) seen.old.keys)) }
 {
-    pairs.iter().any(|p| pair.0 == p.0 && pair.1 == p.1)
+    Ok(seen.insert(pair)?)
 }
 
-// Whether the id is there with another year.
-fn has_other_year(pairs: &[(u64, u32)], id: u64, year: u32) -> bool
-    ensures { result ≡ list_any (λ p. nat_eq id p.0 && not (nat_eq year p.1)) pairs.now }
+// Of each id one of its years.
+fn years_of(alloc: Global, pairs: &[(u64, u32)]) -> Result<BTreeMap<u64, u32>, AllocError>
+    ensures { IfOk result (IsFromIterResult nat_cmp pairs.now) }
 {
-    pairs.iter().any(|p| id == p.0 && year != p.1)
+    pairs.iter().copied().collect(alloc)
 }
 
-// Whether no id has two years.
-fn has_one_year(pairs: &[(u64, u32)]) -> bool
-    ensures { IsTrue result ↔ HasOneYear pairs.now }
+// Whether this is the year of an id.
+fn has_year(years: &BTreeMap<u64, u32>, id: u64, year: u32) -> bool
+    ensures { IsTrue result ↔ (get nat_cmp years.now id ≡ Some year) }
+{
+    match years.get(&id) {
+        Some(other) => *other == year,
+        None => false,
+    }
+}
+
+// Whether each pair has the year that its id has.
+fn agree(pairs: &[(u64, u32)], years: &BTreeMap<u64, u32>) -> bool
+    ensures { IsTrue result ↔ All (λ p. get nat_cmp years.now p.0 ≡ Some p.1) pairs.now }
 {
     for (id, year) in pairs {
-        if has_other_year(pairs, *id, *year) {
+        if !has_year(years, *id, *year) {
             return false;
         }
     }
     true
+}
+
+// Whether no id has two years.
+fn has_one_year(alloc: Global, pairs: &[(u64, u32)]) -> Result<bool, AllocError>
+    ensures { IfOk result (λ one. IsTrue one ↔ HasOneYear pairs.now) }
+{
+    let years = years_of(alloc, pairs)?;
+    Ok(agree(pairs, &years))
 }
 
 // What stands before the first comma of a text, and what stands behind it.
@@ -100,12 +124,14 @@ pub fn read_texts(alloc: Global, field: &[u8]) -> Result<Option<Texts>, AllocErr
     ensures { IfOk result (λ found. MatchOption found ((texts : List (List ℕ)) → ¬ WordList field.now texts) (WordList field.now)) }
 {
     let parts = parts_of(alloc, field)?;
+    let mut seen = BTreeSet::new(alloc);
     let mut texts = Texts::new(alloc);
     for part in &parts {
         if part.is_empty() {
             return Ok(None);
         }
-        if !has_text(texts.as_slice(), part) {
+        let new = note_text(&mut seen, part)?;
+        if new {
             texts.push(text_of(alloc, part)?)?;
         }
     }
@@ -117,12 +143,14 @@ pub fn read_ids(alloc: Global, field: &[u8]) -> Result<Option<Numbers>, AllocErr
     ensures { IfOk result (λ found. MatchOption found ((ids : List ℕ) → ¬ IdList field.now ids) (IdList field.now)) }
 {
     let parts = parts_of(alloc, field)?;
+    let mut seen = BTreeSet::new(alloc);
     let mut ids = Numbers::new(alloc);
     for part in &parts {
         let Some(id) = read_number(part, MAX_ID) else {
             return Ok(None);
         };
-        if !has_id(ids.as_slice(), id) {
+        let new = note_id(&mut seen, id)?;
+        if new {
             ids.push(id)?;
         }
     }
@@ -135,16 +163,19 @@ pub fn read_pairs(alloc: Global, field: &[u8]) -> Result<Option<Pairs>, AllocErr
 {
     one_spelling();
     let parts = parts_of(alloc, field)?;
+    let mut seen = BTreeSet::new(alloc);
     let mut pairs = Pairs::new(alloc);
     for part in &parts {
         let Some(pair) = read_pair(part) else {
             return Ok(None);
         };
-        if !has_pair(pairs.as_slice(), pair) {
+        let new = note_pair(&mut seen, pair)?;
+        if new {
             pairs.push(pair.0, pair.1)?;
         }
     }
-    if !has_one_year(pairs.as_slice()) {
+    let one = has_one_year(alloc, pairs.as_slice())?;
+    if !one {
         return Ok(None);
     }
     Ok(Some(pairs))

@@ -1,5 +1,5 @@
 -- What the parameter files of a folder are refused for, and the lists of parameters that they are.
-use Rattle.std.specs.Prelude.{◌≡◌, ℕ, ◌<◌, ltb, true, List, [], ◌∷◌, ◌++◌, filter, map, Option, Some, None, Result, Ok, Err}
+use Rattle.std.specs.Prelude.{◌≡◌, ℕ, ◌<◌, ltb, List, [], ◌∷◌, ◌++◌, filter, map, Option, Some, None, Result, Ok, Err}
 use Rattle.snb_base.specs.Shelf.{Files}
 use Rattle.snb_schema.specs.declared.file.FileId.{FileId}
 use Rattle.snb_schema.specs.declared.file.FileKind.{FileKind}

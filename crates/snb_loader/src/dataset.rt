@@ -63,14 +63,14 @@ pub fn load_dataset<S: Shelf>(
     };
     let now = walk.used;
     let mut graph = walk.file_sink.into_graph();
+    if graph.freeze().is_err() {
+        return Err(Load::Memory);
+    }
     match graph.sound() {
-        Ok(()) => match graph.freeze() {
-            Ok(()) => {
-                *used = now;
-                Ok(graph)
-            }
-            Err(_) => Err(Load::Memory),
-        },
+        Ok(()) => {
+            *used = now;
+            Ok(graph)
+        }
         Err(why) => Err(refusal_of(why)),
     }
 }

@@ -1,6 +1,6 @@
 //! The tables of a dataset, read into a graph.
 
-ghost use Rattle.std.specs.Prelude.{◌≡◌, ◌≤◌, [], OnErr, OnOk, IfOk, Some};
+ghost use Rattle.std.specs.Prelude.{◌≡◌, ◌≤◌, [], OnErr, OnOk, IfErr, IfOk, Some, false, true};
 ghost use Rattle.snb_base.specs.Shelf.{IsRead};
 ghost use Rattle.snb_input_files.specs.Format.{Lawful};
 ghost use Rattle.snb_input_files.specs.Loading.{is_read_fault};
@@ -10,7 +10,7 @@ ghost use Rattle.snb_schema.specs.Faults.{OnBad};
 ghost use Rattle.snb_schema.specs.declared.row.Row.TheVariants as row;
 ghost use Rattle.snb_schema.specs.TableRows.{IsTableRow};
 ghost use Rattle.snb_loader.specs.Order.{table_series};
-ghost use Rattle.snb_loader.specs.Tables.{HasTaken, IsHeard, IsSecond, IsTableFileSink, table_format};
+ghost use Rattle.snb_loader.specs.Tables.{HasTaken, IsHeard, IsSecond, IsTableFileSink, may_repeat, table_format};
 
 use crate::lacking::{first_lacking, may_repeat};
 use crate::order::table_series;
@@ -25,6 +25,17 @@ use snb_schema::limits::MAX_ROWS;
 use snb_schema::{Fault, FileId, Placed, Refusal, Row, Table};
 use std::alloc::{AllocError, Global};
 use std::marker::Model;
+
+// An equal row.
+fn copy_of(row: &Row) -> Result<Row, Fault>
+    ensures ok { IfOk result (λ copy. copy ≡ row.now) }
+    ensures err { IfErr result (λ why. why ≡ Fault.Memory) }
+{
+    match row.clone() {
+        Ok(copy) => Ok(copy),
+        Err(_) => Err(Fault::Memory),
+    }
+}
 
 /// The graph of the rows so far. A line that repeats an edge or a word changes nothing.
 pub struct TableGraph {
@@ -85,6 +96,47 @@ impl TableGraph {
         }
     }
 
+    // Adds an edge, unless it is held. `Bad` says that a row has its slot, which it doesn't repeat.
+    fn put_edge(&mut self, file: FileId, line: u32, row: Row) -> Result<(), Fault>
+        requires shaped { IsTableRow row }
+        requires edge { may_repeat row ≡ true }
+        ensures ok { OnOk result (HasTaken self.old row self.new) }
+        ensures bad { OnBad result (λ r. IsSecond self.old row × (r ≡ Refusal.Duplicate file line)) }
+        ensures same { OnErr result (self.new ≡ self.old) }
+    {
+        let copy = copy_of(&row)?;
+        match self.graph.insert_row(row) {
+            Ok(()) => Ok(()),
+            Err(Insert::Duplicate) => {
+                if self.graph.same_row(&copy) {
+                    Ok(())
+                } else {
+                    Err(Fault::Bad {
+                        refusal: Refusal::Duplicate { file, line },
+                    })
+                }
+            }
+            Err(Insert::Memory) => Err(Fault::Memory),
+        }
+    }
+
+    // Adds a node. `Bad` says that a row has its slot.
+    fn put_node(&mut self, file: FileId, line: u32, row: Row) -> Result<(), Fault>
+        requires shaped { IsTableRow row }
+        requires node { may_repeat row ≡ false }
+        ensures ok { OnOk result (HasTaken self.old row self.new) }
+        ensures bad { OnBad result (λ r. IsSecond self.old row × (r ≡ Refusal.Duplicate file line)) }
+        ensures same { OnErr result (self.new ≡ self.old) }
+    {
+        match self.graph.insert_row(row) {
+            Ok(()) => Ok(()),
+            Err(Insert::Duplicate) => Err(Fault::Bad {
+                refusal: Refusal::Duplicate { file, line },
+            }),
+            Err(Insert::Memory) => Err(Fault::Memory),
+        }
+    }
+
     // Adds a row that is no word, unless it repeats an edge. `Bad` says that a row has its slot, which it
     // doesn't repeat.
     fn put_other(&mut self, file: FileId, line: u32, row: Row) -> Result<(), Fault>
@@ -93,15 +145,10 @@ impl TableGraph {
         ensures bad { OnBad result (λ r. IsSecond self.old row × (r ≡ Refusal.Duplicate file line)) }
         ensures same { OnErr result (self.new ≡ self.old) }
     {
-        if may_repeat(&row) && self.graph.same_row(&row) {
-            return Ok(());
-        }
-        match self.graph.insert_row(row) {
-            Ok(()) => Ok(()),
-            Err(Insert::Duplicate) => Err(Fault::Bad {
-                refusal: Refusal::Duplicate { file, line },
-            }),
-            Err(Insert::Memory) => Err(Fault::Memory),
+        if may_repeat(&row) {
+            self.put_edge(file, line, row)
+        } else {
+            self.put_node(file, line, row)
         }
     }
 

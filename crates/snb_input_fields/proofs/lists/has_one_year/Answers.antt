@@ -1,17 +1,16 @@
-use Rattle.std.proofs.Common.{◌≡◌, ◌∙◌, false, refl, subst, sym, take_all, All}
-use Rattle.std.proofs.lemmas.List.Elements.{All-more, Contains-get_or}
-use Rattle.std.specs.List.{list_any}
-use Rattle.snb_columns.proofs.Laws.{differs, one_year, two_years}
+use Rattle.std.proofs.Common.{◌≡◌, ◌∙◌, ℕ, Some, ap, sym}
+use Rattle.std.proofs.lemmas.List.Elements.{All-contains, Contains-get_or}
+use Rattle.std.specs.BTreeMap.{get}
+use Rattle.std.specs.Ordering.{nat_cmp}
+use Rattle.snb_input_fields.proofs.SeenFacts.{one_some, years_agree}
 use Rattle.snb_input_fields.proofs.lists.has_one_year.Goals as goal
 
-pub returns-then-has_other_year : goal.returns-then-has_other_year
-returns-then-has_other_year c = (λ t. absurd cc, λ h. absurd (two_years c.args.pairs.now _ (Contains-get_or c.args.pairs.now c.loop-id.id-index _ c.loop-id-test.true) (sym c.has_other_year.ensures ∙ c.if-has_other_year.true) h))
-
-pub loop-id-preserved : goal.loop-id-preserved
-loop-id-preserved c =
-    All-more (λ p. list_any (differs p) c.args.pairs.now ≡ false) c.args.pairs.now c.loop-id.id-index _ c.loop-id-test.true c.loop-id.invariant (sym c.has_other_year.ensures ∙ c.if-has_other_year.false)
-
 pub returns : goal.returns
-returns c =
-    let all = subst (All (λ p. list_any (differs p) c.args.pairs.now ≡ false)) (take_all c.loop-id.id-index c.args.pairs.now c.loop-id-test.false) c.loop-id.invariant in
-    (λ t. one_year c.args.pairs.now all, λ h. refl)
+returns c = (
+  λ t p q here there same.
+      let all = c.agree.ensures.0 t in
+      let one = All-contains (λ (r : ℕ × ℕ). get nat_cmp c.in_ok-years.years r.0 ≡ Some r.1) c.args.pairs.now p all here in
+      let two = All-contains (λ (r : ℕ × ℕ). get nat_cmp c.in_ok-years.years r.0 ≡ Some r.1) c.args.pairs.now q all there in
+      one_some p.1 q.1 (sym one ∙ ap (get nat_cmp c.in_ok-years.years) same ∙ two),
+  λ years. c.agree.ensures.1 (λ k d l. years_agree c.args.pairs.now (get nat_cmp c.in_ok-years.years) c.in_ok-years.ensures.0 years _ (Contains-get_or c.args.pairs.now k d l)),
+)

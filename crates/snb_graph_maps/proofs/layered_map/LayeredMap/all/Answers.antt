@@ -1,9 +1,8 @@
 use Rattle.std.proofs.Common.{◌∙◌, refl}
-use Rattle.snb_graph_maps.proofs.PartLemmas.{filter_all}
 use Rattle.snb_graph_maps.proofs.layered_map.LayeredMap.all.Goals as goal
 
 pub over-requires : goal.over-requires
-over-requires g c = rw (rw (← c.self.view_is) at c.frozen.ensures.lent, c.range.ensures.between tt ∙ filter_all c.self.inside.added.entries) c.self.invariant.parts
+over-requires g c = rw (rw (← c.self.view_is) at c.frozen.ensures.lent, c.all.ensures) c.self.invariant.parts
 
 pub returns : goal.returns
-returns g c = rw (← c.self.view_is) (c.over.ensures ∙ rw (rw (← c.self.view_is) at c.frozen.ensures.lent, c.range.ensures.between tt ∙ filter_all c.self.inside.added.entries) refl)
+returns g c = rw (← c.self.view_is) (c.over.ensures ∙ rw (rw (← c.self.view_is) at c.frozen.ensures.lent, c.all.ensures) refl)

@@ -8,4 +8,4 @@ returns-in-Some g c = sym (found_frozen_first g.K.Ord.cmp g.met.K.Ord.total g.me
 
 pub returns-in-None : goal.returns-in-None
 returns-in-None g c =
-    rw (← c.self.view_is) (c.added_at.ensures ∙ sym (found_added_else g.K.Ord.cmp g.met.K.Ord.total g.met.K.Apart.same_key (entries_of c.self.inside.frozen) c.self.inside.added.entries c.args.key.now (sym (rw (rw (← c.self.view_is) at c.frozen.ensures.lent) at c.in-None.ensures))))
+    rw (← c.self.view_is) (c.get.ensures ∙ sym (found_added_else g.K.Ord.cmp g.met.K.Ord.total g.met.K.Apart.same_key (entries_of c.self.inside.frozen) c.self.inside.added c.args.key.now (sym (rw (rw (← c.self.view_is) at c.frozen.ensures.lent) at c.in-None.ensures))))

@@ -1,7 +1,7 @@
 use Rattle.std.proofs.Common.{ℕ, List, subst, sym}
 use Rattle.snb_base.specs.Spellings as spellings
 use Rattle.snb_schema.specs.declared.column.Column.TheVariants as columns
-use Rattle.snb_schema.specs.declared.column.Value.TheVariants.{Digits, SmallDigits, Letters}
+use Rattle.snb_schema.specs.declared.column.Value.TheVariants.{Digits}
 use Rattle.snb_input_fields.proofs.ReadingFacts.{date_of}
 use Rattle.snb_input_fields.proofs.field_reader.FieldReader.date.Goals as goal
 

@@ -1,6 +1,6 @@
 use Rattle.std.proofs.Common.{◌∙◌, sym}
 use Rattle.snb_schema.specs.declared.column.Column.TheVariants as columns
-use Rattle.snb_schema.specs.declared.column.Value.TheVariants.{Digits, SmallDigits, Letters}
+use Rattle.snb_schema.specs.declared.column.Value.TheVariants.{Letters}
 use Rattle.snb_input_fields.proofs.field_reader.FieldReader.text.Goals as goal
 
 pub pass-requires : goal.pass-requires
