@@ -2,12 +2,17 @@
 //! case has no files but those in memory. What becomes of a full device, a closed descriptor and a folder that
 //! can't be written is tried over the whole program, by the script `descriptors`.
 
+mod fakes;
+
 use crate::folder_outbox::FolderOutbox;
 use crate::folder_shelf::FolderShelf;
 use crate::host_clock::HostClock;
+use fakes::{FakeClock, FakeSystem, Writes};
 use snb_base::{Channel, Clock, FarClock, Gate, Got, OpenGate, Outbox, Phase, Put, Shelf};
 use std::alloc::{AllocError, Global};
+use std::cell::Cell;
 use std::fs;
+use std::io::ErrorKind;
 use std::test::Fail;
 use std::time::Instant;
 
@@ -53,6 +58,28 @@ fn reads_real_files(rt: HostRuntime) -> Result<(), Fail> {
     Ok(())
 }
 
+// It opens a file again at each read, so one that goes between two of them is absent at the second, and what
+// came in its place is read. That is so at a later byte of it too.
+#[test]
+fn tells_that_a_file_has_gone(rt: HostRuntime) -> Result<(), Fail> {
+    let name = "snb_host_gone.tmp";
+    fs::write(&rt, name, "first and second")?;
+    let mut shelf = FolderShelf::new(rt);
+    let mut into = [0u8; 5];
+    let first = shelf.read(name, 0, &mut into);
+    fs::remove_file(&rt, name)?;
+    let mut later = [0u8; 5];
+    let second = shelf.read(name, 5, &mut later);
+    fs::create_dir(&rt, name)?;
+    let third = shelf.read(name, 5, &mut later);
+    fs::remove_dir(&rt, name)?;
+    assert_eq!(rt; first, Got::Took { count: 5 });
+    assert_eq!(rt; &into, b"first");
+    assert_eq!(rt; second, Got::Absent);
+    assert_eq!(rt; third, Got::Failed);
+    Ok(())
+}
+
 // A file is made anew at the first write to it, and goes on at the second.
 #[test]
 fn writes_real_files(rt: HostRuntime) -> Result<(), Fail> {
@@ -72,6 +99,40 @@ fn writes_real_files(rt: HostRuntime) -> Result<(), Fail> {
         assert_eq!(rt; first, Put::Took { count: 2 }, "to {name}");
         assert_eq!(rt; second, Put::Took { count: 1 }, "to {name}");
         assert_eq!(rt; bytes.as_slice(), b"xyz".as_slice(), "in {name}");
+    }
+    Ok(())
+}
+
+// Each call writes once, and says what came of that: a count, or a fault where an error came or no byte was
+// taken. A file stays open after a fault, since to make it anew would lose what it has.
+#[test]
+fn tells_what_a_write_took(rt: HostRuntime) -> Result<(), Fail> {
+    for (channel, files) in [
+        (Channel::Screen, 0),
+        (Channel::Log, 1),
+        (Channel::Answers, 1),
+        (Channel::Final, 1),
+        (Channel::Cases, 1),
+    ] {
+        let writes = Writes {
+            answer: Cell::new(Ok(0)),
+            opened: Cell::new(0),
+            written: Cell::new(0),
+        };
+        let mut out = FolderOutbox::new(FakeSystem { writes: &writes });
+        for (count, answer, wanted) in [
+            (1, Err(ErrorKind::Interrupted), Put::Failed),
+            (2, Ok(2), Put::Took { count: 2 }),
+            (3, Ok(0), Put::Failed),
+            (4, Err(ErrorKind::Interrupted), Put::Failed),
+            (5, Err(ErrorKind::BrokenPipe), Put::Failed),
+            (6, Ok(9), Put::Took { count: 3 }),
+        ] {
+            writes.answer.set(answer);
+            assert_eq!(rt; out.write(channel, b"abc"), wanted, "{channel:?} {count}");
+            assert_eq!(rt; writes.written.get(), count, "{channel:?}");
+            assert_eq!(rt; writes.opened.get(), files, "{channel:?} {count}");
+        }
     }
     Ok(())
 }
@@ -112,5 +173,45 @@ fn counts_milliseconds(rt: HostRuntime) -> Result<(), Fail> {
     far.rest(&rt, 9);
     OpenGate.pass(&rt, 0, 0, Phase::Held);
     assert_eq!(rt; far.now(), 7);
+    Ok(())
+}
+
+// A rest moves the fake clock on by just its length.
+#[test]
+fn rests_until_a_moment_and_no_longer(rt: HostRuntime) -> Result<(), Fail> {
+    let system = FakeClock {
+        shown: Cell::new(Some(5000)),
+        rested: Cell::new(0),
+    };
+    let clock = HostClock::new(&system);
+    for (until, now) in [(0, 0), (300, 300), (300, 300), (100, 300), (4301, 4301)] {
+        clock.rest(&rt, until);
+        assert_eq!(rt; clock.now(), now, "at {until}");
+        assert_eq!(rt; system.rested.get(), now, "at {until}");
+    }
+    Ok(())
+}
+
+// Where the clock of the system can't be read ours shows 0, and a rest still ends. It starts at the first
+// moment that could be read.
+#[test]
+fn bears_a_clock_that_cannot_be_read(rt: HostRuntime) -> Result<(), Fail> {
+    let system = FakeClock {
+        shown: Cell::new(None),
+        rested: Cell::new(0),
+    };
+    let clock = HostClock::new(&system);
+    assert_eq!(rt; clock.now(), 0);
+    clock.rest(&rt, 300);
+    assert_eq!(rt; system.rested.get(), 300);
+    for (shown, now) in [
+        (Some(7000), 0),
+        (Some(7040), 40),
+        (None, 0),
+        (Some(7050), 50),
+    ] {
+        system.shown.set(shown);
+        assert_eq!(rt; clock.now(), now, "at {shown:?}");
+    }
     Ok(())
 }

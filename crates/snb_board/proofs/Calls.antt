@@ -72,7 +72,7 @@ sitting_after p q r h k one s t turn is =
     let workers : r.me.0.workers ≡ p.me.0.workers = ap (λ (u : View). u.workers) view ∙ v.5 in
     let table = t.0 ∙ s.0 in (
       (λ i. sitting (site (table i) (schedule i) (workers i)) ((ap number_of parts) i) ((ap seen_of parts) i) (time_below ((ap told_of parts) i))),
-      (ap (λ (u : View). u.phase) view, subst (λ ps. ps ≡ part (number_of ps) (seen_of ps) (told_of ps) ∷ []) (sym parts) refl, ap (λ (m : Sat). m.1) is),
+      (ap (λ (u : View). u.phase) view, (subst (λ ps. ps ≡ part (number_of ps) (seen_of ps) (told_of ps) ∷ []) (sym parts) refl, subst (λ (n : ℕ). 0 < n) (sym workers) one.1), ap (λ (m : Sat). m.1) is),
       ap number_of parts,
       workers,
     )

@@ -1,5 +1,5 @@
 -- Facts on lists of events, on beginnings of them, and on how far a history has come.
-use Rattle.std.proofs.Common.{◌≡◌, ◌≢◌, ℕ, zero, suc, ◌+◌, ◌≤◌, List, [], ◌∷◌, ◌++◌, length, Bool, true, false, cond, refl, sym, ap, ◌∙◌, subst, append_assoc, append-nil, length-append, arith, Some}
+use Rattle.std.proofs.Common.{◌≡◌, ◌≢◌, ℕ, zero, suc, ◌+◌, ◌≤◌, List, [], ◌∷◌, ◌++◌, length, get_or, ◌<◌, Bool, true, false, cond, refl, sym, ap, ◌∙◌, subst, append_assoc, append-nil, length-append, arith, Some}
 use Rattle.std.specs.Prelude.{slice_get, ℤ, pos, ◌-ℤ◌, ◌≤ℤ◌}
 use lib.IntN.{negsuc}
 use Rattle.std.proofs.lemmas.Bool.{eq-eqb, ne_eqb}
@@ -53,6 +53,20 @@ prefix-push xs ys e p = (p.0 ++ e ∷ [], sym (append_assoc (xs) (p.0) (e ∷ []
 pub slice_get-push : (xs : List Event) (e : Event) → slice_get (xs ++ e ∷ []) (length xs) ≡ Some e
 slice_get-push [] e = refl
 slice_get-push (x ∷ xs) e = slice_get-push xs e
+
+pub some_event : (xs : List Event) (e : Event) → 0 < length (xs ++ e ∷ [])
+some_event [] e = omega arith
+some_event (x ∷ xs) e = omega arith
+
+-- the last one, by its number
+pub last_is : (h xs : List Event) (e : Event) (d x : Event) (n : ℕ) → h ≡ xs ++ e ∷ [] → n + 1 ≡ length h → x ≡ get_or h n d → x ≡ e
+last_is h xs e d x n is len found = found ∙ (ap (λ (l : List Event). get_or l n d) is ∙ at xs n (len ∙ ap length is))
+  where
+    at : (xs : List Event) (n : ℕ) → n + 1 ≡ length (xs ++ e ∷ []) → get_or (xs ++ e ∷ []) n d ≡ e
+    at [] zero len = refl
+    at [] (suc n) len = absurd (omega arith)
+    at (y ∷ ys) zero len = absurd (let some = some_event ys e in omega arith)
+    at (y ∷ ys) (suc n) len = at ys n (omega arith)
 
 -- what stands in a beginning stands in the whole
 pub slice_get-prefix : (xs ys : List Event) (k : ℕ) (e : Event) → slice_get xs k ≡ Some e → slice_get (xs ++ ys) k ≡ Some e

@@ -12,7 +12,7 @@ use Rattle.snb_board.specs.declared.view.Part.{Part}
 use Rattle.snb_board.specs.declared.view.View.{View}
 use Rattle.snb_board.specs.declared.view.Phase.{Phase}
 use Rattle.snb_board.specs.Boards.{events_of}
-use Rattle.snb_board.specs.Views.{author, reached, part, IsShown, seen_of, number_of, told_of, seeing, posed, Each, PartOk, ViewOk}
+use Rattle.snb_board.specs.Views.{author, reached, part, IsShown, seen_of, number_of, told_of, seeing, telling, posed, Each, HasWorker, Differ, PartOk, ViewOk}
 use Rattle.snb_board.specs.Steps.{IsSingle}
 
 module _ {A : Type 0} where
@@ -57,10 +57,10 @@ module _ {A : Type 0} where
   Each-append P (x ∷ xs) ys h k = (h.0, Each-append P xs ys h.1 k)
 
 pub single-seeing : (h : List Event) (v : View) → IsSingle v → seeing h v.parts ≡ part (number_of v.parts) h (told_of v.parts) ∷ []
-single-seeing h v one = ap (seeing h) one
+single-seeing h v one = ap (seeing h) one.0
 
 pub single-posed : (ph : Phase) (h : List Event) (v : View) → IsSingle v → IsSingle (posed ph h v)
-single-posed ph h v one = subst (λ ps. ps ≡ part (number_of ps) (seen_of ps) (told_of ps) ∷ []) (sym (single-seeing h v one)) refl
+single-posed ph h v one = (subst (λ ps. ps ≡ part (number_of ps) (seen_of ps) (told_of ps) ∷ []) (sym (single-seeing h v one)) refl, one.1)
 
 -- the own part of a view that has seen the history
 pub parts-posed : (ph : Phase) (h : List Event) (v : View) → IsSingle v → seeing h v.parts ≡ part (number_of (seeing h v.parts)) h (told_of (seeing h v.parts)) ∷ []
@@ -68,10 +68,61 @@ parts-posed ph h v one = subst (λ ps. ps ≡ part (number_of ps) h (told_of ps)
 
 -- the own part
 pub own_ok : (a : Kept) (made : ℕ) (owner : ℕ → ℕ) (reach j : ℕ) (v : View) → IsSingle v → ViewOk a made owner reach j v → PartOk a.schedule a.history made owner reach v.phase j (part (number_of v.parts) (seen_of v.parts) (told_of v.parts))
-own_ok a made owner reach j v one ok = (subst (Each (PartOk a.schedule a.history made owner reach v.phase j)) one ok.parts).0
+own_ok a made owner reach j v one ok = (subst (Each (PartOk a.schedule a.history made owner reach v.phase j)) one.0 ok.parts).0
 
-pub has_part : (v : View) → IsSingle v → 0 < length v.parts
-has_part v one = subst (λ (ps : List Part). 0 < length ps) (sym one) (omega arith)
+-- what is seen or told changes no worker
+pub seeing_has : (k : ℕ) (h : List Event) (ps : List Part) → HasWorker k ps → HasWorker k (seeing h ps)
+seeing_has k h [] has = has
+seeing_has k h (p ∷ ps) has = has
+
+pub seeing_had : (k : ℕ) (h : List Event) (ps : List Part) → HasWorker k (seeing h ps) → HasWorker k ps
+seeing_had k h [] has = has
+seeing_had k h (p ∷ ps) has = has
+
+pub seeing_differ : (h : List Event) (ps : List Part) → Differ ps → Differ (seeing h ps)
+seeing_differ h [] d = d
+seeing_differ h (p ∷ ps) d = d
+
+pub telling_has : (k : ℕ) (n : ℕ) (ps : List Part) → HasWorker k ps → HasWorker k (telling n ps)
+telling_has k n [] has = has
+telling_has k n (p ∷ ps) has = has
+
+pub telling_had : (k : ℕ) (n : ℕ) (ps : List Part) → HasWorker k (telling n ps) → HasWorker k ps
+telling_had k n [] has = has
+telling_had k n (p ∷ ps) has = has
+
+pub telling_differ : (n : ℕ) (ps : List Part) → Differ ps → Differ (telling n ps)
+telling_differ n [] d = d
+telling_differ n (p ∷ ps) d = d
+
+-- which parts have a worker, and that the workers differ, of parts that are put together
+pub has_left : (k : ℕ) (ps qs : List Part) → HasWorker k ps → HasWorker k (ps ++ qs)
+has_left k [] qs has = absurd has
+has_left k (p ∷ ps) qs has = ⊎_elim inl (λ (t : HasWorker k ps). inr (has_left k ps qs t)) has
+
+pub has_right : (k : ℕ) (ps qs : List Part) → HasWorker k qs → HasWorker k (ps ++ qs)
+has_right k [] qs has = has
+has_right k (p ∷ ps) qs has = inr (has_right k ps qs has)
+
+pub has_either : (k : ℕ) (ps qs : List Part) → HasWorker k (ps ++ qs) → HasWorker k ps ⊎ HasWorker k qs
+has_either k [] qs has = inr has
+has_either k (p ∷ ps) qs has =
+    ⊎_elim (λ (e : p.worker ≡ k). inl (inl e)) (λ (t : HasWorker k (ps ++ qs)). ⊎_elim (λ (l : HasWorker k ps). inl (inr l)) (λ (r : HasWorker k qs). inr r) (has_either k ps qs t)) has
+
+pub differ_both : (ps qs : List Part) → Differ ps → Differ qs → ((k : ℕ) → HasWorker k ps → HasWorker k qs → ⊥) → Differ (ps ++ qs)
+differ_both [] qs d e apart = e
+differ_both (p ∷ ps) qs d e apart = (
+  (λ has. ⊎_elim (λ (l : HasWorker p.worker ps). d.0 l) (λ (r : HasWorker p.worker qs). apart p.worker (inl refl) r) (has_either p.worker ps qs has)),
+  differ_both ps qs d.1 e (λ k l r. apart k (inr l) r),
+)
+
+-- the view that has a worker's part is the one that the rule names
+pub found : (schedule : Schedule) (history : List Event) (made : ℕ) (owner : ℕ → ℕ) (reach : ℕ) (ph : Phase) (j k : ℕ) (ps : List Part) → Each (PartOk schedule history made owner reach ph j) ps → HasWorker k ps → owner k ≡ j
+found schedule history made owner reach ph j k [] h has = absurd has
+found schedule history made owner reach ph j k (p ∷ ps) h has = ⊎_elim (λ (e : p.worker ≡ k). ap owner (sym e) ∙ h.0.owned) (λ (rest : HasWorker k ps). found schedule history made owner reach ph j k ps h.1 rest) has
+
+pub has_part : (v : View) → IsSingle v → 0 < v.workers
+has_part v one = one.1
 
 -- the view after it has seen all of the history
 pub posed_ok : (a b : Kept) (made : ℕ) (owner : ℕ → ℕ) (reach more j : ℕ) (v : View) (ph : Phase) → IsSingle v → b.schedule ≡ a.schedule → b.workers ≡ a.workers → reach ≤ more → (IsShown ph → reached b.schedule b.history ≤ more)
@@ -80,7 +131,9 @@ posed_ok a b made owner reach more j v ph one p k up known ok =
     let mine = own_ok a made owner reach j v one ok in
     let same = ok.same (has_part v one) in record {
       same = λ _. (same.0 ∙ sym p, same.1 ∙ sym k);
-      minted = ok.minted;
+      minted = λ has. let m = ok.minted has in (seeing_has 0 b.history v.parts m.0, m.1);
+      counts = λ has. ok.counts (seeing_had 0 b.history v.parts has);
+      differ = seeing_differ b.history v.parts ok.differ;
       parts = subst (Each (PartOk b.schedule b.history made owner more ph j)) (sym (single-seeing b.history v one))
           (record { low = mine.low; owned = mine.owned; seen = prefix-refl b.history; mine = refl; told = let t = mine.told in omega arith; behind = known }, tt);
     }
@@ -90,6 +143,8 @@ pub reach_grows : (a : Kept) (made : ℕ) (owner : ℕ → ℕ) (reach more j : 
 reach_grows a made owner reach more j v up ok = record {
   same = ok.same;
   minted = ok.minted;
+  counts = ok.counts;
+  differ = ok.differ;
   parts = Each-map (PartOk a.schedule a.history made owner reach v.phase j) (PartOk a.schedule a.history made owner more v.phase j) v.parts
       (λ x h. record { low = h.low; owned = h.owned; seen = h.seen; mine = h.mine; told = let t = h.told in omega arith; behind = λ s. let t = h.behind s in omega arith }) ok.parts;
 }
@@ -99,6 +154,8 @@ pub others_grow : (a b : Kept) (made : ℕ) (owner : ℕ → ℕ) (reach j : ℕ
 others_grow a b made owner reach j v e p k more apart ok = record {
   same = λ some_part. let s = ok.same some_part in (s.0 ∙ sym p, s.1 ∙ sym k);
   minted = ok.minted;
+  counts = ok.counts;
+  differ = ok.differ;
   parts = Each-map (PartOk a.schedule a.history made owner reach v.phase j) (PartOk b.schedule b.history made owner reach v.phase j) v.parts
       (λ x h.
       let other : author e ≢ x.worker = λ same. apart (ap owner same ∙ h.owned) in record {

@@ -120,3 +120,7 @@ pub record IsPartOf (schedule : Schedule) (h : List Event) (s : Sitting) : Type 
 -- each event is of the worker of one of the seats
 abbrev pub AreMadeBy : List Sitting → List Event → Type 0
 AreMadeBy seats h = All (λ e. Any (λ s. is_by s.worker e ≡ true) seats) h
+
+-- by what these seats know and by what `close` says, the board's history is the empty one
+abbrev pub IsEmptyYet : Site → List Sitting → Type 0
+IsEmptyYet z seats = (h : List Event) → All (IsPartOf z.schedule h) seats → AreMadeBy seats h → h ≡ []

@@ -1,5 +1,5 @@
 -- What seats know, the rule of the table, and what each step tells. Cited by contracts of private functions alone.
-use Rattle.std.specs.Prelude.{◌≡◌, ◌≢◌, ℕ, ◌+◌, ◌^◌, ◌<◌, ◌≤◌, List, [], ◌∷◌, ◌++◌, length, slice_index, Option, Some, None}
+use Rattle.std.specs.Prelude.{◌≡◌, ◌≢◌, ℕ, ◌+◌, ◌^◌, ◌<◌, ◌≤◌, List, [], ◌∷◌, ◌++◌, length, slice_index, ◌⊎◌, Option, Result}
 use mathlib.Core.Option.{some, none}
 use mathlib.Core.List.{IsPrefix}
 use lib.ListN.{get_elem?}
@@ -13,6 +13,7 @@ use Rattle.snb_history.specs.Rules.{IsLegal}
 use Rattle.snb_book.specs.Kept.{Kept}
 use Rattle.snb_board.specs.declared.view.Part.{Part}
 use Rattle.snb_board.specs.declared.view.View.{View}
+use Rattle.std.specs.Prelude.{Err, None, Ok, Some}
 use Rattle.snb_board.specs.declared.view.Phase.{Phase}
 use Rattle.snb_board.specs.declared.view.Phase.TheVariants.{Idle, Holding, Counted, Raised}
 use Rattle.snb_board.specs.Boards.{events_of}
@@ -36,12 +37,12 @@ part w seen told = record { worker = w; seen = seen; told = told }
 abbrev pub viewing : Phase → Schedule → ℕ → ℕ → List Part → View
 viewing phase schedule workers made parts = record { phase = phase; schedule = schedule; workers = workers; made = made; parts = parts }
 
+abbrev pub no_schedule : Schedule
+no_schedule = record { steps = []; kinds = [] }
+
 -- the first view: worker 0, which has made one seat
 abbrev pub first_view : Kept → View
 first_view a = viewing Idle a.schedule a.workers 1 (part 0 [] 0 ∷ [])
-
-abbrev pub no_schedule : Schedule
-no_schedule = record { steps = []; kinds = [] }
 
 abbrev pub spent_view : View
 spent_view = viewing Idle no_schedule 0 0 []
@@ -96,8 +97,18 @@ abbrev pub Each : {X : Type 0} → (X → Type 0) → List X → Type 0
 Each P [] = Unit {0}
 Each P (x ∷ xs) = P x × Each P xs
 
--- what the rule says of one seat's part: its worker's events in the history are those that it has seen, and what it was told is no more than
--- the word says
+-- some part is of this worker
+abbrev pub HasWorker : ℕ → List Part → Type 0
+HasWorker k [] = ⊥
+HasWorker k (p ∷ ps) = (p.worker ≡ k) ⊎ HasWorker k ps
+
+-- no two parts are of one worker
+abbrev pub Differ : List Part → Type 0
+Differ [] = Unit {0}
+Differ (p ∷ ps) = ¬ HasWorker p.worker ps × Differ ps
+
+-- what the rule says of one seat's part: its worker is below the count of seats made, and belongs to this view; its worker's events in the
+-- history are those that it has seen; and what it was told is no more than the word says
 pub record PartOk (schedule : Schedule) (history : List Event) (made : ℕ) (owner : ℕ → ℕ) (reach : ℕ) (phase : Phase) (j : ℕ) (p : Part) : Type 0 where
   pub low : p.worker < made
   pub owned : owner p.worker ≡ j
@@ -106,10 +117,13 @@ pub record PartOk (schedule : Schedule) (history : List Event) (made : ℕ) (own
   pub told : p.told ≤ reach
   pub behind : IsShown phase → reached schedule p.seen ≤ reach
 
--- what it says of one view
+-- what it says of one view: where it has the schedule and the count of workers, they are the book's; it has the count of seats made exactly
+-- where it has the part of worker 0; the workers of its parts differ
 pub record ViewOk (a : Kept) (made : ℕ) (owner : ℕ → ℕ) (reach : ℕ) (j : ℕ) (v : View) : Type 0 where
-  pub same : 0 < length v.parts → (v.schedule ≡ a.schedule) × (v.workers ≡ a.workers)
-  pub minted : 0 < v.made → (j ≡ 0) × (v.made ≡ made)
+  pub same : 0 < v.workers → (v.schedule ≡ a.schedule) × (v.workers ≡ a.workers)
+  pub minted : 0 < v.made → HasWorker 0 v.parts × (v.made ≡ made)
+  pub counts : HasWorker 0 v.parts → 0 < v.made
+  pub differ : Differ v.parts
   pub parts : Each (PartOk a.schedule a.history made owner reach v.phase j) v.parts
 
 pub data Turn : Type 0 where
@@ -117,13 +131,13 @@ pub data Turn : Type 0 where
   held : ℕ → Turn
 
 abbrev pub Home : Type 0
-Home = Option Kept
+Home = Result Kept (Option Event)
 
 -- the turn is free, the book is at home and all views are idle; or one view has the turn and the book
 abbrev pub Stands : State Home View → Kept → ℕ → Turn → Type 0
 Stands s a reach free =
     (slice_index s.words 0 ≡ 0)
-    × (get_elem? s.homes 0 ≡ some (some (Some a)))
+    × (get_elem? s.homes 0 ≡ some (some (Ok a)))
     × ((j : ℕ) (v : View) → get_elem? s.views j ≡ some v → v.phase ≡ Idle)
     × (reach ≡ reached a.schedule a.history)
 Stands s a reach (held i) =
@@ -132,10 +146,11 @@ Stands s a reach (held i) =
     × ((v : View) × (get_elem? s.views i ≡ some v) × IsOut v.phase × (v.parts ≡ part (number_of v.parts) a.history (told_of v.parts) ∷ []) × Shows a.schedule v.phase reach a.history)
     × ((j : ℕ) (v : View) → j ≢ i → get_elem? s.views j ≡ some v → v.phase ≡ Idle)
 
--- the rule: there is one book, whose history is legal and as long as the count word says, and has no events of workers without a seat; each
--- worker's seat belongs to one view; the third word is what was published
-pub record IsRuled (s : State Home View) : Type 0 where
+-- the rule: there is one book, of the schedule and the count of workers that the table was made for, whose history is legal and as long as the
+-- count word says, and has no events of workers without a seat; each worker belongs to one view; the third word is what was published
+pub record IsRuled (about : Kept) (s : State Home View) : Type 0 where
   pub book : Kept
+  pub keyed : (book.schedule ≡ about.schedule) × (book.workers ≡ about.workers)
   pub made : ℕ
   pub owner : ℕ → ℕ
   pub turn : Turn
@@ -157,11 +172,16 @@ Sat = Me Home View
 abbrev pub At : Type 0
 At = Step Home
 
--- the history of the book in the slot that was taken last
-abbrev pub history_in : List (ℕ × Home) → List Event
-history_in [] = []
-history_in ((k, Some a) ∷ xs) = a.history
-history_in ((k, None) ∷ xs) = []
+-- the event that a slot has
+abbrev pub noted : Home → List Event
+noted (Err (Some e)) = e ∷ []
+noted (Err None) = []
+noted (Ok a) = []
+
+-- the same of the slot that was taken last
+abbrev pub noted_in : List (ℕ × Home) → List Event
+noted_in [] = []
+noted_in ((k, x) ∷ xs) = noted x
 
 -- the seat has the turn, the slot and all of the history, which begins with what it had seen and has no other event of its worker
 abbrev pub HasWon : Sat → Sat → Type 0
@@ -171,15 +191,19 @@ HasWon m m' =
     × (events_of (number_of m.0.parts) h ≡ events_of (number_of m.0.parts) (seen_of m.0.parts))
     × IsLegal m.0.schedule m.0.workers h
     × (told_of m.0.parts ≤ reached m.0.schedule h)
-    × (m' ≡ (posed Holding h m.0, (0, Some (kept m.0.schedule m.0.workers h)) ∷ m.1))
+    × (m' ≡ (posed Holding h m.0, (0, Ok (kept m.0.schedule m.0.workers h)) ∷ m.1))
 
 -- the turn was free, and the seat has it; or nothing changed
 abbrev pub took : At → Sat → ℕ → Sat → Type 0
 took st m n m' = (n ≡ 0 → HasWon m m') × (n ≢ 0 → m' ≡ m)
 
--- the event was counted: the seat has seen the history of the book in the slot
+-- the turn was free, and nothing had happened, and the seat has it
+abbrev pub began : At → Sat → ℕ → Sat → Type 0
+began st m n m' = (n ≡ 0) × (m' ≡ (posed Holding [] m.0, (0, Ok (kept m.0.schedule m.0.workers [])) ∷ m.1))
+
+-- the event in the slot was counted: the seat has seen it
 abbrev pub counted_one : At → Sat → ℕ → Sat → Type 0
-counted_one st m n m' = m' ≡ (posed Counted (history_in m.1) m.0, m.1)
+counted_one st m n m' = m' ≡ (posed Counted (seen_of m.0.parts ++ noted_in m.1) m.0, m.1)
 
 -- the word was raised to what the seat has seen
 abbrev pub raised : At → Sat → ℕ → Sat → Type 0
@@ -204,6 +228,6 @@ minting v = viewing v.phase v.schedule v.workers (v.made + 1) v.parts
 abbrev pub newcomer : View → View
 newcomer v = viewing Idle v.schedule v.workers 0 (part v.made [] 0 ∷ [])
 
--- the parts of two views
+-- the parts of two views, and the count of seats made, which one of them may have
 abbrev pub gathered : View → View → View
-gathered v w = viewing v.phase v.schedule v.workers v.made (v.parts ++ w.parts)
+gathered v w = viewing v.phase v.schedule v.workers (v.made + w.made) (v.parts ++ w.parts)

@@ -7,13 +7,13 @@ ghost use Rattle.snb_history.specs.History.{halted};
 ghost use Rattle.snb_history.specs.Rules.{IsFront, IsLegal};
 ghost use Rattle.snb_book.specs.Claims.{IfGo};
 ghost use Rattle.snb_book.specs.Kept.{IsInHand};
-ghost use Rattle.snb_board.specs.Boards.{site, mine, AreAll, AreMadeBy, AreSeats, HasClaimed, HasFinished, HasHalted, HasLearned, HasLooked, IsPartOf};
+ghost use Rattle.snb_board.specs.Boards.{site, mine, AreAll, AreMadeBy, AreSeats, HasClaimed, HasFinished, HasHalted, HasLearned, HasLooked, IsEmptyYet, IsPartOf};
 ghost use Rattle.snb_board.specs.Steps.{IsSized, IsSeated, IsResting, is_go, part_of, with_parts};
 ghost use Rattle.snb_board.specs.Views.{first_view, kept};
 
 use crate::seat::Seat;
-use crate::steps::{gather, give, load, mint, reach_of, take};
-use crate::view::{Place, Rule, Top, View};
+use crate::steps::{begin, gather, give, load, mint, reach_of, take};
+use crate::view::{Place, Rule, Slot, Top, View};
 use atomic_table::Table;
 use snb_book::{Book, Claim, Ticket};
 use snb_history::law::{hand_is_own, start_stays};
@@ -31,7 +31,7 @@ use std::sync::Wait;
 /// seat has then seen that history with the event. No other seat adds events of its worker. A board is seen
 /// as which board it is, its schedule, and its count of workers.
 pub struct Board {
-    table: Table<Option<Book>, View, Snapshot<Book>, Rule, Global>,
+    table: Table<Slot, View, Snapshot<Book>, Rule, Global>,
     workers: u32,
 }
 
@@ -98,7 +98,7 @@ fn gather_all(top: &Top, place: &mut Place, seats: Vec<Seat>)
     requires rest { IsResting place.old }
     requires seats { All (λ s. s.site.table_id ≡ top.now.table_id) seats.items }
     ensures table { IsSeated place.old place.new }
-    ensures view { place.new.me ≡ (with_parts place.old.me.0 (map part_of seats.items), []) }
+    ensures view { place.new.me ≡ (with_parts place.old.me.0 place.new.me.0.made (map part_of seats.items), []) }
 {
     for seat in seats {
         let Seat {
@@ -123,15 +123,17 @@ impl Board {
         requires few { workers ≤ MAX_WORKERS }
         ensures board { IfOk result (λ r. (r.0.schedule ≡ schedule.now) × (r.0.workers ≡ workers)) }
         ensures seats { IfOk result (λ r. AreSeats r.0 r.1.items) }
+        ensures empty { IfOk result (λ r. IsEmptyYet r.0 r.1.items) }
     {
         let book = Book::make(alloc, schedule, workers)?;
         let reach = reach_of(&book);
         let about = Snapshot::of(&book);
         let mut slots = Vec::new(alloc);
-        slots.push(Some(book))?;
-        let Ok((table, place)) = Table::new(alloc, &[0, 0, reach], slots, &about) else {
+        slots.push(Ok(book))?;
+        let Ok((table, mut place)) = Table::new(alloc, &[0, 0, reach], slots, &about) else {
             return Err(AllocError);
         };
+        begin(&table.shared, &mut place);
         let seats = seat_all(&table.shared, place, workers, Vec::new(alloc))?;
         Ok((Board { table, workers }, seats))
     }
@@ -255,7 +257,7 @@ impl Board {
         } = last;
         gather_all(&table.shared, &mut place, seats);
         let mut closed = table.close_with(place);
-        let Some(book) = closed.take(0) else {
+        let Ok(book) = closed.take(0) else {
             unreachable!()
         };
         closed.free();

@@ -1,43 +1,49 @@
 //! What each step on the table tells. These types are for the proofs alone.
 
-ghost use Rattle.snb_board.specs.Views.{took, counted_one, raised, loaded, passed, minting, newcomer, gathered, spent_view};
+ghost use Rattle.snb_board.specs.Views.{took, began, counted_one, raised, loaded, passed, minting, newcomer, gathered, spent_view};
 
-use crate::view::View;
+use crate::view::{Slot, View};
 use atomic_table::{Join, Play, Split};
-use snb_book::Book;
 
 /// The turn is taken, and the slot with it.
 pub struct Take;
 
-impl Play<Option<Book>, View> for Take {
+impl Play<Slot, View> for Take {
     ghost then = { took };
+}
+
+/// The turn is taken for the first time, and the slot with it.
+pub struct Begin;
+
+impl Play<Slot, View> for Begin {
+    ghost then = { began };
 }
 
 /// An event is counted.
 pub struct Count;
 
-impl Play<Option<Book>, View> for Count {
+impl Play<Slot, View> for Count {
     ghost then = { counted_one };
 }
 
 /// The completion time is published.
 pub struct Raise;
 
-impl Play<Option<Book>, View> for Raise {
+impl Play<Slot, View> for Raise {
     ghost then = { raised };
 }
 
 /// The published completion time is read.
 pub struct Load;
 
-impl Play<Option<Book>, View> for Load {
+impl Play<Slot, View> for Load {
     ghost then = { loaded };
 }
 
 /// The turn is passed, and the slot with it.
 pub struct Pass;
 
-impl Play<Option<Book>, View> for Pass {
+impl Play<Slot, View> for Pass {
     ghost then = { passed };
 }
 

@@ -23,12 +23,17 @@ pub enum Phase {
     Raised,
 }
 
+/// What the slot has: the book; or nothing, since a call has the book, and while the call counts the event
+/// that it added, that event.
+pub type Slot = Result<Book, Option<Event>>;
+
 /// A view: the own part first, then those of the seats that were joined. No value of it is made.
 pub struct View {
     pub phase: Phase,
+    /// The schedule and the count of workers of the book. A view that is spent has none.
     pub schedule: Schedule,
     pub workers: u32,
-    /// The count of seats made. The first view alone has it, and others have 0.
+    /// The count of seats made. The view that has worker 0's part has it, and others have 0.
     pub made: u32,
     pub parts: LinkedList<Part>,
 }
@@ -36,16 +41,16 @@ pub struct View {
 /// The rule of the table.
 pub struct Rule;
 
-impl TableRule<Option<Book>, View, Snapshot<Book>> for Rule {
+impl TableRule<Slot, View, Snapshot<Book>> for Rule {
     ghost use Rattle.snb_board.specs.Views.{IsRuled, first_view};
 
-    ghost holds = { λ _. IsRuled };
+    ghost holds = { λ key. IsRuled key.value };
 
     ghost first = { λ key. first_view key.value };
 }
 
 /// The words and the slot, which threads share.
-pub type Top = Shared<Option<Book>, View, Snapshot<Book>, Rule>;
+pub type Top = Shared<Slot, View, Snapshot<Book>, Rule>;
 
 /// What a seat steps on them with.
-pub type Place = Seat<Option<Book>, View>;
+pub type Place = Seat<Slot, View>;

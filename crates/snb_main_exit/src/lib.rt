@@ -30,7 +30,7 @@ mod tests {
     use std::io;
     use std::test::Fail;
 
-    // Counts the lines that are printed, and those among them that are the one line that is wanted.
+    // Counts what is printed, and what of it is the one line that is wanted, with its end.
     #[derive(Drop)]
     struct Lines<'a> {
         alloc: Global,
@@ -40,8 +40,9 @@ mod tests {
     }
 
     impl<'a> Eprint for Lines<'a> {
-        fn eprint<D: Display + Drop>(&self, value: D) -> io::Result<()> {
-            self.eprintln(value)
+        fn eprint<D: Display + Drop>(&self, _value: D) -> io::Result<()> {
+            self.printed.set(self.printed.get().saturating_add(1));
+            Ok(())
         }
 
         fn eprintln<D: Display + Drop>(&self, value: D) -> io::Result<()> {

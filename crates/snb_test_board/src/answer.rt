@@ -1,7 +1,7 @@
 //! The calls of this crate by their words. To add one, write a function for it, and name it here.
 
-use crate::boards::{crew, fresh_word, two_seats};
-use crate::halts::halt_after;
+use crate::boards::{crew, fresh_word, two_seats, verdict};
+use crate::halts::{halt_after, halt_at_end, halt_both};
 use snb_test_book::State;
 use snb_test_script::Flaw;
 use std::alloc::Global;
@@ -19,8 +19,11 @@ fn answer_of<R: Threads + Wait + Sync>(
     match call {
         "two_seats" => two_seats(rt, alloc, state, rest),
         "crew" => crew(rt, alloc, state, rest),
+        "verdict" => verdict(alloc, state, rest),
         "fresh_word" => fresh_word(rt, alloc, state, rest),
+        "halt_at_end" => halt_at_end(rt, alloc, state, rest),
         "halt_after" => halt_after(rt, alloc, state, rest),
+        "halt_both" => halt_both(rt, alloc, state, rest),
         _ => Err(Flaw::NoWord),
     }
 }

@@ -290,7 +290,7 @@ fn book_of_crew<R: Threads + Wait + Sync>(
 fn told_verdict(alloc: Global, verdict: Verdict) -> Result<String, AllocError> {
     match verdict {
         Verdict::Violated { .. } => String::from_str(alloc, "violated"),
-        Verdict::Halted { .. } => String::from_str(alloc, "halted"),
+        Verdict::Halted { worker } => format!(in alloc; "halted {worker}"),
         Verdict::Incomplete { .. } => String::from_str(alloc, "not all finished"),
         Verdict::TooLate { on_time, all } => format!(in alloc; "late {on_time} of {all}"),
         Verdict::Accepted { on_time, all } => format!(in alloc; "accepted {on_time} of {all}"),
@@ -309,6 +309,19 @@ pub(crate) fn told_book(alloc: Global, book: &Book) -> Result<String, Flaw>
     let verdict = told_verdict(alloc, verdict)?;
     let verdict = verdict.as_str();
     Ok(format!(in alloc; "{count} events, {complete}, {verdict}")?)
+}
+
+/// `verdict`
+pub fn verdict(alloc: Global, state: &State, rest: &str) -> Result<String, Flaw> {
+    nothing(rest)?;
+    let Some(book) = &state.book else {
+        return Err(Flaw::OtherValue);
+    };
+    let workers = book.workers();
+    if workers == 0 || workers > MAX_WORKERS {
+        return Err(Flaw::OtherValue);
+    }
+    told_book(alloc, book)
 }
 
 /// `crew WORKERS NOW`

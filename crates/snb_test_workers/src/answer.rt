@@ -2,6 +2,7 @@
 
 use crate::alone::{alone, by_itself};
 use crate::behind::alone_behind;
+use crate::held::alone_held;
 use crate::meet::meet;
 use crate::pair::pair;
 use crate::steps::steps;
@@ -22,6 +23,7 @@ fn answer_of<R: Threads + Wait + Sync>(
         "alone" => alone(rt, alloc, files, rest),
         "by_itself" => by_itself(rt, alloc, files, rest),
         "alone_behind" => alone_behind(rt, alloc, files, rest),
+        "alone_held" => alone_held(rt, alloc, files, rest),
         "meet" => meet(rt, alloc, files, rest),
         "pair" => pair(rt, alloc, files, rest),
         "steps" => steps(rt, alloc, rest),

@@ -6,6 +6,8 @@ mod alone;
 pub mod answer;
 mod behind;
 mod closed;
+mod held;
+mod holder;
 mod meet;
 mod meeting;
 mod pair;

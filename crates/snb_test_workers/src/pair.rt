@@ -13,8 +13,8 @@ use snb_book::Book;
 use snb_test_board::boards::{closed_by_all, completeness};
 use snb_test_script::words::{first_word, number_of};
 use snb_test_script::{Files, Flaw};
-use snb_workers::Replica;
 use snb_workers::work::work;
+use snb_workers::{Done, Replica};
 use std::alloc::{AllocError, Global};
 use std::sync::Wait;
 use std::sync::atomic::{AtomicU64, Ordering};
@@ -71,6 +71,35 @@ impl Tally {
     }
 }
 
+/// Lets the seat's worker work with a new replica, and gives its replies.
+pub(crate) fn replies_of_seat<R: Wait, C: Clock, G: Gate>(
+    rt: &R,
+    alloc: Global,
+    board: &Board,
+    seat: &mut Seat,
+    whole: &Planned,
+    clock: &C,
+    gate: &G,
+) -> Result<Done, AllocError>
+    requires board { (seat.old.site ≡ board.now) × (board.now.schedule ≡ schedule_of whole.now.plan) }
+    requires fresh { seat.old.seen ≡ [] }
+    requires whole { IsWhole whole.now.graph whole.now.plan }
+    ensures { IsSameSeat seat.old seat.new }
+{
+    whole.graph.known();
+    let mut replica = Replica::new(&whole.graph)?;
+    work(
+        rt,
+        alloc,
+        board,
+        seat,
+        &whole.plan,
+        &mut replica,
+        clock,
+        gate,
+    )
+}
+
 /// Lets the seat's worker work with a new replica, and tells how many replies it has.
 pub(crate) fn work_seat<R: Wait, C: Clock, G: Gate>(
     rt: &R,
@@ -86,18 +115,7 @@ pub(crate) fn work_seat<R: Wait, C: Clock, G: Gate>(
     requires whole { IsWhole whole.now.graph whole.now.plan }
     ensures { IsSameSeat seat.old seat.new }
 {
-    whole.graph.known();
-    let mut replica = Replica::new(&whole.graph)?;
-    let done = work(
-        rt,
-        alloc,
-        board,
-        seat,
-        &whole.plan,
-        &mut replica,
-        clock,
-        gate,
-    )?;
+    let done = replies_of_seat(rt, alloc, board, seat, whole, clock, gate)?;
     Ok(done.as_slice().len() as u64)
 }
 

@@ -1,4 +1,4 @@
-//! The run of a plan by several workers, each in a thread of its own.
+//! The run of a plan by several workers, each in a thread of its own where one can be made.
 
 ghost use Rattle.std.specs.Prelude.{◌≡◌, ◌≤◌, IfOk};
 ghost use Rattle.snb_schema.specs.declared.limits.TheConstants.{MAX_WORKERS};
@@ -29,7 +29,7 @@ fn frozen_copy(graph: &Graph) -> Result<Graph, AllocError>
     Ok(copy)
 }
 
-// Lets a worker work at each seat, in a thread of its own.
+// Lets a worker work at each seat, in a thread of its own where one can be made, else one after another.
 fn work_all<R: Threads + Wait + Sync, C: Clock + Sync, G: Gate + Sync>(
     rt: &R,
     alloc: Global,
@@ -53,8 +53,8 @@ fn work_all<R: Threads + Wait + Sync, C: Clock + Sync, G: Gate + Sync>(
     )
 }
 
-/// Runs the plan by so many workers, 1 to 8, each in a thread of its own: they share a board, and each
-/// brings a replica of its own forward when it answers a read.
+/// Runs the plan by so many workers, 1 to 8, each in a thread of its own where one can be made, else one
+/// after another: they share a board, and each brings a replica of its own forward when it answers a read.
 ///
 /// The conditions: `some` and `few`, the number of workers; `sound`, the base is sound; `closed`, the plan
 /// is closed over it. Where a worker has no memory it halts, and the answer is Err once all have returned.

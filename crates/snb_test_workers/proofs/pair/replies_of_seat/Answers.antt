@@ -1,5 +1,5 @@
 use Rattle.snb_test_workers.proofs.Fresh.{follows_at_first, free_at_first}
-use Rattle.snb_test_workers.proofs.pair.work_seat.Goals as goal
+use Rattle.snb_test_workers.proofs.pair.replies_of_seat.Goals as goal
 
 pub work-requires-clause-free : goal.work-requires-clause-free
 work-requires-clause-free g c = free_at_first c.args.seat.now c.requires.fresh
