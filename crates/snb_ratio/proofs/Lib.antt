@@ -1,1 +1,2 @@
+pub mod ChanceFacts
 pub mod RatioFacts

@@ -1,1 +1,2 @@
+pub mod Chances
 pub mod Ratios

@@ -1,5 +1,5 @@
 -- What stands in each column of a read's rows.
-use Rattle.std.specs.Prelude.{List, [], ◌∷◌, ⊤}
+use Rattle.std.specs.Prelude.{ℕ, List, [], ◌∷◌, ⊤}
 use Rattle.std.specs.List.{All, AllZip}
 use Rattle.snb_schema.specs.declared.query.Query.{Query}
 use Rattle.snb_schema.specs.declared.query.Query.TheVariants as queries
@@ -31,6 +31,28 @@ columns_of (queries.Ic8 person) = Number ∷ Words ∷ Words ∷ Number ∷ Numb
 columns_of (queries.Ic9 person max_date) = Number ∷ Words ∷ Words ∷ Number ∷ Words ∷ Number ∷ []
 columns_of (queries.Ic11 person country year) = Number ∷ Words ∷ Words ∷ Words ∷ Number ∷ []
 columns_of (queries.Ic13 from to) = Number ∷ []
+
+-- a column, counted from 1, that has the id of a person, or that of a message
+pub data TargetColumn : Type 0 where
+  PersonAt : ℕ → TargetColumn
+  MessageAt : ℕ → TargetColumn
+
+-- the columns of each read from whose ids further reads may go on, by rising column
+abbrev pub target_columns : Query → List TargetColumn
+target_columns (queries.Is1 person) = []
+target_columns (queries.Is2 person) = MessageAt 1 ∷ MessageAt 4 ∷ PersonAt 5 ∷ []
+target_columns (queries.Is3 person) = PersonAt 1 ∷ []
+target_columns (queries.Is4 message) = []
+target_columns (queries.Is5 message) = PersonAt 1 ∷ []
+target_columns (queries.Is6 message) = PersonAt 3 ∷ []
+target_columns (queries.Is7 message) = MessageAt 1 ∷ PersonAt 4 ∷ []
+target_columns (queries.Ic1 person first_name) = PersonAt 1 ∷ []
+target_columns (queries.Ic2 person max_date) = PersonAt 1 ∷ MessageAt 4 ∷ []
+target_columns (queries.Ic7 person) = PersonAt 1 ∷ MessageAt 5 ∷ []
+target_columns (queries.Ic8 person) = PersonAt 1 ∷ MessageAt 5 ∷ []
+target_columns (queries.Ic9 person max_date) = PersonAt 1 ∷ MessageAt 4 ∷ []
+target_columns (queries.Ic11 person country year) = PersonAt 1 ∷ []
+target_columns (queries.Ic13 from to) = []
 
 -- the cell is one of the column
 abbrev pub IsOfColumn : Column → Cell → Type 0

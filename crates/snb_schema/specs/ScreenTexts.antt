@@ -8,10 +8,7 @@ use Rattle.snb_schema.specs.declared.refusal.Refusal.TheVariants as refusal
 use Rattle.snb_schema.specs.declared.table.Kind.{Kind}
 use Rattle.snb_schema.specs.declared.table.Kind.TheVariants as kind
 use Rattle.snb_schema.specs.FileNames.{name_of, table_text}
-
--- what is shown for words that aren't a line of the program's
-abbrev pub usage_text : List ℕ
-usage_text = codes "usage: snb COMMAND, where COMMAND is check, run, audit, latency, expect, validate, read or trial\n"
+use Rattle.snb_schema.specs.ReadKinds.{read_word}
 
 -- how many operations, updates and reads a run had, and how many rows its final graph has
 abbrev pub summary_text : ℕ → ℕ → ℕ → ℕ → List ℕ
@@ -55,6 +52,7 @@ cause_text (refusal.Unmet file line missing) =
     name_of file ++ codes ":" ++ decimal line ++ codes ": unmet " ++ kind_text missing.kind ++ codes " " ++ decimal missing.id
 cause_text (refusal.TooMany what) = codes "too many " ++ counted_text what
 cause_text (refusal.NoParameters file) = name_of file ++ codes ": no parameters"
+cause_text (refusal.Unregistered kind) = read_word kind ++ codes ": no handler"
 
 -- what is shown for a refused input
 abbrev pub refusal_text : Refusal → List ℕ

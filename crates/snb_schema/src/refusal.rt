@@ -1,6 +1,7 @@
 //! Why an input is refused.
 
 use crate::file::FileId;
+use crate::read_kind::ReadKind;
 use crate::table::{Kind, Table};
 
 /// A node that is referred to and isn't there.
@@ -90,5 +91,9 @@ pub enum Refusal {
     /// The parameter file has no data line.
     NoParameters {
         file: FileId,
+    },
+    /// A kind of read has no handler in the table that reads are to be answered by.
+    Unregistered {
+        kind: ReadKind,
     },
 }

@@ -1,6 +1,6 @@
 //! The calls of this crate by their words.
 
-use crate::calls::{call_audit, call_words};
+use crate::calls::{call_alone, call_audit, call_words};
 use crate::state::{State, channel_of};
 use snb_base::Channel;
 use snb_test_script::escape::shown_lines;
@@ -31,6 +31,9 @@ pub fn answer<R: AllocGlobal + Threads + Wait + Sync>(
     if word == "snb" {
         return Ok(Some(call_words(rt, alloc, state, files, rest)?));
     }
+    if word == "snb_alone" {
+        return Ok(Some(call_alone(rt, alloc, state, files, rest)?));
+    }
     if state.set(word, rest)? {
         return Ok(Some(String::new(alloc)));
     }
@@ -43,6 +46,14 @@ pub fn answer<R: AllocGlobal + Threads + Wait + Sync>(
     match word {
         "answers_head" => Ok(Some(answers_head(alloc, state)?)),
         "story" => Ok(Some(shown_lines(alloc, state.story.as_bytes())?)),
+        "asked" => {
+            let asked = state.asked;
+            Ok(Some(format!(in alloc; "{asked}")?))
+        }
+        "picked" => {
+            let picked = state.picked;
+            Ok(Some(format!(in alloc; "{picked}")?))
+        }
         "audit" => Ok(Some(call_audit(rt, alloc, state, files)?)),
         _ => Ok(None),
     }

@@ -1,18 +1,33 @@
 //! The program is called.
 
+ghost use Rattle.std.specs.Prelude.{◌≡◌, ◌-◌, ◌<◌, IfOk, length};
+ghost use Rattle.snb_graph_model.specs.Soundness.{Sound};
+ghost use Rattle.snb_read_model.specs.Replies.{IsAnswer};
+ghost use Rattle.snb_walk.specs.declared.target.Pick.TheVariants as picks;
+ghost use Rattle.snb_walk.specs.Picks.{index_of};
+
 use crate::case_shelf::CaseShelf;
 use crate::state::State;
 use crate::words::{LOG_PATH, audit_words, words_of};
-use snb_base::{Channel, MemoryOutbox, MemoryShelf};
+use snb_base::{Channel, MemoryOutbox, MemoryShelf, Text};
+use snb_graph::Graph;
+use snb_handlers::{Call, Handler, Handlers, KINDS};
+use snb_read_model::Answer;
+use snb_read_replies::reply::own_answer;
+use snb_schema::Query;
 use snb_test_script::files::add_file;
 use snb_test_script::{Files, Flaw, Given};
-use snb_tool::snb;
-use std::alloc::Global;
+use snb_tool::{snb, snb_with};
+use snb_walk::{Call as PickCall, Pick, Policy, Target};
+use std::alloc::{AllocError, Global};
+use std::cell::Cell;
+use std::rc::Rc;
 use std::sync::Wait;
 use std::thread::Threads;
 
-// Calls the program with these words over this shelf and this outbox, and tells the status and which
-// channels have bytes.
+// Calls the program with these words over this shelf and this outbox, with the handlers that the case has, each of
+// which answers by the graph's own reads, and its policy. Both count how often they are asked. Tells the status and
+// which channels have bytes.
 fn call<R: AllocGlobal + Threads + Wait + Sync>(
     rt: &R,
     alloc: Global,
@@ -23,6 +38,74 @@ fn call<R: AllocGlobal + Threads + Wait + Sync>(
 ) -> Result<String, Flaw> {
     let words: Vec<&str> = words.iter().map(|word| word.as_str()).collect(alloc)?;
     let mut shelf = CaseShelf::new(shelf, state.steady, state.fading);
+    let count = Rc::new(alloc, Cell::new(0u64))?;
+    let mut handlers = Handlers::new(alloc);
+    for kind in KINDS {
+        let asked = count.clone()?;
+        let call: Call = Box::new(
+            alloc,
+            move |graph: &Graph, query: &Query| -> Result<Answer<Text>, AllocError>
+                requires { Sound graph.now }
+                ensures { IfOk result (IsAnswer graph.now query.now) }
+            {
+                asked.set(asked.get().saturating_add(1));
+                own_answer(alloc, graph, query)?.try_copy()
+            },
+        )?;
+        if state.has_handler(kind) && handlers.register(Handler::new(kind, call)).is_err() {
+            return Err(Flaw::Memory);
+        }
+    }
+    let picked = Rc::new(alloc, Cell::new(0u64))?;
+    let counted = picked.clone()?;
+    let policy = if state.last {
+        let pick: PickCall = Box::new(
+            alloc,
+            move |targets: &[Target], _word: u64| -> usize
+                requires { 0 < length targets.now }
+                ensures { result ≡ length targets.now - 1 }
+            {
+                counted.set(counted.get().saturating_add(1));
+                targets.len() - 1
+            },
+        )?;
+        Policy::new(Pick::Last, pick)
+    } else {
+        let pick: PickCall = Box::new(
+            alloc,
+            move |targets: &[Target], word: u64| -> usize
+                requires { 0 < length targets.now }
+                ensures { result ≡ index_of picks.Modulo (length targets.now) word }
+            {
+                counted.set(counted.get().saturating_add(1));
+                (word % targets.len() as u64) as usize
+            },
+        )?;
+        Policy::new(Pick::Modulo, pick)
+    };
+    let given = Given::new(alloc, &state.moments);
+    let status = snb_with(
+        rt, &words, &mut shelf, &mut out, &given, &given, &handlers, &policy,
+    );
+    state.asked = count.get();
+    state.picked = picked.get();
+    state.story = given.story(shelf.reads())?;
+    state.keep(status, out)
+}
+
+/// `snb_alone WORD WORD ..`: calls the program without handlers, over the files as they are.
+pub(crate) fn call_alone<R: AllocGlobal + Threads + Wait + Sync>(
+    rt: &R,
+    alloc: Global,
+    state: &mut State,
+    files: &Files,
+    rest: &str,
+) -> Result<String, Flaw> {
+    state.end()?;
+    let owned = words_of(alloc, rest)?;
+    let words: Vec<&str> = owned.iter().map(|word| word.as_str()).collect(alloc)?;
+    let mut shelf = CaseShelf::new(state.shelf(files)?, state.steady, state.fading);
+    let mut out = state.outbox()?;
     let given = Given::new(alloc, &state.moments);
     let status = snb(rt, &words, &mut shelf, &mut out, &given, &given);
     state.story = given.story(shelf.reads())?;

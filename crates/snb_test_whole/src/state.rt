@@ -3,6 +3,7 @@
 ghost use Rattle.std.specs.Prelude.{◌≤◌};
 
 use snb_base::{Channel, MemoryOutbox, MemoryShelf, read_number};
+use snb_schema::ReadKind;
 use snb_test_script::escape::shown_lines;
 use snb_test_script::words::{first_word, number_of};
 use snb_test_script::{Files, Flaw};
@@ -46,8 +47,16 @@ pub struct State {
     failing_writes: Vec<u64>,
     /// Rooms of channels, of which the last of a channel counts.
     rooms: Vec<(Channel, usize)>,
+    /// The kinds of reads that have a handler; None where all have.
+    kinds: Option<Vec<ReadKind>>,
     /// The words of the last call.
     pub(crate) words: Vec<String>,
+    /// How often a handler was asked in it.
+    pub(crate) asked: u64,
+    /// How often the policy was.
+    pub(crate) picked: u64,
+    /// The policy picks the last target, and not by the word.
+    pub(crate) last: bool,
     came: Option<MemoryOutbox>,
     pub(crate) story: String,
     /// The channels whose bytes came and aren't asked for yet.
@@ -64,7 +73,11 @@ impl Drop for State {
             failing_reads: _,
             failing_writes: _,
             rooms: _,
+            kinds: _,
             words: _,
+            asked: _,
+            picked: _,
+            last: _,
             came: _,
             story: _,
             untold: _,
@@ -73,7 +86,7 @@ impl Drop for State {
 }
 
 impl State {
-    /// As a case begins: nothing fails, and the clock shows 0.
+    /// As a case begins: nothing fails, the clock shows 0, and each kind of read has a handler.
     pub fn new(alloc: Global) -> State {
         State {
             alloc,
@@ -83,7 +96,11 @@ impl State {
             failing_reads: Vec::new(alloc),
             failing_writes: Vec::new(alloc),
             rooms: Vec::new(alloc),
+            kinds: None,
             words: Vec::new(alloc),
+            asked: 0,
+            picked: 0,
+            last: false,
             came: None,
             story: String::new(alloc),
             untold: Vec::new(alloc),
@@ -107,10 +124,29 @@ impl State {
         Ok(())
     }
 
+    // `table KIND KIND ..`
+    fn set_kinds(&mut self, rest: &str) -> Result<(), Flaw> {
+        let mut kinds = Vec::new(self.alloc);
+        for word in rest.split(' ') {
+            kinds.push(ReadKind::of_word(word).ok_or(Flaw::NoName)?)?;
+        }
+        self.kinds = Some(kinds);
+        Ok(())
+    }
+
+    /// Whether a kind of read has a handler.
+    pub(crate) fn has_handler(&self, kind: ReadKind) -> bool {
+        match &self.kinds {
+            Some(kinds) => kinds.iter().any(|one| one.word() == kind.word()),
+            None => true,
+        }
+    }
+
     /// Sets what the line says; whether it says anything of this.
     pub(crate) fn set(&mut self, word: &str, rest: &str) -> Result<bool, Flaw> {
         match (word, first_word(rest)) {
             ("clock", _) => self.set_moments(rest)?,
+            ("table", _) => self.set_kinds(rest)?,
             ("fail", ("read", call)) => self.failing_reads.push(number_of(call)?)?,
             ("fail", ("write", call)) => self.failing_writes.push(number_of(call)?)?,
             ("room", (name, room)) => {
@@ -118,6 +154,7 @@ impl State {
                 let room = read_number(room.as_bytes(), ROOM as u64).ok_or(Flaw::NoNumber)?;
                 self.rooms.push((channel, room as usize))?;
             }
+            ("policy", ("last", "")) => self.last = true,
             ("steady", ("", _)) => self.steady = true,
             ("fading", ("", _)) => self.fading = true,
             _ => return Ok(false),

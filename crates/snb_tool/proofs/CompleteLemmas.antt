@@ -9,10 +9,10 @@ use Rattle.snb_input_files.specs.Walk.{Held, IsHeldTold}
 use Rattle.snb_schema.specs.declared.refusal.Refusal.{Refusal}
 use Rattle.snb_schema.specs.Frequencies.{FrequencyTable}
 use Rattle.snb_tool_words.specs.declared.command.Command.{Command}
-use Rattle.snb_tool_words.specs.declared.command.Command.TheVariants.{Audit, Check, Expect, Latency, Run, Read, Trial, Validate}
-use Rattle.snb_tool_words.specs.Commands.{IsLineOf}
+use Rattle.snb_tool_words.specs.declared.command.Command.TheVariants.{Audit, Check, Expect, Latency, Run, Read, Trial, Validate, Walk}
+use Rattle.snb_tool_words.specs.declared.options.Via.{Via}
 use Rattle.snb_tool_words.specs.Laws.{WordsAreOne}
-use Rattle.snb_tool.specs.Inputs.{at_first, Found, IsFine, IsFoundTold, IsWrong}
+use Rattle.snb_tool.specs.Inputs.{at_first, Found, Given, IsFine, IsFoundTold, IsWrong}
 use Rattle.snb_auditor_log.specs.LogFiles.{IsLogOf}
 use Rattle.snb_validation_cases.specs.declared.case.CaseAt.{CaseAt}
 use Rattle.snb_validation_check.specs.declared.difference.Difference.{Difference}
@@ -33,7 +33,7 @@ use Rattle.snb_workers.specs.Laws.{CountsOfARun}
 use Rattle.snb_workers.specs.Miscounts.{events_of}
 use Rattle.snb_schema.specs.declared.row.Row.{Row}
 use Rattle.snb_tool.specs.Laws.{AnswersHaveStatus, AuditInShort, IsAuditInShort, IsLatencyInShort, IsRunInShort, IsValidateInShort, LatencyInShort, RefusalIsOne, RefusedOrNot, RunInShort, ValidateInShort}
-use Rattle.snb_tool.specs.Outcome.{IsAnswer, ShowsSummary, TellsLatencies, TellsVerdict, IsDone, IsDoneAnswer, IsJudged, IsRefused, IsRun, IsValidated}
+use Rattle.snb_tool.specs.Outcome.{Asked, IsAnswer, IsAsked, ShowsSummary, TellsLatencies, TellsVerdict, IsDone, IsDoneAnswer, IsJudged, IsRefused, IsRun, IsValidated}
 use Rattle.snb_tool.specs.Output.{HasBegun, HasWritten, Wrote, on_screen}
 use Rattle.snb_tool.specs.Outside.{Ends, IsReadOnly, OutOfMemory, Outside, ReadFault, Whole, WriteFault}
 
@@ -77,14 +77,15 @@ done_low (Run folder workers ratio table) found fixed status texts d = inl d.0
 done_low (Audit folder log ratio table) found fixed status texts d = low_by status (audit_status d.verdict) d.status_is (audit_low d.verdict)
 done_low (Latency folder log ratio table) found fixed status texts d = told_low (ShowsSummary d.plan (events_of d.logged) texts) (texts ≡ on_screen (audit_text d.verdict)) (is_whole d.verdict) status d.told
 done_low (Expect folder table) found fixed status texts d = inl d.0
-done_low (Validate folder cases) found fixed status texts d = low_by status (tally_status d.tally) d.status_is (outcome_low d.tally.first)
+done_low (Validate folder cases via) found fixed status texts d = low_by status (tally_status d.tally) d.status_is (outcome_low d.tally.first)
 done_low (Read folder query) found fixed status texts d = inl d.0
+done_low (Walk folder query chance words) found fixed status texts d = inl d.0
 done_low (Trial size workers) found fixed status texts d = inl d.0
 
 pub answers_have_status : AnswersHaveStatus
-answers_have_status words contents fixed status texts (inl usage) = inr (inr (inl usage.0))
-answers_have_status words contents fixed status texts (inr (c, l, (found, told, inl done))) = done_low c found fixed status texts done.1
-answers_have_status words contents fixed status texts (inr (c, l, (found, told, inr bad))) = inr (inr (inr bad.2.0))
+answers_have_status asked contents fixed status texts (inl usage) = inr (inr (inl usage.0))
+answers_have_status asked contents fixed status texts (inr (c, l, (found, told, inl done))) = done_low c found fixed status texts done.1
+answers_have_status asked contents fixed status texts (inr (c, l, (found, told, inr bad))) = inr (inr (inr bad.2.0))
 
 -- so none of 4, 5 and 6
 known_low : (s n : ℕ) → (s ≡ 0) ⊎ (s ≡ 1) ⊎ (s ≡ 2) ⊎ (s ≡ 3) → s ≡ n → 4 ≤ n → ⊥
@@ -104,43 +105,43 @@ counts_at result status old new rose calm = by_test (nat_eq result status) refl
     by_test true e = rose (eqb-true result status e)
     by_test false e = calm (λ h. differ (sym (eq-eqb result status h) ∙ e))
 
-module _ (status : AnswersHaveStatus) (words : List (List ℕ)) (old new : Outside) (result : ℕ) where
-  no_texts : {A : Type 0} (n : ℕ) → 4 ≤ n → HasWritten old.written new.written (IsAnswer words old.contents old.fixed result) → result ≡ n → A
-  no_texts n l h e = absurd (known_low result n (status words old.contents old.fixed result h.0 h.1) e l)
+module _ (status : AnswersHaveStatus) (asked : Asked) (old new : Outside) (result : ℕ) where
+  no_texts : {A : Type 0} (n : ℕ) → 4 ≤ n → HasWritten old.written new.written (IsAnswer asked old.contents old.fixed result) → result ≡ n → A
+  no_texts n l h e = absurd (known_low result n (status asked old.contents old.fixed result h.0 h.1) e l)
 
-  pub ends_answered : Ends (IsAnswer words) old new result
-      → HasWritten old.written new.written (IsAnswer words old.contents old.fixed result) ⊎ ((result ≡ 4) ⊎ ((result ≡ 5) ⊎ (result ≡ 6)))
+  pub ends_answered : Ends (IsAnswer asked) old new result
+      → HasWritten old.written new.written (IsAnswer asked old.contents old.fixed result) ⊎ ((result ≡ 4) ⊎ ((result ≡ 5) ⊎ (result ≡ 6)))
   ends_answered (Whole h) = inl h
   ends_answered (ReadFault e r n) = inr (inl e)
   ends_answered (WriteFault s e r h) = inr (inr (inl e))
   ends_answered (OutOfMemory e n) = inr (inr (inr e))
 
-  ends_read_fault : Ends (IsAnswer words) old new result → result ≡ 4 → Rose old.read_faults new.read_faults × (new.written ≡ old.written)
+  ends_read_fault : Ends (IsAnswer asked) old new result → result ≡ 4 → Rose old.read_faults new.read_faults × (new.written ≡ old.written)
   ends_read_fault (Whole h) e = no_texts 4 (omega arith) h e
   ends_read_fault (ReadFault f r n) e = (r, n)
   ends_read_fault (WriteFault s f r h) e = absurd (omega (arith, e, f))
   ends_read_fault (OutOfMemory f n) e = absurd (omega (arith, e, f))
 
-  pub ends_cut : Ends (IsAnswer words) old new result → result ≡ 5
-      → Rose old.write_faults new.write_faults × ((s : ℕ) × HasBegun old.ready old.written new.written (IsAnswer words old.contents old.fixed s))
+  pub ends_cut : Ends (IsAnswer asked) old new result → result ≡ 5
+      → Rose old.write_faults new.write_faults × ((s : ℕ) × HasBegun old.ready old.written new.written (IsAnswer asked old.contents old.fixed s))
   ends_cut (Whole h) e = no_texts 5 (omega arith) h e
   ends_cut (ReadFault f r n) e = absurd (omega (arith, e, f))
   ends_cut (WriteFault s f r h) e = (r, (s, h))
   ends_cut (OutOfMemory f n) e = absurd (omega (arith, e, f))
 
-  ends_short : Ends (IsAnswer words) old new result → result ≡ 6 → new.written ≡ old.written
+  ends_short : Ends (IsAnswer asked) old new result → result ≡ 6 → new.written ≡ old.written
   ends_short (Whole h) e = no_texts 6 (omega arith) h e
   ends_short (ReadFault f r n) e = absurd (omega (arith, e, f))
   ends_short (WriteFault s f r h) e = absurd (omega (arith, e, f))
   ends_short (OutOfMemory f n) e = n
 
   -- after a failed read and for want of memory nothing is added to the channels
-  pub ends_unwritten : Ends (IsAnswer words) old new result → (result ≡ 4) ⊎ (result ≡ 6) → new.written ≡ old.written
+  pub ends_unwritten : Ends (IsAnswer asked) old new result → (result ≡ 4) ⊎ (result ≡ 6) → new.written ≡ old.written
   ends_unwritten ends (inl e) = (ends_read_fault ends e).1
   ends_unwritten ends (inr e) = ends_short ends e
 
   -- what the call does to the shelf, and what it counts of the outbox
-  pub ends_read : Ends (IsAnswer words) old new result → IsReadOnly old.contents old.read_faults new.contents new.read_faults → (result ≢ 4 → new.read_faults ≡ old.read_faults)
+  pub ends_read : Ends (IsAnswer asked) old new result → IsReadOnly old.contents old.read_faults new.contents new.read_faults → (result ≢ 4 → new.read_faults ≡ old.read_faults)
       → IsRead (nat_eq result 4) old.contents old.read_faults new.contents new.read_faults
   ends_read ends only calm = record {
     same = only.0;
@@ -148,7 +149,7 @@ module _ (status : AnswersHaveStatus) (words : List (List ℕ)) (old new : Outsi
     told = counts_at result 4 old.read_faults new.read_faults (λ e. (ends_read_fault ends e).0) calm;
   }
 
-  pub ends_counted : Ends (IsAnswer words) old new result → old.write_faults ≤ new.write_faults → (result ≢ 5 → new.write_faults ≡ old.write_faults)
+  pub ends_counted : Ends (IsAnswer asked) old new result → old.write_faults ≤ new.write_faults → (result ≢ 5 → new.write_faults ≡ old.write_faults)
       → HasCounted (nat_eq result 5) old.write_faults new.write_faults
   ends_counted ends later calm = record { later = later; told = counts_at result 5 old.write_faults new.write_faults (λ e. (ends_cut ends e).0) calm }
 
@@ -163,33 +164,33 @@ ends_as P Q old new result each (WriteFault s e r h) =
     WriteFault s e r (record { texts = h.texts; part = h.part; are = each s h.texts h.are; front = h.front; wrote = h.wrote; unsure = h.unsure })
 ends_as P Q old new result each (OutOfMemory e n) = OutOfMemory e n
 
-module _ (one : WordsAreOne) (words : List (List ℕ)) (old new : Outside) (result : ℕ) (command : Command) (line : IsLineOf words command) where
+module _ (one : WordsAreOne) (asked : Asked) (old new : Outside) (result : ℕ) (command : Command) (line : IsAsked asked command) where
   -- the command of words that were answered is this one
-  module _ (c : Command) (l : IsLineOf words c) where
+  module _ (c : Command) (l : IsAsked asked c) where
     as_this : (P : Command → Type 0) → P c → P command
-    as_this P p = subst P (one words c command l line) p
+    as_this P p = subst P (one asked.words c command l.line line.line) p
 
     as_that : (P : Command → Type 0) → P command → P c
-    as_that P p = subst P (one words command c line l) p
+    as_that P p = subst P (one asked.words command c line.line l.line) p
 
   -- what is answered where nothing is wrong with what the command finds
-  done_as : RefusedOrNot → IsFine old.contents command → (s : ℕ) (texts : Written) → IsAnswer words old.contents old.fixed s texts → IsDoneAnswer command old.contents old.fixed s texts
+  done_as : RefusedOrNot → IsFine old.contents asked.given command → (s : ℕ) (texts : Written) → IsAnswer asked old.contents old.fixed s texts → IsDoneAnswer asked.given command old.contents old.fixed s texts
   done_as law fine s texts (inl usage) = absurd (usage.1 command line)
-  done_as law fine s texts (inr (c, l, (found, told, inl done))) = as_this c l (λ (d : Command). IsDoneAnswer d old.contents old.fixed s texts) (found, told, done.1)
-  done_as law fine s texts (inr (c, l, (found, told, inr bad))) = absurd (law c found bad.0 bad.1 (as_that c l (λ (d : Command). IsFine old.contents d) fine found told))
+  done_as law fine s texts (inr (c, l, (found, told, inl done))) = as_this c l (λ (d : Command). IsDoneAnswer asked.given d old.contents old.fixed s texts) (found, told, done.1)
+  done_as law fine s texts (inr (c, l, (found, told, inr bad))) = absurd (law c found bad.0 bad.1 (as_that c l (λ (d : Command). IsFine old.contents asked.given d) fine found told))
 
   -- and where something is
-  refused_as : RefusalIsOne → RefusedOrNot → (r : Refusal) → IsWrong old.contents command r → (s : ℕ) (texts : Written) → IsAnswer words old.contents old.fixed s texts → IsRefused r s texts
+  refused_as : RefusalIsOne → RefusedOrNot → (r : Refusal) → IsWrong old.contents asked.given command r → (s : ℕ) (texts : Written) → IsAnswer asked old.contents old.fixed s texts → IsRefused r s texts
   refused_as once law r wrong s texts (inl usage) = absurd (usage.1 command line)
-  refused_as once law r wrong s texts (inr (c, l, (found, told, inl done))) = absurd (law c found r (as_that c l (λ (d : Command). IsWrong old.contents d r) wrong found told) done.0)
+  refused_as once law r wrong s texts (inr (c, l, (found, told, inl done))) = absurd (law c found r (as_that c l (λ (d : Command). IsWrong old.contents asked.given d r) wrong found told) done.0)
   refused_as once law r wrong s texts (inr (c, l, (found, told, inr bad))) =
-      subst (λ (q : Refusal). IsRefused q s texts) (once c found bad.0 r bad.1 (as_that c l (λ (d : Command). IsWrong old.contents d r) wrong found told)) bad.2
+      subst (λ (q : Refusal). IsRefused q s texts) (once c found bad.0 r bad.1 (as_that c l (λ (d : Command). IsWrong old.contents asked.given d r) wrong found told)) bad.2
 
-  pub complete : RefusedOrNot → Ends (IsAnswer words) old new result → IsFine old.contents command → Ends (IsDoneAnswer command) old new result
-  complete law ends fine = ends_as (IsAnswer words) (IsDoneAnswer command) old new result (done_as law fine) ends
+  pub complete : RefusedOrNot → Ends (IsAnswer asked) old new result → IsFine old.contents asked.given command → Ends (IsDoneAnswer asked.given command) old new result
+  complete law ends fine = ends_as (IsAnswer asked) (IsDoneAnswer asked.given command) old new result (done_as law fine) ends
 
-  pub refuses : RefusalIsOne → RefusedOrNot → Ends (IsAnswer words) old new result → (r : Refusal) → IsWrong old.contents command r → Ends (λ contents fixed. IsRefused r) old new result
-  refuses once law ends r wrong = ends_as (IsAnswer words) (λ contents fixed. IsRefused r) old new result (refused_as once law r wrong) ends
+  pub refuses : RefusalIsOne → RefusedOrNot → Ends (IsAnswer asked) old new result → (r : Refusal) → IsWrong old.contents asked.given command r → Ends (λ contents fixed. IsRefused r) old new result
+  refuses once law ends r wrong = ends_as (IsAnswer asked) (λ contents fixed. IsRefused r) old new result (refused_as once law r wrong) ends
 
 -- ---- a run in short
 
@@ -201,10 +202,10 @@ told_files folder files held told = λ i file. told file i
 pub added : (old new texts : Written) → Wrote (Some old) (Some new) texts → new ≡ joined old texts
 added old new texts w = cc
 
-in_short : CountsOfARun → (files : Files) (fixed : Option ℕ) (folder : List ℕ) (workers ratio : ℕ) (table : FrequencyTable) (old new texts : Written) (found : Found)
-    → IsFoundTold (Some files) (Run folder workers ratio table) found → IsDone (Run folder workers ratio table) found fixed 0 texts → new ≡ joined old texts
+in_short : CountsOfARun → (given : Given) (files : Files) (fixed : Option ℕ) (folder : List ℕ) (workers ratio : ℕ) (table : FrequencyTable) (old new texts : Written) (found : Found)
+    → IsFoundTold (Some files) given (Run folder workers ratio table) found → IsDone (Run folder workers ratio table) found fixed 0 texts → new ≡ joined old texts
     → IsRunInShort files folder workers ratio table old new
-in_short counts files fixed folder workers ratio table old new texts found told done e =
+in_short counts given files fixed folder workers ratio table old new texts found told done e =
     let run : IsRun (held_in folder files) workers ratio table fixed texts = subst (λ (h : Held). IsRun h workers ratio table fixed texts) (told_files folder files found.held told.0) done.1 in
     record {
       graph = run.graph;
@@ -228,19 +229,19 @@ in_short counts files fixed folder workers ratio table old new texts found told 
     }
 
 pub run_in_short : WordsAreOne → CountsOfARun → RunInShort
-run_in_short one counts words files fixed folder workers ratio table old new line (texts, inl usage, w) = let e = usage.0 in absurd (omega (arith, e))
-run_in_short one counts words files fixed folder workers ratio table old new line (texts, inr (c, l, (found, told, inr bad)), w) = let e = bad.2.0 in absurd (omega (arith, e))
-run_in_short one counts words files fixed folder workers ratio table old new line (texts, inr (c, l, (found, told, inl done)), w) =
-    let same = one words c (Run folder workers ratio table) l line in
-    in_short counts files fixed folder workers ratio table old new texts found (subst (λ (d : Command). IsFoundTold (Some files) d found) same told)
+run_in_short one counts asked files fixed folder workers ratio table old new line (texts, inl usage, w) = let e = usage.0 in absurd (omega (arith, e))
+run_in_short one counts asked files fixed folder workers ratio table old new line (texts, inr (c, l, (found, told, inr bad)), w) = let e = bad.2.0 in absurd (omega (arith, e))
+run_in_short one counts asked files fixed folder workers ratio table old new line (texts, inr (c, l, (found, told, inl done)), w) =
+    let same = one asked.words c (Run folder workers ratio table) l.line line in
+    in_short counts asked.given files fixed folder workers ratio table old new texts found (subst (λ (d : Command). IsFoundTold (Some files) asked.given d found) same told)
     (subst (λ (d : Command). IsDone d found fixed 0 texts) same done.1) (added old new texts w)
 
 -- ---- an audit in short
 
-audited_short : AcceptedInOrder → (files : Files) (folder log : List ℕ) (ratio : ℕ) (table : FrequencyTable) (status : ℕ) (old new texts : Written) (found : Found)
-    → IsFoundTold (Some files) (Audit folder log ratio table) found → TellsVerdict found.held found.beside ratio table status texts → new ≡ joined old texts
+audited_short : AcceptedInOrder → (given : Given) (files : Files) (folder log : List ℕ) (ratio : ℕ) (table : FrequencyTable) (status : ℕ) (old new texts : Written) (found : Found)
+    → IsFoundTold (Some files) given (Audit folder log ratio table) found → TellsVerdict found.held found.beside ratio table status texts → new ≡ joined old texts
     → IsAuditInShort files folder log ratio table status old new
-audited_short in_order files folder log ratio table status old new texts found told done e =
+audited_short in_order given files folder log ratio table status old new texts found told done e =
     let j : IsJudged (held_in folder files) found.beside ratio table done.plan done.header done.logged done.verdict =
     subst (λ (h : Held). IsJudged h found.beside ratio table done.plan done.header done.logged done.verdict) (told_files folder files found.held told.0) done.judged in
     record {
@@ -262,13 +263,13 @@ not_low s n (inl a) b c = absurd (omega (arith, a, b, c))
 not_low s n (inr a) b c = absurd (omega (arith, a, b, c))
 
 pub audit_in_short : WordsAreOne → AcceptedInOrder → AuditInShort
-audit_in_short words_one in_order words files fixed folder log ratio table status old new line low (texts, inl usage, w) = not_low status 2 low usage.0 (omega arith)
-audit_in_short words_one in_order words files fixed folder log ratio table status old new line low (texts, inr (c, l, (found, told, inr bad)), w) =
+audit_in_short words_one in_order asked files fixed folder log ratio table status old new line low (texts, inl usage, w) = not_low status 2 low usage.0 (omega arith)
+audit_in_short words_one in_order asked files fixed folder log ratio table status old new line low (texts, inr (c, l, (found, told, inr bad)), w) =
     not_low status 3 low bad.2.0 (omega arith)
-audit_in_short words_one in_order words files fixed folder log ratio table status old new line low (texts, inr (c, l, (found, told, inl done)), w) =
-    let same = words_one words c (Audit folder log ratio table) l line in
-    audited_short in_order files folder log ratio table status old new texts found
-    (subst (λ (d : Command). IsFoundTold (Some files) d found) same told)
+audit_in_short words_one in_order asked files fixed folder log ratio table status old new line low (texts, inr (c, l, (found, told, inl done)), w) =
+    let same = words_one asked.words c (Audit folder log ratio table) l.line line in
+    audited_short in_order asked.given files folder log ratio table status old new texts found
+    (subst (λ (d : Command). IsFoundTold (Some files) asked.given d found) same told)
     (subst (λ (d : Command). IsDone d found fixed status texts) same done.1) (added old new texts w)
 
 -- ---- latencies in short
@@ -296,10 +297,10 @@ module _ (whole : Bool) (status : ℕ) (texts : Written) (P Q : Written → Type
       by true t = absurd (let zero = t.0 in omega (arith, one, zero))
       by false t = t.1
 
-measured_short : WholeExactly → (files : Files) (folder log : List ℕ) (ratio : ℕ) (table : FrequencyTable) (status : ℕ) (old new texts : Written) (found : Found)
-    → IsFoundTold (Some files) (Latency folder log ratio table) found → TellsLatencies found.held found.beside ratio table status texts → new ≡ joined old texts
+measured_short : WholeExactly → (given : Given) (files : Files) (folder log : List ℕ) (ratio : ℕ) (table : FrequencyTable) (status : ℕ) (old new texts : Written) (found : Found)
+    → IsFoundTold (Some files) given (Latency folder log ratio table) found → TellsLatencies found.held found.beside ratio table status texts → new ≡ joined old texts
     → IsLatencyInShort files folder log ratio table status old new
-measured_short exactly files folder log ratio table status old new texts found told done e =
+measured_short exactly given files folder log ratio table status old new texts found told done e =
     let j : IsJudged (held_in folder files) found.beside ratio table done.plan done.header done.logged done.verdict =
     subst (λ (h : Held). IsJudged h found.beside ratio table done.plan done.header done.logged done.verdict) (told_files folder files found.held told.0) done.judged in
     let law = exactly j.graph done.plan done.header done.logged done.verdict j.judged in
@@ -324,13 +325,13 @@ measured_short exactly files folder log ratio table status old new texts found t
     }
 
 pub latency_in_short : WordsAreOne → WholeExactly → LatencyInShort
-latency_in_short words_one exactly words files fixed folder log ratio table status old new line low (texts, inl usage, w) = not_low status 2 low usage.0 (omega arith)
-latency_in_short words_one exactly words files fixed folder log ratio table status old new line low (texts, inr (c, l, (found, told, inr bad)), w) =
+latency_in_short words_one exactly asked files fixed folder log ratio table status old new line low (texts, inl usage, w) = not_low status 2 low usage.0 (omega arith)
+latency_in_short words_one exactly asked files fixed folder log ratio table status old new line low (texts, inr (c, l, (found, told, inr bad)), w) =
     not_low status 3 low bad.2.0 (omega arith)
-latency_in_short words_one exactly words files fixed folder log ratio table status old new line low (texts, inr (c, l, (found, told, inl done)), w) =
-    let same = words_one words c (Latency folder log ratio table) l line in
-    measured_short exactly files folder log ratio table status old new texts found
-    (subst (λ (d : Command). IsFoundTold (Some files) d found) same told)
+latency_in_short words_one exactly asked files fixed folder log ratio table status old new line low (texts, inr (c, l, (found, told, inl done)), w) =
+    let same = words_one asked.words c (Latency folder log ratio table) l.line line in
+    measured_short exactly asked.given files folder log ratio table status old new texts found
+    (subst (λ (d : Command). IsFoundTold (Some files) asked.given d found) same told)
     (subst (λ (d : Command). IsDone d found fixed status texts) same done.1) (added old new texts w)
 
 -- ---- a validation in short
@@ -343,10 +344,10 @@ found_none one graph cases first is = (to first is, λ right. ap outcome_status 
     to None f e = f
     to (Some d) f e = absurd (omega (arith, e))
 
-validated_short : FindingIsOne → (files : Files) (folder name : List ℕ) (status : ℕ) (old new texts : Written) (found : Found)
-    → IsFoundTold (Some files) (Validate folder name) found → IsValidated found.held found.beside status texts → new ≡ joined old texts
+validated_short : FindingIsOne → (given : Given) (files : Files) (folder name : List ℕ) (via : Via) (status : ℕ) (old new texts : Written) (found : Found)
+    → IsFoundTold (Some files) given (Validate folder name via) found → IsValidated found.held found.beside status texts → new ≡ joined old texts
     → IsValidateInShort files folder name status old new
-validated_short one files folder name status old new texts found told done e =
+validated_short one given files folder name via status old new texts found told done e =
     let t : IsTally done.graph (files name) done.tally = subst (λ (b : Option (List ℕ)). IsTally done.graph b done.tally) told.1 done.found in
     record {
       graph = done.graph;
@@ -360,11 +361,11 @@ validated_short one files folder name status old new texts found told done e =
     }
 
 pub validate_in_short : WordsAreOne → FindingIsOne → ValidateInShort
-validate_in_short words_one one words files fixed folder name status old new line low (texts, inl usage, w) = not_low status 2 low usage.0 (omega arith)
-validate_in_short words_one one words files fixed folder name status old new line low (texts, inr (c, l, (found, told, inr bad)), w) =
+validate_in_short words_one one asked files fixed folder name via status old new line low (texts, inl usage, w) = not_low status 2 low usage.0 (omega arith)
+validate_in_short words_one one asked files fixed folder name via status old new line low (texts, inr (c, l, (found, told, inr bad)), w) =
     not_low status 3 low bad.2.0 (omega arith)
-validate_in_short words_one one words files fixed folder name status old new line low (texts, inr (c, l, (found, told, inl done)), w) =
-    let same = words_one words c (Validate folder name) l line in
-    validated_short one files folder name status old new texts found
-    (subst (λ (d : Command). IsFoundTold (Some files) d found) same told)
+validate_in_short words_one one asked files fixed folder name via status old new line low (texts, inr (c, l, (found, told, inl done)), w) =
+    let same = words_one asked.words c (Validate folder name via) l.line line in
+    validated_short one asked.given files folder name via status old new texts found
+    (subst (λ (d : Command). IsFoundTold (Some files) asked.given d found) same told)
     (subst (λ (d : Command). IsDone d found fixed status texts) same done.1) (added old new texts w)

@@ -25,7 +25,8 @@ use Rattle.snb_validation_expect.specs.CaseTexts.{count_text}
 use Rattle.snb_validation_expect.specs.Expected.{HasExpected, HasWords, HaveWords}
 use Rattle.snb_tool.specs.declared.input.Input.{Input}
 use Rattle.snb_tool.specs.Endings.{AreCasesOf, IsDoneWith, IsInputAnswer}
-use Rattle.snb_tool.specs.Inputs.{ArePlanned, after_streams}
+use Rattle.snb_tool.specs.Inputs.{ArePlanned, Given, after_streams}
+use Rattle.snb_walk.specs.declared.target.Pick.TheVariants.{Modulo}
 
 -- ---- a parameter file
 
@@ -102,12 +103,12 @@ has_cases input graph plan n old texts same_graph same_plan streams start has si
 
 -- ---- what the command answers
 
-pub expect_done : (contents : Option Files) (folder : List ℕ) (ratio : ℕ) (table : FrequencyTable) (fixed : Option ℕ) → ratio ≡ 1000000 → ParamsFiles → (input : Input) (texts : Written)
-    → IsInputAnswer contents folder ratio table (Ok input) → AreCasesOf input texts → IsDoneWith (Expect folder table) contents fixed 0 texts
-expect_done contents folder ratio table fixed one files input texts h are =
+pub expect_done : (contents : Option Files) (folder : List ℕ) (ratio : ℕ) (table : FrequencyTable) (given : Given) (fixed : Option ℕ) → ratio ≡ 1000000 → ParamsFiles → (input : Input) (texts : Written)
+    → IsInputAnswer contents folder ratio table (Ok input) → AreCasesOf input texts → IsDoneWith (Expect folder table) contents given fixed 0 texts
+expect_done contents folder ratio table given fixed one files input texts h are =
     let k : IsInputAnswer contents folder 1000000 table (Ok input) = subst (λ (n : ℕ). IsInputAnswer contents folder n table (Ok input)) one h in (
-      record { held = k.0; beside = None },
-      (k.1, tt),
+      record { missing = None; pick = Modulo; held = k.0; beside = None },
+      (k.1, tt, tt),
       k.2.clean,
       (
         refl,

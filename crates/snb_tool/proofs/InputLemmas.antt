@@ -1,5 +1,5 @@
 -- Facts on what a folder is refused for, and on what is read of it.
-use Rattle.std.proofs.Common.{◌≡◌, ℕ, false, ◌<◌, ◌≤◌, List, [], ◌∷◌, ◌++◌, Option, None, Some, Result, Ok, Err, Vec, refl, inl, inr, sym, subst, ap, ◌∙◌, arith}
+use Rattle.std.proofs.Common.{◌≡◌, ℕ, Bool, true, false, ◌<◌, ◌≤◌, List, [], ◌∷◌, ◌++◌, Option, None, Some, Result, Ok, Err, Vec, refl, inl, inr, sym, subst, ap, ◌∙◌, arith}
 use Rattle.std.specs.declared.alloc.Global.{Global}
 use Rattle.std.specs.Result.{IfOk, IsErrAnd}
 use Rattle.snb_base.specs.Shelf.{Files}
@@ -35,7 +35,7 @@ use Rattle.snb_schema.specs.QueryLists.{QueryLists}
 use Rattle.snb_graph_model.specs.Graphs.{HoldsKey}
 use Rattle.snb_graph_model.specs.Soundness.{Sound}
 use Rattle.snb_tool_words.specs.declared.command.Command.{Command}
-use Rattle.snb_tool_words.specs.declared.command.Command.TheVariants.{Audit, Check, Expect, Latency, Run, Read, Trial, Validate}
+use Rattle.snb_tool_words.specs.declared.command.Command.TheVariants.{Audit, Check, Expect, Latency, Run, Read, Trial, Validate, Walk}
 use Rattle.snb_tool.specs.declared.input.Input.{Input}
 use Rattle.snb_auditor_log.specs.declared.audit.Audited.{Audited}
 use Rattle.snb_auditor_log.specs.Audited.{IsAuditAnswer}
@@ -43,12 +43,13 @@ use Rattle.snb_tool.specs.declared.audit.Judged.{Judged}
 use Rattle.snb_tool.specs.Outcome.{IsJudged}
 use Rattle.snb_input_files.specs.Loading.{load_for_plan}
 use Rattle.snb_auditor_log.specs.LogFiles.{log_checks}
-use Rattle.snb_auditor_log.specs.declared.verdict.AuditVerdict.{AuditVerdict}
 use Rattle.snb_validation_check.specs.declared.text.Tally.{Tally}
 use Rattle.snb_validation_check.specs.CasesFile.{IsCasesAnswer, cases_checks}
 use Rattle.snb_validation_check.specs.Laws.{CasesRefuseOnce, CasesRefusedOrNot}
 use Rattle.snb_tool.specs.Endings.{IsTallyAnswer, IsInputAnswer, IsJudgedAnswer, IsMade, IsMadeAnswer, IsOpen, IsReplyAnswer, IsReplyLine}
-use Rattle.snb_tool.specs.Inputs.{AreBadCases, ArePlanned, AreTooMany, Found, IsNotClosed, after_dataset, after_streams, at_first, checks_of, plan_checks}
+use Rattle.snb_tool.specs.Inputs.{AreBadCases, ArePlanned, AreTooMany, Found, IsNotClosed, IsUnregistered, after_dataset, after_streams, at_first, checks_of, plan_checks, read_checks, table_checks}
+use Rattle.snb_tool_words.specs.Commands.{needs_table}
+use Rattle.snb_schema.specs.declared.read_kind.ReadKind.{ReadKind}
 
 -- what is so of a fault is so of the answer that passes it on
 pub passed : {A : Type 0} (P : Result A Load → Type 0) (answer : Result A Load) (load : Load) → IsErrAnd answer (λ e. e ≡ load) → P (Err load) → P answer
@@ -136,18 +137,33 @@ bad_cases_once one each held beside r q a b =
 no_checks : RefuseOnce []
 no_checks = record { one = λ r q p s. absurd p; or_not = λ r p none. absurd p }
 
--- the checks of a command give one refusal at most
-pub once : AreOne → RefuseEachOnce → (command : Command) (found : Found) → RefuseOnce (checks_of command found)
-once one each (Read folder query) found = each.dataset at_first found.held
-once one each (Trial size workers) found = no_checks
-once one each (Check folder table) found = plan_once one 1000000 table found.held each
-once one each (Run folder workers ratio table) found = plan_once one ratio table found.held each
-once one each (Audit folder log ratio table) found = once_append (plan_checks ratio table found.held) (log_checks found.beside) (plan_once one ratio table found.held each) (each.log found.beside)
-once one each (Latency folder log ratio table) found = once_append (plan_checks ratio table found.held) (log_checks found.beside) (plan_once one ratio table found.held each) (each.log found.beside)
-once one each (Expect folder table) found = plan_once one 1000000 table found.held each
-once one each (Validate folder cases) found =
+-- a kind of read without a handler is refused in one way
+unregistered_once : (missing : Option ReadKind) (r q : Refusal) → IsUnregistered missing r → IsUnregistered missing q → r ≡ q
+unregistered_once None r q a b = absurd a
+unregistered_once (Some kind) r q a b = a ∙ sym b
+
+table_once : (asks : Bool) (missing : Option ReadKind) → RefuseOnce (table_checks asks missing)
+table_once false missing = no_checks
+table_once true missing = once_single (IsUnregistered missing) (unregistered_once missing)
+
+-- the checks of what a command reads give one refusal at most
+read_once : AreOne → RefuseEachOnce → (command : Command) (found : Found) → RefuseOnce (read_checks command found)
+read_once one each (Read folder query) found = each.dataset at_first found.held
+read_once one each (Walk folder query chance words) found = each.dataset at_first found.held
+read_once one each (Trial size workers) found = no_checks
+read_once one each (Check folder table) found = plan_once one 1000000 table found.held each
+read_once one each (Run folder workers ratio table) found = plan_once one ratio table found.held each
+read_once one each (Audit folder log ratio table) found = once_append (plan_checks ratio table found.held) (log_checks found.beside) (plan_once one ratio table found.held each) (each.log found.beside)
+read_once one each (Latency folder log ratio table) found = once_append (plan_checks ratio table found.held) (log_checks found.beside) (plan_once one ratio table found.held each) (each.log found.beside)
+read_once one each (Expect folder table) found = plan_once one 1000000 table found.held each
+read_once one each (Validate folder cases via) found =
     once_append (dataset_checks at_first found.held) (AreBadCases found.held found.beside ∷ []) (each.dataset at_first found.held)
     (once_single (AreBadCases found.held found.beside) (bad_cases_once one each found.held found.beside))
+
+-- and so do those of all that it finds
+pub once : AreOne → RefuseEachOnce → (command : Command) (found : Found) → RefuseOnce (checks_of command found)
+once one each command found =
+    once_append (table_checks (needs_table command) found.missing) (read_checks command found) (table_once (needs_table command) found.missing) (read_once one each command found)
 
 -- ---- what was read of one folder
 

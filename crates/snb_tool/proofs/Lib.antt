@@ -1,3 +1,4 @@
+pub mod AskedLemmas
 pub mod CompleteLemmas
 pub mod InputLemmas
 pub mod LogLemmas
@@ -5,4 +6,5 @@ pub mod OutcomeLemmas
 pub mod Writing
 pub mod ExpectLemmas
 pub mod ValidLemmas
+pub mod ViaLemmas
 pub mod TrialLemmas

@@ -9,7 +9,9 @@ use Rattle.snb_runlog.specs.Laws.{ReadsBack}
 use Rattle.snb_schema.specs.declared.query.Query.{Query}
 use Rattle.snb_input_files.specs.declared.load.Load.{Load}
 use Rattle.snb_input_files.specs.declared.load.Load.TheVariants as loads
+use Rattle.snb_input_files.specs.Files.{held_in}
 use Rattle.snb_input_files.specs.Loading.{IsTold, is_read_fault}
+use Rattle.snb_input_files.specs.Walk.{Held, IsHeldTold}
 use Rattle.std.specs.Prelude.{IfSome, ◌≢◌, MatchBool, Bool, Result, true, false}
 use Rattle.snb_schema.specs.declared.row.Row.{Row}
 use Rattle.snb_schema.specs.Frequencies.{FrequencyTable}
@@ -23,7 +25,15 @@ use Rattle.snb_plan.specs.Plans.{queries_in, schedule_of, updates_in}
 use Rattle.snb_workers_replay.specs.Replay.{all_rows}
 use Rattle.snb_tool_texts.specs.Answers.{answers_text}
 use Rattle.snb_tool_words.specs.declared.command.Command.{Command}
-use Rattle.snb_tool_words.specs.declared.command.Command.TheVariants.{Audit, Check, Expect, Latency, Run, Read, Trial, Validate}
+use Rattle.snb_tool_words.specs.declared.command.Command.TheVariants.{Audit, Check, Expect, Latency, Run, Read, Trial, Validate, Walk}
+use Rattle.snb_tool_words.specs.declared.options.Via.TheVariants as via
+use Rattle.snb_handlers.specs.Table.{HasAll, IsFirstMissing}
+use Rattle.snb_schema.specs.declared.read_kind.ReadKind.{ReadKind}
+use Rattle.snb_schema.specs.declared.refusal.Refusal.{Refusal}
+use Rattle.snb_schema.specs.declared.refusal.Refusal.TheVariants.{Unregistered}
+use Rattle.snb_tool.specs.Inputs.{Connector, Given}
+use Rattle.snb_ratio.specs.Chances.{Falling}
+use Rattle.snb_walk.specs.declared.target.Pick.TheVariants.{Modulo}
 use Rattle.snb_workers.specs.Counts.{logged_of}
 use Rattle.snb_workers.specs.declared.run.Outcome.{Outcome}
 use Rattle.snb_workers.specs.Miscounts.{events_of}
@@ -35,8 +45,7 @@ use Rattle.snb_auditor_log.specs.AuditVerdicts.{is_whole}
 use Rattle.snb_auditor_log.specs.Laws.{WholeExactly}
 use Rattle.snb_auditor_log.specs.VerdictTexts.{audit_status, audit_text}
 use Rattle.snb_validation_check.specs.declared.text.Tally.{Tally}
-use Rattle.snb_validation_check.specs.CheckTexts.{tally_status, tally_text}
-use Rattle.snb_tool.specs.Endings.{AreTexts, Delivers, Finishes, IsDoneWith, IsFinished, IsInputAnswer, IsJudgedAnswer, IsReplyAnswer, IsTallyAnswer, IsTrialInput, bytes_of}
+use Rattle.snb_tool.specs.Endings.{AreTexts, Delivers, Finishes, IsDoneWith, IsFinished, IsInputAnswer, IsJudgedAnswer, IsReplyAnswer, IsTallyAnswer, IsTrialInput, IsWalkAnswer, TellsTally, bytes_of}
 use Rattle.snb_tool.specs.Outcome.{IsCommandAnswer, IsLeft, ShowsSummary, check_of}
 use Rattle.snb_tool.specs.Output.{HasBegun, on_screen}
 use Rattle.snb_tool.specs.Outside.{Ends, OutOfMemory, Outside, ReadFault, Whole, WriteFault}
@@ -78,15 +87,15 @@ module _ {O : Type 0} (outboxes : Outboxes O) (out out_after : O) where
         (λ all e. subst (λ (t : Written). P contents fixed status t) (sym e) b) h.2)
 
     -- and one that delivers what a command answers
-    pub finished_ends : (command : Command) (answer : Result Finished Load) (result : ℕ) → IsFinished command contents fixed answer → Counts (is_read_fault answer) faults faults_after
-        → Finishes outboxes out out_after answer result → Ends (IsCommandAnswer command) old new result
-    finished_ends command (Ok f) result is counts d =
-        delivers_ends (IsCommandAnswer command) f.status (bytes_of f.output) result (is.0, is.1, inl (is.2, is.3)) d
-    finished_ends command (Err (loads.Refused r)) result is counts (inl d) =
-        delivers_ends (IsCommandAnswer command) 3 (on_screen (refusal_text r)) result (is.0, is.1, inr (r, is.2, (refl, refl))) d
-    finished_ends command (Err (loads.Refused r)) result is counts (inr d) = OutOfMemory d.0 d.1
-    finished_ends command (Err loads.ReadFault) result is counts d = ReadFault d.0 counts d.1
-    finished_ends command (Err loads.Memory) result is counts d = OutOfMemory d.0 d.1
+    pub finished_ends : (given : Given) (command : Command) (answer : Result Finished Load) (result : ℕ) → IsFinished command contents given fixed answer → Counts (is_read_fault answer) faults faults_after
+        → Finishes outboxes out out_after answer result → Ends (IsCommandAnswer given command) old new result
+    finished_ends given command (Ok f) result is counts d =
+        delivers_ends (IsCommandAnswer given command) f.status (bytes_of f.output) result (is.0, is.1, inl (is.2, is.3)) d
+    finished_ends given command (Err (loads.Refused r)) result is counts (inl d) =
+        delivers_ends (IsCommandAnswer given command) 3 (on_screen (refusal_text r)) result (is.0, is.1, inr (r, is.2, (refl, refl))) d
+    finished_ends given command (Err (loads.Refused r)) result is counts (inr d) = OutOfMemory d.0 d.1
+    finished_ends given command (Err loads.ReadFault) result is counts d = ReadFault d.0 counts d.1
+    finished_ends given command (Err loads.Memory) result is counts d = OutOfMemory d.0 d.1
 
   -- it counts a failed read by status 4 alone
   pub finished_calm : (answer : Result Finished Load) (result faults faults_after : ℕ) → Finishes outboxes out out_after answer result → Counts (is_read_fault answer) faults faults_after
@@ -99,33 +108,33 @@ module _ {O : Type 0} (outboxes : Outboxes O) (out out_after : O) where
 -- ---- what a command answers where it isn't done
 
 -- a command whose files are those of a plan answers what the loading of its input does
-module _ (contents : Option Files) (folder : List ℕ) (table : FrequencyTable) (fixed : Option ℕ) where
-  pub run_not : (workers ratio : ℕ) (load : Load) → IsInputAnswer contents folder ratio table (Err load) → IsFinished (Run folder workers ratio table) contents fixed (Err load)
-  run_not workers ratio (loads.Refused r) h = (record { held = h.0; beside = None }, (h.1, tt), h.2)
+module _ (contents : Option Files) (folder : List ℕ) (table : FrequencyTable) (given : Given) (fixed : Option ℕ) where
+  pub run_not : (workers ratio : ℕ) (load : Load) → IsInputAnswer contents folder ratio table (Err load) → IsFinished (Run folder workers ratio table) contents given fixed (Err load)
+  run_not workers ratio (loads.Refused r) h = (record { missing = None; pick = Modulo; held = h.0; beside = None }, (h.1, tt, tt), h.2)
   run_not workers ratio loads.ReadFault h = tt
   run_not workers ratio loads.Memory h = tt
 
-  check_by : (load : Load) → IsInputAnswer contents folder 1000000 table (Err load) → IsFinished (Check folder table) contents fixed (Err load)
-  check_by (loads.Refused r) h = (record { held = h.0; beside = None }, (h.1, tt), h.2)
+  check_by : (load : Load) → IsInputAnswer contents folder 1000000 table (Err load) → IsFinished (Check folder table) contents given fixed (Err load)
+  check_by (loads.Refused r) h = (record { missing = None; pick = Modulo; held = h.0; beside = None }, (h.1, tt, tt), h.2)
   check_by loads.ReadFault h = tt
   check_by loads.Memory h = tt
 
-  expect_by : (load : Load) → IsInputAnswer contents folder 1000000 table (Err load) → IsFinished (Expect folder table) contents fixed (Err load)
-  expect_by (loads.Refused r) h = (record { held = h.0; beside = None }, (h.1, tt), h.2)
+  expect_by : (load : Load) → IsInputAnswer contents folder 1000000 table (Err load) → IsFinished (Expect folder table) contents given fixed (Err load)
+  expect_by (loads.Refused r) h = (record { missing = None; pick = Modulo; held = h.0; beside = None }, (h.1, tt, tt), h.2)
   expect_by loads.ReadFault h = tt
   expect_by loads.Memory h = tt
 
-  pub check_not : (ratio : ℕ) → ratio ≡ 1000000 → (load : Load) → IsInputAnswer contents folder ratio table (Err load) → IsFinished (Check folder table) contents fixed (Err load)
+  pub check_not : (ratio : ℕ) → ratio ≡ 1000000 → (load : Load) → IsInputAnswer contents folder ratio table (Err load) → IsFinished (Check folder table) contents given fixed (Err load)
   check_not ratio one load h = check_by load (subst (λ (n : ℕ). IsInputAnswer contents folder n table (Err load)) one h)
 
-  pub expect_not : (ratio : ℕ) → ratio ≡ 1000000 → (load : Load) → IsInputAnswer contents folder ratio table (Err load) → IsFinished (Expect folder table) contents fixed (Err load)
+  pub expect_not : (ratio : ℕ) → ratio ≡ 1000000 → (load : Load) → IsInputAnswer contents folder ratio table (Err load) → IsFinished (Expect folder table) contents given fixed (Err load)
   expect_not ratio one load h = expect_by load (subst (λ (n : ℕ). IsInputAnswer contents folder n table (Err load)) one h)
 
-pub read_not : (contents : Option Files) (folder : List ℕ) (query : Query) (fixed : Option ℕ) (load : Load) → IsReplyAnswer contents folder query (Err load)
-    → IsFinished (Read folder query) contents fixed (Err load)
-read_not contents folder query fixed (loads.Refused r) h = (record { held = h.0; beside = None }, (h.1, tt), h.2)
-read_not contents folder query fixed loads.ReadFault h = tt
-read_not contents folder query fixed loads.Memory h = tt
+pub read_not : (contents : Option Files) (folder : List ℕ) (query : Query) (given : Given) (fixed : Option ℕ) (load : Load) → IsReplyAnswer contents folder query (Err load)
+    → IsFinished (Read folder query) contents given fixed (Err load)
+read_not contents folder query given fixed (loads.Refused r) h = (record { missing = None; pick = Modulo; held = h.0; beside = None }, (h.1, tt, tt), h.2)
+read_not contents folder query given fixed loads.ReadFault h = tt
+read_not contents folder query given fixed loads.Memory h = tt
 
 -- ---- the texts of a command
 
@@ -133,21 +142,21 @@ read_not contents folder query fixed loads.Memory h = tt
 rows_after : (old more new : List Row) → HasGained old more new → length new ≡ length old + length more
 rows_after old more new gained = sym (length_permutation new (old ++ more) gained.rows) ∙ length-append old more
 
-pub check_done : (contents : Option Files) (folder : List ℕ) (ratio : ℕ) (table : FrequencyTable) (fixed : Option ℕ) (input : Input) (status : ℕ) (texts : Written) → ratio ≡ 1000000
-    → IsInputAnswer contents folder ratio table (Ok input) → status ≡ 0 → texts ≡ on_screen (check_of input.graph input.plan) → IsDoneWith (Check folder table) contents fixed status texts
-check_done contents folder ratio table fixed input status texts one h s e =
+pub check_done : (contents : Option Files) (folder : List ℕ) (ratio : ℕ) (table : FrequencyTable) (given : Given) (fixed : Option ℕ) (input : Input) (status : ℕ) (texts : Written) → ratio ≡ 1000000
+    → IsInputAnswer contents folder ratio table (Ok input) → status ≡ 0 → texts ≡ on_screen (check_of input.graph input.plan) → IsDoneWith (Check folder table) contents given fixed status texts
+check_done contents folder ratio table given fixed input status texts one h s e =
     let k : IsInputAnswer contents folder 1000000 table (Ok input) = subst (λ (n : ℕ). IsInputAnswer contents folder n table (Ok input)) one h in
-    (record { held = k.0; beside = None }, (k.1, tt), k.2.clean, (s, record { graph = input.graph; plan = input.plan; input = k.2.is; shown = e }))
+    (record { missing = None; pick = Modulo; held = k.0; beside = None }, (k.1, tt, tt), k.2.clean, (s, record { graph = input.graph; plan = input.plan; input = k.2.is; shown = e }))
 
-pub run_done : (contents : Option Files) (folder : List ℕ) (workers ratio : ℕ) (table : FrequencyTable) (fixed : Option ℕ) (input : Input) (texts : Written) → IsInputAnswer contents folder ratio table (Ok input)
-    → IsLeft workers input.graph input.plan fixed texts → IsDoneWith (Run folder workers ratio table) contents fixed 0 texts
-run_done contents folder workers ratio table fixed input texts h left =
-    (record { held = h.0; beside = None }, (h.1, tt), h.2.clean, (refl, record { graph = input.graph; plan = input.plan; input = h.2.is; left = left }))
+pub run_done : (contents : Option Files) (folder : List ℕ) (workers ratio : ℕ) (table : FrequencyTable) (given : Given) (fixed : Option ℕ) (input : Input) (texts : Written) → IsInputAnswer contents folder ratio table (Ok input)
+    → IsLeft workers input.graph input.plan fixed texts → IsDoneWith (Run folder workers ratio table) contents given fixed 0 texts
+run_done contents folder workers ratio table given fixed input texts h left =
+    (record { missing = None; pick = Modulo; held = h.0; beside = None }, (h.1, tt, tt), h.2.clean, (refl, record { graph = input.graph; plan = input.plan; input = h.2.is; left = left }))
 
-pub trial_done : (contents : Option Files) (size workers : ℕ) (fixed : Option ℕ) (input : Input) (texts : Written) → IsTrialInput size input → IsLeft workers input.graph input.plan fixed texts
-    → IsDoneWith (Trial size workers) contents fixed 0 texts
-trial_done contents size workers fixed input texts is left =
-    (record { held = λ file. None; beside = None }, (tt, tt), tt, (refl, record { plan = input.plan; is_plan = is.is_plan; left = subst (λ (g : List Row). IsLeft workers g input.plan fixed texts) is.same left }))
+pub trial_done : (contents : Option Files) (size workers : ℕ) (given : Given) (fixed : Option ℕ) (input : Input) (texts : Written) → IsTrialInput size input → IsLeft workers input.graph input.plan fixed texts
+    → IsDoneWith (Trial size workers) contents given fixed 0 texts
+trial_done contents size workers given fixed input texts is left =
+    (record { missing = None; pick = Modulo; held = λ file. None; beside = None }, (tt, tt, tt), tt, (refl, record { plan = input.plan; is_plan = is.is_plan; left = subst (λ (g : List Row). IsLeft workers g input.plan fixed texts) is.same left }))
 
 -- the texts of what a run left, where the final graph has the rows of the dataset and of each insert
 pub run_shown : (workers : ℕ) (input : Input) (fixed : Option ℕ) (o : Outcome) (texts : Written) → HasRun workers input.plan fixed input.graph o.events.items o.replies o.graph
@@ -167,11 +176,11 @@ run_shown workers input fixed o texts ran back shown = record {
   });
 }
 
-pub read_done : (contents : Option Files) (folder : List ℕ) (query : Query) (fixed : Option ℕ) (line : Vec ℕ Global) (status : ℕ) (texts : Written) → IsReplyAnswer contents folder query (Ok line)
-    → status ≡ 0 → texts ≡ on_screen line.items → IsDoneWith (Read folder query) contents fixed status texts
-read_done contents folder query fixed line status texts h s e = (
-  record { held = h.0; beside = None },
-  (h.1, tt),
+pub read_done : (contents : Option Files) (folder : List ℕ) (query : Query) (given : Given) (fixed : Option ℕ) (line : Vec ℕ Global) (status : ℕ) (texts : Written) → IsReplyAnswer contents folder query (Ok line)
+    → status ≡ 0 → texts ≡ on_screen line.items → IsDoneWith (Read folder query) contents given fixed status texts
+read_done contents folder query given fixed line status texts h s e = (
+  record { missing = None; pick = Modulo; held = h.0; beside = None },
+  (h.1, tt, tt),
   h.2.dataset.clean,
   (
     s,
@@ -190,17 +199,26 @@ beside_told : (contents : Option Files) (name : List ℕ) (held : Option (List �
 beside_told None name held told = tt
 beside_told (Some files) name held told = sym told
 
-module _ (contents : Option Files) (folder log : List ℕ) (ratio : ℕ) (table : FrequencyTable) (fixed : Option ℕ) where
-  pub audit_not : (load : Load) → IsJudgedAnswer contents folder log ratio table (Err load) → IsFinished (Audit folder log ratio table) contents fixed (Err load)
-  audit_not (loads.Refused r) h = (record { held = h.0; beside = h.1 }, (h.2, beside_told contents log h.1 h.3), h.4)
+-- there are some files, which are those that the shelf tells where it tells any
+held_told : (contents : Option Files) (folder : List ℕ) → (held : Held) × IsHeldTold contents folder held
+held_told None folder = (λ file. None, tt)
+held_told (Some files) folder = (held_in folder files, λ file. refl)
+
+any_told : (contents : Option Files) (name : List ℕ) → (beside : Option (List ℕ)) × IsTold contents name beside
+any_told None name = (None, tt)
+any_told (Some files) name = (files name, refl)
+
+module _ (contents : Option Files) (folder log : List ℕ) (ratio : ℕ) (table : FrequencyTable) (given : Given) (fixed : Option ℕ) where
+  pub audit_not : (load : Load) → IsJudgedAnswer contents folder log ratio table (Err load) → IsFinished (Audit folder log ratio table) contents given fixed (Err load)
+  audit_not (loads.Refused r) h = (record { missing = None; pick = Modulo; held = h.0; beside = h.1 }, (h.2, beside_told contents log h.1 h.3, tt), h.4)
   audit_not loads.ReadFault h = tt
   audit_not loads.Memory h = tt
 
   pub audit_done : (judged : Judged) (status : ℕ) (texts : Written) → IsJudgedAnswer contents folder log ratio table (Ok judged) → status ≡ audit_status judged.audited.verdict
-      → texts ≡ on_screen (audit_text judged.audited.verdict) → IsDoneWith (Audit folder log ratio table) contents fixed status texts
+      → texts ≡ on_screen (audit_text judged.audited.verdict) → IsDoneWith (Audit folder log ratio table) contents given fixed status texts
   audit_done judged status texts h s e = (
-    record { held = h.0; beside = h.1 },
-    (h.2, beside_told contents log h.1 h.3),
+    record { missing = None; pick = Modulo; held = h.0; beside = h.1 },
+    (h.2, beside_told contents log h.1 h.3, tt),
     h.4,
     record {
       plan = judged.plan;
@@ -213,18 +231,18 @@ module _ (contents : Option Files) (folder log : List ℕ) (ratio : ℕ) (table 
     },
   )
 
-  pub latency_not : (load : Load) → IsJudgedAnswer contents folder log ratio table (Err load) → IsFinished (Latency folder log ratio table) contents fixed (Err load)
-  latency_not (loads.Refused r) h = (record { held = h.0; beside = h.1 }, (h.2, beside_told contents log h.1 h.3), h.4)
+  pub latency_not : (load : Load) → IsJudgedAnswer contents folder log ratio table (Err load) → IsFinished (Latency folder log ratio table) contents given fixed (Err load)
+  latency_not (loads.Refused r) h = (record { missing = None; pick = Modulo; held = h.0; beside = h.1 }, (h.2, beside_told contents log h.1 h.3, tt), h.4)
   latency_not loads.ReadFault h = tt
   latency_not loads.Memory h = tt
 
   latency_done : (judged : Judged) (status : ℕ) (texts : Written) → IsJudgedAnswer contents folder log ratio table (Ok judged)
       → MatchBool (is_whole judged.audited.verdict) ((status ≡ 0) × ShowsSummary judged.plan (events_of judged.audited.log.logged.items) texts)
       ((status ≡ 1) × (texts ≡ on_screen (audit_text judged.audited.verdict)))
-      → IsDoneWith (Latency folder log ratio table) contents fixed status texts
+      → IsDoneWith (Latency folder log ratio table) contents given fixed status texts
   latency_done judged status texts h told = (
-    record { held = h.0; beside = h.1 },
-    (h.2, beside_told contents log h.1 h.3),
+    record { missing = None; pick = Modulo; held = h.0; beside = h.1 },
+    (h.2, beside_told contents log h.1 h.3, tt),
     h.4,
     record {
       plan = judged.plan;
@@ -239,7 +257,7 @@ module _ (contents : Option Files) (folder log : List ℕ) (ratio : ℕ) (table 
   -- what is shown of the log of a whole run
   pub latency_summed : (judged : Judged) (status : ℕ) (texts shown : Written) (logged : List Logged) → IsJudgedAnswer contents folder log ratio table (Ok judged)
       → is_whole judged.audited.verdict ≡ true → logged ≡ judged.audited.log.logged.items → status ≡ 0 → texts ≡ shown → ShowsSummary judged.plan (events_of logged) shown
-      → IsDoneWith (Latency folder log ratio table) contents fixed status texts
+      → IsDoneWith (Latency folder log ratio table) contents given fixed status texts
   latency_summed judged status texts shown logged h whole same zero e shows =
       latency_done judged status texts h
       (subst (λ (b : Bool). MatchBool b ((status ≡ 0) × ShowsSummary judged.plan (events_of judged.audited.log.logged.items) texts) ((status ≡ 1) × (texts ≡ on_screen (audit_text judged.audited.verdict)))) (sym whole)
@@ -248,7 +266,7 @@ module _ (contents : Option Files) (folder log : List ℕ) (ratio : ℕ) (table 
   -- and of any other
   pub latency_judged : (judged : Judged) (status : ℕ) (texts : Written) → IsJudgedAnswer contents folder log ratio table (Ok judged)
       → is_whole judged.audited.verdict ≡ false → status ≡ 1 → texts ≡ on_screen (audit_text judged.audited.verdict)
-      → IsDoneWith (Latency folder log ratio table) contents fixed status texts
+      → IsDoneWith (Latency folder log ratio table) contents given fixed status texts
   latency_judged judged status texts h whole one e =
       latency_done judged status texts h
       (subst (λ (b : Bool). MatchBool b ((status ≡ 0) × ShowsSummary judged.plan (events_of judged.audited.log.logged.items) texts) ((status ≡ 1) × (texts ≡ on_screen (audit_text judged.audited.verdict)))) (sym whole)
@@ -263,16 +281,76 @@ module _ (contents : Option Files) (folder log : List ℕ) (ratio : ℕ) (table 
       ((judged.audited.log.header.workers, run.legal), run.complete)
 
 module _ (contents : Option Files) (folder cases : List ℕ) (fixed : Option ℕ) where
-  pub validate_not : (load : Load) → IsTallyAnswer contents folder cases (Err load) → IsFinished (Validate folder cases) contents fixed (Err load)
-  validate_not (loads.Refused r) h = (record { held = h.0; beside = h.1 }, (h.2, beside_told contents cases h.1 h.3), h.4)
-  validate_not loads.ReadFault h = tt
-  validate_not loads.Memory h = tt
+  module _ (given : Given) where
+    pub validate_not : (load : Load) → IsTallyAnswer contents folder cases (Err load) → IsFinished (Validate folder cases via.Graph) contents given fixed (Err load)
+    validate_not (loads.Refused r) h = (record { missing = None; pick = Modulo; held = h.0; beside = h.1 }, (h.2, beside_told contents cases h.1 h.3, tt), h.4)
+    validate_not loads.ReadFault h = tt
+    validate_not loads.Memory h = tt
 
-  pub validate_done : (tally : Tally) (status : ℕ) (texts : Written) → IsTallyAnswer contents folder cases (Ok tally) → status ≡ tally_status tally → texts ≡ on_screen (tally_text tally)
-      → IsDoneWith (Validate folder cases) contents fixed status texts
-  validate_done tally status texts h s e = (
-    record { held = h.0; beside = h.1 },
-    (h.2, beside_told contents cases h.1 h.3),
-    h.4.clean,
-    record { graph = h.4.graph; dataset = h.4.dataset; tally = tally; found = h.4.found; status_is = s; shown = e },
+    pub validate_done : (tally : Tally) (f : Finished) → IsTallyAnswer contents folder cases (Ok tally) → TellsTally tally f → IsFinished (Validate folder cases via.Graph) contents given fixed (Ok f)
+    validate_done tally f h told = (
+      record { missing = None; pick = Modulo; held = h.0; beside = h.1 },
+      (h.2, beside_told contents cases h.1 h.3, tt),
+      h.4.clean,
+      record { graph = h.4.graph; dataset = h.4.dataset; tally = tally; found = h.4.found; status_is = told.status_is; shown = told.shown },
+    )
+
+  -- the same of a table in which each kind of read has a handler
+  module _ (c : Connector) where
+    pub table_not : HasAll c.kinds → (load : Load) → IsTallyAnswer contents folder cases (Err load) → IsFinished (Validate folder cases via.Table) contents (Some c) fixed (Err load)
+    table_not all (loads.Refused r) h = (
+      record { missing = None; pick = c.pick; held = h.0; beside = h.1 },
+      (h.2, beside_told contents cases h.1 h.3, (all, refl)),
+      inr (λ q no. no, h.4),
+    )
+    table_not all loads.ReadFault h = tt
+    table_not all loads.Memory h = tt
+
+    pub table_done : HasAll c.kinds → (tally : Tally) (f : Finished) → IsTallyAnswer contents folder cases (Ok tally) → TellsTally tally f
+        → IsFinished (Validate folder cases via.Table) contents (Some c) fixed (Ok f)
+    table_done all tally f h told = (
+      record { missing = None; pick = c.pick; held = h.0; beside = h.1 },
+      (h.2, beside_told contents cases h.1 h.3, (all, refl)),
+      (λ q no. no, h.4.clean),
+      record { graph = h.4.graph; dataset = h.4.dataset; tally = tally; found = h.4.found; status_is = told.status_is; shown = told.shown },
+    )
+
+    -- and of one in which a kind has none: whatever there is of files, that is what is wrong first
+    pub table_lacks : (kind : ReadKind) → IsFirstMissing c.kinds kind → (r : Refusal) → r ≡ Unregistered kind → IsFinished (Validate folder cases via.Table) contents (Some c) fixed (Err (loads.Refused r))
+    table_lacks kind first r is =
+        let held = held_told contents folder in
+        let beside = any_told contents cases in
+        (record { missing = Some kind; pick = c.pick; held = held.0; beside = beside.0 }, (held.1, beside_told contents cases beside.0 beside.1, (first, refl)), inl is)
+
+-- a walk by a table in which each kind of read has a handler, and a policy
+module _ (contents : Option Files) (folder : List ℕ) (query : Query) (chance : Falling) (words : List ℕ) (c : Connector) (fixed : Option ℕ) where
+  pub walk_not : HasAll c.kinds → (load : Load) → IsWalkAnswer contents folder c.pick query chance words (Err load) → IsFinished (Walk folder query chance words) contents (Some c) fixed (Err load)
+  walk_not all (loads.Refused r) h = (record { missing = None; pick = c.pick; held = h.0; beside = None }, (h.1, tt, (all, refl)), inr (λ q no. no, h.2))
+  walk_not all loads.ReadFault h = tt
+  walk_not all loads.Memory h = tt
+
+  pub walk_done : HasAll c.kinds → (text : Vec ℕ Global) (status : ℕ) (texts : Written) → IsWalkAnswer contents folder c.pick query chance words (Ok text) → status ≡ 0 → texts ≡ on_screen text.items
+      → IsDoneWith (Walk folder query chance words) contents (Some c) fixed status texts
+  walk_done all text status texts h s e = (
+    record { missing = None; pick = c.pick; held = h.0; beside = None },
+    (h.1, tt, (all, refl)),
+    (λ q no. no, h.2.dataset.clean),
+    (
+      s,
+      record {
+        graph = h.2.graph;
+        answer = h.2.answer;
+        steps = h.2.steps;
+        stop = h.2.stop;
+        dataset = h.2.dataset;
+        walk = h.2.walk;
+        shown = e ∙ ap on_screen h.2.shown;
+      },
+    ),
   )
+
+  -- and by one in which a kind has none
+  pub walk_lacks : (kind : ReadKind) → IsFirstMissing c.kinds kind → (r : Refusal) → r ≡ Unregistered kind → IsFinished (Walk folder query chance words) contents (Some c) fixed (Err (loads.Refused r))
+  walk_lacks kind first r is =
+      let held = held_told contents folder in
+      (record { missing = Some kind; pick = c.pick; held = held.0; beside = None }, (held.1, tt, (first, refl)), inl is)

@@ -19,11 +19,12 @@ use Rattle.snb_validation_expect.specs.Laws.{ExpectedAreRight}
 use Rattle.snb_plan.specs.Plans.{queries_in}
 use Rattle.snb_tool_words.specs.declared.command.Command.{Command}
 use Rattle.snb_tool_words.specs.declared.command.Command.TheVariants.{Expect, Validate}
+use Rattle.snb_tool_words.specs.declared.options.Via.TheVariants.{Graph}
 use Rattle.snb_tool_words.specs.Commands.{IsLineOf}
 use Rattle.snb_tool_words.specs.Laws.{WordsAreOne}
-use Rattle.snb_tool.specs.Inputs.{AreBadCases, Found, IsFine, IsFoundTold, at_first, checks_of}
+use Rattle.snb_tool.specs.Inputs.{AreBadCases, Found, Given, IsFine, IsFoundTold, at_first, checks_of}
 use Rattle.snb_tool.specs.Laws.{ExpectInShort, ExpectedIsValid, RefusedOrNot}
-use Rattle.snb_tool.specs.Outcome.{IsAnswer, IsDone, IsExpected, IsValidated}
+use Rattle.snb_tool.specs.Outcome.{Asked, IsAnswer, IsDone, IsExpected, IsValidated}
 use Rattle.snb_tool.proofs.CompleteLemmas.{added, told_files}
 use Rattle.snb_tool.proofs.InputLemmas.{not_bad}
 
@@ -58,19 +59,19 @@ module _ (one : DatasetIsOne) (or_not : CasesRefusedOrNot) (tally_one : TallyIsO
       v.status_is ∙ ap tally_status (tally_one r.graph (Some text) v.tally (record { reads = r.reads; first = None }) found r.right)
 
 -- what `expect` answered with status 0 are the cases of the files
-done_expected : WordsAreOne → (words : List (List ℕ)) (files : Files) (fixed : Option ℕ) (folder : List ℕ) (table : FrequencyTable) (texts : Written) → IsLineOf words (Expect folder table)
-    → IsAnswer words (Some files) fixed 0 texts → IsExpected (held_in folder files) table texts
-done_expected one words files fixed folder table texts line (inl usage) = (let e = usage.0 in absurd (omega (arith, e)))
-done_expected one words files fixed folder table texts line (inr (c, l, (found, told, inr bad))) = (let e = bad.2.0 in absurd (omega (arith, e)))
-done_expected one words files fixed folder table texts line (inr (c, l, (found, told, inl done))) =
-    let same = one words c (Expect folder table) l line in
-    let told_here = subst (λ (d : Command). IsFoundTold (Some files) d found) same told in
+done_expected : WordsAreOne → (asked : Asked) (files : Files) (fixed : Option ℕ) (folder : List ℕ) (table : FrequencyTable) (texts : Written) → IsLineOf asked.words (Expect folder table)
+    → IsAnswer asked (Some files) fixed 0 texts → IsExpected (held_in folder files) table texts
+done_expected one asked files fixed folder table texts line (inl usage) = (let e = usage.0 in absurd (omega (arith, e)))
+done_expected one asked files fixed folder table texts line (inr (c, l, (found, told, inr bad))) = (let e = bad.2.0 in absurd (omega (arith, e)))
+done_expected one asked files fixed folder table texts line (inr (c, l, (found, told, inl done))) =
+    let same = one asked.words c (Expect folder table) l.line line in
+    let told_here = subst (λ (d : Command). IsFoundTold (Some files) asked.given d found) same told in
     subst (λ (h : Held). IsExpected h table texts) (told_files folder files found.held told_here.0) (subst (λ (d : Command). IsDone d found fixed 0 texts) same done.1).1
 
 -- and they were added to the channels
 pub expect_in_short : WordsAreOne → ExpectInShort
-expect_in_short one words files fixed folder table old new line (texts, answered, w) =
-    let e = done_expected one words files fixed folder table texts line answered in
+expect_in_short one asked files fixed folder table old new line (texts, answered, w) =
+    let e = done_expected one asked files fixed folder table texts line answered in
     let now = added old new texts w in
     record {
       graph = e.graph;
@@ -83,37 +84,40 @@ expect_in_short one words files fixed folder table old new line (texts, answered
       screen = ap (λ (x : Written). x.screen) now ∙ ap (λ (x : Written). old.screen ++ x.screen) e.shown;
     }
 
-module _ (one : DatasetIsOne) (or_not : CasesRefusedOrNot) (tally_one : TallyIsOne) (after : Files) (folder name text : List ℕ) (r : IsRight (held_in folder after) text) (there : after name ≡ Some text) where
+module _ (one : DatasetIsOne) (or_not : CasesRefusedOrNot) (tally_one : TallyIsOne) (given : Given) (after : Files) (folder name text : List ℕ) (r : IsRight (held_in folder after) text) (there : after name ≡ Some text) where
   -- what `validate` finds are these tables and this file
-  as_found : (P : Held → Option (List ℕ) → Type 0) (found : Found) → IsFoundTold (Some after) (Validate folder name) found → P (held_in folder after) (Some text) → P found.held found.beside
+  as_found : (P : Held → Option (List ℕ) → Type 0) (found : Found) → IsFoundTold (Some after) given (Validate folder name Graph) found → P (held_in folder after) (Some text) → P found.held found.beside
   as_found P found told p =
       subst (λ (h : Held). P h found.beside) (sym (told_files folder after found.held told.0)) (subst (P (held_in folder after)) (sym (told.1 ∙ there)) p)
 
-  found_as : (P : Held → Option (List ℕ) → Type 0) (found : Found) → IsFoundTold (Some after) (Validate folder name) found → P found.held found.beside → P (held_in folder after) (Some text)
+  found_as : (P : Held → Option (List ℕ) → Type 0) (found : Found) → IsFoundTold (Some after) given (Validate folder name Graph) found → P found.held found.beside → P (held_in folder after) (Some text)
   found_as P found told p =
       subst (P (held_in folder after)) (told.1 ∙ there) (subst (λ (h : Held). P h found.beside) (told_files folder after found.held told.0) p)
 
-  fine_found : IsFine (Some after) (Validate folder name)
+  fine_found : IsFine (Some after) given (Validate folder name Graph)
   fine_found found told =
       as_found (λ held beside. NoneOf (dataset_checks at_first held ++ AreBadCases held beside ∷ [])) found told (fine one or_not tally_one (held_in folder after) text r)
 
-  module _ (words_one : WordsAreOne) (law : RefusedOrNot) (others : List (List ℕ)) (later : Option ℕ) (line : IsLineOf others (Validate folder name)) where
+  module _ (words_one : WordsAreOne) (law : RefusedOrNot) (words : List (List ℕ)) (later : Option ℕ) (line : IsLineOf words (Validate folder name Graph)) where
+    abbrev others : Asked
+    others = record { words = words; given = given }
+
     zero_answer : (status : ℕ) (shown : Written) → IsAnswer others (Some after) later status shown → status ≡ 0
-    zero_answer status shown (inl usage) = absurd (usage.1 (Validate folder name) line)
+    zero_answer status shown (inl usage) = absurd (usage.1 (Validate folder name Graph) (record { line = line; given = λ e. absurd cc }))
     zero_answer status shown (inr (c, l, (found, told, inr bad))) =
-        let same = words_one others c (Validate folder name) l line in
-        absurd (law c found bad.0 bad.1 (subst (λ (d : Command). NoneOf (checks_of d found)) (sym same) (fine_found found (subst (λ (d : Command). IsFoundTold (Some after) d found) same told))))
+        let same = words_one words c (Validate folder name Graph) l.line line in
+        absurd (law c found bad.0 bad.1 (subst (λ (d : Command). NoneOf (checks_of d found)) (sym same) (fine_found found (subst (λ (d : Command). IsFoundTold (Some after) given d found) same told))))
     zero_answer status shown (inr (c, l, (found, told, inl done))) =
-        let same = words_one others c (Validate folder name) l line in
-        let told_here = subst (λ (d : Command). IsFoundTold (Some after) d found) same told in
+        let same = words_one words c (Validate folder name Graph) l.line line in
+        let told_here = subst (λ (d : Command). IsFoundTold (Some after) given d found) same told in
         zero_status one or_not tally_one (held_in folder after) text r status shown
         (found_as (λ held beside. IsValidated held beside status shown) found told_here (subst (λ (d : Command). IsDone d found later status shown) same done.1))
 
 pub expected_is_valid : WordsAreOne → RefusedOrNot → DatasetIsOne → CasesRefusedOrNot → TallyIsOne → ExpectedAreRight → ExpectedIsValid
-expected_is_valid words_one law one or_not tally_one right words others files after fixed later folder name table texts line answered short other_line there kept =
-    let e = done_expected words_one words files fixed folder table texts line answered in
+expected_is_valid words_one law one or_not tally_one right asked others files after fixed later folder name table texts line answered short other_line there kept =
+    let e = done_expected words_one asked files fixed folder table texts line answered in
     let same : held_in folder after ≡ held_in folder files = (λ i file. kept file i) in
     let r : IsRight (held_in folder after) texts.cases = subst (λ (h : Held). IsRight h texts.cases) (sym same) (expected_right right (held_in folder files) table texts e short) in (
-      fine_found one or_not tally_one after folder name texts.cases r there,
-      zero_answer one or_not tally_one after folder name texts.cases r there words_one law others later other_line,
+      fine_found one or_not tally_one others.given after folder name texts.cases r there,
+      zero_answer one or_not tally_one others.given after folder name texts.cases r there words_one law others.words later other_line,
     )

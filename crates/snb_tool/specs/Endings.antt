@@ -1,11 +1,14 @@
 -- How the parts of a call end. Cited by contracts of private functions alone.
-use Rattle.std.specs.Prelude.{◌≡◌, ℕ, ◌<◌, ◌≤◌, ◌⊎◌, List, [], ◌∷◌, ◌++◌, length, Option, Result, Ok, Err, Vec}
+use Rattle.std.specs.Prelude.{◌≡◌, ℕ, ◌<◌, ◌≤◌, ◌⊎◌, List, [], ◌∷◌, ◌++◌, length, Option, None, Some, IfSome, Result, Ok, Err, Vec}
+use Rattle.std.specs.Borrow.{Bor}
 use Rattle.std.specs.declared.alloc.Global.{Global}
 use Rattle.snb_auditor_log.specs.LogFiles.{log_checks}
 use Rattle.snb_base.specs.declared.outbox.Outbox.{Ghosts as Outboxes}
 use Rattle.snb_base.specs.Outbox.{Written}
 use Rattle.snb_base.specs.Shelf.{Files, Rose}
 use Rattle.snb_base.specs.FirstOf.{FirstOf, NoneOf}
+use Rattle.snb_handlers.specs.declared.handlers.Handlers.{Handlers}
+use Rattle.snb_handlers.specs.Table.{HasAll, kinds}
 use Rattle.snb_input_files.specs.Loading.{IsTold}
 use Rattle.snb_input_files.specs.Walk.{Held, IsHeldTold}
 use Rattle.snb_input_files.specs.declared.load.Load.{Load}
@@ -32,6 +35,7 @@ use Rattle.snb_plan.specs.Plans.{IsOfStreams, IsPlan, Plan, queries_in, read_cou
 use Rattle.snb_workers.specs.Counts.{logged_of}
 use Rattle.snb_workers.specs.declared.run.Outcome.{Outcome as RunOutcome}
 use Rattle.snb_tool_words.specs.declared.command.Command.{Command}
+use Rattle.snb_tool_words.specs.Words.{texts_of}
 use Rattle.snb_tool.specs.declared.audit.Judged.{Judged}
 use Rattle.snb_tool.specs.declared.deliver.Finished.{Finished}
 use Rattle.snb_tool.specs.declared.deliver.Output.{Output}
@@ -40,10 +44,18 @@ use Rattle.snb_validation_cases.specs.declared.case.Case.{Case}
 use Rattle.snb_validation_check.specs.declared.text.Tally.{Tally}
 use Rattle.snb_validation_expect.specs.Expected.{AreExpected, AreReadBack, HaveWords}
 use Rattle.snb_validation_check.specs.CasesFile.{IsTally}
+use Rattle.snb_validation_check.specs.CheckTexts.{tally_status, tally_text}
 use Rattle.snb_graph_model.specs.Soundness.{Sound}
 use Rattle.snb_trial.specs.Trial.{dataset, lanes, least_ratio, lists, read_frequencies}
-use Rattle.snb_tool.specs.Inputs.{AreBadCases, Found, IsFoundTold, IsInput, at_first, checks_of, plan_checks}
-use Rattle.snb_tool.specs.Outcome.{IsDone, IsJudged, expected_texts, reply_line}
+use Rattle.snb_tool.specs.Inputs.{AreBadCases, Connector, Found, Given, IsFoundTold, IsInput, at_first, checks_of, plan_checks}
+use Rattle.snb_tool.specs.Outcome.{Asked, IsDone, IsJudged, expected_texts}
+use Rattle.snb_tool.specs.WalkTexts.{reply_line, walk_text}
+use Rattle.snb_ratio.specs.Chances.{Falling}
+use Rattle.snb_walk.specs.declared.policy.Policy.{Policy}
+use Rattle.snb_walk.specs.declared.target.Pick.{Pick}
+use Rattle.snb_walk.specs.declared.target.Stop.{Stop}
+use Rattle.snb_walk.specs.Targets.{Rows, Step}
+use Rattle.snb_walk.specs.Walks.{IsWalk}
 use Rattle.snb_tool.specs.Output.{HasBegun, Wrote, on_screen}
 
 -- the bytes of each channel
@@ -67,19 +79,37 @@ Finishes outboxes old new (Err (Refused r)) result =
 Finishes outboxes old new (Err ReadFault) result = (result ≡ 4) × (outboxes.written new ≡ outboxes.written old)
 Finishes outboxes old new (Err Memory) result = (result ≡ 6) × (outboxes.written new ≡ outboxes.written old)
 
--- there are files, which are those that the shelf tells where it tells any, of which nothing is wrong, and the command is done with this status
--- and these texts
-abbrev pub IsDoneWith : Command → Option Files → Option ℕ → ℕ → Written → Type 0
-IsDoneWith command contents fixed status texts =
-    (found : Found) × IsFoundTold contents command found × NoneOf (checks_of command found) × IsDone command found fixed status texts
+-- what a call is given, as a contract sees it
+abbrev pub connector_of : {I F P J G Q : _} → Handlers I F P → Policy J G Q → Connector
+connector_of handlers policy = record { kinds = kinds handlers; pick = policy.pick }
+
+-- the same where it may be given nothing
+abbrev pub given_by : {I F P J G Q : _} → Option (Bor (Handlers I F P) × Bor (Policy J G Q)) → Given
+given_by None = None
+given_by (Some given) = Some (connector_of given.0.now given.1.now)
+
+-- a kind of read has no handler in the table
+abbrev pub LacksKind : Given → Type 0
+LacksKind given = IfSome given (λ c. ¬ HasAll c.kinds)
+
+-- what a call is asked, which is given these, or nothing
+abbrev pub asked_by : List (Bor (List ℕ)) → Given → Asked
+asked_by words given = record { words = texts_of words; given = given }
+
+-- there are files, which are those that the shelf tells where it tells any, and a table where the command asks one, of which nothing is wrong, and
+-- the command is done with this status and these texts
+abbrev pub IsDoneWith : Command → Option Files → Given → Option ℕ → ℕ → Written → Type 0
+IsDoneWith command contents given fixed status texts =
+    (found : Found) × IsFoundTold contents given command found × NoneOf (checks_of command found) × IsDone command found fixed status texts
 
 -- what a command answers: its status and texts, where it is done; or what is wrong first with files, which are those that the shelf tells where it
--- tells any
-abbrev pub IsFinished : Command → Option Files → Option ℕ → Result Finished Load → Type 0
-IsFinished command contents fixed (Ok f) = IsDoneWith command contents fixed f.status (bytes_of f.output)
-IsFinished command contents fixed (Err (Refused r)) = (found : Found) × IsFoundTold contents command found × FirstOf (checks_of command found) r
-IsFinished command contents fixed (Err ReadFault) = Unit {0}
-IsFinished command contents fixed (Err Memory) = Unit {0}
+-- tells any, and with the table that it asks
+abbrev pub IsFinished : Command → Option Files → Given → Option ℕ → Result Finished Load → Type 0
+IsFinished command contents given fixed (Ok f) = IsDoneWith command contents given fixed f.status (bytes_of f.output)
+IsFinished command contents given fixed (Err (Refused r)) =
+    (found : Found) × IsFoundTold contents given command found × FirstOf (checks_of command found) r
+IsFinished command contents given fixed (Err ReadFault) = Unit {0}
+IsFinished command contents given fixed (Err Memory) = Unit {0}
 
 -- nothing is wrong with the files of a plan, and these are their dataset and the plan
 pub record IsLoaded (held : Held) (ratio : ℕ) (frequencies : FrequencyTable) (input : Input) : Type 0 where
@@ -154,6 +184,25 @@ pub record IsReplied (held : Held) (query : Query) (line : List ℕ) : Type 0 wh
   pub dataset : IsDataset at_first held graph
   pub shown : IsReplyLine graph query line
 
+-- nothing is wrong with the tables, and the text is that of the walk of the query on their graph
+pub record IsWalkText (held : Held) (pick : Pick) (query : Query) (chance : Falling) (words : List ℕ) (text : List ℕ) : Type 0 where
+  pub graph : List Row
+  pub dataset : IsDataset at_first held graph
+  pub answer : Rows
+  pub steps : List Step
+  pub stop : Stop
+  pub walk : IsWalk graph pick chance words query answer steps stop
+  pub shown : text ≡ walk_text answer steps stop
+
+-- what the taking of a walk answers
+abbrev pub IsWalkAnswer : Option Files → List ℕ → Pick → Query → Falling → List ℕ → Result (Vec ℕ Global) Load → Type 0
+IsWalkAnswer contents folder pick query chance words (Ok text) =
+    (held : Held) × IsHeldTold contents folder held × IsWalkText held pick query chance words text.items
+IsWalkAnswer contents folder pick query chance words (Err (Refused r)) =
+    (held : Held) × IsHeldTold contents folder held × FirstOf (dataset_checks at_first held) r
+IsWalkAnswer contents folder pick query chance words (Err ReadFault) = Unit {0}
+IsWalkAnswer contents folder pick query chance words (Err Memory) = Unit {0}
+
 -- what the reading of a reply answers
 abbrev pub IsReplyAnswer : Option Files → List ℕ → Query → Result (Vec ℕ Global) Load → Type 0
 IsReplyAnswer contents folder query (Ok line) = (held : Held) × IsHeldTold contents folder held × IsReplied held query line.items
@@ -183,6 +232,11 @@ IsJudgedAnswer contents folder log ratio frequencies (Err (Refused r)) =
     × FirstOf (audit_checks ratio frequencies held beside) r
 IsJudgedAnswer contents folder log ratio frequencies (Err ReadFault) = Unit {0}
 IsJudgedAnswer contents folder log ratio frequencies (Err Memory) = Unit {0}
+
+-- the status and the text of a tally
+pub record TellsTally (tally : Tally) (f : Finished) : Type 0 where
+  pub status_is : f.status ≡ tally_status tally
+  pub shown : bytes_of f.output ≡ on_screen (tally_text tally)
 
 -- what is tried for a validation, in order: the tables, then the file of cases over their graph
 abbrev pub validate_checks : Held → Option (List ℕ) → List {1} (Refusal → Type 0)

@@ -1,5 +1,5 @@
 -- What each command tries of its files, in order.
-use Rattle.std.specs.Prelude.{◌≡◌, ℕ, ◌<◌, List, [], ◌∷◌, ◌++◌, Option, IfSome}
+use Rattle.std.specs.Prelude.{◌≡◌, ℕ, ◌<◌, Bool, true, false, List, [], ◌∷◌, ◌++◌, Option, None, Some, IfSome, MatchOption}
 use Rattle.snb_base.specs.Shelf.{Files}
 use Rattle.snb_auditor_log.specs.LogFiles.{log_checks}
 use Rattle.snb_validation_check.specs.CasesFile.{cases_checks}
@@ -11,17 +11,20 @@ use Rattle.snb_loader.specs.Params.{AreParams, params_checks}
 use Rattle.snb_plan.specs.Closed.{IsClosed, IsFirstWrong}
 use Rattle.snb_plan.specs.Plans.{IsPlan, Plan, read_count, updates_in}
 use Rattle.snb_schema.specs.declared.limits.TheConstants.{MAX_READS}
+use Rattle.snb_schema.specs.declared.read_kind.ReadKind.{ReadKind}
 use Rattle.snb_schema.specs.declared.refusal.Counted.TheVariants.{Reads}
 use Rattle.snb_schema.specs.declared.refusal.Refusal.{Refusal}
-use Rattle.snb_schema.specs.declared.refusal.Refusal.TheVariants.{TooMany}
+use Rattle.snb_schema.specs.declared.refusal.Refusal.TheVariants.{TooMany, Unregistered}
 use Rattle.snb_schema.specs.declared.row.Row.{Row}
 use Rattle.snb_schema.specs.Frequencies.{FrequencyTable}
 use Rattle.snb_schema.specs.LineLanes.{LineLanes, update_count}
 use Rattle.snb_schema.specs.QueryLists.{QueryLists}
 use Rattle.snb_graph_model.specs.Graphs.{HoldsKey}
 use Rattle.snb_tool_words.specs.declared.command.Command.{Command}
-use Rattle.snb_tool_words.specs.declared.command.Command.TheVariants.{Audit, Check, Expect, Latency, Run, Read, Trial, Validate}
-use Rattle.snb_tool_words.specs.Commands.{beside_of, folder_of}
+use Rattle.snb_tool_words.specs.declared.command.Command.TheVariants.{Audit, Check, Expect, Latency, Run, Read, Trial, Validate, Walk}
+use Rattle.snb_handlers.specs.Table.{HasAll, IsFirstMissing}
+use Rattle.snb_tool_words.specs.Commands.{beside_of, folder_of, needs_table}
+use Rattle.snb_walk.specs.declared.target.Pick.{Pick}
 
 -- before the first file nothing is read
 abbrev pub at_first : Before
@@ -66,16 +69,35 @@ plan_checks ratio frequencies held =
     ++ (lane_checks (after_dataset held) held
     ++ (params_checks (after_streams held) held frequencies ++ AreTooMany held frequencies ∷ IsNotClosed held ratio frequencies ∷ []))
 
--- what a command finds: the files of its folder, and the file that it is given by name
+-- what a call is given beside its words: a table of handlers, of which these kinds of reads have one, and a policy, which picks so
+pub record Connector : Type 0 where
+  pub kinds : List ReadKind
+  pub pick : Pick
+
+-- it, where a call is given one
+abbrev pub Given : Type 0
+Given = Option Connector
+
+-- what a command finds: the first kind of read without a handler in the table that it asks, how the policy picks, the files of its folder, and the
+-- file that it is given by name
 pub record Found : Type 0 where
+  pub missing : Option ReadKind
+  pub pick : Pick
   pub held : Held
   pub beside : Option (List ℕ)
 
--- this is what it finds, as far as it has a folder or such a file, and the shelf tells what it holds
-abbrev pub IsFoundTold : Option Files → Command → Found → Type 0
-IsFoundTold contents command found =
+-- where a table is asked, this kind is the first without a handler in it, and none is where each has one; and this is how the policy picks
+abbrev pub IsConnectorTold : Bool → Given → Option ReadKind → Pick → Type 0
+IsConnectorTold false given missing pick = Unit {0}
+IsConnectorTold true given missing pick =
+    IfSome given (λ c. MatchOption missing (HasAll c.kinds) (IsFirstMissing c.kinds) × (pick ≡ c.pick))
+
+-- this is what it finds, as far as it has a folder or such a file, and the shelf tells what it holds, or asks a table
+abbrev pub IsFoundTold : Option Files → Given → Command → Found → Type 0
+IsFoundTold contents given command found =
     IfSome (folder_of command) (λ folder. IsHeldTold contents folder found.held)
     × IfSome (beside_of command) (λ name. IfSome contents (λ files. found.beside ≡ files name))
+    × IsConnectorTold (needs_table command) given found.missing found.pick
 
 -- the tables have this graph, over which the file of cases is refused so
 pub record AreBadCases (held : Held) (beside : Option (List ℕ)) (r : Refusal) : Type 0 where
@@ -83,25 +105,40 @@ pub record AreBadCases (held : Held) (beside : Option (List ℕ)) (r : Refusal) 
   pub dataset : IsDataset at_first held graph
   pub refused : FirstOf (cases_checks graph beside) r
 
--- what a command tries of what it finds, in order; `check` and `expect` have the ratio 1, `audit` and `latency` look at the log last, and `validate`
--- at the cases; a trial finds nothing that could be wrong
+-- what a command tries of what it reads, in order; `check` and `expect` have the ratio 1, `audit` and `latency` look at the log last, and `validate`
+-- at the cases; a trial reads nothing that could be wrong
+abbrev pub read_checks : Command → Found → List {1} (Refusal → Type 0)
+read_checks (Check folder frequencies) found = plan_checks 1000000 frequencies found.held
+read_checks (Run folder workers ratio frequencies) found = plan_checks ratio frequencies found.held
+read_checks (Audit folder log ratio frequencies) found = plan_checks ratio frequencies found.held ++ log_checks found.beside
+read_checks (Latency folder log ratio frequencies) found = plan_checks ratio frequencies found.held ++ log_checks found.beside
+read_checks (Expect folder frequencies) found = plan_checks 1000000 frequencies found.held
+read_checks (Validate folder cases via) found = dataset_checks at_first found.held ++ AreBadCases found.held found.beside ∷ []
+read_checks (Read folder query) found = dataset_checks at_first found.held
+read_checks (Walk folder query chance words) found = dataset_checks at_first found.held
+read_checks (Trial size workers) found = []
+
+-- a kind of read has no handler, and is refused so
+abbrev pub IsUnregistered : Option ReadKind → Refusal → Type 0
+IsUnregistered None r = ⊥
+IsUnregistered (Some kind) r = r ≡ Unregistered kind
+
+-- what is tried where a table is asked: whether each kind of read has a handler in it
+abbrev pub table_checks : Bool → Option ReadKind → List {1} (Refusal → Type 0)
+table_checks false missing = []
+table_checks true missing = IsUnregistered missing ∷ []
+
+-- what a command tries of what it finds, in order: the table that it asks, before any reading, and then what it reads
 abbrev pub checks_of : Command → Found → List {1} (Refusal → Type 0)
-checks_of (Check folder frequencies) found = plan_checks 1000000 frequencies found.held
-checks_of (Run folder workers ratio frequencies) found = plan_checks ratio frequencies found.held
-checks_of (Audit folder log ratio frequencies) found = plan_checks ratio frequencies found.held ++ log_checks found.beside
-checks_of (Latency folder log ratio frequencies) found = plan_checks ratio frequencies found.held ++ log_checks found.beside
-checks_of (Expect folder frequencies) found = plan_checks 1000000 frequencies found.held
-checks_of (Validate folder cases) found = dataset_checks at_first found.held ++ AreBadCases found.held found.beside ∷ []
-checks_of (Read folder query) found = dataset_checks at_first found.held
-checks_of (Trial size workers) found = []
+checks_of command found = table_checks (needs_table command) found.missing ++ read_checks command found
 
 -- nothing is wrong with what a command finds, whatever of it the shelf doesn't tell
-abbrev pub IsFine : Option Files → Command → Type 0
-IsFine contents command = (found : Found) → IsFoundTold contents command found → NoneOf (checks_of command found)
+abbrev pub IsFine : Option Files → Given → Command → Type 0
+IsFine contents given command = (found : Found) → IsFoundTold contents given command found → NoneOf (checks_of command found)
 
 -- and this is wrong with it first
-abbrev pub IsWrong : Option Files → Command → Refusal → Type 0
-IsWrong contents command r = (found : Found) → IsFoundTold contents command found → FirstOf (checks_of command found) r
+abbrev pub IsWrong : Option Files → Given → Command → Refusal → Type 0
+IsWrong contents given command r = (found : Found) → IsFoundTold contents given command found → FirstOf (checks_of command found) r
 
 -- nothing is wrong with the files of a plan, and these are their dataset and the plan
 pub record IsInput (held : Held) (ratio : ℕ) (frequencies : FrequencyTable) (graph : List Row) (plan : Plan) : Type 0 where

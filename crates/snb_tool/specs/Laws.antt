@@ -4,7 +4,9 @@ use Rattle.snb_auditor_log.specs.LogFiles.{IsLogOf}
 use Rattle.snb_auditor_log.specs.declared.verdict.AuditVerdict.{AuditVerdict}
 use Rattle.snb_auditor_log.specs.AuditVerdicts.{IsAuditVerdict, IsInOrder, IsWhole}
 use Rattle.snb_auditor_log.specs.VerdictTexts.{audit_text}
+use Rattle.std.specs.Option.{IsSomeAnd}
 use Rattle.snb_base.specs.Outbox.{Written}
+use Rattle.snb_handlers.specs.Table.{HasAll}
 use Rattle.snb_validation_cases.specs.declared.case.Case.{Case}
 use Rattle.snb_validation_cases.specs.declared.case.CaseAt.{CaseAt}
 use Rattle.snb_validation_check.specs.declared.text.Tally.{Tally}
@@ -39,13 +41,15 @@ use Rattle.snb_summary.specs.Works.{run_of}
 use Rattle.snb_tool_texts.specs.Answers.{answers_text}
 use Rattle.snb_tool_words.specs.declared.command.Command.{Command}
 use Rattle.snb_tool_words.specs.declared.command.Command.TheVariants.{Audit, Expect, Latency, Run, Validate}
+use Rattle.snb_tool_words.specs.declared.options.Via.{Via}
+use Rattle.snb_tool_words.specs.declared.options.Via.TheVariants.{Graph, Table}
 use Rattle.snb_tool_words.specs.Commands.{IsLineOf}
 use Rattle.snb_workers.specs.Counts.{TellsCounts}
 use Rattle.snb_workers.specs.Miscounts.{events_of}
 use Rattle.snb_workers.specs.declared.done.Answered.{Answered}
 use Rattle.snb_workers.specs.Runs.{AreReplies}
 use Rattle.snb_tool.specs.Inputs.{Found, IsFine, IsInput, at_first, checks_of}
-use Rattle.snb_tool.specs.Outcome.{IsAnswer}
+use Rattle.snb_tool.specs.Outcome.{Asked, IsAnswer}
 use Rattle.snb_tool.specs.Output.{HasWritten}
 
 -- what a command finds is refused for one thing at most
@@ -59,7 +63,7 @@ RefusedOrNot = (command : Command) (found : Found) (r : Refusal) → FirstOf (ch
 -- words are answered with a status of these, where texts belong to it
 abbrev pub AnswersHaveStatus : Type 0
 AnswersHaveStatus =
-    (words : List (List ℕ)) (contents : Option Files) (fixed : Option ℕ) (status : ℕ) (texts : Written) → IsAnswer words contents fixed status texts
+    (asked : Asked) (contents : Option Files) (fixed : Option ℕ) (status : ℕ) (texts : Written) → IsAnswer asked contents fixed status texts
     → (status ≡ 0) ⊎ (status ≡ 1) ⊎ (status ≡ 2) ⊎ (status ≡ 3)
 
 -- what a run that is done has added to the channels, where the files and the channels are told: the log of a legal, complete history of the plan
@@ -89,8 +93,8 @@ pub record IsRunInShort (files : Files) (folder : List ℕ) (workers ratio : ℕ
 -- status 0 of `run` says that
 abbrev pub RunInShort : Type 0
 RunInShort =
-    (words : List (List ℕ)) (files : Files) (fixed : Option ℕ) (folder : List ℕ) (workers ratio : ℕ) (frequencies : FrequencyTable) (old new : Written)
-    → IsLineOf words (Run folder workers ratio frequencies) → HasWritten (Some old) (Some new) (IsAnswer words (Some files) fixed 0)
+    (asked : Asked) (files : Files) (fixed : Option ℕ) (folder : List ℕ) (workers ratio : ℕ) (frequencies : FrequencyTable) (old new : Written)
+    → IsLineOf asked.words (Run folder workers ratio frequencies) → HasWritten (Some old) (Some new) (IsAnswer asked (Some files) fixed 0)
     → IsRunInShort files folder workers ratio frequencies old new
 
 -- what an audit that is done says, where the files and the channels are told: the log of this name says one header and one list of events with
@@ -112,9 +116,9 @@ pub record IsAuditInShort (files : Files) (folder log : List ℕ) (ratio : ℕ) 
 -- status 0 or 1 of `audit` says that
 abbrev pub AuditInShort : Type 0
 AuditInShort =
-    (words : List (List ℕ)) (files : Files) (fixed : Option ℕ) (folder log : List ℕ) (ratio : ℕ) (frequencies : FrequencyTable) (status : ℕ) (old new : Written)
-    → IsLineOf words (Audit folder log ratio frequencies) → (status ≡ 0) ⊎ (status ≡ 1)
-    → HasWritten (Some old) (Some new) (IsAnswer words (Some files) fixed status)
+    (asked : Asked) (files : Files) (fixed : Option ℕ) (folder log : List ℕ) (ratio : ℕ) (frequencies : FrequencyTable) (status : ℕ) (old new : Written)
+    → IsLineOf asked.words (Audit folder log ratio frequencies) → (status ≡ 0) ⊎ (status ≡ 1)
+    → HasWritten (Some old) (Some new) (IsAnswer asked (Some files) fixed status)
     → IsAuditInShort files folder log ratio frequencies status old new
 
 -- what `latency` that is done says, where the files and the channels are told: the log of this name says one header and one list of events with
@@ -135,9 +139,9 @@ pub record IsLatencyInShort (files : Files) (folder log : List ℕ) (ratio : ℕ
 -- status 0 or 1 of `latency` says that
 abbrev pub LatencyInShort : Type 0
 LatencyInShort =
-    (words : List (List ℕ)) (files : Files) (fixed : Option ℕ) (folder log : List ℕ) (ratio : ℕ) (frequencies : FrequencyTable) (status : ℕ) (old new : Written)
-    → IsLineOf words (Latency folder log ratio frequencies) → (status ≡ 0) ⊎ (status ≡ 1)
-    → HasWritten (Some old) (Some new) (IsAnswer words (Some files) fixed status)
+    (asked : Asked) (files : Files) (fixed : Option ℕ) (folder log : List ℕ) (ratio : ℕ) (frequencies : FrequencyTable) (status : ℕ) (old new : Written)
+    → IsLineOf asked.words (Latency folder log ratio frequencies) → (status ≡ 0) ⊎ (status ≡ 1)
+    → HasWritten (Some old) (Some new) (IsAnswer asked (Some files) fixed status)
     → IsLatencyInShort files folder log ratio frequencies status old new
 
 -- what a validation that is done says, where the files and the channels are told: the file of this name says these cases; the status is 0 exactly
@@ -156,8 +160,8 @@ pub record IsValidateInShort (files : Files) (folder name : List ℕ) (status : 
 -- status 0 or 1 of `validate` says that
 abbrev pub ValidateInShort : Type 0
 ValidateInShort =
-    (words : List (List ℕ)) (files : Files) (fixed : Option ℕ) (folder name : List ℕ) (status : ℕ) (old new : Written)
-    → IsLineOf words (Validate folder name) → (status ≡ 0) ⊎ (status ≡ 1) → HasWritten (Some old) (Some new) (IsAnswer words (Some files) fixed status)
+    (asked : Asked) (files : Files) (fixed : Option ℕ) (folder name : List ℕ) (via : Via) (status : ℕ) (old new : Written)
+    → IsLineOf asked.words (Validate folder name via) → (status ≡ 0) ⊎ (status ≡ 1) → HasWritten (Some old) (Some new) (IsAnswer asked (Some files) fixed status)
     → IsValidateInShort files folder name status old new
 
 -- what `expect` that is done has added to the channels, where the files and the channels are told: the cases of the plan of the files, each
@@ -176,15 +180,24 @@ pub record IsExpectInShort (files : Files) (folder : List ℕ) (frequencies : Fr
 -- status 0 of `expect` says that
 abbrev pub ExpectInShort : Type 0
 ExpectInShort =
-    (words : List (List ℕ)) (files : Files) (fixed : Option ℕ) (folder : List ℕ) (frequencies : FrequencyTable) (old new : Written)
-    → IsLineOf words (Expect folder frequencies) → HasWritten (Some old) (Some new) (IsAnswer words (Some files) fixed 0)
+    (asked : Asked) (files : Files) (fixed : Option ℕ) (folder : List ℕ) (frequencies : FrequencyTable) (old new : Written)
+    → IsLineOf asked.words (Expect folder frequencies) → HasWritten (Some old) (Some new) (IsAnswer asked (Some files) fixed 0)
     → IsExpectInShort files folder frequencies old new
 
 -- the cases that `expect` wrote of a folder are right for `validate`: where the file of a name has them, at most `MAX_BYTES` bytes, and the
 -- folder's files are what they were, nothing is wrong with what `validate` finds, and it is done with status 0
 abbrev pub ExpectedIsValid : Type 0
 ExpectedIsValid =
-    (words others : List (List ℕ)) (files after : Files) (fixed later : Option ℕ) (folder name : List ℕ) (frequencies : FrequencyTable) (texts : Written)
-    → IsLineOf words (Expect folder frequencies) → IsAnswer words (Some files) fixed 0 texts → length texts.cases ≤ MAX_BYTES
-    → IsLineOf others (Validate folder name) → after name ≡ Some texts.cases → ((file : FileId) → held_in folder after file ≡ held_in folder files file)
-    → IsFine (Some after) (Validate folder name) × ((status : ℕ) (shown : Written) → IsAnswer others (Some after) later status shown → status ≡ 0)
+    (asked others : Asked) (files after : Files) (fixed later : Option ℕ) (folder name : List ℕ) (frequencies : FrequencyTable) (texts : Written)
+    → IsLineOf asked.words (Expect folder frequencies) → IsAnswer asked (Some files) fixed 0 texts → length texts.cases ≤ MAX_BYTES
+    → IsLineOf others.words (Validate folder name Graph) → after name ≡ Some texts.cases → ((file : FileId) → held_in folder after file ≡ held_in folder files file)
+    → IsFine (Some after) others.given (Validate folder name Graph) × ((status : ℕ) (shown : Written) → IsAnswer others (Some after) later status shown → status ≡ 0)
+
+-- a validation by a table in which each kind of read has a handler answers what one by the graph's own reads answers over the same files: the same
+-- status, and the same texts
+abbrev pub ViaTableIsTheSame : Type 0
+ViaTableIsTheSame =
+    (asked others : Asked) (files : Files) (fixed later : Option ℕ) (folder name : List ℕ) (status other : ℕ) (texts shown : Written)
+    → IsLineOf asked.words (Validate folder name Graph) → IsAnswer asked (Some files) fixed status texts
+    → IsLineOf others.words (Validate folder name Table) → IsSomeAnd others.given (λ c. HasAll c.kinds) → IsAnswer others (Some files) later other shown
+    → (other ≡ status) × (shown ≡ texts)

@@ -4,3 +4,4 @@ pub mod Laws
 pub mod Outcome
 pub mod Output
 pub mod Outside
+pub mod WalkTexts

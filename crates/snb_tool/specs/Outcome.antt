@@ -1,6 +1,6 @@
 -- What a call of the program answers and writes.
-use Rattle.std.specs.Prelude.{◌≡◌, ℕ, ◌+◌, List, [], ◌∷◌, ◌++◌, length, Option, ◌⊎◌, MatchBool}
-use Rattle.serde_json.specs.Written.{compact_text}
+use Rattle.std.specs.Prelude.{◌≡◌, ℕ, ◌+◌, true, List, [], length, Option, None, Some, IfSome, IsSome, ◌⊎◌, MatchBool}
+use Rattle.std.specs.Borrow.{Bor}
 use Rattle.snb_auditor_log.specs.LogFiles.{IsLogOf}
 use Rattle.snb_auditor_log.specs.declared.verdict.AuditVerdict.{AuditVerdict}
 use Rattle.snb_auditor_log.specs.AuditVerdicts.{IsAuditVerdict, is_whole}
@@ -23,13 +23,15 @@ use Rattle.snb_workers_replay.specs.Replay.{all_rows}
 use Rattle.snb_history.specs.declared.event.Event.{Event}
 use Rattle.snb_history.specs.declared.logged.Header.{Header}
 use Rattle.snb_history.specs.declared.logged.Logged.{Logged}
+use Rattle.snb_handlers.specs.Table.{HasAll}
 use Rattle.snb_schema.specs.declared.query.Query.{Query}
+use Rattle.snb_schema.specs.declared.read_kind.ReadKind.{ReadKind}
 use Rattle.snb_schema.specs.declared.refusal.Refusal.{Refusal}
 use Rattle.snb_schema.specs.declared.row.Row.{Row}
 use Rattle.snb_schema.specs.Frequencies.{FrequencyTable}
 use Rattle.snb_history.specs.RunTexts.{header_of, log_text}
 use Rattle.snb_runlog.specs.Laws.{ReadsBack}
-use Rattle.snb_schema.specs.ScreenTexts.{refusal_text, summary_text, usage_text}
+use Rattle.snb_schema.specs.ScreenTexts.{refusal_text, summary_text}
 use Rattle.snb_graph_model.specs.FinalText.{final_text}
 use Rattle.snb_summary.specs.declared.summary.Measure.{Measure}
 use Rattle.snb_summary.specs.Summaries.{IsSummary}
@@ -38,17 +40,23 @@ use Rattle.snb_summary.specs.Works.{run_of}
 use Rattle.snb_tool_texts.specs.Answers.{answers_text}
 use Rattle.snb_tool_texts.specs.Counts.{check_text}
 use Rattle.snb_trial.specs.Trial.{dataset, lanes, least_ratio, lists, read_frequencies}
-use Rattle.snb_validation.specs.ReplyData.{reply_data}
 use Rattle.snb_workers.specs.Counts.{logged_of}
 use Rattle.snb_workers.specs.Miscounts.{events_of}
 use Rattle.snb_workers.specs.declared.done.Answered.{Answered}
 use Rattle.snb_workers.specs.Runs.{HasRun}
 use Rattle.snb_tool_words.specs.declared.command.Command.{Command}
-use Rattle.snb_tool_words.specs.declared.command.Command.TheVariants.{Audit, Check, Expect, Latency, Run, Read, Trial, Validate}
-use Rattle.snb_tool_words.specs.Commands.{IsLineOf, IsOtherLine}
-use Rattle.snb_tool.specs.Inputs.{Found, IsFine, IsFoundTold, IsInput, IsWrong, at_first, checks_of}
-use Rattle.snb_tool.specs.Output.{HasBegun, HasWritten, on_screen}
+use Rattle.snb_tool_words.specs.declared.command.Command.TheVariants.{Audit, Check, Expect, Latency, Run, Read, Trial, Validate, Walk}
+use Rattle.snb_tool_words.specs.Commands.{IsLineOf, folder_of, needs_table}
+use Rattle.snb_tool_words.specs.Words.{texts_of}
+use Rattle.snb_tool.specs.Inputs.{Found, Given, IsFine, IsFoundTold, IsInput, IsWrong, at_first, checks_of}
+use Rattle.snb_tool.specs.Output.{HasBegun, HasWritten, on_screen, usage_text}
 use Rattle.snb_tool.specs.Outside.{Call, EndsAs}
+use Rattle.snb_tool.specs.WalkTexts.{reply_line, walk_text}
+use Rattle.snb_ratio.specs.Chances.{Falling}
+use Rattle.snb_walk.specs.declared.target.Pick.{Pick}
+use Rattle.snb_walk.specs.declared.target.Stop.{Stop}
+use Rattle.snb_walk.specs.Targets.{Rows, Step}
+use Rattle.snb_walk.specs.Walks.{IsWalk}
 
 -- what `check` shows of a dataset and a plan: how many rows, updates and reads there are
 abbrev pub check_of : List Row → Plan → List ℕ
@@ -160,10 +168,6 @@ pub record IsValidated (held : Held) (beside : Option (List ℕ)) (status : ℕ)
   pub status_is : status ≡ tally_status tally
   pub shown : texts ≡ on_screen (tally_text tally)
 
--- the line of a reply: its JSON text, and a line feed
-abbrev pub reply_line : List (List (List Cell)) → List ℕ
-reply_line reply = compact_text (reply_data reply) ++ 10 ∷ []
-
 -- the files are a dataset, and the text is the line of the reply to the query on it
 pub record IsRead (held : Held) (query : Query) (texts : Written) : Type 0 where
   pub graph : List Row
@@ -172,6 +176,16 @@ pub record IsRead (held : Held) (query : Query) (texts : Written) : Type 0 where
   pub replies : IsReply graph query reply
   pub shown : texts ≡ on_screen (reply_line reply)
 
+-- the files are a dataset, and the text is that of the one walk of the query on it, under this pick, chance and words
+pub record IsWalked (held : Held) (pick : Pick) (query : Query) (chance : Falling) (words : List ℕ) (texts : Written) : Type 0 where
+  pub graph : List Row
+  pub answer : Rows
+  pub steps : List Step
+  pub stop : Stop
+  pub dataset : IsDataset at_first held graph
+  pub walk : IsWalk graph pick chance words query answer steps stop
+  pub shown : texts ≡ on_screen (walk_text answer steps stop)
+
 -- the status and the texts of a command that is done
 abbrev pub IsDone : Command → Found → Option ℕ → ℕ → Written → Type 0
 IsDone (Check folder frequencies) found fixed status texts = (status ≡ 0) × IsChecked found.held frequencies texts
@@ -179,8 +193,9 @@ IsDone (Run folder workers ratio frequencies) found fixed status texts = (status
 IsDone (Audit folder log ratio frequencies) found fixed status texts = TellsVerdict found.held found.beside ratio frequencies status texts
 IsDone (Latency folder log ratio frequencies) found fixed status texts = TellsLatencies found.held found.beside ratio frequencies status texts
 IsDone (Expect folder frequencies) found fixed status texts = (status ≡ 0) × IsExpected found.held frequencies texts
-IsDone (Validate folder cases) found fixed status texts = IsValidated found.held found.beside status texts
+IsDone (Validate folder cases via) found fixed status texts = IsValidated found.held found.beside status texts
 IsDone (Read folder query) found fixed status texts = (status ≡ 0) × IsRead found.held query texts
+IsDone (Walk folder query chance words) found fixed status texts = (status ≡ 0) × IsWalked found.held found.pick query chance words texts
 IsDone (Trial size workers) found fixed status texts = (status ≡ 0) × IsTried size workers fixed texts
 
 -- the status and the texts of a command that is refused: what is wrong first is shown
@@ -194,42 +209,75 @@ Belongs command found fixed status texts =
     (NoneOf (checks_of command found) × IsDone command found fixed status texts)
     ⊎ ((r : Refusal) × FirstOf (checks_of command found) r × IsRefused r status texts)
 
--- the status and the texts that a command answers: there are files, which are those that the shelf tells where it tells any, of which this is
--- true
-abbrev pub IsCommandAnswer : Command → Option Files → Option ℕ → ℕ → Written → Type 0
-IsCommandAnswer command contents fixed status texts = (found : Found) × IsFoundTold contents command found × Belongs command found fixed status texts
+-- the status and the texts that a command answers: there are files, which are those that the shelf tells where it tells any, and a table of
+-- handlers where it asks one, of which this is true
+abbrev pub IsCommandAnswer : Given → Command → Option Files → Option ℕ → ℕ → Written → Type 0
+IsCommandAnswer given command contents fixed status texts =
+    (found : Found) × IsFoundTold contents given command found × Belongs command found fixed status texts
 
 -- and where it is done
-abbrev pub IsDoneAnswer : Command → Option Files → Option ℕ → ℕ → Written → Type 0
-IsDoneAnswer command contents fixed status texts = (found : Found) × IsFoundTold contents command found × IsDone command found fixed status texts
+abbrev pub IsDoneAnswer : Given → Command → Option Files → Option ℕ → ℕ → Written → Type 0
+IsDoneAnswer given command contents fixed status texts =
+    (found : Found) × IsFoundTold contents given command found × IsDone command found fixed status texts
+
+-- what a call is asked: its words, and a table of handlers with a policy, where it is given them
+pub record Asked : Type 0 where
+  pub words : List (List ℕ)
+  pub given : Given
+
+-- the words of a call, without these
+abbrev pub alone : List (Bor (List ℕ)) → Asked
+alone words = record { words = texts_of words; given = None }
+
+-- and with the kinds of a table, and the pick of a policy
+abbrev pub with : List (Bor (List ℕ)) → List ReadKind → Pick → Asked
+with words kinds pick = record { words = texts_of words; given = Some (record { kinds = kinds; pick = pick }) }
+
+-- the words are the line of the command, which asks a table only where there is one
+pub record IsAsked (asked : Asked) (command : Command) : Type 0 where
+  pub line : IsLineOf asked.words command
+  pub given : needs_table command ≡ true → IsSome asked.given
+
+-- they are that of no command that can be done
+abbrev pub IsOther : Asked → Type 0
+IsOther asked = (command : Command) → ¬ IsAsked asked command
 
 -- the status and the texts that words are answered with: the usage, where they are no command's line; else those of the command
-abbrev pub IsAnswer : List (List ℕ) → Option Files → Option ℕ → ℕ → Written → Type 0
-IsAnswer words contents fixed status texts =
-    ((status ≡ 2) × IsOtherLine words × (texts ≡ on_screen usage_text))
-    ⊎ ((command : Command) × IsLineOf words command × IsCommandAnswer command contents fixed status texts)
+abbrev pub IsAnswer : Asked → Option Files → Option ℕ → ℕ → Written → Type 0
+IsAnswer asked contents fixed status texts =
+    ((status ≡ 2) × IsOther asked × (texts ≡ on_screen usage_text))
+    ⊎ ((command : Command) × IsAsked asked command × IsCommandAnswer asked.given command contents fixed status texts)
 
 -- texts that belong to the words and the status of the call were added to the channels, unless the status is 4, 5 or 6
-abbrev pub IsAnswered : List (List ℕ) → Call → ℕ → Type 0
-IsAnswered words call status =
-    HasWritten call.before.written call.after.written (IsAnswer words call.before.contents call.before.fixed status)
+abbrev pub IsAnswered : Asked → Call → ℕ → Type 0
+IsAnswered asked call status =
+    HasWritten call.before.written call.after.written (IsAnswer asked call.before.contents call.before.fixed status)
     ⊎ ((status ≡ 4) ⊎ ((status ≡ 5) ⊎ (status ≡ 6)))
 
 -- a front of texts that belong to the words and some status was added to them
-abbrev pub IsCut : List (List ℕ) → Call → Type 0
-IsCut words call =
-    (status : ℕ) × HasBegun call.before.ready call.before.written call.after.written (IsAnswer words call.before.contents call.before.fixed status)
+abbrev pub IsCut : Asked → Call → Type 0
+IsCut asked call =
+    (status : ℕ) × HasBegun call.before.ready call.before.written call.after.written (IsAnswer asked call.before.contents call.before.fixed status)
 
 -- where the words are a command's line, and nothing is wrong with what the command finds, the call ends with the command done
-abbrev pub Completes : List (List ℕ) → Call → ℕ → Type 0
-Completes words call status =
-    (command : Command) → IsLineOf words command → IsFine call.before.contents command → EndsAs (IsDoneAnswer command) call status
+abbrev pub Completes : Asked → Call → ℕ → Type 0
+Completes asked call status =
+    (command : Command)
+    → IsAsked asked command
+    → IsFine call.before.contents asked.given command
+    → EndsAs (IsDoneAnswer asked.given command) call status
 
 -- where they are, and something is wrong with it, the call ends with what is wrong first
-abbrev pub Refuses : List (List ℕ) → Call → ℕ → Type 0
-Refuses words call status =
+abbrev pub Refuses : Asked → Call → ℕ → Type 0
+Refuses asked call status =
     (command : Command)
-    → IsLineOf words command
+    → IsAsked asked command
     → (r : Refusal)
-    → IsWrong call.before.contents command r
+    → IsWrong call.before.contents asked.given command r
     → EndsAs (λ contents fixed. IsRefused r) call status
+
+-- the words are that of a command that reads nothing: it reads no folder, or asks a table in which a kind of read has no handler
+abbrev pub ReadsNothing : Asked → Type 0
+ReadsNothing asked =
+    (command : Command) × IsAsked asked command
+    × ((folder_of command ≡ None) ⊎ ((needs_table command ≡ true) × IfSome asked.given (λ c. ¬ HasAll c.kinds)))

@@ -1,8 +1,12 @@
 -- What a call writes.
-use Rattle.std.specs.Prelude.{◌≡◌, ℕ, ◌≤◌, ◌⊎◌, List, [], ◌++◌, length, Option}
+use Rattle.std.specs.Prelude.{◌≡◌, ℕ, ◌≤◌, ◌⊎◌, List, [], ◌++◌, length, Option, codes}
 use Rattle.std.specs.Option.{option_map}
 use Rattle.snb_base.specs.declared.outbox.Channel.{Channel}
 use Rattle.snb_base.specs.Outbox.{Rooms, Written, bytes_on, joined, room_of}
+
+-- what is shown for words that aren't a line of the program's
+abbrev pub usage_text : List ℕ
+usage_text = codes "usage: snb COMMAND, where COMMAND is check, run, audit, latency, expect, validate, read, walk or trial\n"
 
 -- a text on the screen, and nothing on the other channels
 abbrev pub on_screen : List ℕ → Written

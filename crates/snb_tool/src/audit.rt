@@ -5,6 +5,7 @@ ghost use Rattle.snb_base.specs.Shelf.{IsRead};
 ghost use Rattle.snb_input_files.specs.Loading.{is_read_fault};
 ghost use Rattle.snb_tool_words.specs.declared.command.Command.TheVariants.{Audit};
 ghost use Rattle.snb_tool.specs.Endings.{IsFinished, IsJudgedAnswer};
+ghost use Rattle.snb_tool.specs.Inputs.{Given};
 
 use crate::deliver::Finished;
 use crate::input::load_input;
@@ -61,7 +62,7 @@ pub fn audit<S: Shelf>(
     ratio: Ratio,
     frequencies: Frequencies,
 ) -> Result<Finished, Load>
-    ensures answer { (fixed : Option ℕ) → IsFinished (Audit folder.now log.now ratio frequencies) (S.contents shelf.old) fixed result }
+    ensures answer { (given : Given) (fixed : Option ℕ) → IsFinished (Audit folder.now log.now ratio frequencies) (S.contents shelf.old) given fixed result }
     ensures read { IsRead (is_read_fault result) (S.contents shelf.old) (S.faults shelf.old) (S.contents shelf.new) (S.faults shelf.new) }
 {
     let judged = judge(alloc, shelf, folder, log, ratio, frequencies)?;

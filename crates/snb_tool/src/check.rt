@@ -5,6 +5,7 @@ ghost use Rattle.snb_base.specs.Shelf.{IsRead};
 ghost use Rattle.snb_input_files.specs.Loading.{is_read_fault};
 ghost use Rattle.snb_tool_words.specs.declared.command.Command.TheVariants.{Check};
 ghost use Rattle.snb_tool.specs.Endings.{IsFinished};
+ghost use Rattle.snb_tool.specs.Inputs.{Given};
 ghost use Rattle.snb_tool.specs.Outcome.{check_of};
 
 use crate::deliver::Finished;
@@ -36,7 +37,7 @@ pub fn check<S: Shelf>(
     folder: &str,
     frequencies: Frequencies,
 ) -> Result<Finished, Load>
-    ensures answer { (fixed : Option ℕ) → IsFinished (Check folder.now frequencies) (S.contents shelf.old) fixed result }
+    ensures answer { (given : Given) (fixed : Option ℕ) → IsFinished (Check folder.now frequencies) (S.contents shelf.old) given fixed result }
     ensures read { IsRead (is_read_fault result) (S.contents shelf.old) (S.faults shelf.old) (S.contents shelf.new) (S.faults shelf.new) }
 {
     let input = load_input(alloc, shelf, folder, Ratio::one(), frequencies)?;

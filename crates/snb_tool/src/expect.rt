@@ -9,6 +9,7 @@ ghost use Rattle.snb_graph_model.specs.Graphs.{HoldsKey};
 ghost use Rattle.snb_graph_model.specs.Soundness.{Sound};
 ghost use Rattle.snb_tool_words.specs.declared.command.Command.TheVariants.{Expect};
 ghost use Rattle.snb_tool.specs.Endings.{AreCasesOf, IsFinished, bytes_of};
+ghost use Rattle.snb_tool.specs.Inputs.{Given};
 
 use crate::deliver::{Finished, Output};
 use crate::input::{Input, load_input};
@@ -50,7 +51,7 @@ pub fn expect<S: Shelf>(
     folder: &str,
     frequencies: Frequencies,
 ) -> Result<Finished, Load>
-    ensures answer { (fixed : Option ℕ) → IsFinished (Expect folder.now frequencies) (S.contents shelf.old) fixed result }
+    ensures answer { (given : Given) (fixed : Option ℕ) → IsFinished (Expect folder.now frequencies) (S.contents shelf.old) given fixed result }
     ensures read { IsRead (is_read_fault result) (S.contents shelf.old) (S.faults shelf.old) (S.contents shelf.new) (S.faults shelf.new) }
 {
     params_files();

@@ -8,6 +8,7 @@ ghost use Rattle.snb_plan.specs.Plans.{schedule_of};
 ghost use Rattle.snb_tool_words.specs.declared.command.Command.TheVariants.{Latency};
 ghost use Rattle.snb_workers.specs.Miscounts.{events_of};
 ghost use Rattle.snb_tool.specs.Endings.{IsFinished};
+ghost use Rattle.snb_tool.specs.Inputs.{Given};
 ghost use Rattle.snb_tool.specs.Outcome.{ShowsSummary};
 ghost use Rattle.snb_tool.specs.Output.{on_screen};
 
@@ -54,7 +55,7 @@ pub fn latency<S: Shelf>(
     ratio: Ratio,
     frequencies: Frequencies,
 ) -> Result<Finished, Load>
-    ensures answer { (fixed : Option ℕ) → IsFinished (Latency folder.now log.now ratio frequencies) (S.contents shelf.old) fixed result }
+    ensures answer { (given : Given) (fixed : Option ℕ) → IsFinished (Latency folder.now log.now ratio frequencies) (S.contents shelf.old) given fixed result }
     ensures read { IsRead (is_read_fault result) (S.contents shelf.old) (S.faults shelf.old) (S.contents shelf.new) (S.faults shelf.new) }
 {
     whole_exactly();

@@ -1,6 +1,6 @@
 //! Laws of what the program answers. The functions only cite other laws; their contracts are the laws.
 
-ghost use Rattle.snb_tool.specs.Laws.{AnswersHaveStatus, AuditInShort, ExpectInShort, ExpectedIsValid, LatencyInShort, RefusalIsOne, RefusedOrNot, RunInShort, ValidateInShort};
+ghost use Rattle.snb_tool.specs.Laws.{AnswersHaveStatus, AuditInShort, ExpectInShort, ExpectedIsValid, LatencyInShort, RefusalIsOne, RefusedOrNot, RunInShort, ValidateInShort, ViaTableIsTheSame};
 
 use snb_auditor_log::law::{accepted_in_order, one_log_refusal, whole_exactly};
 use snb_loader::law::{one_dataset, one_lanes, one_params};
@@ -95,4 +95,15 @@ pub fn expected_is_valid()
     one_dataset();
     one_cases_refusal();
     expected_cases_are_right();
+}
+
+/// A validation by a table in which each kind of read has a handler answers, where the files are told, what one by
+/// the graph's own reads answers over the same files: the same status, and the same texts.
+pub fn via_table_is_the_same()
+    ensures { ViaTableIsTheSame }
+{
+    one_command();
+    refusal_is_one();
+    one_dataset();
+    one_cases_refusal();
 }

@@ -14,6 +14,7 @@ mod run;
 pub mod tool;
 mod trial;
 mod validate;
+mod walk;
 
 pub use snb_trial::trial_input;
-pub use tool::snb;
+pub use tool::{snb, snb_with};

@@ -6,6 +6,7 @@ ghost use Rattle.snb_input_files.specs.Loading.{is_read_fault};
 ghost use Rattle.snb_graph_model.specs.Soundness.{Sound};
 ghost use Rattle.snb_tool_words.specs.declared.command.Command.TheVariants.{Read};
 ghost use Rattle.snb_tool.specs.Endings.{IsFinished, IsReplyAnswer, IsReplyLine};
+ghost use Rattle.snb_tool.specs.Inputs.{Given};
 
 use crate::deliver::Finished;
 use snb_base::Shelf;
@@ -51,7 +52,7 @@ pub fn read<S: Shelf>(
     folder: &str,
     query: &Query,
 ) -> Result<Finished, Load>
-    ensures answer { (fixed : Option ℕ) → IsFinished (Read folder.now query.now) (S.contents shelf.old) fixed result }
+    ensures answer { (given : Given) (fixed : Option ℕ) → IsFinished (Read folder.now query.now) (S.contents shelf.old) given fixed result }
     ensures read { IsRead (is_read_fault result) (S.contents shelf.old) (S.faults shelf.old) (S.contents shelf.new) (S.faults shelf.new) }
 {
     let line = read_line(alloc, shelf, folder, query)?;

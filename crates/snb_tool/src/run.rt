@@ -16,6 +16,7 @@ ghost use Rattle.snb_graph_model.specs.Graphs.{HoldsKey};
 ghost use Rattle.snb_graph_model.specs.Soundness.{Sound};
 ghost use Rattle.snb_tool_words.specs.declared.command.Command.TheVariants.{Run};
 ghost use Rattle.snb_tool.specs.Endings.{AreTexts, IsFinished, bytes_of};
+ghost use Rattle.snb_tool.specs.Inputs.{Given};
 ghost use Rattle.snb_tool.specs.Outcome.{IsLeft};
 
 use crate::deliver::{Finished, Output};
@@ -152,7 +153,7 @@ pub fn run_output<R: Threads + Wait + Sync, C: Clock + Sync, G: Gate + Sync>(
 }
 
 /// Reads the tables, the streams and the parameter files of a folder, runs their plan by so many workers,
-/// each in a thread of its own, and makes the texts of the run.
+/// each in a thread of its own where one can be made, and makes the texts of the run.
 pub fn run<R: AllocGlobal + Threads + Wait + Sync, S: Shelf, C: Clock + Sync, G: Gate + Sync>(
     rt: &R,
     shelf: &mut S,
@@ -165,7 +166,7 @@ pub fn run<R: AllocGlobal + Threads + Wait + Sync, S: Shelf, C: Clock + Sync, G:
 ) -> Result<Finished, Load>
     requires workers { 1 ≤ workers }
     requires few { workers ≤ MAX_WORKERS }
-    ensures answer { IsFinished (Run folder.now workers ratio frequencies) (S.contents shelf.old) (C.fixed clock.now) result }
+    ensures answer { (given : Given) → IsFinished (Run folder.now workers ratio frequencies) (S.contents shelf.old) given (C.fixed clock.now) result }
     ensures read { IsRead (is_read_fault result) (S.contents shelf.old) (S.faults shelf.old) (S.contents shelf.new) (S.faults shelf.new) }
 {
     let input = load_input(rt.alloc(), shelf, folder, ratio, frequencies)?;

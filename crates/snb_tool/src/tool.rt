@@ -1,13 +1,12 @@
 //! The one call that does all that the program does.
 
-ghost use Rattle.std.specs.Prelude.{◌≡◌, ◌≤◌, ◌⊎◌, None, ◌≢◌, nat_eq};
+ghost use Rattle.std.specs.Prelude.{◌≡◌, ◌≤◌, ◌⊎◌, None, ◌≢◌, nat_eq, true, IfOk, IfSome, IsSome, MatchOption, OnErr};
 ghost use Rattle.snb_base.specs.Shelf.{HasCounted, IsRead};
+ghost use Rattle.snb_handlers.specs.Table.{kinds};
 ghost use Rattle.snb_input_files.specs.Loading.{is_read_fault};
-ghost use Rattle.snb_tool_words.specs.declared.command.Command.{Command as AnyCommand};
-ghost use Rattle.snb_tool_words.specs.Commands.{IsLineOf, IsOtherLine, IsRunnable, folder_of};
-ghost use Rattle.snb_tool_words.specs.Words.{texts_of};
-ghost use Rattle.snb_tool.specs.Endings.{IsFinished};
-ghost use Rattle.snb_tool.specs.Outcome.{Completes, IsAnswer, IsAnswered, IsCut, Refuses};
+ghost use Rattle.snb_tool_words.specs.Commands.{IsRunnable, folder_of, needs_table};
+ghost use Rattle.snb_tool.specs.Endings.{IsFinished, LacksKind, asked_by, given_by};
+ghost use Rattle.snb_tool.specs.Outcome.{Completes, IsAnswer, IsAnswered, IsAsked, IsCut, IsOther, ReadsNothing, Refuses, alone, with};
 ghost use Rattle.snb_tool.specs.Outside.{EndsAs, IsReadOnly, seen};
 
 use crate::audit::audit;
@@ -20,29 +19,36 @@ use crate::law::{answers_have_status, refusal_is_one};
 use crate::read::read;
 use crate::run::run;
 use crate::trial::trial;
-use crate::validate::validate;
+use crate::validate::{validate, validate_via};
+use crate::walk::walk;
 use snb_base::{Clock, Gate, Outbox, Shelf};
+use snb_handlers::Handlers;
 use snb_input_files::Load;
 use snb_tool_words::law::one_command;
-use snb_tool_words::{Command, command_of};
+use snb_tool_words::{Command, Via, asks_table, command_of};
+use snb_walk::Policy;
+use std::alloc::{AllocError, Global};
 use std::sync::Wait;
 use std::thread::Threads;
 
 /// What is shown for words that aren't a line of the program's.
 const USAGE: &str =
-    "usage: snb COMMAND, where COMMAND is check, run, audit, latency, expect, validate, read or trial\n";
+    "usage: snb COMMAND, where COMMAND is check, run, audit, latency, expect, validate, read, walk or trial\n";
 
-// Does what a command says, and answers it.
+// Does what a command says, and answers it. The condition `given`: a command that asks a table is given one.
 fn obey<R: AllocGlobal + Threads + Wait + Sync, S: Shelf, C: Clock + Sync, G: Gate + Sync>(
     rt: &R,
     command: &Command,
     shelf: &mut S,
     clock: &C,
     gate: &G,
+    given: Option<(&Handlers, &Policy)>,
 ) -> Result<Finished, Load>
     requires runnable { IsRunnable command.now }
-    ensures answer { IsFinished command.now (S.contents shelf.old) (C.fixed clock.now) result }
+    requires given { needs_table command.now ≡ true → IsSome given }
+    ensures answer { IsFinished command.now (S.contents shelf.old) (given_by given.entry) (C.fixed clock.now) result }
     ensures unread { folder_of command.now ≡ None → shelf.new ≡ shelf.old }
+    ensures unasked { needs_table command.now ≡ true → LacksKind (given_by given.entry) → shelf.new ≡ shelf.old }
     ensures read { IsRead (is_read_fault result) (S.contents shelf.old) (S.faults shelf.old) (S.contents shelf.new) (S.faults shelf.new) }
 {
     let alloc = rt.alloc();
@@ -96,34 +102,88 @@ fn obey<R: AllocGlobal + Threads + Wait + Sync, S: Shelf, C: Clock + Sync, G: Ga
             folder,
             frequencies,
         } => expect(alloc, shelf, folder.as_str(), *frequencies),
-        Command::Validate { folder, cases } => {
-            validate(alloc, shelf, folder.as_str(), cases.as_str())
-        }
+        Command::Validate { folder, cases, via } => match via {
+            Via::Graph => validate(alloc, shelf, folder.as_str(), cases.as_str()),
+            Via::Table => match given {
+                Some((handlers, _)) => {
+                    validate_via(alloc, shelf, folder.as_str(), cases.as_str(), handlers)
+                }
+                None => unreachable!(),
+            },
+        },
         Command::Read { folder, query } => read(alloc, shelf, folder.as_str(), query),
+        Command::Walk {
+            folder,
+            query,
+            chance,
+            words,
+        } => match given {
+            Some((handlers, policy)) => walk(
+                alloc,
+                shelf,
+                folder.as_str(),
+                query,
+                *chance,
+                words.as_slice(),
+                handlers,
+                policy,
+            ),
+            None => unreachable!(),
+        },
         Command::Trial { size, workers } => trial(rt, *size, *workers, clock, gate),
     }
 }
 
-// Answers words.
+// The command that the words are the line of, where it can be done: one that asks a table needs one.
+fn asked_command(
+    alloc: Global,
+    words: &[&str],
+    given: Option<(&Handlers, &Policy)>,
+) -> Result<Option<Command>, AllocError>
+    ensures is { IfOk result (λ found. MatchOption found (IsOther (asked_by words.now (given_by given.entry))) (IsAsked (asked_by words.now (given_by given.entry)))) }
+    ensures runnable { IfOk result (λ found. IfSome found IsRunnable) }
+    ensures memory { OnErr result (¬ IsOther (asked_by words.now (given_by given.entry))) }
+{
+    one_command();
+    match asks_table(words) {
+        Some(asks) => {
+            if asks && given.is_none() {
+                return Ok(None);
+            }
+            command_of(alloc, words)
+        }
+        None => Ok(None),
+    }
+}
+
+// Answers words, with a table of handlers and a policy or without them.
 fn answer<
     R: AllocGlobal + Threads + Wait + Sync,
     S: Shelf,
     O: Outbox,
     C: Clock + Sync,
     G: Gate + Sync,
->(rt: &R, words: &[&str], shelf: &mut S, out: &mut O, clock: &C, gate: &G) -> u8
-    ensures ends { EndsAs (IsAnswer (texts_of words.now)) (seen S.Shelf O.Outbox C.Clock shelf.old shelf.new out.old out.new clock.now) result }
-    ensures other_line { IsOtherLine (texts_of words.now) → ((result ≡ 2) ⊎ (result ≡ 5)) × (shelf.new ≡ shelf.old) }
-    ensures unread { (command : AnyCommand) → IsLineOf (texts_of words.now) command → folder_of command ≡ None → shelf.new ≡ shelf.old }
+>(
+    rt: &R,
+    words: &[&str],
+    shelf: &mut S,
+    out: &mut O,
+    clock: &C,
+    gate: &G,
+    given: Option<(&Handlers, &Policy)>,
+) -> u8
+    ensures ends { EndsAs (IsAnswer (asked_by words.now (given_by given.entry))) (seen S.Shelf O.Outbox C.Clock shelf.old shelf.new out.old out.new clock.now) result }
+    ensures other_line { IsOther (asked_by words.now (given_by given.entry)) → ((result ≡ 2) ⊎ (result ≡ 5)) × (shelf.new ≡ shelf.old) }
+    ensures unread { ReadsNothing (asked_by words.now (given_by given.entry)) → shelf.new ≡ shelf.old }
     ensures read_only { IsReadOnly (S.contents shelf.old) (S.faults shelf.old) (S.contents shelf.new) (S.faults shelf.new) }
     ensures reads_calm { result ≢ 4 → S.faults shelf.new ≡ S.faults shelf.old }
     ensures writes_later { O.faults out.old ≤ O.faults out.new }
     ensures writes_calm { result ≢ 5 → O.faults out.new ≡ O.faults out.old }
 {
     one_command();
-    match command_of(rt.alloc(), words) {
+    match asked_command(rt.alloc(), words, given) {
         Ok(Some(command)) => {
-            let answer = obey(rt, &command, shelf, clock, gate);
+            let answer = obey(rt, &command, shelf, clock, gate, given);
             finish(rt.alloc(), out, answer)
         }
         Ok(None) => show_as(out, USAGE.as_bytes(), 2),
@@ -131,16 +191,18 @@ fn answer<
     }
 }
 
-/// Does what a line of words says. The words are those after the program's name.
+/// Does what a line of words says. The words are those after the program's name. `handlers` is a table of what
+/// answers reads in place of the graph's own reads, and `policy` picks where a walk goes; `validate` with
+/// `--via table` asks the first, `walk` asks both, and the other commands ask neither.
 ///
 /// - `check DIR` reads the 33 tables of the folder `DIR` from the shelf, then its update streams, and
 ///   the parameter files of the queries with a frequency, and shows how many rows the dataset has and how
 ///   many updates and reads the plan. The updates must be closed over the dataset: each has new keys, and
 ///   each finds the nodes that it refers to there, among the persons and forums added up to its t_d, or among what
 ///   the updates before it in its lane add.
-/// - `run DIR --workers N` reads the same, runs the plan by N workers, 1 to 8, each in a thread of its own, and
-///   writes the log, the answers, the final graph and the summary on their channels. The log states how many
-///   operations the plan has, and at each Finish how many rows the read gave.
+/// - `run DIR --workers N` reads the same, runs the plan by N workers, 1 to 8, each in a thread of its own where
+///   one can be made, and writes the log, the answers, the final graph and the summary on their channels. The log
+///   states how many operations the plan has, and at each Finish how many rows the read gave.
 /// - `audit DIR LOG` reads the same, then the log of a run of that plan, and shows the verdict on it: that it
 ///   states another number of operations than the plan has; else the first event that doesn't fit those
 ///   before it, with the first rule that it breaks and two values; else the first Finish with a wrong count of
@@ -160,7 +222,8 @@ fn answer<
 /// - `validate DIR CASES` reads the tables, then a file of cases, which are inserts and reads with the
 ///   replies that are due. Each read is answered on the tables with the inserts of the cases before it. It
 ///   shows how many reads there are where all replies are those that are due, and else the first that
-///   isn't, with its line, the one that is due and the one that is given.
+///   isn't, with its line, the one that is due and the one that is given. With `--via table` the handlers answer
+///   the reads; each kind of read must have one.
 /// - `check`, `run`, `audit`, `latency` and `expect` take the option `--freq L`, where L has `q:f` for complex
 ///   queries q and their frequencies f, by rising q and with commas between; without it no read is planned.
 ///   `run`, `audit` and `latency` take `--ratio R`, by which due times are stretched; it is 1 without it.
@@ -169,6 +232,14 @@ fn answer<
 ///   `IC13`, with as many parameters as it has: an id of a person or a message for a short read, of a
 ///   person first for a complex one; then a first name for `IC1`, a date for `IC2` and `IC9`, the name of
 ///   a country and a year for `IC11`, and a second person for `IC13`.
+/// - `walk DIR KIND P1 P2 P3 --chance S:D --words L` reads the tables and takes a walk of short reads, which begins
+///   with the answer to the read that `read` would show. S, up to 1000000, is the chance of the first step, and D,
+///   1 to 1000000, what it falls by with each step, both in millionths; L has 1 to 1000 numbers with commas between,
+///   two for each step. A step is taken where its first number, modulo 1000000, is below the chance, and goes to the
+///   person or the message among those of the answers just before that the policy picks by its second number. It
+///   asks IS1, IS2 and IS3 of a person, IS4, IS5, IS6 and IS7 of a message. The answer that the walk began with, each
+///   step with its reply, and why the walk stopped are shown, each on a line. The handlers answer all reads; each
+///   kind of read must have one.
 /// - `trial SIZE N` runs a workload made by a formula, of this size, 1 to 5000, by N workers, 1 to 8, and writes
 ///   what `run` writes. No file is read, and the shelf is as it was. The dataset has 10 rows, and for each number
 ///   from 1 to SIZE there are seven updates: a person, a friendship, a forum, a membership, a post, a comment and a
@@ -178,7 +249,7 @@ fn answer<
 /// as two words and at most once, in any order.
 ///
 /// What was read is the files that the shelf tells; of a shelf that tells none there are some files of
-/// which all this is true, each read once.
+/// which all this is true.
 ///
 /// Answers the exit status:
 ///
@@ -187,7 +258,9 @@ fn answer<
 /// - 1: of `audit`, `latency` and `validate` alone: the log isn't accepted, nor late for `latency`, or a reply
 ///   differs, and why is on the screen.
 /// - 2: the words are no line of the program's; nothing was read, and the usage is on the screen.
-/// - 3: the first thing that is wrong with the files is on the screen, and nothing was run.
+/// - 3: the first thing that is wrong is on the screen, and nothing else was written. Of a command that asks the
+///   handlers that may be a kind of read without one, which is looked for before anything is read; else it is in the
+///   files.
 /// - 4: the shelf failed; nothing was written. With any other status its count of faults is as it was.
 /// - 5: the outbox failed. Each channel has a prefix of its text, and in the order log, answers,
 ///   final text, cases, screen nothing follows a text that isn't whole. With any other status its count of
@@ -196,6 +269,40 @@ fn answer<
 ///
 /// The formats and the order of the operations are those of the Social Network Benchmark's
 /// Interactive workload, version 1 (Erling et al., SIGMOD 2015).
+pub fn snb_with<
+    R: AllocGlobal + Threads + Wait + Sync,
+    S: Shelf,
+    O: Outbox,
+    C: Clock + Sync,
+    G: Gate + Sync,
+>(
+    rt: &R,
+    words: &[&str],
+    shelf: &mut S,
+    out: &mut O,
+    clock: &C,
+    gate: &G,
+    handlers: &Handlers,
+    policy: &Policy,
+) -> u8
+    ensures answered { IsAnswered (with words.now (kinds handlers.now) policy.now.pick) (seen S.Shelf O.Outbox C.Clock shelf.old shelf.new out.old out.new clock.now) result }
+    ensures unwritten { ((result ≡ 4) ⊎ (result ≡ 6)) → O.written out.new ≡ O.written out.old }
+    ensures cut { result ≡ 5 → IsCut (with words.now (kinds handlers.now) policy.now.pick) (seen S.Shelf O.Outbox C.Clock shelf.old shelf.new out.old out.new clock.now) }
+    ensures complete { Completes (with words.now (kinds handlers.now) policy.now.pick) (seen S.Shelf O.Outbox C.Clock shelf.old shelf.new out.old out.new clock.now) result }
+    ensures refuses { Refuses (with words.now (kinds handlers.now) policy.now.pick) (seen S.Shelf O.Outbox C.Clock shelf.old shelf.new out.old out.new clock.now) result }
+    ensures other_line { IsOther (with words.now (kinds handlers.now) policy.now.pick) → ((result ≡ 2) ⊎ (result ≡ 5)) × (shelf.new ≡ shelf.old) }
+    ensures unread { ReadsNothing (with words.now (kinds handlers.now) policy.now.pick) → shelf.new ≡ shelf.old }
+    ensures read { IsRead (nat_eq result 4) (S.contents shelf.old) (S.faults shelf.old) (S.contents shelf.new) (S.faults shelf.new) }
+    ensures counted { HasCounted (nat_eq result 5) (O.faults out.old) (O.faults out.new) }
+{
+    one_command();
+    refusal_is_one();
+    answers_have_status();
+    answer(rt, words, shelf, out, clock, gate, Some((handlers, policy)))
+}
+
+/// Does what `snb_with` does, without a table of handlers and a policy: a line that asks a table, which is one of
+/// `walk` or of `validate` with `--via table`, is answered as one that is no line of the program's.
 pub fn snb<
     R: AllocGlobal + Threads + Wait + Sync,
     S: Shelf,
@@ -203,18 +310,18 @@ pub fn snb<
     C: Clock + Sync,
     G: Gate + Sync,
 >(rt: &R, words: &[&str], shelf: &mut S, out: &mut O, clock: &C, gate: &G) -> u8
-    ensures answered { IsAnswered (texts_of words.now) (seen S.Shelf O.Outbox C.Clock shelf.old shelf.new out.old out.new clock.now) result }
+    ensures answered { IsAnswered (alone words.now) (seen S.Shelf O.Outbox C.Clock shelf.old shelf.new out.old out.new clock.now) result }
     ensures unwritten { ((result ≡ 4) ⊎ (result ≡ 6)) → O.written out.new ≡ O.written out.old }
-    ensures cut { result ≡ 5 → IsCut (texts_of words.now) (seen S.Shelf O.Outbox C.Clock shelf.old shelf.new out.old out.new clock.now) }
-    ensures complete { Completes (texts_of words.now) (seen S.Shelf O.Outbox C.Clock shelf.old shelf.new out.old out.new clock.now) result }
-    ensures refuses { Refuses (texts_of words.now) (seen S.Shelf O.Outbox C.Clock shelf.old shelf.new out.old out.new clock.now) result }
-    ensures other_line { IsOtherLine (texts_of words.now) → ((result ≡ 2) ⊎ (result ≡ 5)) × (shelf.new ≡ shelf.old) }
-    ensures unread { (command : AnyCommand) → IsLineOf (texts_of words.now) command → folder_of command ≡ None → shelf.new ≡ shelf.old }
+    ensures cut { result ≡ 5 → IsCut (alone words.now) (seen S.Shelf O.Outbox C.Clock shelf.old shelf.new out.old out.new clock.now) }
+    ensures complete { Completes (alone words.now) (seen S.Shelf O.Outbox C.Clock shelf.old shelf.new out.old out.new clock.now) result }
+    ensures refuses { Refuses (alone words.now) (seen S.Shelf O.Outbox C.Clock shelf.old shelf.new out.old out.new clock.now) result }
+    ensures other_line { IsOther (alone words.now) → ((result ≡ 2) ⊎ (result ≡ 5)) × (shelf.new ≡ shelf.old) }
+    ensures unread { ReadsNothing (alone words.now) → shelf.new ≡ shelf.old }
     ensures read { IsRead (nat_eq result 4) (S.contents shelf.old) (S.faults shelf.old) (S.contents shelf.new) (S.faults shelf.new) }
     ensures counted { HasCounted (nat_eq result 5) (O.faults out.old) (O.faults out.new) }
 {
     one_command();
     refusal_is_one();
     answers_have_status();
-    answer(rt, words, shelf, out, clock, gate)
+    answer(rt, words, shelf, out, clock, gate, None)
 }

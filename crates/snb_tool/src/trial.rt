@@ -7,6 +7,7 @@ ghost use Rattle.snb_schema.specs.declared.limits.TheConstants.{MAX_WORKERS};
 ghost use Rattle.snb_tool_words.specs.declared.command.Command.TheVariants.{Trial};
 ghost use Rattle.snb_schema.specs.declared.limits.TheConstants.{MAX_TRIAL};
 ghost use Rattle.snb_tool.specs.Endings.{IsFinished, IsTrialInput};
+ghost use Rattle.snb_tool.specs.Inputs.{Given};
 
 use crate::deliver::Finished;
 use crate::input::Input;
@@ -53,7 +54,7 @@ pub fn trial<R: AllocGlobal + Threads + Wait + Sync, C: Clock + Sync, G: Gate + 
     requires few { size ≤ MAX_TRIAL }
     requires workers { 1 ≤ workers }
     requires crew { workers ≤ MAX_WORKERS }
-    ensures answer { (contents : Option Files) → IsFinished (Trial size workers) contents (C.fixed clock.now) result }
+    ensures answer { (contents : Option Files) (given : Given) → IsFinished (Trial size workers) contents given (C.fixed clock.now) result }
     ensures read { is_read_fault result ≡ false }
 {
     let input = input_of_size(rt.alloc(), size)?;

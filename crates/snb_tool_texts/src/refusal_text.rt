@@ -101,6 +101,10 @@ fn cause_bytes(alloc: Global, refusal: Refusal) -> Result<Vec<u8>, AllocError>
             Ok(format!(in alloc; "too many {name}")?.into_bytes())
         }
         Refusal::NoParameters { file } => file_cause(alloc, file, ": no parameters"),
+        Refusal::Unregistered { kind } => {
+            let word = kind.word();
+            Ok(format!(in alloc; "{word}: no handler")?.into_bytes())
+        }
     }
 }
 

@@ -1,5 +1,7 @@
 mod CommandLemmas
+mod FoundLemmas
 mod LineLemmas
+mod NumberLemmas
 mod OptionLemmas
 mod PartLemmas
 mod ReadLemmas

@@ -1,224 +1,198 @@
--- The line of each command, as `clap` takes it apart.
-use Rattle.std.proofs.Common.{◌≡◌, Bool, false, cond, ℕ, ◌++◌, zero, suc, List, [], ◌∷◌, All, true, Some, None, Contains, refl, sym, subst, ap, ◌∙◌, inl, arith, codes}
+-- A line, as `clap` takes it apart.
+use Rattle.std.proofs.Common.{◌≡◌, false, ℕ, ◌≤◌, ◌++◌, suc, List, [], ◌∷◌, length, All, true, Option, None, refl, sym, subst, ◌∙◌, inl, arith, codes, map}
 use Rattle.std.proofs.lemmas.List.Elements.{All-head, All-tail}
-use Rattle.clap.specs.Simple.{App, Shape, built, matches_of}
+use Rattle.clap.specs.Simple.{Shape, built, matches_of}
 use Rattle.clap.specs.Takes.{takes}
-use Rattle.clap.specs.Walk.{Text, first_of, nothing_held, walk_from}
-use Rattle.snb_schema.specs.Frequencies.{FrequencyTable}
+use Rattle.clap.specs.Walk.{Rule, Text, first_of, nothing_held, walk_from}
 use Rattle.snb_tool_words.specs.declared.command.Command.{Command}
-use Rattle.snb_tool_words.specs.declared.command.Command.TheVariants.{Check, Run, Audit, Latency, Expect, Validate, Trial}
+use Rattle.snb_tool_words.specs.declared.command.Command.TheVariants.{Check, Run, Audit, Latency, Expect, Validate, Read, Walk, Trial}
 use Rattle.snb_tool_words.specs.declared.options.OptionName.{OptionName}
-use Rattle.snb_tool_words.specs.declared.options.OptionName.TheVariants.{Frequencies, Ratio}
-use Rattle.snb_tool_words.specs.declared.options.Options.{Options}
-use Rattle.snb_tool_words.specs.Commands.{IsLineOf, IsTrialOf, form_of}
-use Rattle.snb_tool_words.specs.Options.{frequencies_of, no_options, ratio_of}
-use Rattle.snb_tool_words.specs.Taken.{AreFound, IsLineBy, line_app}
-use Rattle.snb_tool_words.specs.Words.{IsPlainWord}
-use Rattle.snb_tool_words.proofs.CommandLemmas.{at_audit, at_check, at_expect, at_latency, at_run, at_trial, at_validate}
-use Rattle.snb_tool_words.proofs.TakenLemmas.{OptionsRun, as_found, long_name, options_run}
-use Rattle.snb_tool_words.proofs.WalkFacts.{Given, IsBuilt, IsOption, IsPlaced, Runs, finds, first, placed, value_of}
+use Rattle.snb_tool_words.specs.Commands.{IsLineOf, IsSaid}
+use Rattle.snb_tool_words.specs.Options.{Given, Say, no_options, option_name}
+use Rattle.snb_tool_words.specs.Taken.{AreFoundOf, IsFoundBy, IsLineBy, given_in, line_app, place_names, plain_in}
+use Rattle.snb_tool_words.specs.Words.{IsLine, IsPlainWord}
+use Rattle.snb_tool_words.proofs.OptionLemmas.{each_option}
+use Rattle.snb_tool_words.proofs.ReadLemmas.{few_parameters}
+use Rattle.snb_tool_words.proofs.TakenLemmas.{Hold, IsNoOption, LineRuns, options_run}
+use Rattle.snb_tool_words.proofs.WalkFacts.{IsBuilt, IsId, IsOption, IsPlaced, Pairs, after, finds, first, placed, to_row, value_of}
 
--- what holds of each of these options holds of one of them
-abbrev Each : (OptionName → Type 0) → List OptionName → Type 0
-Each P [] = Unit {0}
-Each P (x ∷ xs) = P x × Each P xs
+-- ---- plain words at places
 
-of_each : (P : OptionName → Type 0) (xs : List OptionName) → Each P xs → (o : OptionName) → Contains xs o → P o
-of_each P [] e o (k, lt, at) = absurd (omega (arith, lt))
-of_each P (x ∷ xs) e o (zero, lt, at) = subst P at e.0
-of_each P (x ∷ xs) e o (suc k, lt, at) = of_each P xs e.1 o (k, omega (arith, lt), at)
+-- what was seen, and then these
+abbrev onto : Pairs → Pairs → Pairs
+onto seen [] = seen
+onto seen (p ∷ ps) = onto (seen ++ p ∷ []) ps
 
--- `clap` takes the words, finds what is given, and finds what the options say
-pub record IsTaken (app : App) (words : List Text) (seen : Given) (said : Options) : Type 0 where
-  pub takes : takes app words ≡ true
-  pub text : (n v : Text) → value_of n seen ≡ Some v → first_of n (matches_of app words) ≡ Some v
-  pub found : AreFound (λ n. first_of n (matches_of app words)) said
+-- the names are those of the places from the k-th on, and weren't seen
+abbrev ArePlaced : List Rule → ℕ → Pairs → Pairs → Type 0
+ArePlaced rules k seen [] = Unit {0}
+ArePlaced rules k seen (p ∷ ps) = IsPlaced rules k p.0 × (value_of p.0 seen ≡ None) × ArePlaced rules (suc k) (seen ++ p ∷ []) ps
 
--- a line's words, by its plain words
-pub words_by : (words : List Text) (command : Command) (line : IsLineOf words command) (plain : List Text) → line.plain ≡ plain → words ≡ line.name ∷ plain ++ line.line.options
-words_by words command line plain e = line.line.are ∙ ap (λ (p : List Text). line.name ∷ p ++ line.line.options) e
+abbrev words_of : Pairs → List Text
+words_of ps = map (λ p. p.1) ps
 
-pub plain_by : (words : List Text) (command : Command) (line : IsLineOf words command) (plain : List Text) → line.plain ≡ plain → All IsPlainWord plain
-plain_by words command line plain e = subst (All IsPlainWord) e line.line.is_plain
+module _ (s : Shape) (own : s.args_override_self ≡ false) (each : (o : OptionName) → IsOption s.rules (option_name o)) (options : List Text) (given : Given) (say : Say no_options options given) where
+  -- plain words run, and the options after them
+  places_run : (ps : Pairs) (k : ℕ) (seen : Pairs) (q u : Text) → IsId s.rules q → value_of q seen ≡ None → ArePlaced s.rules k (seen ++ (q, u) ∷ []) ps → All IsPlainWord (words_of ps)
+      → Hold (onto (seen ++ (q, u) ∷ []) ps) no_options → LineRuns s (after k (map to_row seen) q u) (onto (seen ++ (q, u) ∷ []) ps) (words_of ps ++ options) given
+  places_run [] k seen q u known none at plain hold = options_run s own each k options no_options given seen q u known none hold say
+  places_run (p ∷ ps) k seen q u known none at plain hold =
+      let more = places_run ps (suc k) (seen ++ (q, u) ∷ []) p.0 p.1 (inl (k, at.0)) at.1 at.2 (All-tail IsPlainWord p.1 (words_of ps) plain) hold in
+      record {
+        pairs = more.pairs;
+        runs = placed s own k seen q u p.1 p.0 (words_of ps ++ options) more.pairs known none (All-head IsPlainWord p.1 (words_of ps) plain) at.0 more.runs;
+        hold = more.hold;
+        others = more.others;
+      }
 
-module _ (app : App) (s : Shape) (b : IsBuilt app s) (words : List Text) (command : Command) (line : IsLineOf words command) (each : Each (λ o. IsOption s.rules (long_name o)) (form_of command).admitted) where
-  -- from a place on its options run
-  run_from : (k : ℕ) (ps : Given) (p x : Text) → IsPlaced s.rules k p → value_of p ps ≡ None → AreFound (λ n. value_of n (ps ++ (p, x) ∷ [])) no_options → OptionsRun s (suc k) ps p x line.line.options line.said
-  run_from k ps p x place fresh found =
-      options_run s b.own (suc k) line.line.options no_options line.said ps p x (inl (k, place)) fresh found line.line.say
-      (λ o g. of_each (λ o. IsOption s.rules (long_name o)) (form_of command).admitted each o ((line.are.suited o).0 g))
+  line_runs : (p : Text × Text) (ps : Pairs) → IsPlaced s.rules 1 p.0 → ArePlaced s.rules 2 (p ∷ []) ps → All IsPlainWord (words_of (p ∷ ps)) → Hold (onto (p ∷ []) ps) no_options
+      → LineRuns s (walk_from nothing_held) (onto (p ∷ []) ps) (words_of (p ∷ ps) ++ options) given
+  line_runs p ps at are plain hold =
+      let run = places_run ps 2 [] p.0 p.1 (inl (1, at)) refl are (All-tail IsPlainWord p.1 (words_of ps) plain) hold in
+      record {
+        pairs = run.pairs;
+        runs = first s own p.1 p.0 (words_of ps ++ options) run.pairs (All-head IsPlainWord p.1 (words_of ps) plain) at run.runs;
+        hold = run.hold;
+        others = run.others;
+      }
 
-  -- a line that begins with its places, and whose options run
-  taken : (plain : List Text) → line.plain ≡ plain → (k : ℕ) (ps : Given) (q u : Text) (run : OptionsRun s k ps q u line.line.options line.said) → Runs s (walk_from nothing_held) (plain ++ line.line.options) run.given
-      → IsTaken app words (ps ++ (q, u) ∷ []) line.said
-  taken plain e k ps q u run runs =
-      let all = finds app s b line.name (plain ++ line.line.options) run.given runs in
-      subst (λ (ws : List Text). IsTaken app ws (ps ++ (q, u) ∷ []) line.said) (sym (words_by words command line plain e)) (record {
-        takes = all.takes;
-        text = λ n v e. all.value n ∙ run.keeps n v e;
-        found = as_found (λ g. AreFound g line.said) _ (λ n. value_of n run.given) all.value run.found;
-      })
+-- ---- the command of all lines
 
-  -- one place
-  pub one_place : (p x : Text) → line.plain ≡ x ∷ [] → IsPlaced s.rules 1 p → AreFound (λ n. value_of n ((p, x) ∷ [])) no_options → IsTaken app words ((p, x) ∷ []) line.said
-  one_place p x e place found =
-      let plain = plain_by words command line (x ∷ []) e in
-      let run = run_from 1 [] p x place refl found in
-      taken (x ∷ []) e 2 [] p x run (first s b.own x p line.line.options run.given (All-head IsPlainWord x [] plain) place run.runs)
+abbrev shape : Shape
+shape = (built line_app).top
 
-  -- two places
-  pub two_places : (p q x y : Text) → line.plain ≡ x ∷ y ∷ [] → IsPlaced s.rules 1 p → IsPlaced s.rules 2 q → value_of q ((p, x) ∷ []) ≡ None → AreFound (λ n. value_of n ((p, x) ∷ (q, y) ∷ [])) no_options
-      → IsTaken app words ((p, x) ∷ (q, y) ∷ []) line.said
-  two_places p q x y e place place2 fresh found =
-      let plain = plain_by words command line (x ∷ y ∷ []) e in
-      let run = run_from 2 ((p, x) ∷ []) q y place2 fresh found in
-      taken (x ∷ y ∷ []) e 3 ((p, x) ∷ []) q y run
-      (first s b.own x p (y ∷ line.line.options) run.given (All-head IsPlainWord x (y ∷ []) plain) place
-      (placed s b.own 2 [] p x y q line.line.options run.given (inl (1, place)) refl (All-head IsPlainWord y [] (All-tail IsPlainWord x (y ∷ []) plain)) place2 run.runs))
+is_built : IsBuilt line_app shape
+is_built = record {
+  simple = refl;
+  named = refl;
+  built_is = refl;
+  own = refl;
+  none = (refl, (refl, (refl, (refl, (refl, (refl, (refl, (refl, (refl, (refl, (refl, tt)))))))))));
+  defaults = refl;
+  valid = λ rows. refl;
+}
 
--- ---- the commands
+is_option : (o : OptionName) → IsOption shape.rules (option_name o)
+is_option = each_option (λ o. IsOption shape.rules (option_name o)) (record { by_long = refl; by_id = refl; name = refl; dashes = refl; same = refl })
+    (record { by_long = refl; by_id = refl; name = refl; dashes = refl; same = refl }) (record { by_long = refl; by_id = refl; name = refl; dashes = refl; same = refl })
+    (record { by_long = refl; by_id = refl; name = refl; dashes = refl; same = refl }) (record { by_long = refl; by_id = refl; name = refl; dashes = refl; same = refl })
+    (record { by_long = refl; by_id = refl; name = refl; dashes = refl; same = refl })
 
--- `clap` takes the line of a command of a folder and frequencies
-abbrev pub frequencies_app : App
-frequencies_app = line_app (codes "folder" ∷ []) (codes "freq" ∷ [])
+at1 : IsPlaced shape.rules 1 (codes "first")
+at1 = record { by_index = refl; by_id = refl; after = refl }
 
-abbrev pub IsFrequenciesLine : (List ℕ → FrequencyTable → Command) → List Text → Type 0
-IsFrequenciesLine C words = (folder : Text) × (said : Options) × IsLineOf words (C folder (frequencies_of said)) × IsTaken frequencies_app words ((codes "folder", folder) ∷ []) said
+at2 : IsPlaced shape.rules 2 (codes "second")
+at2 = record { by_index = refl; by_id = refl; after = refl }
 
-frequencies_built : IsBuilt frequencies_app (built frequencies_app).top
-frequencies_built = record { simple = refl; named = refl; built_is = refl; own = refl; none = (refl, (refl, tt)); defaults = refl; valid = λ rows. refl }
+at3 : IsPlaced shape.rules 3 (codes "third")
+at3 = record { by_index = refl; by_id = refl; after = refl }
 
-frequencies_line : (C : List ℕ → FrequencyTable → Command) (words : List Text) (folder : Text) (table : FrequencyTable) (line : IsLineOf words (C folder table)) → line.plain ≡ folder ∷ []
-    → table ≡ frequencies_of line.said → (form_of (C folder table)).admitted ≡ Frequencies ∷ [] → IsFrequenciesLine C words
-frequencies_line C words folder table line plain is admitted = (
-  folder,
-  line.said,
-  subst (λ (t : FrequencyTable). IsLineOf words (C folder t)) is line,
-  one_place frequencies_app (built frequencies_app).top frequencies_built words (C folder table) line
-      (subst (Each (λ o. IsOption (built frequencies_app).top.rules (long_name o))) (sym admitted) (record { by_long = refl; by_id = refl; name = refl; dashes = refl; same = refl }, tt))
-      (codes "folder") folder plain (record { by_index = refl; by_id = refl; after = refl }) (record { workers = refl; ratio = refl; frequencies = refl }),
-)
+at4 : IsPlaced shape.rules 4 (codes "fourth")
+at4 = record { by_index = refl; by_id = refl; after = refl }
 
-pub check_line : (words : List Text) → IsLineBy (codes "check") words → IsFrequenciesLine Check words
-check_line words (command, named, line) =
-    at_check (λ c. IsLineOf words c → IsFrequenciesLine Check words) (λ folder table line. frequencies_line Check words folder table line line.are.is_said.0 line.are.is_said.1 refl) command named line
+at5 : IsPlaced shape.rules 5 (codes "fifth")
+at5 = record { by_index = refl; by_id = refl; after = refl }
 
-pub expect_line : (words : List Text) → IsLineBy (codes "expect") words → IsFrequenciesLine Expect words
-expect_line words (command, named, line) =
-    at_expect (λ c. IsLineOf words c → IsFrequenciesLine Expect words) (λ folder table line. frequencies_line Expect words folder table line line.are.is_said.0 line.are.is_said.1 refl) command named line
+-- the words at the places
+abbrev at_places : List Text → List Text → Pairs
+at_places (n ∷ ns) (w ∷ ws) = (n, w) ∷ at_places ns ws
+at_places ns ws = []
 
--- and those of a run, of an audit and of latencies, and of a validation
-abbrev pub run_app : App
-run_app = line_app (codes "folder" ∷ []) (codes "workers" ∷ codes "ratio" ∷ codes "freq" ∷ [])
+abbrev seen_of : List Text → Pairs
+seen_of plain = at_places place_names plain
 
-abbrev pub IsRunLine : List Text → Type 0
-IsRunLine words = (folder : Text) × (said : Options) × (workers : ℕ) × (said.workers ≡ Some workers) × IsLineOf words (Run folder workers (ratio_of said) (frequencies_of said))
-    × IsTaken run_app words ((codes "folder", folder) ∷ []) said
+-- from one to five plain words, and options after them, run
+few_run : (plain : List Text) → 1 ≤ length plain → length plain ≤ 5 → All IsPlainWord plain → (options : List Text) (given : Given) → Say no_options options given
+    → LineRuns shape (walk_from nothing_held) (seen_of plain) (plain ++ options) given
+few_run [] some few plain options given say = absurd (omega arith)
+few_run (a ∷ []) some few plain options given say =
+    line_runs shape refl is_option options given say (codes "first", a) [] at1 tt plain (each_option (λ o. value_of (option_name o) (seen_of (a ∷ [])) ≡ None) refl refl refl refl refl refl)
+few_run (a ∷ b ∷ []) some few plain options given say =
+    line_runs shape refl is_option options given say (codes "first", a) ((codes "second", b) ∷ []) at1 (at2, refl, tt) plain
+    (each_option (λ o. value_of (option_name o) (seen_of (a ∷ b ∷ [])) ≡ None) refl refl refl refl refl refl)
+few_run (a ∷ b ∷ c ∷ []) some few plain options given say =
+    line_runs shape refl is_option options given say (codes "first", a) ((codes "second", b) ∷ (codes "third", c) ∷ []) at1 (at2, refl, (at3, refl, tt)) plain
+    (each_option (λ o. value_of (option_name o) (seen_of (a ∷ b ∷ c ∷ [])) ≡ None) refl refl refl refl refl refl)
+few_run (a ∷ b ∷ c ∷ d ∷ []) some few plain options given say =
+    line_runs shape refl is_option options given say (codes "first", a) ((codes "second", b) ∷ (codes "third", c) ∷ (codes "fourth", d) ∷ []) at1 (at2, refl, (at3, refl, (at4, refl, tt))) plain
+    (each_option (λ o. value_of (option_name o) (seen_of (a ∷ b ∷ c ∷ d ∷ [])) ≡ None) refl refl refl refl refl refl)
+few_run (a ∷ b ∷ c ∷ d ∷ e ∷ []) some few plain options given say =
+    line_runs shape refl is_option options given say (codes "first", a) ((codes "second", b) ∷ (codes "third", c) ∷ (codes "fourth", d) ∷ (codes "fifth", e) ∷ []) at1
+    (at2, refl, (at3, refl, (at4, refl, (at5, refl, tt)))) plain
+    (each_option (λ o. value_of (option_name o) (seen_of (a ∷ b ∷ c ∷ d ∷ e ∷ [])) ≡ None) refl refl refl refl refl refl)
+few_run (a ∷ b ∷ c ∷ d ∷ e ∷ f ∷ ws) some few plain options given say = absurd (omega arith)
 
-run_built : IsBuilt run_app (built run_app).top
-run_built = record { simple = refl; named = refl; built_is = refl; own = refl; none = (refl, (refl, (refl, (refl, tt)))); defaults = refl; valid = λ rows. refl }
+-- and then the places hold them
+plain_back : (plain : List Text) → 1 ≤ length plain → length plain ≤ 5 → plain_in (λ n. value_of n (seen_of plain)) ≡ plain
+plain_back [] some few = refl
+plain_back (a ∷ []) some few = refl
+plain_back (a ∷ b ∷ []) some few = refl
+plain_back (a ∷ b ∷ c ∷ []) some few = refl
+plain_back (a ∷ b ∷ c ∷ d ∷ []) some few = refl
+plain_back (a ∷ b ∷ c ∷ d ∷ e ∷ []) some few = refl
+plain_back (a ∷ b ∷ c ∷ d ∷ e ∷ f ∷ ws) some few = absurd (omega arith)
 
-pub run_line : (words : List Text) → IsLineBy (codes "run") words → IsRunLine words
-run_line words (command, named, line) = at_run (λ c. IsLineOf words c → IsRunLine words)
-    (λ folder workers ratio table line. (
-      folder,
-      line.said,
-      workers,
-      line.are.is_said.1,
-      subst (λ (r : ℕ). IsLineOf words (Run folder workers r (frequencies_of line.said))) line.are.is_said.2
-          (subst (λ (t : FrequencyTable). IsLineOf words (Run folder workers ratio t)) line.are.is_said.3 line),
-      one_place run_app (built run_app).top run_built words _ line
-          (record { by_long = refl; by_id = refl; name = refl; dashes = refl; same = refl }, (record { by_long = refl; by_id = refl; name = refl; dashes = refl; same = refl }, (record { by_long = refl; by_id = refl; name = refl; dashes = refl; same = refl }, tt)))
-          (codes "folder") folder line.are.is_said.0 (record { by_index = refl; by_id = refl; after = refl }) (record { workers = refl; ratio = refl; frequencies = refl }),
-    ))
-    command named line
+-- the places have no option's name
+plain_by : (f g : Text → Option Text) → ((n : Text) → IsNoOption n → f n ≡ g n) → plain_in f ≡ plain_in g
+plain_by f g same =
+    let a = same (codes "first") (each_option (λ o. _) refl refl refl refl refl refl) in
+    let b = same (codes "second") (each_option (λ o. _) refl refl refl refl refl refl) in
+    let c = same (codes "third") (each_option (λ o. _) refl refl refl refl refl refl) in
+    let d = same (codes "fourth") (each_option (λ o. _) refl refl refl refl refl refl) in
+    let e = same (codes "fifth") (each_option (λ o. _) refl refl refl refl refl refl) in
+    rw (a, b, c, d, e) refl
 
-abbrev pub log_app : App
-log_app = line_app (codes "folder" ∷ codes "log" ∷ []) (codes "ratio" ∷ codes "freq" ∷ [])
+-- ---- a line
 
--- the line of a command of a folder, a log, a ratio and frequencies
-abbrev pub IsLogLine : (List ℕ → List ℕ → ℕ → FrequencyTable → Command) → List Text → Type 0
-IsLogLine C words = (folder log : Text) × (said : Options) × IsLineOf words (C folder log (ratio_of said) (frequencies_of said))
-    × IsTaken log_app words ((codes "folder", folder) ∷ (codes "log", log) ∷ []) said
+-- `clap` takes the words, and finds the plain words and what is given
+pub record IsTaken (words parts : List Text) (said : Given) : Type 0 where
+  pub takes : takes line_app words ≡ true
+  pub plain : plain_in (λ n. first_of n (matches_of line_app words)) ≡ parts
+  pub given : (o : OptionName) → first_of (option_name o) (matches_of line_app words) ≡ said o
 
-log_built : IsBuilt log_app (built log_app).top
-log_built = record { simple = refl; named = refl; built_is = refl; own = refl; none = (refl, (refl, (refl, (refl, tt)))); defaults = refl; valid = λ rows. refl }
+is_taken : (words : List Text) (name : Text) (plain : List Text) (given : Given) → 1 ≤ length plain → length plain ≤ 5 → IsLine words name plain given → IsTaken words plain given
+is_taken words name plain given some few line =
+    let run = few_run plain some few line.is_plain line.options given line.say in
+    let all = finds line_app shape is_built name (plain ++ line.options) run.pairs run.runs in
+    subst (λ (ws : List Text). IsTaken ws plain given) (sym line.are) (record {
+      takes = all.takes;
+      plain = plain_by _ (λ n. value_of n (seen_of plain)) (λ n apart. all.value n ∙ run.others n apart) ∙ plain_back plain some few;
+      given = λ o. all.value (option_name o) ∙ run.hold o;
+    })
 
-log_line : (C : List ℕ → List ℕ → ℕ → FrequencyTable → Command) (words : List Text) (folder log : Text) (ratio : ℕ) (table : FrequencyTable) (line : IsLineOf words (C folder log ratio table))
-    → line.plain ≡ folder ∷ log ∷ [] → ratio ≡ ratio_of line.said → table ≡ frequencies_of line.said → (form_of (C folder log ratio table)).admitted ≡ Ratio ∷ Frequencies ∷ [] → IsLogLine C words
-log_line C words folder log ratio table line plain is are admitted = (
-  folder,
-  log,
-  line.said,
-  subst (λ (r : ℕ). IsLineOf words (C folder log r (frequencies_of line.said))) is (subst (λ (t : FrequencyTable). IsLineOf words (C folder log ratio t)) are line),
-  two_places log_app (built log_app).top log_built words (C folder log ratio table) line
-      (subst (Each (λ o. IsOption (built log_app).top.rules (long_name o))) (sym admitted)
-      (record { by_long = refl; by_id = refl; name = refl; dashes = refl; same = refl }, (record { by_long = refl; by_id = refl; name = refl; dashes = refl; same = refl }, tt)))
-      (codes "folder") (codes "log") folder log plain (record { by_index = refl; by_id = refl; after = refl }) (record { by_index = refl; by_id = refl; after = refl }) refl
-      (record { workers = refl; ratio = refl; frequencies = refl }),
-)
+-- a command's line has one to five plain words
+few_plain : (command : Command) (plain : List Text) (given : Given) → IsSaid command plain given → (1 ≤ length plain) × (length plain ≤ 5)
+few_plain (Check folder table) plain given s = rw s.0 (omega arith, omega arith)
+few_plain (Run folder workers ratio table) plain given s = rw s.0 (omega arith, omega arith)
+few_plain (Audit folder log ratio table) plain given s = rw s.0 (omega arith, omega arith)
+few_plain (Latency folder log ratio table) plain given s = rw s.0 (omega arith, omega arith)
+few_plain (Expect folder table) plain given s = rw s.0 (omega arith, omega arith)
+few_plain (Validate folder cases via) plain given s = rw s.0 (omega arith, omega arith)
+few_plain (Read folder query) plain given s = let few = few_parameters s.0 s.1 query s.3 in rw s.2 (omega arith, omega arith)
+few_plain (Walk folder query chance words) plain given s = let few = few_parameters s.0 s.1 query s.3 in rw s.2 (omega arith, omega arith)
+few_plain (Trial size workers) plain given s = rw s.2 (omega arith, omega arith)
 
-pub audit_line : (words : List Text) → IsLineBy (codes "audit") words → IsLogLine Audit words
-audit_line words (command, named, line) = at_audit (λ c. IsLineOf words c → IsLogLine Audit words)
-    (λ folder log ratio table line. log_line Audit words folder log ratio table line line.are.is_said.0 line.are.is_said.1 line.are.is_said.2 refl) command named line
+pub line_taken : (name : Text) (words : List Text) (line : IsLineBy name words) → IsTaken words line.2.plain line.2.given
+line_taken name words line =
+    let few = few_plain line.0 line.2.plain line.2.given line.2.are.is_said in
+    is_taken words line.2.name line.2.plain line.2.given few.0 few.1 line.2.line
 
-pub latency_line : (words : List Text) → IsLineBy (codes "latency") words → IsLogLine Latency words
-latency_line words (command, named, line) = at_latency (λ c. IsLineOf words c → IsLogLine Latency words)
-    (λ folder log ratio table line. log_line Latency words folder log ratio table line line.are.is_said.0 line.are.is_said.1 line.are.is_said.2 refl) command named line
+module _ (name : Text) (words : List Text) (line : IsLineBy name words) (word_of : Text → Option Text) (found : (n : Text) → word_of n ≡ first_of n (matches_of line_app words)) where
+  plain_is : plain_in word_of ≡ line.2.plain
+  plain_is = plain_by word_of (λ n. first_of n (matches_of line_app words)) (λ n _. found n) ∙ (line_taken name words line).plain
 
-abbrev pub validate_app : App
-validate_app = line_app (codes "folder" ∷ codes "cases" ∷ []) []
+  given_is : given_in word_of ≡ line.2.given
+  given_is = λ i o. (found (option_name o) ∙ (line_taken name words line).given o) i
 
-abbrev pub IsValidateLine : List Text → Type 0
-IsValidateLine words = (folder cases : Text) × (said : Options) × IsLineOf words (Validate folder cases) × IsTaken validate_app words ((codes "folder", folder) ∷ (codes "cases", cases) ∷ []) said
+  -- the words that were found are those of the line
+  pub line_found : IsFoundBy name word_of
+  line_found = (line.0, rw (plain_is, given_is) (record { named = line.1; suited = line.2.are.suited; is_said = line.2.are.is_said }))
 
-validate_built : IsBuilt validate_app (built validate_app).top
-validate_built = record { simple = refl; named = refl; built_is = refl; own = refl; none = (refl, (refl, tt)); defaults = refl; valid = λ rows. refl }
-
-pub validate_line : (words : List Text) → IsLineBy (codes "validate") words → IsValidateLine words
-validate_line words (command, named, line) = at_validate (λ c. IsLineOf words c → IsValidateLine words)
-    (λ folder cases line. (
-      folder,
-      cases,
-      line.said,
-      line,
-      two_places validate_app (built validate_app).top validate_built words _ line tt (codes "folder") (codes "cases") folder cases line.are.is_said
-          (record { by_index = refl; by_id = refl; after = refl }) (record { by_index = refl; by_id = refl; after = refl }) refl (record { workers = refl; ratio = refl; frequencies = refl }),
-    ))
-    command named line
-
-abbrev pub trial_app : App
-trial_app = line_app (codes "size" ∷ codes "crew" ∷ []) []
-
-abbrev pub IsTrialLine : List Text → Type 0
-IsTrialLine words = (first second : Text) × (size workers : ℕ) × (said : Options) × IsTrialOf first second size workers × IsLineOf words (Trial size workers)
-    × IsTaken trial_app words ((codes "size", first) ∷ (codes "crew", second) ∷ []) said
-
-trial_built : IsBuilt trial_app (built trial_app).top
-trial_built = record { simple = refl; named = refl; built_is = refl; own = refl; none = (refl, (refl, tt)); defaults = refl; valid = λ rows. refl }
-
-pub trial_line : (words : List Text) → IsLineBy (codes "trial") words → IsTrialLine words
-trial_line words (command, named, line) = at_trial (λ c. IsLineOf words c → IsTrialLine words)
-    (λ size workers line.
-    let said = line.are.is_said in (
-      said.0,
-      said.1,
-      size,
-      workers,
-      line.said,
-      said.3,
-      line,
-      two_places trial_app (built trial_app).top trial_built words _ line tt (codes "size") (codes "crew") said.0 said.1 said.2
-          (record { by_index = refl; by_id = refl; after = refl }) (record { by_index = refl; by_id = refl; after = refl }) refl (record { workers = refl; ratio = refl; frequencies = refl }),
-    ))
-    command named line
-
--- the line of either of these two
-pub folder_line : (expects : Bool) (words : List Text) → (expects ≡ false → IsLineBy (codes "check") words) → (expects ≡ true → IsLineBy (codes "expect") words) → IsFrequenciesLine (cond expects Expect Check) words
-folder_line false words check expect = check_line words (check refl)
-folder_line true words check expect = expect_line words (expect refl)
-
--- and of these two
-pub judged_line : (measures : Bool) (words : List Text) → (measures ≡ false → IsLineBy (codes "audit") words) → (measures ≡ true → IsLineBy (codes "latency") words) → IsLogLine (cond measures Latency Audit) words
-judged_line false words audit latency = audit_line words (audit refl)
-judged_line true words audit latency = latency_line words (latency refl)
+  pub found_line : (command : Command) → AreFoundOf name word_of command → IsLineOf words command
+  found_line command are = record {
+    name = name;
+    plain = line.2.plain;
+    given = line.2.given;
+    line = let named : line.2.name ≡ name = line.2.are.named ∙ sym line.1 in subst (λ (n : Text). IsLine words n line.2.plain line.2.given) named line.2.line;
+    are = rw (plain_is, given_is) at are;
+  }

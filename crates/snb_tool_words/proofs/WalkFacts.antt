@@ -16,11 +16,11 @@ use Rattle.snb_tool_words.specs.Taken.{option_rule}
 use Rattle.snb_tool_words.specs.Words.{IsPlainWord}
 
 -- what is given to names, in turn
-abbrev pub Given : Type 0
-Given = List (Text × Text)
+abbrev pub Pairs : Type 0
+Pairs = List (Text × Text)
 
 -- the value that is given to a name
-abbrev pub value_of : Text → Given → Option Text
+abbrev pub value_of : Text → Pairs → Option Text
 value_of name [] = None
 value_of name (p ∷ ps) = if bytes_eq p.0 name then Some p.1 else value_of name ps
 
@@ -76,7 +76,7 @@ abbrev pub to_row : Text × Text → Row
 to_row o = record { id = o.0; values = o.1 ∷ []; count = None; source = Some CommandLine; reading = reading_of vp.String }
 
 -- no row has an id that nothing is given to
-no_row : (q : Text) (ps : Given) → value_of q ps ≡ None → has_row q (map to_row ps) ≡ false
+no_row : (q : Text) (ps : Pairs) → value_of q ps ≡ None → has_row q (map to_row ps) ≡ false
 no_row q [] e = refl
 no_row q (p ∷ ps) e = elim (cases_Bool (bytes_eq p.0 q)) [
   | inl same ↦ cc (rw same at e)
@@ -84,21 +84,21 @@ no_row q (p ∷ ps) e = elim (cases_Bool (bytes_eq p.0 q)) [
 ]
 
 -- and then a change of its row is one more row at the end
-row_added : (q : Text) (change : Row → List Row) (missing : List Row) (ps : Given) → value_of q ps ≡ None → at_row q change missing (map to_row ps) ≡ map to_row ps ++ missing
+row_added : (q : Text) (change : Row → List Row) (missing : List Row) (ps : Pairs) → value_of q ps ≡ None → at_row q change missing (map to_row ps) ≡ map to_row ps ++ missing
 row_added q change missing [] e = refl
 row_added q change missing (p ∷ ps) e = elim (cases_Bool (bytes_eq p.0 q)) [
   | inl same ↦ cc (rw same at e)
   | inr other ↦ let later = rw other at e in rw other (ap (λ (t : List Row). to_row p ∷ t) (row_added q change missing ps later))
 ]
 
-map-snoc : (ps : Given) (p : Text × Text) → map to_row ps ++ to_row p ∷ [] ≡ map to_row (ps ++ p ∷ [])
+map-snoc : (ps : Pairs) (p : Text × Text) → map to_row ps ++ to_row p ∷ [] ≡ map to_row (ps ++ p ∷ [])
 map-snoc [] p = refl
 map-snoc (x ∷ ps) p = ap (λ (t : List Row). to_row x ∷ t) (map-snoc ps p)
 
-without_none : (q : Text) (ps : Given) → value_of q ps ≡ None → without q (map to_row ps) ≡ map to_row ps
+without_none : (q : Text) (ps : Pairs) → value_of q ps ≡ None → without q (map to_row ps) ≡ map to_row ps
 without_none q ps e = row_added q (λ _. []) [] ps e ∙ append-nil (map to_row ps)
 
-added : (u : Text) (ps : Given) (n : Text) → value_of n ps ≡ None → with_values n (reading_of vp.String) CommandLine (u ∷ []) (without n (map to_row ps)) ≡ map to_row (ps ++ (n, u) ∷ [])
+added : (u : Text) (ps : Pairs) (n : Text) → value_of n ps ≡ None → with_values n (reading_of vp.String) CommandLine (u ∷ []) (without n (map to_row ps)) ≡ map to_row (ps ++ (n, u) ∷ [])
 added u ps n none = rw (without_none n ps none) (row_added n (more_values CommandLine (u ∷ [])) (to_row (n, u) ∷ []) ps none ∙ map-snoc ps (n, u))
 
 -- ---- the walk
@@ -111,7 +111,7 @@ abbrev named : ℕ → List Row → Text → Walk
 named k rows n = record { held = record { rows = rows; pending = Some (n, []); skip = 0 }; waiting = option n; position = k; is_trailing = false; stopped = None }
 
 -- from there the words pass, and at their end this is given
-pub record Runs (s : Shape) (w : Walk) (words : List Text) (given : Given) : Type 0 where
+pub record Runs (s : Shape) (w : Walk) (words : List Text) (given : Pairs) : Type 0 where
   pub passes : walk_passes s [] w words ≡ true
   pub settles : settle_passes s.rules false (fold (walked s.rules []) w words).held ≡ true
   pub stops : (fold (walked s.rules []) w words).stopped ≡ None
@@ -119,16 +119,16 @@ pub record Runs (s : Shape) (w : Walk) (words : List Text) (given : Given) : Typ
 
 module _ (s : Shape) (own : s.args_override_self ≡ false) where
   -- a value that was pending may be used, and when it is used it is given
-  used_is : (u : Text) (ps : Given) (q : Text) → IsId s.rules q → value_of q ps ≡ None → used_by_id (arg_by_id s.rules q) (u ∷ []) (map to_row ps) ≡ map to_row (ps ++ (q, u) ∷ [])
+  used_is : (u : Text) (ps : Pairs) (q : Text) → IsId s.rules q → value_of q ps ≡ None → used_by_id (arg_by_id s.rules q) (u ∷ []) (map to_row ps) ≡ map to_row (ps ++ (q, u) ∷ [])
   used_is u ps q (inl (k, place)) none = rw place.by_id (added u ps q none)
   used_is u ps q (inr o) none = rw o.by_id (added u ps q none)
 
-  settling : (u : Text) (ps : Given) (k : ℕ) (q : Text) → IsId s.rules q → value_of q ps ≡ None → settle_passes s.rules false (after k (map to_row ps) q u).held ≡ true
+  settling : (u : Text) (ps : Pairs) (k : ℕ) (q : Text) → IsId s.rules q → value_of q ps ≡ None → settle_passes s.rules false (after k (map to_row ps) q u).held ≡ true
   settling u ps k q (inl (j, place)) none = rw (place.by_id, no_row q ps none) refl
   settling u ps k q (inr o) none = rw (o.by_id, no_row q ps none) refl
 
   -- one word more
-  step : (w next : Walk) (x : Text) (words : List Text) (given : Given) → turn_passes s [] w x ≡ true → walked s.rules [] w x ≡ next → Runs s next words given → Runs s w (x ∷ words) given
+  step : (w next : Walk) (x : Text) (words : List Text) (given : Pairs) → turn_passes s [] w x ≡ true → walked s.rules [] w x ≡ next → Runs s next words given → Runs s w (x ∷ words) given
   unfolding walk_passes
   step w next x words given turn moves r = record {
     passes = rw (turn, moves) r.passes;
@@ -142,7 +142,7 @@ module _ (s : Shape) (own : s.args_override_self ≡ false) where
   no_words_pass w = refl
 
   -- no word more
-  pub ends : (k : ℕ) (ps : Given) (q u : Text) → IsId s.rules q → value_of q ps ≡ None → Runs s (after k (map to_row ps) q u) [] (ps ++ (q, u) ∷ [])
+  pub ends : (k : ℕ) (ps : Pairs) (q u : Text) → IsId s.rules q → value_of q ps ≡ None → Runs s (after k (map to_row ps) q u) [] (ps ++ (q, u) ∷ [])
   ends k ps q u id none = record { passes = no_words_pass _; settles = settling u ps k q id none; stops = refl; rows = used_is u ps q id none }
 
   -- the first word is the value of the first place
@@ -153,7 +153,7 @@ module _ (s : Shape) (own : s.args_override_self ≡ false) where
   unfolding walked
   first_moves w h id place = rw (h.dashes, h.long, h.short, place.by_index) refl
 
-  pub first : (v id : Text) (words : List Text) (given : Given) → IsPlainWord v → IsPlaced s.rules 1 id → Runs s (after 2 [] id v) words given → Runs s (walk_from nothing_held) (v ∷ words) given
+  pub first : (v id : Text) (words : List Text) (given : Pairs) → IsPlainWord v → IsPlaced s.rules 1 id → Runs s (after 2 [] id v) words given → Runs s (walk_from nothing_held) (v ∷ words) given
   first v id words given plain place r =
       let h = no_flag v plain in
       step (walk_from nothing_held) (after 2 [] id v) v words given (first_turn v h id place) (first_moves v h id place) r
@@ -168,7 +168,7 @@ module _ (s : Shape) (own : s.args_override_self ≡ false) where
   unfolding walked
   place_moves k rows q u v id h place = rw (h.dashes, h.long, h.short, place.by_index, and_false (bytes_eq q id), place.after) refl
 
-  pub placed : (k : ℕ) (ps : Given) (q u v id : Text) (words : List Text) (given : Given) → IsId s.rules q → value_of q ps ≡ None → IsPlainWord v → IsPlaced s.rules k id
+  pub placed : (k : ℕ) (ps : Pairs) (q u v id : Text) (words : List Text) (given : Pairs) → IsId s.rules q → value_of q ps ≡ None → IsPlainWord v → IsPlaced s.rules k id
       → Runs s (after (suc k) (map to_row (ps ++ (q, u) ∷ [])) id v) words given → Runs s (after k (map to_row ps) q u) (v ∷ words) given
   placed k ps q u v id words given known none plain place r =
       let h = no_flag v plain in
@@ -192,7 +192,7 @@ module _ (s : Shape) (own : s.args_override_self ≡ false) where
   unfolding walked
   value_moves k rows n v h o = rw (h.dashes, h.long, h.short, o.by_id, o.same) refl
 
-  pub optioned : (k : ℕ) (ps : Given) (q u n v : Text) (words : List Text) (given : Given) → IsId s.rules q → value_of q ps ≡ None → IsPlainWord v → IsOption s.rules n
+  pub optioned : (k : ℕ) (ps : Pairs) (q u n v : Text) (words : List Text) (given : Pairs) → IsId s.rules q → value_of q ps ≡ None → IsPlainWord v → IsOption s.rules n
       → Runs s (after k (map to_row (ps ++ (q, u) ∷ [])) n v) words given → Runs s (after k (map to_row ps) q u) ((45 ∷ 45 ∷ n) ∷ v ∷ words) given
   optioned k ps q u n v words given known none plain o r =
       let h = no_flag v plain in
@@ -218,7 +218,7 @@ no_default_of : (rs : List Rule) (rows : List Row) → HaveNone rs → fold with
 no_default_of [] rows h = refl
 no_default_of (a ∷ rs) rows h = ap (λ (r : List Row). fold with_default r rs) (no_default rows a h.0) ∙ no_default_of rs rows h.1
 
-found_of_rows : (name : Text) (ps : Given) → first_of name (map to_row ps) ≡ value_of name ps
+found_of_rows : (name : Text) (ps : Pairs) → first_of name (map to_row ps) ≡ value_of name ps
 found_of_rows name [] = refl
 found_of_rows name (p ∷ ps) = elim (cases_Bool (bytes_eq p.0 name)) [ inl same ↦ rw same refl | inr other ↦ rw other (found_of_rows name ps) ]
 
@@ -233,11 +233,11 @@ pub record IsBuilt (app : App) (s : Shape) : Type 0 where
   pub valid : (rows : List Row) → is_valid s rows false ≡ true
 
 -- `clap` takes words that run, and finds what is given
-pub record Finds (app : App) (words : List Text) (given : Given) : Type 0 where
+pub record Finds (app : App) (words : List Text) (given : Pairs) : Type 0 where
   pub takes : takes app words ≡ true
   pub value : (n : Text) → first_of n (matches_of app words) ≡ value_of n given
 
-pub finds : (app : App) (s : Shape) → IsBuilt app s → (name : Text) (words : List Text) (given : Given) → Runs s (walk_from nothing_held) words given → Finds app (name ∷ words) given
+pub finds : (app : App) (s : Shape) → IsBuilt app s → (name : Text) (words : List Text) (given : Pairs) → Runs s (walk_from nothing_held) words given → Finds app (name ∷ words) given
 finds app s b name words given r =
     let left : argument_words app (name ∷ words) ≡ words = rw b.named refl in
     let taken : built_takes (record { top = s; subs = [] }) nothing_held words ≡ true =

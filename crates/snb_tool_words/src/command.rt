@@ -1,19 +1,23 @@
 //! The commands of the program, read off the words of a line.
 
 ghost use Rattle.std.specs.Prelude.{◌≡◌, ◌↔◌, IfOk, IfSome, IsTrue, MatchOption, OnErr, codes, false, true};
+ghost use Rattle.clap.specs.Words.{first_value, found_of};
 ghost use Rattle.snb_tool_words.specs.declared.command.Command.{Command as AnyCommand};
-ghost use Rattle.snb_tool_words.specs.Commands.{AreOf, IsLineOf, IsOtherLine, IsRunnable};
-ghost use Rattle.snb_tool_words.specs.Taken.{IsLineBy};
+ghost use Rattle.snb_tool_words.specs.Commands.{AreOf, IsLineOf, IsOtherLine, IsRunnable, needs_table};
+ghost use Rattle.snb_tool_words.specs.Options.{AreSuited};
+ghost use Rattle.snb_tool_words.specs.Taken.{AreFoundOf, AreSome, AreValues, HaveRead, IsFoundBy, IsLineBy, given_of};
 ghost use Rattle.snb_tool_words.specs.Words.{texts_of};
 
 use crate::line::{Line, line_of};
-use crate::options::{OptionName, Options, size_of, workers_of};
+use crate::options::{OptionName, Via, size_of, workers_of};
 use crate::reads::is_read;
-use crate::taken::{crew_in, matches_in, options_in, query_in, size_in, text_at};
-use snb_base::Text;
-use snb_ratio::Ratio;
-use snb_ratio::law::one_ratio;
-use snb_schema::law::frequencies_are_one;
+use crate::taken::{
+    chance_in, frequencies_in, matches_in, query_in, ratio_in, size_in, text_at, via_in, words_in,
+    workers_in,
+};
+use clap::ArgMatches;
+use snb_base::{Numbers, Text};
+use snb_ratio::{Chance, Ratio};
 use snb_schema::{Frequencies, Query};
 use std::alloc::{AllocError, Global};
 
@@ -66,12 +70,14 @@ pub enum Command {
         /// How often each complex query is asked.
         frequencies: Frequencies,
     },
-    /// `validate DIR CASES`.
+    /// `validate DIR CASES`, with `--via table` or without.
     Validate {
         /// The folder.
         folder: Text,
         /// The file of the cases.
         cases: Text,
+        /// By what the reads of the cases are answered.
+        via: Via,
     },
     /// `read DIR KIND`, with the parameters of the read.
     Read {
@@ -79,6 +85,17 @@ pub enum Command {
         folder: Text,
         /// The read, with its parameters.
         query: Query,
+    },
+    /// `walk DIR KIND`, with the parameters of the read, `--chance S:D` and `--words L`.
+    Walk {
+        /// The folder.
+        folder: Text,
+        /// The read that the walk begins with, with its parameters.
+        query: Query,
+        /// The chance that the walk takes a step, and by how much it falls.
+        chance: Chance,
+        /// The random words.
+        words: Numbers,
     },
     /// `trial SIZE N`.
     Trial {
@@ -121,10 +138,17 @@ impl Drop for Command {
             Command::Validate {
                 folder: _,
                 cases: _,
+                via: _,
             } => {}
             Command::Read {
                 folder: _,
                 query: _,
+            } => {}
+            Command::Walk {
+                folder: _,
+                query: _,
+                chance: _,
+                words: _,
             } => {}
             Command::Trial {
                 size: _,
@@ -134,7 +158,32 @@ impl Drop for Command {
     }
 }
 
-// The options of `check` and `expect`, of `run`, and of `audit` and `latency`, and those that `run` needs.
+impl Command {
+    ghost use Rattle.snb_tool_words.specs.Commands.{needs_table};
+
+    /// Whether it asks a table of handlers.
+    pub fn needs_table(&self) -> bool
+        ensures { result ≡ needs_table self.now }
+    {
+        match self {
+            Command::Validate {
+                folder: _,
+                cases: _,
+                via: Via::Table,
+            } => true,
+            Command::Walk {
+                folder: _,
+                query: _,
+                chance: _,
+                words: _,
+            } => true,
+            _ => false,
+        }
+    }
+}
+
+// The options of `check` and `expect`, of `run`, of `audit` and `latency`, of `validate`, and of `walk`,
+// which needs them all, and those that `run` needs.
 const OF_CHECK: [OptionName; 1] = [OptionName::Frequencies];
 
 const OF_RUN: [OptionName; 3] = [
@@ -145,13 +194,18 @@ const OF_RUN: [OptionName; 3] = [
 
 const OF_AUDIT: [OptionName; 2] = [OptionName::Ratio, OptionName::Frequencies];
 
+const OF_VALIDATE: [OptionName; 1] = [OptionName::Via];
+
+const OF_WALK: [OptionName; 2] = [OptionName::Chance, OptionName::Words];
+
 const NEEDED_BY_RUN: [OptionName; 1] = [OptionName::Workers];
 
-// Whether the parts of a line are those of a read.
-fn is_read_line(line: &Line<'_, '_>) -> bool
-    ensures { IsTrue result ↔ ((command : AnyCommand) × AreOf command (codes "read") (texts_of line.now.plain.now) line.now.said) }
+// Whether a line has these options and no others, and its plain words are a folder, and the kind and the
+// parameters of a read.
+fn has_read(line: &Line<'_, '_>, options: &[OptionName]) -> bool
+    ensures { IsTrue result ↔ (AreSuited options.now options.now (given_of line.now.given) × HaveRead (texts_of line.now.plain.now)) }
 {
-    if !line.said.are_suited(&[], &[]) {
+    if !line.given.are_suited(options, options) {
         return false;
     }
     match line.plain {
@@ -162,7 +216,7 @@ fn is_read_line(line: &Line<'_, '_>) -> bool
 
 // Whether the parts of a line are those of a trial.
 fn is_trial_line(line: &Line<'_, '_>) -> bool
-    ensures { IsTrue result ↔ ((command : AnyCommand) × AreOf command (codes "trial") (texts_of line.now.plain.now) line.now.said) }
+    ensures { IsTrue result ↔ AreSome (codes "trial") (texts_of line.now.plain.now) (given_of line.now.given) }
 {
     if !line.suits(2, &[], &[]) {
         return false;
@@ -170,9 +224,11 @@ fn is_trial_line(line: &Line<'_, '_>) -> bool
     size_of(line.plain[0]).is_some() && workers_of(line.plain[1]).is_some()
 }
 
-// Whether the parts of a line are those of a command.
+// Whether the parts of a line are those of a command. The condition: each word that is given is a value of
+// its option.
 fn is_command(line: &Line<'_, '_>) -> bool
-    ensures { IsTrue result ↔ ((command : AnyCommand) × AreOf command line.now.name.now (texts_of line.now.plain.now) line.now.said) }
+    requires { AreValues (given_of line.now.given) }
+    ensures { IsTrue result ↔ AreSome line.now.name.now (texts_of line.now.plain.now) (given_of line.now.given) }
 {
     match line.name {
         "check" => line.suits(1, &OF_CHECK, &[]),
@@ -180,72 +236,66 @@ fn is_command(line: &Line<'_, '_>) -> bool
         "audit" => line.suits(2, &OF_AUDIT, &[]),
         "latency" => line.suits(2, &OF_AUDIT, &[]),
         "expect" => line.suits(1, &OF_CHECK, &[]),
-        "validate" => line.suits(2, &[], &[]),
-        "read" => is_read_line(line),
+        "validate" => line.suits(2, &OF_VALIDATE, &[]),
+        "read" => has_read(line, &[]),
+        "walk" => has_read(line, &OF_WALK),
         "trial" => is_trial_line(line),
         _ => false,
     }
 }
 
-// The check, or the `expect`, that the words say.
-fn take_of_folder(alloc: Global, expects: bool, words: &[&str]) -> Result<Command, AllocError>
-    requires check { expects ≡ false → IsLineBy (codes "check") (texts_of words.now) }
-    requires expect { expects ≡ true → IsLineBy (codes "expect") (texts_of words.now) }
-    ensures { IfOk result (IsLineOf (texts_of words.now)) }
+// The check whose words were found.
+fn check_in(alloc: Global, matches: &ArgMatches<'_>) -> Result<Command, AllocError>
+    requires { IsFoundBy (codes "check") (first_value (found_of matches.now)) }
+    ensures { IfOk result (AreFoundOf (codes "check") (first_value (found_of matches.now))) }
 {
-    let matches = matches_in(alloc, &["folder"], &["freq"], words)?;
-    let folder = text_at(alloc, &matches, "folder")?;
-    let frequencies = options_in(&matches).frequencies_or_none();
-    if expects {
-        return Ok(Command::Expect {
-            folder,
-            frequencies,
-        });
-    }
+    let folder = text_at(alloc, matches, "first")?;
+    let frequencies = frequencies_in(matches);
     Ok(Command::Check {
         folder,
         frequencies,
     })
 }
 
-// The run that the words say.
-fn take_run(alloc: Global, words: &[&str]) -> Result<Command, AllocError>
-    requires { IsLineBy (codes "run") (texts_of words.now) }
-    ensures { IfOk result (IsLineOf (texts_of words.now)) }
+// The `expect` whose words were found.
+fn expect_in(alloc: Global, matches: &ArgMatches<'_>) -> Result<Command, AllocError>
+    requires { IsFoundBy (codes "expect") (first_value (found_of matches.now)) }
+    ensures { IfOk result (AreFoundOf (codes "expect") (first_value (found_of matches.now))) }
 {
-    let matches = matches_in(alloc, &["folder"], &["workers", "ratio", "freq"], words)?;
-    let said = options_in(&matches);
-    let Some(workers) = said.workers else {
-        unreachable!()
-    };
-    Ok(Command::Run {
-        folder: text_at(alloc, &matches, "folder")?,
-        workers,
-        ratio: said.ratio_or_one(),
-        frequencies: said.frequencies_or_none(),
+    let folder = text_at(alloc, matches, "first")?;
+    let frequencies = frequencies_in(matches);
+    Ok(Command::Expect {
+        folder,
+        frequencies,
     })
 }
 
-// The audit, or the `latency`, that the words say.
-fn take_of_log(alloc: Global, measures: bool, words: &[&str]) -> Result<Command, AllocError>
-    requires audit { measures ≡ false → IsLineBy (codes "audit") (texts_of words.now) }
-    requires latency { measures ≡ true → IsLineBy (codes "latency") (texts_of words.now) }
-    ensures { IfOk result (IsLineOf (texts_of words.now)) }
+// The run whose words were found.
+fn run_in(alloc: Global, matches: &ArgMatches<'_>) -> Result<Command, AllocError>
+    requires { IsFoundBy (codes "run") (first_value (found_of matches.now)) }
+    ensures { IfOk result (AreFoundOf (codes "run") (first_value (found_of matches.now))) }
 {
-    let matches = matches_in(alloc, &["folder", "log"], &["ratio", "freq"], words)?;
-    let said = options_in(&matches);
-    let folder = text_at(alloc, &matches, "folder")?;
-    let log = text_at(alloc, &matches, "log")?;
-    let ratio = said.ratio_or_one();
-    let frequencies = said.frequencies_or_none();
-    if measures {
-        return Ok(Command::Latency {
-            folder,
-            log,
-            ratio,
-            frequencies,
-        });
-    }
+    let folder = text_at(alloc, matches, "first")?;
+    let workers = workers_in(matches, "workers");
+    let ratio = ratio_in(matches);
+    let frequencies = frequencies_in(matches);
+    Ok(Command::Run {
+        folder,
+        workers,
+        ratio,
+        frequencies,
+    })
+}
+
+// The audit whose words were found.
+fn audit_in(alloc: Global, matches: &ArgMatches<'_>) -> Result<Command, AllocError>
+    requires { IsFoundBy (codes "audit") (first_value (found_of matches.now)) }
+    ensures { IfOk result (AreFoundOf (codes "audit") (first_value (found_of matches.now))) }
+{
+    let folder = text_at(alloc, matches, "first")?;
+    let log = text_at(alloc, matches, "second")?;
+    let ratio = ratio_in(matches);
+    let frequencies = frequencies_in(matches);
     Ok(Command::Audit {
         folder,
         log,
@@ -254,40 +304,88 @@ fn take_of_log(alloc: Global, measures: bool, words: &[&str]) -> Result<Command,
     })
 }
 
-// The validation that the words say.
-fn take_validate(alloc: Global, words: &[&str]) -> Result<Command, AllocError>
-    requires { IsLineBy (codes "validate") (texts_of words.now) }
-    ensures { IfOk result (IsLineOf (texts_of words.now)) }
+// The `latency` whose words were found.
+fn latency_in(alloc: Global, matches: &ArgMatches<'_>) -> Result<Command, AllocError>
+    requires { IsFoundBy (codes "latency") (first_value (found_of matches.now)) }
+    ensures { IfOk result (AreFoundOf (codes "latency") (first_value (found_of matches.now))) }
 {
-    let matches = matches_in(alloc, &["folder", "cases"], &[], words)?;
-    Ok(Command::Validate {
-        folder: text_at(alloc, &matches, "folder")?,
-        cases: text_at(alloc, &matches, "cases")?,
+    let folder = text_at(alloc, matches, "first")?;
+    let log = text_at(alloc, matches, "second")?;
+    let ratio = ratio_in(matches);
+    let frequencies = frequencies_in(matches);
+    Ok(Command::Latency {
+        folder,
+        log,
+        ratio,
+        frequencies,
     })
 }
 
-// The read that the words say.
-fn take_read(alloc: Global, words: &[&str]) -> Result<Command, AllocError>
-    requires { IsLineBy (codes "read") (texts_of words.now) }
-    ensures { IfOk result (IsLineOf (texts_of words.now)) }
+// The validation whose words were found.
+fn validate_in(alloc: Global, matches: &ArgMatches<'_>) -> Result<Command, AllocError>
+    requires { IsFoundBy (codes "validate") (first_value (found_of matches.now)) }
+    ensures { IfOk result (AreFoundOf (codes "validate") (first_value (found_of matches.now))) }
 {
-    let places = ["folder", "kind", "first", "second", "third"];
-    let matches = matches_in(alloc, &places, &[], words)?;
-    let folder = text_at(alloc, &matches, "folder")?;
-    let query = query_in(alloc, &matches)?;
+    let folder = text_at(alloc, matches, "first")?;
+    let cases = text_at(alloc, matches, "second")?;
+    let via = via_in(matches);
+    Ok(Command::Validate { folder, cases, via })
+}
+
+// The read whose words were found.
+fn read_in(alloc: Global, matches: &ArgMatches<'_>) -> Result<Command, AllocError>
+    requires { IsFoundBy (codes "read") (first_value (found_of matches.now)) }
+    ensures { IfOk result (AreFoundOf (codes "read") (first_value (found_of matches.now))) }
+{
+    let folder = text_at(alloc, matches, "first")?;
+    let query = query_in(alloc, matches)?;
     Ok(Command::Read { folder, query })
 }
 
-// The trial that the words say.
-fn take_trial(alloc: Global, words: &[&str]) -> Result<Command, AllocError>
-    requires { IsLineBy (codes "trial") (texts_of words.now) }
-    ensures { IfOk result (IsLineOf (texts_of words.now)) }
+// The walk whose words were found.
+fn walk_in(alloc: Global, matches: &ArgMatches<'_>) -> Result<Command, AllocError>
+    requires { IsFoundBy (codes "walk") (first_value (found_of matches.now)) }
+    ensures { IfOk result (AreFoundOf (codes "walk") (first_value (found_of matches.now))) }
 {
-    let matches = matches_in(alloc, &["size", "crew"], &[], words)?;
-    Ok(Command::Trial {
-        size: size_in(&matches),
-        workers: crew_in(&matches),
+    let folder = text_at(alloc, matches, "first")?;
+    let query = query_in(alloc, matches)?;
+    let chance = chance_in(matches);
+    let words = words_in(alloc, matches)?;
+    Ok(Command::Walk {
+        folder,
+        query,
+        chance,
+        words,
     })
+}
+
+// The trial whose words were found.
+fn trial_in(matches: &ArgMatches<'_>) -> Command
+    requires { IsFoundBy (codes "trial") (first_value (found_of matches.now)) }
+    ensures { AreFoundOf (codes "trial") (first_value (found_of matches.now)) result }
+{
+    let size = size_in(matches, "first");
+    let workers = workers_in(matches, "second");
+    Command::Trial { size, workers }
+}
+
+// The command of this name whose words were found.
+fn command_in(alloc: Global, name: &str, matches: &ArgMatches<'_>) -> Result<Command, AllocError>
+    requires { IsFoundBy name.now (first_value (found_of matches.now)) }
+    ensures { IfOk result (AreFoundOf name.now (first_value (found_of matches.now))) }
+{
+    match name {
+        "check" => check_in(alloc, matches),
+        "run" => run_in(alloc, matches),
+        "audit" => audit_in(alloc, matches),
+        "latency" => latency_in(alloc, matches),
+        "expect" => expect_in(alloc, matches),
+        "validate" => validate_in(alloc, matches),
+        "read" => read_in(alloc, matches),
+        "walk" => walk_in(alloc, matches),
+        "trial" => Ok(trial_in(matches)),
+        _ => unreachable!(),
+    }
 }
 
 // The command of this name that the words say, as `clap` takes them apart.
@@ -295,17 +393,34 @@ fn take(alloc: Global, name: &str, words: &[&str]) -> Result<Command, AllocError
     requires { IsLineBy name.now (texts_of words.now) }
     ensures { IfOk result (IsLineOf (texts_of words.now)) }
 {
-    match name {
-        "check" => take_of_folder(alloc, false, words),
-        "run" => take_run(alloc, words),
-        "audit" => take_of_log(alloc, false, words),
-        "latency" => take_of_log(alloc, true, words),
-        "expect" => take_of_folder(alloc, true, words),
-        "validate" => take_validate(alloc, words),
-        "read" => take_read(alloc, words),
-        "trial" => take_trial(alloc, words),
-        _ => unreachable!(),
+    let matches = matches_in(alloc, words)?;
+    command_in(alloc, name, &matches)
+}
+
+// Whether the command whose parts these are asks a table of handlers.
+fn asks(line: &Line<'_, '_>) -> bool
+    ensures { (command : AnyCommand) → AreOf command line.now.name.now (texts_of line.now.plain.now) (given_of line.now.given) → result ≡ needs_table command }
+{
+    match line.name {
+        "walk" => true,
+        "validate" => line.given.via.is_some(),
+        _ => false,
     }
+}
+
+/// Whether the command that the words are the line of asks a table of handlers, or None where they are no command's
+/// line. Takes no memory.
+pub fn asks_table(words: &[&str]) -> Option<bool>
+    ensures { MatchOption result (IsOtherLine (texts_of words.now))
+        (λ asks. (command : AnyCommand) × IsLineOf (texts_of words.now) command × (needs_table command ≡ asks)) }
+{
+    let Some(line) = line_of(words) else {
+        return None;
+    };
+    if !is_command(&line) {
+        return None;
+    }
+    Some(asks(&line))
 }
 
 /// The command that the words are the line of, or None where they are no command's line. The error is
@@ -319,8 +434,6 @@ pub fn command_of(alloc: Global, words: &[&str]) -> Result<Option<Command>, Allo
     ensures runnable { IfOk result (λ found. IfSome found IsRunnable) }
     ensures memory { OnErr result (¬ IsOtherLine (texts_of words.now)) }
 {
-    one_ratio();
-    frequencies_are_one();
     let Some(line) = line_of(words) else {
         return Ok(None);
     };

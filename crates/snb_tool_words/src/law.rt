@@ -3,7 +3,7 @@
 ghost use Rattle.snb_tool_words.specs.Laws.{WordsAreOne};
 
 use snb_input_fields::law::one_value;
-use snb_ratio::law::one_ratio;
+use snb_ratio::law::{one_chance, one_ratio};
 use snb_schema::law::frequencies_are_one;
 
 /// Words are the line of one command at most.
@@ -11,6 +11,7 @@ pub fn one_command()
     ensures { WordsAreOne }
 {
     one_value();
+    one_chance();
     one_ratio();
     frequencies_are_one();
 }

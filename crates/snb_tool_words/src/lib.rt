@@ -4,8 +4,10 @@
 pub mod command;
 pub mod law;
 mod line;
+pub mod number_words;
 pub mod options;
 mod reads;
 mod taken;
 
-pub use command::{Command, command_of};
+pub use command::{Command, asks_table, command_of};
+pub use options::Via;

@@ -2,7 +2,8 @@
 
 ghost use Rattle.std.specs.Prelude.{◌≡◌, ℕ, ◌<◌, ◌≤◌, ◌↔◌, List, length, slice_index_or, take, All, IsTrue, MatchOption};
 ghost use Rattle.std.specs.Borrow.{Bor};
-ghost use Rattle.snb_tool_words.specs.declared.options.Options.{Options as AnyOptions};
+ghost use Rattle.snb_tool_words.specs.Options.{Given};
+ghost use Rattle.snb_tool_words.specs.Taken.{given_of};
 ghost use Rattle.snb_tool_words.specs.Words.{IsLine, IsPlainWord, texts_of};
 
 use crate::options::{OptionName, Options, options_of};
@@ -14,18 +15,19 @@ pub struct Line<'w, 'a> {
     pub name: &'a str,
     /// The plain words after it.
     pub plain: &'w [&'a str],
-    /// What the options say that follow them.
-    pub said: Options,
+    /// The options that follow them.
+    pub given: Options<'a>,
 }
 
 impl Line<'_, '_> {
     ghost use Rattle.snb_tool_words.specs.Options.{AreSuited};
+    ghost use Rattle.snb_tool_words.specs.Taken.{given_of};
 
     /// Whether it has so many plain words, and its options are suited.
     pub fn suits(&self, places: usize, admitted: &[OptionName], needed: &[OptionName]) -> bool
-        ensures { IsTrue result ↔ ((length self.now.plain.now ≡ places) × AreSuited admitted.now needed.now self.now.said) }
+        ensures { IsTrue result ↔ ((length self.now.plain.now ≡ places) × AreSuited admitted.now needed.now (given_of self.now.given)) }
     {
-        self.plain.len() == places && self.said.are_suited(admitted, needed)
+        self.plain.len() == places && self.given.are_suited(admitted, needed)
     }
 }
 
@@ -55,14 +57,14 @@ fn plain_count(words: &[&str]) -> usize
 
 /// The parts of the words, or None where they are no line.
 pub fn line_of<'w, 'a>(words: &'w [&'a str]) -> Option<Line<'w, 'a>>
-    ensures { MatchOption result ((name : List ℕ) (plain : List (List ℕ)) (said : AnyOptions) → ¬ IsLine (texts_of words.now) name plain said)
-        (λ line. IsLine (texts_of words.now) line.name.now (texts_of line.plain.now) line.said) }
+    ensures { MatchOption result ((name : List ℕ) (plain : List (List ℕ)) (given : Given) → ¬ IsLine (texts_of words.now) name plain given)
+        (λ line. IsLine (texts_of words.now) line.name.now (texts_of line.plain.now) (given_of line.given)) }
 {
     match words {
         [name, rest @ ..] => {
             let (plain, options) = rest.split_at(plain_count(rest));
-            let said = options_of(options)?;
-            Some(Line { name, plain, said })
+            let given = options_of(options)?;
+            Some(Line { name, plain, given })
         }
         [] => None,
     }

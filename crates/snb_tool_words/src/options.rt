@@ -1,20 +1,21 @@
 //! The options of a command line.
 
-ghost use Rattle.std.specs.Prelude.{◌≡◌, ℕ, ◌≤◌, ◌↔◌, Contains, IsTrue, MatchOption};
+ghost use Rattle.std.specs.Prelude.{◌≡◌, ◌≢◌, ℕ, ◌≤◌, ◌↔◌, Contains, IsTrue, MatchOption};
+ghost use Rattle.std.specs.Option.{option_map};
 ghost use Rattle.snb_base.specs.Spellings.{Num};
+ghost use Rattle.snb_ratio.specs.Chances.{Falling, SpellsChance};
 ghost use Rattle.snb_ratio.specs.Ratios.{SpellsRatio};
-ghost use Rattle.snb_schema.specs.declared.limits.TheConstants.{MAX_WORKERS};
 ghost use Rattle.snb_schema.specs.Frequencies.{FrequencyTable};
-ghost use Rattle.snb_schema.specs.declared.limits.TheConstants.{MAX_TRIAL};
-ghost use Rattle.snb_tool_words.specs.declared.options.Options.{Options as AnyOptions};
-ghost use Rattle.snb_tool_words.specs.Options.{Adds, AreSuited, IsGiven, Say, SaysFrequencies, frequencies_of, no_options, ratio_of as ratio_said};
+ghost use Rattle.snb_tool_words.specs.declared.options.OptionName.{OptionName as AnyName};
+ghost use Rattle.snb_tool_words.specs.declared.options.Via.{Via as AnyVia};
+ghost use Rattle.snb_tool_words.specs.Options.{Adds, AreSuited, Given, IsGiven, IsSuited, IsValueOf, Say, SaysFrequencies, SaysVia, SaysWorkers, no_options, option_word, put};
+ghost use Rattle.snb_tool_words.specs.Taken.{SaysSize, given_of};
 ghost use Rattle.snb_tool_words.specs.Words.{texts_of};
 
+use crate::number_words::are_words;
 use snb_base::read_number;
-use snb_ratio::Ratio;
-use snb_ratio::law::one_ratio;
+use snb_ratio::{Chance, Ratio};
 use snb_schema::Frequencies;
-use snb_schema::law::frequencies_are_one;
 use snb_schema::limits::{MAX_TRIAL, MAX_WORKERS};
 
 /// The options that there are.
@@ -26,76 +27,154 @@ pub enum OptionName {
     Ratio,
     /// `--freq L`: how often each complex query is asked.
     Frequencies,
+    /// `--via table`: that the table of handlers answers reads.
+    Via,
+    /// `--chance S:D`: the chance that a walk takes a step, and by how much it falls.
+    Chance,
+    /// `--words L`: the random words of a walk.
+    Words,
 }
 
-/// What the options of a command line say.
+/// By what the reads of cases are answered.
 #[derive(Clone, Copy)]
-pub struct Options {
-    /// How many workers there are.
-    pub workers: Option<u32>,
-    /// By how much the due times are stretched.
-    pub ratio: Option<Ratio>,
-    /// How often each complex query is asked.
-    pub frequencies: Option<Frequencies>,
+pub enum Via {
+    /// By the graph's own reads.
+    Graph,
+    /// By the table of handlers.
+    Table,
 }
 
-impl Options {
-    // Whether the option is given.
-    fn is_given(&self, name: OptionName) -> bool
-        ensures { IsTrue result ↔ IsGiven self.now name }
+/// The options of a command line: for each the word after its name, where it is given.
+#[derive(Clone, Copy)]
+pub struct Options<'a> {
+    /// How many workers there are.
+    pub workers: Option<&'a str>,
+    /// By how much the due times are stretched.
+    pub ratio: Option<&'a str>,
+    /// How often each complex query is asked.
+    pub frequencies: Option<&'a str>,
+    /// By what reads are answered.
+    pub via: Option<&'a str>,
+    /// The chance that a walk takes a step.
+    pub chance: Option<&'a str>,
+    /// The random words of a walk.
+    pub words: Option<&'a str>,
+}
+
+// All options.
+const ALL: [OptionName; 6] = [
+    OptionName::Workers,
+    OptionName::Ratio,
+    OptionName::Frequencies,
+    OptionName::Via,
+    OptionName::Chance,
+    OptionName::Words,
+];
+
+// The option whose name on a command line is the word, or None.
+fn option_of(word: &str) -> Option<OptionName>
+    ensures { MatchOption result ((option : AnyName) → word.now ≢ option_word option) (λ option. word.now ≡ option_word option) }
+{
+    match word {
+        "--workers" => Some(OptionName::Workers),
+        "--ratio" => Some(OptionName::Ratio),
+        "--freq" => Some(OptionName::Frequencies),
+        "--via" => Some(OptionName::Via),
+        "--chance" => Some(OptionName::Chance),
+        "--words" => Some(OptionName::Words),
+        _ => None,
+    }
+}
+
+impl<'a> Options<'a> {
+    // No option is given.
+    fn none() -> Options<'a>
+        ensures { given_of result ≡ no_options }
     {
-        match name {
-            OptionName::Workers => self.workers.is_some(),
-            OptionName::Ratio => self.ratio.is_some(),
-            OptionName::Frequencies => self.frequencies.is_some(),
+        Options {
+            workers: None,
+            ratio: None,
+            frequencies: None,
+            via: None,
+            chance: None,
+            words: None,
+        }
+    }
+
+    // The word of the option, where it is given.
+    fn get(&self, option: OptionName) -> Option<&'a str>
+        ensures { option_map (λ word. word.now) result ≡ given_of self.now option }
+    {
+        match option {
+            OptionName::Workers => self.workers,
+            OptionName::Ratio => self.ratio,
+            OptionName::Frequencies => self.frequencies,
+            OptionName::Via => self.via,
+            OptionName::Chance => self.chance,
+            OptionName::Words => self.words,
+        }
+    }
+
+    // The same with this word of the option.
+    fn with(self, option: OptionName, word: &'a str) -> Options<'a>
+        ensures { given_of result ≡ put (given_of self.entry) option word.now }
+    {
+        let word = Some(word);
+        match option {
+            OptionName::Workers => Options {
+                workers: word,
+                ..self
+            },
+            OptionName::Ratio => Options {
+                ratio: word,
+                ..self
+            },
+            OptionName::Frequencies => Options {
+                frequencies: word,
+                ..self
+            },
+            OptionName::Via => Options { via: word, ..self },
+            OptionName::Chance => Options {
+                chance: word,
+                ..self
+            },
+            OptionName::Words => Options {
+                words: word,
+                ..self
+            },
         }
     }
 
     // Whether the option is admitted where it is given, and given where it is needed.
-    fn is_suited(&self, name: OptionName, admitted: &[OptionName], needed: &[OptionName]) -> bool
-        ensures { IsTrue result ↔ ((IsGiven self.now name → Contains admitted.now name) × (Contains needed.now name → IsGiven self.now name)) }
+    fn is_suited(&self, option: OptionName, admitted: &[OptionName], needed: &[OptionName]) -> bool
+        ensures { IsTrue result ↔ IsSuited admitted.now needed.now (given_of self.now) option }
     {
-        if self.is_given(name) {
-            is_among(admitted, name)
+        if self.get(option).is_some() {
+            is_among(admitted, option)
         } else {
-            !is_among(needed, name)
+            !is_among(needed, option)
         }
     }
 
     /// Whether those that are given are admitted, and those that are needed are given.
     pub fn are_suited(&self, admitted: &[OptionName], needed: &[OptionName]) -> bool
-        ensures { IsTrue result ↔ AreSuited admitted.now needed.now self.now }
+        ensures { IsTrue result ↔ AreSuited admitted.now needed.now (given_of self.now) }
     {
-        if !self.is_suited(OptionName::Workers, admitted, needed) {
-            return false;
+        for option in &ALL {
+            if !self.is_suited(*option, admitted, needed) {
+                return false;
+            }
         }
-        if !self.is_suited(OptionName::Ratio, admitted, needed) {
-            return false;
-        }
-        self.is_suited(OptionName::Frequencies, admitted, needed)
-    }
-
-    /// The ratio, which is 1 where none is given.
-    pub fn ratio_or_one(&self) -> Ratio
-        ensures { result ≡ ratio_said self.now }
-    {
-        self.ratio.unwrap_or(Ratio::one())
-    }
-
-    /// The frequencies, of which there are none where none are given.
-    pub fn frequencies_or_none(&self) -> Frequencies
-        ensures { result ≡ frequencies_of self.now }
-    {
-        self.frequencies.unwrap_or(Frequencies::none())
+        true
     }
 }
 
-// Whether the name is one of these.
-fn is_among(names: &[OptionName], name: OptionName) -> bool
-    ensures { IsTrue result ↔ Contains names.now name }
+// Whether the option is one of these.
+fn is_among(options: &[OptionName], option: OptionName) -> bool
+    ensures { IsTrue result ↔ Contains options.now option }
 {
-    for one in names {
-        if *one == name {
+    for one in options {
+        if *one == option {
             return true;
         }
     }
@@ -104,7 +183,7 @@ fn is_among(names: &[OptionName], name: OptionName) -> bool
 
 // The number that the word says, from 1 to the greatest, or None.
 fn count_of(word: &str, most: u32) -> Option<u32>
-    ensures { MatchOption result ((n : ℕ) → Num word.now n most → 1 ≤ n → ⊥) (λ n. Num word.now n most × (1 ≤ n)) }
+    ensures { MatchOption result ((n : ℕ) → ¬ (Num word.now n most × (1 ≤ n))) (λ n. Num word.now n most × (1 ≤ n)) }
 {
     let number = read_number(word.as_bytes(), u64::from(most))?;
     if number == 0 {
@@ -115,14 +194,14 @@ fn count_of(word: &str, most: u32) -> Option<u32>
 
 /// The number of workers that the word says, or None.
 pub fn workers_of(word: &str) -> Option<u32>
-    ensures { MatchOption result ((n : ℕ) → Num word.now n MAX_WORKERS → 1 ≤ n → ⊥) (λ n. Num word.now n MAX_WORKERS × (1 ≤ n)) }
+    ensures { MatchOption result ((n : ℕ) → ¬ SaysWorkers word.now n) (SaysWorkers word.now) }
 {
     count_of(word, MAX_WORKERS)
 }
 
 /// The size of a trial that the word says, or None.
 pub fn size_of(word: &str) -> Option<u32>
-    ensures { MatchOption result ((n : ℕ) → Num word.now n MAX_TRIAL → 1 ≤ n → ⊥) (λ n. Num word.now n MAX_TRIAL × (1 ≤ n)) }
+    ensures { MatchOption result ((n : ℕ) → ¬ SaysSize word.now n) (SaysSize word.now) }
 {
     count_of(word, MAX_TRIAL)
 }
@@ -141,42 +220,54 @@ pub fn frequencies_of(word: &str) -> Option<Frequencies>
     Frequencies::read(word.as_bytes())
 }
 
-// The options with one more, or None where the two words aren't one that wasn't given yet.
-fn with_option(old: Options, name: &str, value: &str) -> Option<Options>
-    ensures { MatchOption result ((more : AnyOptions) → ¬ Adds old name.now value.now more) (Adds old name.now value.now) }
+/// By what the word says that reads are answered, or None.
+pub fn via_of(word: &str) -> Option<Via>
+    ensures { MatchOption result ((via : AnyVia) → ¬ SaysVia word.now via) (SaysVia word.now) }
 {
-    match name {
-        "--workers" => {
-            if old.workers.is_some() {
-                return None;
-            }
-            let workers = Some(workers_of(value)?);
-            Some(Options { workers, ..old })
-        }
-        "--ratio" => {
-            if old.ratio.is_some() {
-                return None;
-            }
-            let ratio = Some(ratio_of(value)?);
-            Some(Options { ratio, ..old })
-        }
-        "--freq" => {
-            if old.frequencies.is_some() {
-                return None;
-            }
-            let frequencies = Some(frequencies_of(value)?);
-            Some(Options { frequencies, ..old })
-        }
+    match word {
+        "table" => Some(Via::Table),
         _ => None,
     }
 }
 
-// The options with those that the words say, or None where they say none.
-fn with_options(old: Options, words: &[&str]) -> Option<Options>
-    ensures { MatchOption result ((more : AnyOptions) → ¬ Say old (texts_of words.now) more) (Say old (texts_of words.now)) }
+/// The chance that the word says, or None.
+pub fn chance_of(word: &str) -> Option<Chance>
+    ensures { MatchOption result ((chance : Falling) → ¬ SpellsChance word.now chance) (SpellsChance word.now) }
 {
-    one_ratio();
-    frequencies_are_one();
+    Chance::read(word.as_bytes())
+}
+
+// Whether the word is a value of the option.
+fn is_value(option: OptionName, word: &str) -> bool
+    ensures { IsTrue result ↔ IsValueOf option word.now }
+{
+    match option {
+        OptionName::Workers => workers_of(word).is_some(),
+        OptionName::Ratio => ratio_of(word).is_some(),
+        OptionName::Frequencies => frequencies_of(word).is_some(),
+        OptionName::Via => via_of(word).is_some(),
+        OptionName::Chance => chance_of(word).is_some(),
+        OptionName::Words => are_words(word),
+    }
+}
+
+// The options with one more, or None where the two words aren't one that wasn't given yet.
+fn with_option<'a>(old: Options<'a>, name: &str, value: &'a str) -> Option<Options<'a>>
+    ensures { MatchOption result ((more : Given) → ¬ Adds (given_of old.entry) name.now value.now more)
+        (λ new. Adds (given_of old.entry) name.now value.now (given_of new)) }
+{
+    let option = option_of(name)?;
+    if old.get(option).is_some() || !is_value(option, value) {
+        return None;
+    }
+    Some(old.with(option, value))
+}
+
+// The options with those that the words say, or None where they say none.
+fn with_options<'a>(old: Options<'a>, words: &[&'a str]) -> Option<Options<'a>>
+    ensures { MatchOption result ((more : Given) → ¬ Say (given_of old.entry) (texts_of words.now) more)
+        (λ new. Say (given_of old.entry) (texts_of words.now) (given_of new)) }
+{
     match words {
         [] => Some(old),
         [_] => None,
@@ -185,13 +276,9 @@ fn with_options(old: Options, words: &[&str]) -> Option<Options>
 }
 
 /// The options that the words say, or None where they say none.
-pub fn options_of(words: &[&str]) -> Option<Options>
-    ensures { MatchOption result ((said : AnyOptions) → ¬ Say no_options (texts_of words.now) said) (Say no_options (texts_of words.now)) }
+pub fn options_of<'a>(words: &[&'a str]) -> Option<Options<'a>>
+    ensures { MatchOption result ((given : Given) → ¬ Say no_options (texts_of words.now) given)
+        (λ options. Say no_options (texts_of words.now) (given_of options)) }
 {
-    let none = Options {
-        workers: None,
-        ratio: None,
-        frequencies: None,
-    };
-    with_options(none, words)
+    with_options(Options::none(), words)
 }

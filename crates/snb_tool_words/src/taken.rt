@@ -3,27 +3,32 @@
 ghost use Rattle.std.specs.Prelude.{◌≡◌, ℕ, List, [], Some, IfOk, IsSome, codes, false, option_map, true};
 ghost use Rattle.clap.specs.Takes.{takes};
 ghost use Rattle.clap.specs.Words.{app_of, first_of, first_value, found_of, matches_of, rule_of};
+ghost use Rattle.snb_ratio.specs.Chances.{Falling, SpellsChance};
+ghost use Rattle.snb_ratio.specs.Ratios.{SpellsRatio};
 ghost use Rattle.snb_schema.specs.declared.column.Value.{Value as AnyValue};
 ghost use Rattle.snb_schema.specs.declared.query.Query.{Query as AnyQuery};
 ghost use Rattle.snb_schema.specs.declared.read_kind.ReadKind.{ReadKind as AnyKind};
-ghost use Rattle.snb_tool_words.specs.declared.options.Options.{Options as AnyOptions};
-ghost use Rattle.snb_tool_words.specs.Taken.{AreFound, IsFound, IsKindFound, IsReadFound, IsValueFound, SaysSize, SaysWorkers, line_app, option_rule};
+ghost use Rattle.snb_schema.specs.Columns.{Spells};
+ghost use Rattle.snb_schema.specs.Frequencies.{FrequencyTable};
+ghost use Rattle.snb_tool_words.specs.declared.options.Via.{Via as AnyVia};
+ghost use Rattle.snb_tool_words.specs.Options.{MustSay, Says, SaysFrequencies, SaysVia, SaysWorkers, SpellsWords, no_frequencies};
+ghost use Rattle.snb_tool_words.specs.Taken.{IsReadFound, NamesKind, SaysSize, app_with, line_app, option_rule};
 ghost use Rattle.snb_tool_words.specs.Words.{texts_of};
 
-use crate::options::{Options, frequencies_of, ratio_of, size_of, workers_of};
+use crate::number_words::words_of;
+use crate::options::{Via, chance_of, frequencies_of, ratio_of, size_of, via_of, workers_of};
 use clap::error::ErrorKind;
 use clap::{Arg, ArgMatches, Command};
-use snb_base::Text;
+use snb_base::{Numbers, Text};
 use snb_input_fields::law::one_value;
 use snb_input_fields::{Values, query_of, read_value};
-use snb_ratio::law::one_ratio;
-use snb_schema::law::frequencies_are_one;
-use snb_schema::{Column, Query, ReadKind, Value};
+use snb_ratio::{Chance, Ratio};
+use snb_schema::{Column, Frequencies, Query, ReadKind, Value};
 use std::alloc::{AllocError, Global};
 
 // The command that has these places.
 fn places_command<'a>(alloc: Global, places: &[&'a str]) -> Result<Command<'a>, AllocError>
-    ensures { IfOk result (λ command. app_of command ≡ line_app (texts_of places.now) []) }
+    ensures { IfOk result (λ command. app_of command ≡ app_with (texts_of places.now) []) }
 {
     let mut command = Command::new(alloc, "snb").disable_help_flag(true);
     for place in places {
@@ -46,7 +51,7 @@ fn line_command<'a>(
     places: &[&'a str],
     options: &[&'a str],
 ) -> Result<Command<'a>, AllocError>
-    ensures { IfOk result (λ command. app_of command ≡ line_app (texts_of places.now) (texts_of options.now)) }
+    ensures { IfOk result (λ command. app_of command ≡ app_with (texts_of places.now) (texts_of options.now)) }
 {
     let mut command = places_command(alloc, places)?;
     for name in options {
@@ -55,19 +60,16 @@ fn line_command<'a>(
     Ok(command)
 }
 
-/// What `clap` finds in the words of an accepted line, by the names of its places and options. The
-/// error is want of memory. The condition: `clap` takes these words for these places and options.
-pub fn matches_in<'a>(
-    alloc: Global,
-    places: &[&'a str],
-    options: &[&'a str],
-    words: &'a [&'a str],
-) -> Result<ArgMatches<'a>, AllocError>
-    requires { takes (line_app (texts_of places.now) (texts_of options.now)) (texts_of words.now) ≡ true }
+/// What `clap` finds in the words of an accepted line, by the names of places and options. The error is
+/// want of memory. The condition: `clap` takes these words.
+pub fn matches_in<'a>(alloc: Global, words: &'a [&'a str]) -> Result<ArgMatches<'a>, AllocError>
+    requires { takes line_app (texts_of words.now) ≡ true }
     ensures { IfOk result (λ matches. (name : List ℕ) → first_value (found_of matches) name
-        ≡ first_of name (matches_of (line_app (texts_of places.now) (texts_of options.now)) (texts_of words.entry.now))) }
+        ≡ first_of name (matches_of line_app (texts_of words.entry.now))) }
 {
-    let command = line_command(alloc, places, options)?;
+    let places = ["first", "second", "third", "fourth", "fifth"];
+    let options = ["workers", "ratio", "freq", "via", "chance", "words"];
+    let command = line_command(alloc, &places, &options)?;
     match command.try_get_matches_from(words) {
         Ok(matches) => Ok(matches),
         Err(error) => match error.kind() {
@@ -88,47 +90,99 @@ pub fn text_at(alloc: Global, matches: &ArgMatches<'_>, place: &str) -> Result<T
     }
 }
 
-/// What the options say that were found.
-pub fn options_in(matches: &ArgMatches<'_>) -> Options
-    ensures { (said : AnyOptions) → AreFound (first_value (found_of matches.now)) said → result ≡ said }
+/// The size of a trial that the word of this name says. The condition: it says one.
+pub fn size_in(matches: &ArgMatches<'_>, name: &str) -> u32
+    requires { (size : ℕ) × MustSay SaysSize (first_value (found_of matches.now) name.now) size }
+    ensures { MustSay SaysSize (first_value (found_of matches.now) name.now) result }
 {
-    one_ratio();
-    frequencies_are_one();
-    Options {
-        workers: matches.get_str("workers").and_then(workers_of),
-        ratio: matches.get_str("ratio").and_then(ratio_of),
-        frequencies: matches.get_str("freq").and_then(frequencies_of),
+    match matches.get_str(name).and_then(size_of) {
+        Some(size) => size,
+        None => unreachable!(),
     }
 }
 
-/// The size of a trial that was found. The condition: one was.
-pub fn size_in(matches: &ArgMatches<'_>) -> u32
-    requires { (size : ℕ) × IsFound SaysSize (first_value (found_of matches.now) (codes "size")) (Some size) }
-    ensures { (size : ℕ) → IsFound SaysSize (first_value (found_of matches.now) (codes "size")) (Some size) → result ≡ size }
+/// The number of workers that the word of this name says. The condition: it says one.
+pub fn workers_in(matches: &ArgMatches<'_>, name: &str) -> u32
+    requires { (workers : ℕ) × MustSay SaysWorkers (first_value (found_of matches.now) name.now) workers }
+    ensures { MustSay SaysWorkers (first_value (found_of matches.now) name.now) result }
 {
-    let Some(size) = matches.get_str("size").and_then(size_of) else {
-        unreachable!()
-    };
-    size
+    match matches.get_str(name).and_then(workers_of) {
+        Some(workers) => workers,
+        None => unreachable!(),
+    }
 }
 
-/// The number of workers of a trial that was found. The condition: one was.
-pub fn crew_in(matches: &ArgMatches<'_>) -> u32
-    requires { (workers : ℕ) × IsFound SaysWorkers (first_value (found_of matches.now) (codes "crew")) (Some workers) }
-    ensures { (workers : ℕ) → IsFound SaysWorkers (first_value (found_of matches.now) (codes "crew")) (Some workers) → result ≡ workers }
+/// The ratio that its option says, or 1. The condition: it says one where it is given.
+pub fn ratio_in(matches: &ArgMatches<'_>) -> Ratio
+    requires { (ratio : ℕ) × Says SpellsRatio 1000000 (first_value (found_of matches.now) (codes "ratio")) ratio }
+    ensures { Says SpellsRatio 1000000 (first_value (found_of matches.now) (codes "ratio")) result }
 {
-    let Some(workers) = matches.get_str("crew").and_then(workers_of) else {
-        unreachable!()
+    let Some(word) = matches.get_str("ratio") else {
+        return Ratio::one();
     };
-    workers
+    match ratio_of(word) {
+        Some(ratio) => ratio,
+        None => unreachable!(),
+    }
+}
+
+/// The frequencies that their option says, or none. The condition: it says some where it is given.
+pub fn frequencies_in(matches: &ArgMatches<'_>) -> Frequencies
+    requires { (table : FrequencyTable) × Says SaysFrequencies no_frequencies (first_value (found_of matches.now) (codes "freq")) table }
+    ensures { Says SaysFrequencies no_frequencies (first_value (found_of matches.now) (codes "freq")) result }
+{
+    let Some(word) = matches.get_str("freq") else {
+        return Frequencies::none();
+    };
+    match frequencies_of(word) {
+        Some(frequencies) => frequencies,
+        None => unreachable!(),
+    }
+}
+
+/// By what its option says that reads are answered, or the graph. The condition: it says it where it is
+/// given.
+pub fn via_in(matches: &ArgMatches<'_>) -> Via
+    requires { (via : AnyVia) × Says SaysVia Via.Graph (first_value (found_of matches.now) (codes "via")) via }
+    ensures { Says SaysVia Via.Graph (first_value (found_of matches.now) (codes "via")) result }
+{
+    let Some(word) = matches.get_str("via") else {
+        return Via::Graph;
+    };
+    match via_of(word) {
+        Some(via) => via,
+        None => unreachable!(),
+    }
+}
+
+/// The chance that its option says. The condition: it says one.
+pub fn chance_in(matches: &ArgMatches<'_>) -> Chance
+    requires { (chance : Falling) × MustSay SpellsChance (first_value (found_of matches.now) (codes "chance")) chance }
+    ensures { MustSay SpellsChance (first_value (found_of matches.now) (codes "chance")) result }
+{
+    match matches.get_str("chance").and_then(chance_of) {
+        Some(chance) => chance,
+        None => unreachable!(),
+    }
+}
+
+/// The numbers that the option of words spells. The error is want of memory. The condition: it spells some.
+pub fn words_in(alloc: Global, matches: &ArgMatches<'_>) -> Result<Numbers, AllocError>
+    requires { (words : List ℕ) × MustSay SpellsWords (first_value (found_of matches.now) (codes "words")) words }
+    ensures { IfOk result (MustSay SpellsWords (first_value (found_of matches.now) (codes "words"))) }
+{
+    match matches.get_str("words") {
+        Some(word) => words_of(alloc, word),
+        None => unreachable!(),
+    }
 }
 
 // The kind of a read that was found. The condition: one was.
 fn kind_in(matches: &ArgMatches<'_>) -> ReadKind
-    requires { (kind : AnyKind) × IsKindFound (first_value (found_of matches.now)) kind }
-    ensures { (kind : AnyKind) → IsKindFound (first_value (found_of matches.now)) kind → result ≡ kind }
+    requires { (kind : AnyKind) × MustSay NamesKind (first_value (found_of matches.now) (codes "second")) kind }
+    ensures { (kind : AnyKind) → MustSay NamesKind (first_value (found_of matches.now) (codes "second")) kind → result ≡ kind }
 {
-    let Some(word) = matches.get_str("kind") else {
+    let Some(word) = matches.get_str("second") else {
         unreachable!()
     };
     match ReadKind::of_word(word) {
@@ -140,8 +194,8 @@ fn kind_in(matches: &ArgMatches<'_>) -> ReadKind
 // The value that the word spells in a column. The error is want of memory. The condition: there is a word
 // that spells one.
 fn value_of(alloc: Global, column: Column, word: Option<&str>) -> Result<Value, AllocError>
-    requires { (value : AnyValue) × IsValueFound column (option_map (λ w. w.now) word) value }
-    ensures { IfOk result (λ made. (value : AnyValue) → IsValueFound column (option_map (λ w. w.now) word.entry) value → made ≡ value) }
+    requires { (value : AnyValue) × MustSay (Spells column) (option_map (λ w. w.now) word) value }
+    ensures { IfOk result (λ made. (value : AnyValue) → MustSay (Spells column) (option_map (λ w. w.now) word.entry) value → made ≡ value) }
 {
     one_value();
     let Some(word) = word else { unreachable!() };
@@ -160,9 +214,9 @@ pub fn query_in(alloc: Global, matches: &ArgMatches<'_>) -> Result<Query, AllocE
     let kind = kind_in(matches);
     let columns = kind.columns();
     let words = [
-        matches.get_str("first"),
-        matches.get_str("second"),
         matches.get_str("third"),
+        matches.get_str("fourth"),
+        matches.get_str("fifth"),
     ];
     let mut values = Vec::new(alloc);
     for i in 0..columns.len() {

@@ -142,7 +142,7 @@ impl Checker {
     }
 
     // Takes the case of this line, where this one replies to reads.
-    fn step_by<R: Replier>(
+    pub(crate) fn step_by<R: Replier>(
         &mut self,
         replier: &R,
         case: &Case,

@@ -4,15 +4,18 @@ ghost use Rattle.std.specs.Prelude.{◌≡◌, [], ◌∷◌, None};
 ghost use Rattle.snb_base.specs.Shelf.{IsRead};
 ghost use Rattle.snb_input_files.specs.Loading.{is_read_fault};
 ghost use Rattle.snb_graph_model.specs.Soundness.{Sound};
+ghost use Rattle.snb_handlers.specs.Table.{HasAll, kinds};
 ghost use Rattle.snb_validation_check.specs.CaseTakers.{AreCaseTakers, CasesAreLawful};
 ghost use Rattle.snb_validation_check.specs.CasesFile.{IsCasesAnswer};
 ghost use Rattle.snb_validation_check.specs.Checks.{count_reads};
 
 use crate::checker::{Checker, StepFault};
+use crate::replier::{OwnReads, Replier};
 use crate::text::Tally;
 use snb_base::Shelf;
 use snb_graph::Graph;
 use snb_graph_model::law::graphs_are_their_rows;
+use snb_handlers::Handlers;
 use snb_input_files::{FileSink, Found, Load, Used, load_file};
 use snb_input_lines::Sink;
 use snb_schema::{Fault, FileId, FileKind, Refusal};
@@ -21,29 +24,33 @@ use snb_validation_cases::{Case, CaseAt, CaseLines};
 use std::alloc::{AllocError, Global};
 use std::marker::Model;
 
-// A checker that takes the cases of a file, and how many reads it took.
-pub(crate) struct CaseFileSink {
+// A checker that takes the cases of a file, whoever replies to their reads, and how many reads it took.
+pub(crate) struct CaseFileSink<'h, R: Replier> {
     alloc: Global,
+    replier: &'h R,
     checker: Checker,
     reads: u64,
 }
 
-impl Drop for CaseFileSink {
+impl<'h, R: Replier> Drop for CaseFileSink<'h, R> {
     fn drop(self) {
         let CaseFileSink {
             alloc: _,
+            replier: _,
             checker: _,
             reads: _,
         } = self;
     }
 }
 
-impl Model for CaseFileSink {
+impl<'h, R: Replier> Model for CaseFileSink<'h, R> {
     ghost use Rattle.snb_validation_check.specs.CaseTakers.{Counted};
 
     ghost Value = { Counted };
 
     ghost view = { λ t. record { checked = t.checker; reads = t.reads } };
+
+    ghost invariant = { λ t. R.ready t.replier.now };
 }
 
 // How many reads a case is.
@@ -56,14 +63,16 @@ fn reads_in(item: &CaseAt) -> u64
     }
 }
 
-impl CaseFileSink {
+impl<'h, R: Replier> CaseFileSink<'h, R> {
     // It has taken no case, and begins with this graph. Takes no memory.
-    fn new(alloc: Global, graph: Graph) -> CaseFileSink
-        requires { Sound graph }
+    fn new(alloc: Global, replier: &'h R, graph: Graph) -> CaseFileSink<'h, R>
+        requires ready { R.ready replier.now }
+        requires sound { Sound graph }
         ensures { result ≡ record { checked = record { graph = graph; first = None }; reads = 0 } }
     {
         CaseFileSink {
             alloc,
+            replier,
             checker: Checker::new(alloc, graph),
             reads: 0,
         }
@@ -71,10 +80,11 @@ impl CaseFileSink {
 
     // What was found. Takes no memory.
     fn into_tally(self) -> Tally
-        ensures { result ≡ record { reads = self.reads; first = self.checked.first } }
+        ensures { result ≡ record { reads = self.entry.reads; first = self.entry.checked.first } }
     {
         let CaseFileSink {
             alloc: _,
+            replier: _,
             checker,
             reads,
         } = self;
@@ -85,7 +95,7 @@ impl CaseFileSink {
     }
 }
 
-impl Sink<CaseAt> for CaseFileSink {
+impl<'h, R: Replier> Sink<CaseAt> for CaseFileSink<'h, R> {
     ghost use Rattle.std.specs.Prelude.{refl};
     ghost use Rattle.snb_validation_check.specs.CaseTakers.{case_sink};
 
@@ -97,7 +107,7 @@ impl Sink<CaseAt> for CaseFileSink {
             return Err(Fault::Memory);
         };
         let line = item.line;
-        match self.checker.step(&item.case, line) {
+        match self.checker.step_by(self.replier, &item.case, line) {
             Ok(()) => {}
             Err(StepFault::Missing { missing }) => {
                 return Err(Fault::Bad {
@@ -131,7 +141,7 @@ impl Sink<CaseAt> for CaseFileSink {
     ghost same_self = { λ _. refl };
 }
 
-impl FileSink<CaseLines> for CaseFileSink {
+impl<'h, R: Replier> FileSink<CaseLines> for CaseFileSink<'h, R> {
     ghost use Rattle.snb_validation_check.specs.CaseTakers.{case_stage};
 
     ghost stage = { case_stage };
@@ -154,6 +164,38 @@ pub(crate) fn cases_are_lawful()
     graphs_are_their_rows();
 }
 
+// Checks the cases of a file, where this one replies to reads.
+fn check_cases_by<S: Shelf, R: Replier>(
+    alloc: Global,
+    shelf: &mut S,
+    path: &str,
+    graph: Graph,
+    replier: &R,
+) -> Result<Tally, Load>
+    requires ready { R.ready replier.now }
+    requires sound { Sound graph }
+    ensures answer { IsCasesAnswer (S.contents shelf.old) path.now graph result }
+    ensures read { IsRead (is_read_fault result) (S.contents shelf.old) (S.faults shelf.old) (S.contents shelf.new) (S.faults shelf.new) }
+{
+    cases_are_lawful();
+    graph.known();
+    let file = FileId {
+        kind: FileKind::Cases,
+        part: 0,
+    };
+    let used = Used { bytes: 0, rows: 0 };
+    let file_sink = CaseFileSink::new(alloc, replier, graph);
+    match load_file::<S, CaseLines, CaseFileSink<'_, R>>(
+        alloc, shelf, path, file, used, file_sink,
+    ) {
+        Ok(Found::Whole { file_sink, used: _ }) => Ok(file_sink.into_tally()),
+        Ok(Found::Absent { file_sink: _ }) => Err(Load::Refused {
+            refusal: Refusal::Absent { file },
+        }),
+        Err(load) => Err(load),
+    }
+}
+
 /// Checks the cases of a file against a graph: each reply that a case has against the one that the
 /// graph gives with the inserts of the cases before it. The file is looked up by its path, is read in
 /// pieces, and may have any number of lines and `MAX_BYTES` bytes.
@@ -174,19 +216,24 @@ pub fn check_cases<S: Shelf>(
     ensures answer { IsCasesAnswer (S.contents shelf.old) path.now graph result }
     ensures read { IsRead (is_read_fault result) (S.contents shelf.old) (S.faults shelf.old) (S.contents shelf.new) (S.faults shelf.new) }
 {
-    cases_are_lawful();
-    graph.known();
-    let file = FileId {
-        kind: FileKind::Cases,
-        part: 0,
-    };
-    let used = Used { bytes: 0, rows: 0 };
-    let file_sink = CaseFileSink::new(alloc, graph);
-    match load_file::<S, CaseLines, CaseFileSink>(alloc, shelf, path, file, used, file_sink) {
-        Ok(Found::Whole { file_sink, used: _ }) => Ok(file_sink.into_tally()),
-        Ok(Found::Absent { file_sink: _ }) => Err(Load::Refused {
-            refusal: Refusal::Absent { file },
-        }),
-        Err(load) => Err(load),
-    }
+    check_cases_by(alloc, shelf, path, graph, &OwnReads { alloc })
+}
+
+/// Checks the cases of a file as `check_cases` does, but asks the handlers for the replies to reads. An error of a
+/// handler is `Memory` here too.
+///
+/// The conditions: the graph is sound, and each kind of read has a handler.
+pub fn check_cases_via<S: Shelf>(
+    alloc: Global,
+    shelf: &mut S,
+    path: &str,
+    graph: Graph,
+    handlers: &Handlers,
+) -> Result<Tally, Load>
+    requires all { HasAll (kinds handlers.now) }
+    requires sound { Sound graph }
+    ensures answer { IsCasesAnswer (S.contents shelf.old) path.now graph result }
+    ensures read { IsRead (is_read_fault result) (S.contents shelf.old) (S.faults shelf.old) (S.contents shelf.new) (S.faults shelf.new) }
+{
+    check_cases_by(alloc, shelf, path, graph, handlers)
 }

@@ -10,5 +10,5 @@ mod replier;
 mod same;
 pub mod text;
 
-pub use file::check_cases;
+pub use file::{check_cases, check_cases_via};
 pub use text::Tally;

@@ -10,7 +10,12 @@ returns-in_err-graph-clause-answer g c =
     passed (IsTallyAnswer (g.S.Shelf.contents c.args.shelf.now) c.args.folder.now c.args.cases.now) c.from_residual.result c.in_err-graph.field-0.0 c.from_residual.ensures.1
     (tally_no_dataset (g.S.Shelf.contents c.args.shelf.now) c.args.folder.now c.args.cases.now c.load_dataset.new.used c.in_err-graph.field-0.0 c.in_err-graph.ensures.answer)
 
-pub returns-clause-answer : goal.returns-clause-answer
-returns-clause-answer g c =
+pub returns-in-Some-clause-answer : goal.returns-in-Some-clause-answer
+returns-in-Some-clause-answer g c =
+    tallied (g.S.Shelf.contents c.args.shelf.now) c.args.folder.now c.args.cases.now c.load_dataset.new.used c.one_dataset.ensures.one c.one_cases_refusal.ensures.or_not c.in_ok-graph.graph c.check_cases_via.result c.in_ok-graph.ensures.answer
+    (subst (λ (o : Option Files). IsCasesAnswer o c.args.cases.now c.in_ok-graph.graph c.check_cases_via.result) c.in_ok-graph.ensures.read.same c.check_cases_via.ensures.answer)
+
+pub returns-in-None-clause-answer : goal.returns-in-None-clause-answer
+returns-in-None-clause-answer g c =
     tallied (g.S.Shelf.contents c.args.shelf.now) c.args.folder.now c.args.cases.now c.load_dataset.new.used c.one_dataset.ensures.one c.one_cases_refusal.ensures.or_not c.in_ok-graph.graph c.check_cases.result c.in_ok-graph.ensures.answer
     (subst (λ (o : Option Files). IsCasesAnswer o c.args.cases.now c.in_ok-graph.graph c.check_cases.result) c.in_ok-graph.ensures.read.same c.check_cases.ensures.answer)

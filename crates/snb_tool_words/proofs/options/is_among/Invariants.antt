@@ -1,6 +1,6 @@
--- The name isn't one of those so far.
+-- The option isn't one of those so far.
 use Rattle.std.proofs.Common.{Contains, take}
 use Rattle.snb_tool_words.proofs.options.is_among.Given as goal
 
 abbrev pub invariant-loop-one : goal.invariant-loop-one
-invariant-loop-one l = ¬ Contains (take l.one-index l.names) l.name
+invariant-loop-one l = ¬ Contains (take l.one-index l.options) l.option

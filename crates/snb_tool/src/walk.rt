@@ -1,0 +1,116 @@
+//! The command `walk`.
+
+ghost use Rattle.std.specs.Prelude.{◌≡◌, ◌++◌, ℕ, IfOk, OnOk, Option, Some};
+ghost use Rattle.snb_base.specs.Shelf.{IsRead};
+ghost use Rattle.snb_handlers.specs.Table.{HasAll, kinds};
+ghost use Rattle.snb_input_files.specs.Loading.{is_read_fault};
+ghost use Rattle.snb_graph_model.specs.Soundness.{Sound};
+ghost use Rattle.snb_tool_words.specs.declared.command.Command.TheVariants.{Walk};
+ghost use Rattle.snb_tool.specs.Endings.{IsFinished, IsWalkAnswer, connector_of};
+ghost use Rattle.snb_tool.specs.WalkTexts.{reply_line, step_line, stop_line, walk_text};
+
+use crate::deliver::Finished;
+use snb_base::{Shelf, Text};
+use snb_graph::Graph;
+use snb_handlers::Handlers;
+use snb_input_files::{Load, Used};
+use snb_loader::load_dataset;
+use snb_read_model::{CowText, Reply};
+use snb_schema::{Query, Refusal};
+use snb_validation::reply_text;
+use snb_walk::{Chance, Policy, Stop, Target, Trace};
+use std::alloc::{AllocError, Global};
+
+// Appends the line of a reply after these words.
+fn put_reply(words: &str, reply: &Reply<CowText<'_>>, to: &mut Vec<u8>) -> Result<(), AllocError>
+    ensures { OnOk result (to.new.items ≡ to.old.items ++ words.now ++ reply_line reply.now) }
+{
+    to.extend_from_slice(words.as_bytes())?;
+    reply_text(reply, to)?;
+    to.push(b'\n')?;
+    Ok(())
+}
+
+// Appends the line of a step.
+fn put_step(alloc: Global, step: &(Target, Reply<Text>), to: &mut Vec<u8>) -> Result<(), AllocError>
+    ensures { OnOk result (to.new.items ≡ to.old.items ++ step_line step.now) }
+{
+    let words = match step.0 {
+        Target::Person { id } => format!(in alloc; "person {id} ")?,
+        Target::Message { id } => format!(in alloc; "message {id} ")?,
+    };
+    put_reply(words.as_str(), &step.1.lend()?, to)
+}
+
+// The line of why a walk stopped.
+fn stop_words(stop: Stop) -> &'static str
+    ensures { result.now ≡ stop_line stop }
+{
+    match stop {
+        Stop::Chance => "stop chance\n",
+        Stop::Words => "stop words\n",
+        Stop::Nowhere => "stop nowhere\n",
+    }
+}
+
+// The text of a walk.
+fn walk_lines(alloc: Global, trace: &Trace) -> Result<Vec<u8>, AllocError>
+    ensures { IfOk result (λ text. text.items ≡ walk_text trace.now.start trace.now.steps trace.now.stop) }
+{
+    let start = Reply::with_tail(alloc, trace.start.lend()?, Vec::new(alloc))?;
+    let mut text = Vec::new(alloc);
+    put_reply("start ", &start, &mut text)?;
+    for step in trace.steps.as_slice() {
+        put_step(alloc, step, &mut text)?;
+    }
+    text.extend_from_slice(stop_words(trace.stop).as_bytes())?;
+    Ok(text)
+}
+
+// Reads the tables of a folder, and gives the text of a walk on them.
+fn walk_of<S: Shelf>(
+    alloc: Global,
+    shelf: &mut S,
+    folder: &str,
+    query: &Query,
+    chance: Chance,
+    words: &[u64],
+    handlers: &Handlers,
+    policy: &Policy,
+) -> Result<Vec<u8>, Load>
+    requires all { HasAll (kinds handlers.now) }
+    ensures answer { IsWalkAnswer (S.contents shelf.old) folder.now policy.now.pick query.now chance words.now result }
+    ensures read { IsRead (is_read_fault result) (S.contents shelf.old) (S.faults shelf.old) (S.contents shelf.new) (S.faults shelf.new) }
+{
+    let mut used = Used { bytes: 0, rows: 0 };
+    let graph = load_dataset(alloc, shelf, folder, &mut used)?;
+    let trace = snb_walk::walk(alloc, handlers, policy, &graph, query, chance, words)?;
+    Ok(walk_lines(alloc, &trace)?)
+}
+
+/// Reads the tables of a folder, and takes the walk of a query on them, which asks the handlers and the policy. Where
+/// a kind of read has no handler, the first such kind is what is wrong, and nothing is read.
+pub fn walk<S: Shelf>(
+    alloc: Global,
+    shelf: &mut S,
+    folder: &str,
+    query: &Query,
+    chance: Chance,
+    words: &[u64],
+    handlers: &Handlers,
+    policy: &Policy,
+) -> Result<Finished, Load>
+    ensures answer { (fixed : Option ℕ) → IsFinished (Walk folder.now query.now chance words.now) (S.contents shelf.old) (Some (connector_of handlers.now policy.now)) fixed result }
+    ensures unread { ¬ HasAll (kinds handlers.now) → shelf.new ≡ shelf.old }
+    ensures read { IsRead (is_read_fault result) (S.contents shelf.old) (S.faults shelf.old) (S.contents shelf.new) (S.faults shelf.new) }
+{
+    match handlers.missing() {
+        Some(kind) => Err(Load::Refused {
+            refusal: Refusal::Unregistered { kind },
+        }),
+        None => {
+            let text = walk_of(alloc, shelf, folder, query, chance, words, handlers, policy)?;
+            Ok(Finished::shown(alloc, text, 0))
+        }
+    }
+}

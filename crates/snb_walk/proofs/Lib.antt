@@ -1,0 +1,5 @@
+mod Answering
+mod Going
+mod OneWalks
+mod Shortness
+mod SomeWalks
