@@ -1,24 +1,11 @@
 -- How cells compare, and lists of one element.
-use Rattle.std.proofs.Common.{◌≡◌, ℕ, ◌<◌, ◌≤◌, ◌||◌, nat_le, nat_lt, pos, Bool, true, false, List, [], ◌∷◌, refl, sym, ap, ◌∙◌, arith}
+use Rattle.std.proofs.Common.{◌≡◌, ℕ, ◌<◌, ◌≤◌, ◌||◌, nat_le, nat_lt, Bool, true, false, List, [], ◌∷◌, refl, sym, ap, ◌∙◌, arith}
 use Rattle.std.proofs.lemmas.Bool.Decides.{nat_tests}
 use Rattle.std.specs.Cmp.Lexicographic.{slice_cmp}
 use Rattle.std.specs.List.{list_any}
-use Rattle.std.specs.Ordering.{int_cmp, nat_cmp, ordering_then}
-use Rattle.std.specs.declared.cmp.Ordering.{Ordering}
-use Rattle.std.specs.declared.cmp.Ordering.TheVariants.{Less, Equal, Greater}
+use Rattle.std.specs.Ordering.{nat_cmp}
 use Rattle.snb_read_model.specs.declared.cell.Cell.TheVariants as cell
-use Rattle.snb_read_model.specs.Cells.{cell_cmp, number}
-
-int_nat : (a b : ℕ) → int_cmp (pos a) (pos b) ≡ nat_cmp a b
-int_nat a b = grind (arith, nat_tests)
-
-pub then_end : (o : Ordering) → ordering_then o Equal ≡ o
-then_end Less = refl
-then_end Equal = refl
-then_end Greater = refl
-
-pub number_cmp : (a b : ℕ) → cell_cmp (number a) (number b) ≡ nat_cmp a b
-number_cmp a b = then_end (int_cmp (pos a) (pos b)) ∙ int_nat a b
+use Rattle.snb_read_model.specs.Cells.{cell_cmp}
 
 pub words_cmp : (a b : List ℕ) → cell_cmp (cell.Words a) (cell.Words b) ≡ slice_cmp nat_cmp a b
 words_cmp a b = refl

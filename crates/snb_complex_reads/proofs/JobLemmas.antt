@@ -20,14 +20,14 @@ use Rattle.snb_schema.specs.declared.row.Row.{Row}
 use Rattle.snb_schema.specs.declared.table.Table.TheVariants as table
 use Rattle.snb_graph_integrity.specs.SoundLaws.{NumbersFit}
 use Rattle.snb_graph_model.specs.Graphs.{IsGraph}
-use Rattle.snb_read_order.proofs.Laws.{answers_from, answers_mapped, chosen, then_assoc, zip_with}
+use Rattle.snb_read_order.proofs.Laws.{answers_from, answers_mapped, chosen, number_cmp, then_assoc, then_end, zip_with}
 use Rattle.snb_read_model.specs.declared.cell.Cell.TheVariants as cell
 use Rattle.snb_read_model.specs.Cells.{Cell, cell_cmp, number}
 use Rattle.snb_graph_model.specs.Around.{ends, organisations, places, work}
 use Rattle.snb_read_model.specs.ComplexReads.{IsAt, IsJob, is_in}
 use Rattle.snb_read_model.specs.Order.{Answers, Falling, First, FirstOf, Rising, by}
 use Rattle.snb_short_reads.proofs.Laws.{found_person, person_at}
-use Rattle.snb_complex_reads.proofs.Columns.{any_one, number_cmp, one_only, then_end, words_cmp}
+use Rattle.snb_complex_reads.proofs.Columns.{any_one, one_only, words_cmp}
 use Rattle.snb_complex_reads.proofs.Moves.{joined_push}
 use Rattle.snb_complex_reads.specs.Found.{IsStayFound}
 use Rattle.snb_complex_reads.specs.Jobs.{AreJobs, AreSeen, IsJobFound, Job, job_of, jobs_by}

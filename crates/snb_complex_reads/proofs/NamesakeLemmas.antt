@@ -21,7 +21,7 @@ use Rattle.snb_graph_integrity.specs.SoundLaws.{RequiredEdgesAreThere}
 use Rattle.snb_graph_model.specs.Graphs.{HasKey, IsGraph}
 use Rattle.snb_graph_model.specs.Soundness.{Held, Sound}
 use Rattle.snb_read_order.specs.Laws.{SomeFirst}
-use Rattle.snb_read_order.proofs.Laws.{answers_from, answers_mapped, chosen, then_assoc, zip_push, zip_with}
+use Rattle.snb_read_order.proofs.Laws.{answers_from, answers_mapped, chosen, number_cmp, then_assoc, then_end, zip_push, zip_with}
 use Rattle.snb_graph_model.proofs.Laws.{end_only, end_there}
 use Rattle.snb_read_model.specs.declared.cell.Cell.TheVariants as cell
 use Rattle.snb_read_model.specs.Cells.{Cell, cell_cmp, number}
@@ -31,7 +31,7 @@ use Rattle.snb_read_model.specs.Distance.{IsPerson, IsWithin}
 use Rattle.snb_read_model.specs.Order.{Answers, First, FirstOf, Rising, Whole, by}
 use Rattle.snb_short_reads.proofs.Laws.{any, edge_key_held}
 use Rattle.snb_short_reads.proofs.Laws as lookups
-use Rattle.snb_complex_reads.proofs.Columns.{any_one, number_cmp, one_only, then_end, words_cmp}
+use Rattle.snb_complex_reads.proofs.Columns.{any_one, one_only, words_cmp}
 use Rattle.snb_complex_reads.proofs.FoundLemmas.{walk_held}
 use Rattle.snb_complex_reads.proofs.Moves.{filter_push}
 use Rattle.snb_complex_reads.proofs.StayLemmas.{is_somewhere, link_at, place_at, study_found, work_found}

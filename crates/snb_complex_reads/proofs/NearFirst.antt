@@ -17,7 +17,7 @@ use Rattle.snb_graph_integrity.specs.SoundLaws.{RequiredEdgesAreThere}
 use Rattle.snb_graph_model.specs.Graphs.{IsGraph}
 use Rattle.snb_graph_model.specs.Soundness.{Sound}
 use Rattle.snb_read_order.specs.Laws.{SomeFirst}
-use Rattle.snb_read_order.proofs.Laws.{zip_length}
+use Rattle.snb_read_order.proofs.Laws.{number_cmp, zip_length}
 use Rattle.snb_graph_model.proofs.Laws.{contains_none, in_filter}
 use Rattle.snb_graph_rows.proofs.Laws.{contains_cases, contains_here, contains_there}
 use Rattle.snb_read_model.specs.Cells.{Cell, cell_cmp, number}
@@ -25,7 +25,6 @@ use Rattle.snb_read_model.specs.ComplexReads.{Ic1, IsNamesake, Stay, is_named}
 use Rattle.snb_read_model.specs.Distance.{IsWithin}
 use Rattle.snb_read_model.specs.Order.{Answers, First, FirstOf, Rising, Way, Whole, by}
 use Rattle.snb_read_laws.proofs.Laws.{by_total, near_held, one_within, some_namesake, some_within, some_zip}
-use Rattle.snb_complex_reads.proofs.Columns.{number_cmp}
 use Rattle.snb_complex_reads.proofs.Moves.{answers_moved}
 
 -- ---- the first of things that come before others

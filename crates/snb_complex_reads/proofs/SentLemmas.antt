@@ -10,6 +10,7 @@ use Rattle.snb_schema.specs.declared.row.Row.{Row}
 use Rattle.snb_graph_integrity.specs.SoundLaws.{NumbersFit}
 use Rattle.snb_graph_model.specs.Graphs.{IsGraph}
 use Rattle.snb_read_order.proofs.Laws.{answers_from, two_columns}
+use Rattle.snb_read_model.specs.declared.sent.Sent.{Sent}
 use Rattle.snb_read_model.specs.Cells.{Cell}
 use Rattle.snb_graph_model.specs.Around.{messages}
 use Rattle.snb_read_model.specs.ComplexReads.{IsSent, latest, messages_of}
@@ -22,27 +23,27 @@ use Rattle.snb_complex_reads.proofs.Moves.{All-flat_map}
 use Rattle.snb_complex_reads.specs.Found.{IsSentFound, sent_by, sent_first}
 
 pub sent_total : IsTotalOrder sent_first
-sent_total = then_total (back_total (on_total (λ (p : ℕ × ℕ × ℕ). p.2) nat_cmp_total)) (on_total (λ (p : ℕ × ℕ × ℕ). p.1) nat_cmp_total)
+sent_total = then_total (back_total (on_total (λ (p : Sent). p.date) nat_cmp_total)) (on_total (λ (p : Sent). p.message) nat_cmp_total)
 
 module _ (g : List Row) (graph : IsGraph g) (fit : NumbersFit) where
   -- what persons sent is found
   pub all_sent : (passes : ℕ → Bool) (ps : List (ℕ × ℕ)) → All (λ p. IsPerson g p.0) ps → All (IsSentFound g) (messages_of g passes ps)
   all_sent passes ps all = All-flat_map (λ p. sent_by g passes p.0) (IsSentFound g) ps (λ i e there. (let p = get_or ps i e in let person = all i e there in
-      All-map (IsSentFound g) (λ m. (p.0, m.0, m.1)) (filter (λ m. passes m.1) (messages g p.0)) (All-filter (λ m. passes m.1) (λ (m : ℕ × ℕ). IsSentFound g (p.0, m.0, m.1)) (messages g p.0)
-      (All-weaker (IsMessageFound g) (λ (m : ℕ × ℕ). IsSentFound g (p.0, m.0, m.1)) (λ m found. record { person = person; fits = person_fits g graph fit p.0 person; message = found }) (messages g p.0) (messages_found g graph fit p.0)))))
+      All-map (IsSentFound g) (λ m. record { person = p.0; message = m.0; date = m.1 }) (filter (λ m. passes m.1) (messages g p.0)) (All-filter (λ m. passes m.1) (λ (m : ℕ × ℕ). IsSentFound g (record { person = p.0; message = m.0; date = m.1 })) (messages g p.0)
+      (All-weaker (IsMessageFound g) (λ (m : ℕ × ℕ). IsSentFound g (record { person = p.0; message = m.0; date = m.1 })) (λ m found. record { person = person; fits = person_fits g graph fit p.0 person; message = found }) (messages g p.0) (messages_found g graph fit p.0)))))
 
-  pub sent_agree : (x y : ℕ × ℕ × ℕ) (a b : List Cell) → IsSent g x a → IsSent g y b → is_lt (by latest a b) ≡ is_lt (sent_first x y)
-  sent_agree x y a b r s = rw (r.is, s.is) (ap is_lt (two_columns y.2 x.2 x.1 y.1))
+  pub sent_agree : (x y : Sent) (a b : List Cell) → IsSent g x a → IsSent g y b → is_lt (by latest a b) ≡ is_lt (sent_first x y)
+  sent_agree x y a b r s = rw (r.is, s.is) (ap is_lt (two_columns y.date x.date x.message y.message))
 
   -- each message has a row
-  pub sent_any : (s : ℕ × ℕ × ℕ) → IsSentFound g s → (a : List Cell) × IsSent g s a
+  pub sent_any : (s : Sent) → IsSentFound g s → (a : List Cell) × IsSent g s a
   sent_any s f =
-      let (p, c, named) = person_at g graph s.0 f.person in
-      let (m, is) = shows g graph fit s.1 f.message.held in
-      (_, record { person = p; held = (found_person g graph fit s.0 p (named, c)).only; message = m; sent = is; is = refl })
+      let (p, c, named) = person_at g graph s.person f.person in
+      let (m, is) = shows g graph fit s.message f.message.held in
+      (_, record { person = p; held = (found_person g graph fit s.person p (named, c)).only; message = m; sent = is; is = refl })
 
   -- the rows of the latest messages are the answer
-  pub sent_answers : (found first : List (ℕ × ℕ × ℕ)) (answer : List (List Cell)) → All (IsSentFound g) found → FirstOf sent_first (First 20) found first → AllZip (IsSent g) first answer
+  pub sent_answers : (found first : List (Sent)) (answer : List (List Cell)) → All (IsSentFound g) found → FirstOf sent_first (First 20) found first → AllZip (IsSent g) first answer
       → Answers found (IsSent g) latest (First 20) answer
   sent_answers found first answer all taken z =
       answers_from (IsSent g) sent_first latest sent_agree (First 20) found found first answer (IsPermutation-refl found) taken

@@ -8,6 +8,7 @@ use Rattle.snb_schema.specs.declared.table.Kind.TheVariants as kinds
 use Rattle.snb_schema.specs.RowKeys.{node_key}
 use Rattle.snb_graph_model.specs.Graphs.{HasKey}
 use Rattle.snb_read_model.specs.declared.like.Like.{Like}
+use Rattle.snb_read_model.specs.declared.sent.Sent.{Sent}
 use Rattle.snb_graph_model.specs.Around.{messages}
 use Rattle.snb_read_model.specs.Distance.{IsPerson}
 use Rattle.snb_read_order.specs.TopK.{IsTopK, Kept}
@@ -29,15 +30,15 @@ abbrev pub weigh : Like → Like → Ordering
 weigh = then_cmp (on (λ (l : Like). l.person) nat_cmp) (then_cmp (flip_args (on (λ (l : Like). l.date) nat_cmp)) (on (λ (l : Like). l.message) nat_cmp))
 
 module _ (g : List Row) where
-  -- a person's messages that pass, each as (person, message, date)
-  abbrev pub sent_by : (ℕ → Bool) → ℕ → List (ℕ × ℕ × ℕ)
-  sent_by passes person = map (λ m. (person, m.0, m.1)) (filter (λ m. passes m.1) (messages g person))
+  -- a person's messages that pass
+  abbrev pub sent_by : (ℕ → Bool) → ℕ → List Sent
+  sent_by passes person = map (λ m. record { person = person; message = m.0; date = m.1 }) (filter (λ m. passes m.1) (messages g person))
 
-  -- a message and a person who are held, as (person, message, date)
-  pub record IsSentFound (s : ℕ × ℕ × ℕ) : Type 0 where
-    pub person : IsPerson g s.0
-    pub fits : IsCellNumber s.0
-    pub message : IsMessageFound g (s.1, s.2)
+  -- a message and a person who are held
+  pub record IsSentFound (s : Sent) : Type 0 where
+    pub person : IsPerson g s.person
+    pub fits : IsCellNumber s.person
+    pub message : IsMessageFound g (s.message, s.date)
 
   -- a comment that is held, as (comment, date)
   pub record IsCommentFound (c : ℕ × ℕ) : Type 0 where
@@ -57,15 +58,15 @@ module _ (g : List Row) where
     pub held : HasKey g (node_key kinds.Organisation s.0)
     pub fits : s.1 < 2 ^ 32
 
--- dates falling, message ids rising, of (person, message, date)
-abbrev pub sent_first : ℕ × ℕ × ℕ → ℕ × ℕ × ℕ → Ordering
-sent_first = then_cmp (flip_args (on (λ (s : ℕ × ℕ × ℕ). s.2) nat_cmp)) (on (λ (s : ℕ × ℕ × ℕ). s.1) nat_cmp)
+-- dates falling, then message ids rising
+abbrev pub sent_first : Sent → Sent → Ordering
+sent_first = then_cmp (flip_args (on (λ (s : Sent). s.date) nat_cmp)) (on (λ (s : Sent). s.message) nat_cmp)
 
 -- of these messages the latest twenty are kept
-abbrev pub IsLatest : List (ℕ × ℕ × ℕ) → Kept (ℕ × ℕ × ℕ) → Type 0
+abbrev pub IsLatest : List Sent → Kept Sent → Type 0
 IsLatest found kept = IsTopK sent_first found kept × (kept.most ≡ 20)
 
 -- whatever the messages were of which the latest were kept: those of them, and of these, are kept now
-abbrev pub HasOffered : List (ℕ × ℕ × ℕ) → Kept (ℕ × ℕ × ℕ) → Kept (ℕ × ℕ × ℕ) → Type 0
+abbrev pub HasOffered : List Sent → Kept Sent → Kept Sent → Type 0
 HasOffered all old new =
-    (before : List (ℕ × ℕ × ℕ)) → IsLatest before old → (found : List (ℕ × ℕ × ℕ)) × IsLatest found new × HasAppended all before found
+    (before : List Sent) → IsLatest before old → (found : List Sent) × IsLatest found new × HasAppended all before found

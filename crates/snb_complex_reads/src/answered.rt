@@ -1,13 +1,14 @@
 //! The complex read of the replies to a person's messages.
 
 ghost use Rattle.std.specs.Prelude.{◌∷◌, [], IfOk, OnOk};
-ghost use Rattle.std.specs.List.{All, AllZip};
+ghost use Rattle.std.specs.List.{All};
 ghost use Rattle.snb_complex_reads.specs.Found.{HasAppended, IsCommentFound};
 ghost use Rattle.snb_graph_model.specs.Around.{replies};
 ghost use Rattle.snb_read_model.specs.ComplexReads.{Ic8, IsAnswered};
 ghost use Rattle.snb_read_model.specs.Order.{Answers, Falling, First, Rising};
 ghost use Rattle.snb_graph_model.specs.Soundness.{Sound};
 
+use snb_base::list_of;
 use snb_graph::Graph;
 use snb_graph_integrity::law::sound_graphs;
 use snb_read_model::{Answer, AnswerRow, Cell, CowText};
@@ -41,23 +42,6 @@ fn reply_row(
     Ok(AnswerRow::from_vec(alloc, cells))
 }
 
-// The rows of replies.
-fn reply_rows<'a>(
-    alloc: Global,
-    graph: &'a Graph,
-    replies: &[(u64, u64)],
-) -> Result<Answer<CowText<'a>>, AllocError>
-    requires sound { Sound graph.now }
-    requires found { All (IsCommentFound graph.now) replies.now }
-    ensures { IfOk result (AllZip (IsAnswered graph.now) replies.now) }
-{
-    let mut answer = Answer::new(alloc);
-    for reply in replies {
-        answer.push(reply_row(alloc, graph, *reply)?)?;
-    }
-    Ok(answer)
-}
-
 // The rows of the latest twenty of the replies that were found.
 fn latest_replies(
     alloc: Global,
@@ -71,7 +55,11 @@ fn latest_replies(
     graph.known();
     sound_graphs();
     let first = first_of(found, 20, |a, b| b.1.cmp(&a.1).then(a.0.cmp(&b.0)));
-    reply_rows(alloc, graph, &first)
+    list_of(
+        alloc,
+        first.as_slice(),
+        |reply| reply_row(alloc, graph, *reply),
+    )
 }
 
 // Appends the direct replies to a message, each as (comment, date).

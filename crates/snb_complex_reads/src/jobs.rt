@@ -2,7 +2,7 @@
 
 ghost use Rattle.std.specs.Prelude.{◌≡◌, ◌∷◌, ◌++◌, ℕ, List, [], IfOk, OnOk, map, nat_eq};
 ghost use Rattle.std.specs.HashMap.{get};
-ghost use Rattle.std.specs.List.{All, AllZip};
+ghost use Rattle.std.specs.List.{All};
 ghost use Rattle.snb_complex_reads.specs.Jobs.{AreJobs, AreSeen, IsJobFound, job_of, jobs_by};
 ghost use Rattle.snb_read_model.specs.ComplexReads.{Ic11, IsJob, is_in};
 ghost use Rattle.snb_read_model.specs.Distance.{IsPerson};
@@ -13,7 +13,7 @@ ghost use Rattle.snb_graph_model.specs.Graphs.{HasKey};
 ghost use Rattle.snb_graph_model.specs.Soundness.{Sound};
 
 use crate::places::located;
-use snb_base::Text;
+use snb_base::{Text, list_of};
 use snb_graph::Graph;
 use snb_graph_integrity::law::sound_graphs;
 use snb_reach::reach::within;
@@ -43,22 +43,6 @@ fn job_row<'a>(
     Ok(AnswerRow::from_vec(alloc, cells))
 }
 
-// The rows of work rows.
-fn job_rows<'a>(
-    alloc: Global,
-    graph: &'a Graph,
-    jobs: &[((u64, u64, u64), &'a Text)],
-) -> Result<Answer<CowText<'a>>, AllocError>
-    requires { All (IsJobFound graph.now) jobs.now }
-    ensures { IfOk result (AllZip (λ job row. IsJob graph.now (job_of job) row) jobs.now) }
-{
-    let mut answer = Answer::new(alloc);
-    for job in jobs {
-        answer.push(job_row(alloc, graph, job)?)?;
-    }
-    Ok(answer)
-}
-
 // The rows of the first ten of the work rows that were found.
 fn first_jobs<'a>(
     alloc: Global,
@@ -73,7 +57,7 @@ fn first_jobs<'a>(
     let first = first_of(found, 10, |a, b| {
         a.0.2.cmp(&b.0.2).then(a.0.0.cmp(&b.0.0)).then(b.1.cmp(a.1))
     });
-    job_rows(alloc, graph, &first)
+    list_of(alloc, first.as_slice(), |job| job_row(alloc, graph, job))
 }
 
 // Whether an organisation stands in a place of this name, which is looked up the first time alone.

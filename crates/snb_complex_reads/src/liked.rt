@@ -1,7 +1,7 @@
 //! The complex read of the likes of a person's messages.
 
 ghost use Rattle.std.specs.Prelude.{◌≡◌, ◌∷◌, ◌==◌, [], IfOk, OnOk, if◌then◌else◌, map, not};
-ghost use Rattle.std.specs.List.{All, AllZip, filter, list_any};
+ghost use Rattle.std.specs.List.{All, filter, list_any};
 ghost use Rattle.std.specs.List.Sorted.{IsSorted};
 ghost use Rattle.snb_complex_reads.specs.Found.{HasAppended, IsLikeFound, like_of, weigh};
 ghost use Rattle.snb_graph_model.specs.Around.{likes};
@@ -10,6 +10,7 @@ ghost use Rattle.snb_read_model.specs.Order.{Answers, Falling, First, Rising};
 ghost use Rattle.snb_short_reads.specs.Lookups.{IsCellNumber};
 ghost use Rattle.snb_graph_model.specs.Soundness.{Sound};
 
+use snb_base::list_of;
 use snb_graph::Graph;
 use snb_graph_integrity::law::sound_graphs;
 use snb_read_model::{Answer, AnswerRow, Cell, CowText, Like};
@@ -58,23 +59,6 @@ fn like_row<'a>(
     Ok(AnswerRow::from_vec(alloc, cells))
 }
 
-// The rows of likes of messages of the start person.
-fn like_rows<'a>(
-    alloc: Global,
-    graph: &'a Graph,
-    start: u64,
-    likes: &[Like],
-) -> Result<Answer<CowText<'a>>, AllocError>
-    requires { All (IsLikeFound graph.now) likes.now }
-    ensures { IfOk result (AllZip (IsLiked graph.now start) likes.now) }
-{
-    let mut answer = Answer::new(alloc);
-    for like in likes {
-        answer.push(like_row(alloc, graph, start, like)?)?;
-    }
-    Ok(answer)
-}
-
 // The rows of the latest twenty of the likes.
 fn latest_likes(
     alloc: Global,
@@ -92,7 +76,11 @@ fn latest_likes(
         20,
         |a, b| b.date.cmp(&a.date).then(a.person.cmp(&b.person)),
     );
-    like_rows(alloc, graph, start, &first)
+    list_of(
+        alloc,
+        first.as_slice(),
+        |like| like_row(alloc, graph, start, like),
+    )
 }
 
 // Whether one like stands before another of the same person: a later one, or one of the same date and a

@@ -3,11 +3,11 @@
 ghost use Rattle.std.specs.Prelude.{◌≡◌, ◌≤◌, ◌∷◌, [], IfOk, filter, map, nat_eq};
 ghost use Rattle.std.specs.Cmp.Lexicographic.{slice_cmp};
 ghost use Rattle.std.specs.HashMap.{get};
-ghost use Rattle.std.specs.List.{All, AllZip};
+ghost use Rattle.std.specs.List.{All};
 ghost use Rattle.std.specs.Ordering.{nat_cmp};
 ghost use Rattle.snb_complex_reads.specs.Found.{IsStayFound};
 ghost use Rattle.snb_complex_reads.specs.Namesakes.{AreNamesakes, AreNamesakesWithin, IsNamesakeFound, IsNearFound, namesake_of};
-ghost use Rattle.snb_graph_maps.specs.Pairs.{rest};
+ghost use Rattle.snb_graph_links.specs.Pairs.{rest};
 ghost use Rattle.snb_reach.specs.Distances.{AreDistances};
 ghost use Rattle.snb_read_model.specs.ComplexReads.{AreStays, Ic1, IsNamesake, IsStay, is_named};
 ghost use Rattle.snb_read_model.specs.Order.{Answers, First, FirstOf, Rising, Whole};
@@ -15,7 +15,7 @@ ghost use Rattle.snb_graph_model.specs.Soundness.{Sound};
 
 use crate::places::{located, place};
 use crate::scan::scanned;
-use snb_base::Text;
+use snb_base::{Text, list_of};
 use snb_graph::{Graph, Links};
 use snb_graph_integrity::law::sound_graphs;
 use snb_graph_tables::Words;
@@ -119,23 +119,6 @@ fn namesake_row<'a>(
     Ok(AnswerRow::from_vec(alloc, cells))
 }
 
-// The rows of persons at distances.
-fn namesake_rows<'a>(
-    alloc: Global,
-    graph: &'a Graph,
-    found: &[(&'a Person, u64)],
-) -> Result<Answer<CowText<'a>>, AllocError>
-    requires sound { Sound graph.now }
-    requires found { All (IsNamesakeFound graph.now) found.now }
-    ensures { IfOk result (AllZip (λ one row. IsNamesake graph.now (namesake_of one) row) found.now) }
-{
-    let mut answer = Answer::new(alloc);
-    for one in found {
-        answer.push(namesake_row(alloc, graph, one)?)?;
-    }
-    Ok(answer)
-}
-
 // The rows of the first twenty of the persons that were found.
 fn first_namesakes<'a>(
     alloc: Global,
@@ -155,7 +138,11 @@ fn first_namesakes<'a>(
             .then(a.0.last_name.cmp(&b.0.last_name))
             .then(a.0.id.cmp(&b.0.id))
     });
-    namesake_rows(alloc, graph, &first)
+    list_of(
+        alloc,
+        first.as_slice(),
+        |one| namesake_row(alloc, graph, one),
+    )
 }
 
 // Those of the persons near who have the first name.

@@ -1,74 +1,68 @@
 //! Complex reads of the latest messages of persons around one.
 
-ghost use Rattle.std.specs.Prelude.{◌∷◌, ◌++◌, ℕ, List, [], IfOk, OnOk, nat_le, nat_lt};
-ghost use Rattle.std.specs.List.{All, AllZip};
-ghost use Rattle.snb_complex_reads.specs.Found.{HasOffered, IsLatest, IsSentFound, sent_by};
+ghost use Rattle.std.specs.Prelude.{◌≡◌, ◌∷◌, ◌++◌, ℕ, Bool, List, [], IfOk, OnOk};
+ghost use Rattle.std.specs.List.{All};
+ghost use Rattle.snb_complex_reads.specs.Found.{HasOffered, IsLatest, IsSentFound, sent_by, sent_first};
+ghost use Rattle.snb_read_model.specs.declared.sent.Sent.{Sent};
 ghost use Rattle.snb_read_model.specs.ComplexReads.{Ic2, Ic9, IsSent, latest};
 ghost use Rattle.snb_read_model.specs.Order.{Answers, First};
 ghost use Rattle.snb_graph_model.specs.Soundness.{Sound};
 
+use snb_base::list_of;
 use snb_graph::Graph;
 use snb_graph_integrity::law::sound_graphs;
 use snb_reach::reach::within;
-use snb_read_model::{Answer, AnswerRow, Cell, CowText};
+use snb_read_model::{Answer, AnswerRow, Cell, CowText, Sent};
 use snb_read_order::TopK;
 use snb_short_reads::lookups::{known, shown, words};
 use std::alloc::{AllocError, Global};
+use std::cmp::Ordering;
 
-// The row of a message: (person, message, date).
-fn sent_row(
+// The row of a message.
+fn sent_row<'a>(
     alloc: Global,
-    graph: &Graph,
-    sent: (u64, u64, u64),
-) -> Result<AnswerRow<CowText<'_>>, AllocError>
-    requires { IsSentFound graph.now sent }
-    ensures { IfOk result (IsSent graph.now sent) }
+    graph: &'a Graph,
+    sent: &Sent,
+) -> Result<AnswerRow<CowText<'a>>, AllocError>
+    requires { IsSentFound graph.now sent.now }
+    ensures { IfOk result (IsSent graph.now sent.now) }
 {
     graph.known();
     sound_graphs();
-    let Some((_, content)) = shown(graph, sent.1) else {
+    let Some((_, content)) = shown(graph, sent.message) else {
         unreachable!()
     };
-    let person = known(graph, sent.0);
+    let person = known(graph, sent.person);
     let cells = vec![in alloc;
-        Cell::number(sent.0),
+        Cell::number(sent.person),
         words(&person.first_name),
         words(&person.last_name),
-        Cell::number(sent.1),
+        Cell::number(sent.message),
         words(content),
-        Cell::number(sent.2),
+        Cell::number(sent.date),
     ]?;
     Ok(AnswerRow::from_vec(alloc, cells))
 }
 
-// The rows of messages.
-fn sent_rows<'a>(
-    alloc: Global,
-    graph: &'a Graph,
-    messages: &[(u64, u64, u64)],
-) -> Result<Answer<CowText<'a>>, AllocError>
-    requires { All (IsSentFound graph.now) messages.now }
-    ensures { IfOk result (AllZip (IsSent graph.now) messages.now) }
+// How two messages stand in the answers: the later first, and of one date the one of the lower id.
+fn compare(a: &Sent, b: &Sent) -> Ordering
+    ensures { result ≡ sent_first a.now b.now }
 {
-    let mut answer = Answer::new(alloc);
-    for sent in messages {
-        answer.push(sent_row(alloc, graph, *sent)?)?;
-    }
-    Ok(answer)
+    b.date.cmp(&a.date).then(a.message.cmp(&b.message))
 }
 
 // Nothing yet, of which the latest twenty are wanted.
-fn none_yet(alloc: Global) -> TopK<(u64, u64, u64)>
+fn none_yet(alloc: Global) -> TopK<Sent>
     ensures { IsLatest [] result }
 {
     TopK::new(alloc, 20)
 }
 
-// Offers a message: (person, message, date).
-fn offer(top: &mut TopK<(u64, u64, u64)>, sent: (u64, u64, u64)) -> Result<(), AllocError>
-    ensures { OnOk result ((found : List (ℕ × ℕ × ℕ)) → IsLatest found top.old → IsLatest (found ++ sent ∷ []) top.new) }
+// Offers a message.
+fn offer(top: &mut TopK<Sent>, sent: Sent) -> Result<(), AllocError>
+    ensures { OnOk result ((found : List Sent) → IsLatest found top.old → IsLatest (found ++ sent ∷ []) top.new) }
 {
-    top.offer(sent, |a, b| b.2.cmp(&a.2).then(a.1.cmp(&b.1)))?;
+    top.offer(sent, |a, b| compare(a, b))?;
     Ok(())
 }
 
@@ -76,47 +70,39 @@ fn offer(top: &mut TopK<(u64, u64, u64)>, sent: (u64, u64, u64)) -> Result<(), A
 fn latest_sent(
     alloc: Global,
     graph: &Graph,
-    top: TopK<(u64, u64, u64)>,
+    top: TopK<Sent>,
 ) -> Result<Answer<CowText<'_>>, AllocError>
-    requires { (found : List (ℕ × ℕ × ℕ)) × IsLatest found top × All (IsSentFound graph.now) found }
-    ensures { IfOk result (λ answer. (found : List (ℕ × ℕ × ℕ)) → IsLatest found top → All (IsSentFound graph.now) found
+    requires { (found : List Sent) × IsLatest found top × All (IsSentFound graph.now) found }
+    ensures { IfOk result (λ answer. (found : List Sent) → IsLatest found top → All (IsSentFound graph.now) found
         → Answers found (IsSent graph.now) latest (First 20) answer) }
 {
     graph.known();
     sound_graphs();
-    let first = top.into_first(|a, b| b.2.cmp(&a.2).then(a.1.cmp(&b.1)));
-    sent_rows(alloc, graph, &first)
+    let first = top.into_first(|a, b| compare(a, b));
+    list_of(alloc, first.as_slice(), |sent| sent_row(alloc, graph, sent))
 }
 
-// Offers a person's messages up to a date, each as (person, message, date).
-fn offer_until(
+// Offers a person's messages whose dates pass.
+fn offer_messages<F: Fn(u64) -> bool>(
     graph: &Graph,
     person: u64,
-    max_date: u64,
-    top: &mut TopK<(u64, u64, u64)>,
+    passes: F,
+    top: &mut TopK<Sent>,
 ) -> Result<(), AllocError>
-    ensures { OnOk result (HasOffered (sent_by graph.now (λ date. nat_le date max_date) person) top.old top.new) }
+    requires { F.IsAlwaysCallable passes }
+    ensures { OnOk result ((test : ℕ → Bool) → ((date : ℕ) (answer : Bool) → F.post passes date answer → answer ≡ test date)
+        → HasOffered (sent_by graph.now test person) top.old top.new) }
 {
     for (message, date) in graph.messages(person) {
-        if date <= max_date {
-            offer(top, (person, message, date))?;
-        }
-    }
-    Ok(())
-}
-
-// Offers a person's messages before a date, each as (person, message, date).
-fn offer_before(
-    graph: &Graph,
-    person: u64,
-    max_date: u64,
-    top: &mut TopK<(u64, u64, u64)>,
-) -> Result<(), AllocError>
-    ensures { OnOk result (HasOffered (sent_by graph.now (λ date. nat_lt date max_date) person) top.old top.new) }
-{
-    for (message, date) in graph.messages(person) {
-        if date < max_date {
-            offer(top, (person, message, date))?;
+        if passes(date) {
+            offer(
+                top,
+                Sent {
+                    person,
+                    message,
+                    date,
+                },
+            )?;
         }
     }
     Ok(())
@@ -138,7 +124,7 @@ pub fn ic2(
     sound_graphs();
     let mut top = none_yet(alloc);
     for (friend, _) in graph.friends(person) {
-        offer_until(graph, friend, max_date, &mut top)?;
+        offer_messages(graph, friend, |date| date <= max_date, &mut top)?;
     }
     latest_sent(alloc, graph, top)
 }
@@ -160,7 +146,7 @@ pub fn ic9(
     let near = within(alloc, graph, person, 2)?;
     let mut top = none_yet(alloc);
     for one in near.as_slice() {
-        offer_before(graph, one.0, max_date, &mut top)?;
+        offer_messages(graph, one.0, |date| date < max_date, &mut top)?;
     }
     latest_sent(alloc, graph, top)
 }

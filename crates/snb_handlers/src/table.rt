@@ -13,7 +13,7 @@ use crate::kinds::{KINDS, place_of};
 use snb_base::Text;
 use snb_graph::Graph;
 use snb_read_model::tail::tail_of;
-use snb_read_model::{Answer, Reply};
+use snb_read_model::{Answer, Reply, lend_answer, reply_with_tail};
 use snb_schema::{Query, ReadKind};
 use std::alloc::{AllocError, Global};
 
@@ -125,8 +125,8 @@ impl Handlers {
         ensures { IfOk result (IsReply graph.now query.now) }
     {
         let own = self.answer(graph, query)?;
-        let follow = tail_of(query, &own.lend()?).queries(self.alloc)?;
+        let follow = tail_of(query, &lend_answer(&own)?).queries(self.alloc)?;
         let tail = self.answers(graph, &follow)?;
-        Reply::with_tail(self.alloc, own, tail)
+        reply_with_tail(self.alloc, own, tail)
     }
 }

@@ -14,7 +14,7 @@ use snb_base_host::{FolderOutbox, FolderShelf, HostClock, StandardStreams};
 use snb_graph::Graph;
 use snb_handlers::{Call, Handler, Handlers, KINDS};
 use snb_main_exit::{Fault, ending};
-use snb_read_model::Answer;
+use snb_read_model::{Answer, copy_answer};
 use snb_read_replies::reply::own_answer;
 use snb_schema::Query;
 use snb_tool::snb_with;
@@ -61,7 +61,7 @@ fn run<R: AllocGlobal + Clock + Env + Files + Print + Sync + Threads + Wait>(
             move |graph: &Graph, query: &Query| -> Result<Answer<Text>, AllocError>
                 requires { Sound graph.now }
                 ensures { IfOk result (IsAnswer graph.now query.now) }
-            { own_answer(alloc, graph, query)?.try_copy() },
+            { copy_answer(&own_answer(alloc, graph, query)?) },
         )?;
         if handlers.register(Handler::new(kind, call)).is_err() {
             return Err(AllocError);

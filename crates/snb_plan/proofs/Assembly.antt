@@ -4,11 +4,12 @@ use Rattle.std.specs.Prelude.{◌==◌}
 use Rattle.std.specs.List.{All, AllPairs, Contains, count_by, filter}
 use Rattle.std.proofs.lemmas.Bool.{cases_lt, eq-eqb, eqb-true}
 use Rattle.std.proofs.lemmas.List.{get_or_default}
-use Rattle.std.proofs.lemmas.List.Elements.{All-append, All-contains, All-contains_itself, All-filter, All-weaker, Contains-get_or, filter-append, filter_passes}
+use Rattle.std.proofs.lemmas.List.Elements.{All-append, All-weaker, Contains-get_or, filter-append}
 use Rattle.std.proofs.lemmas.List.Kept.{AllPairs-filter}
 use Rattle.std.proofs.lemmas.List.Sums.{length-filter}
 use Rattle.std.proofs.lemmas.Nat.{mul-le}
 use Rattle.std.proofs.Math.Seq.{get_or-append_seam}
+use Rattle.snb_base.proofs.ListLemmas.{in_filter}
 use Rattle.snb_base.proofs.Laws.{split_here}
 use Rattle.snb_schema.specs.declared.limits.TheConstants.{MAX_TIME}
 use Rattle.snb_schema.specs.declared.op.Line.{Line}
@@ -103,18 +104,6 @@ filtered_at {X} p xs k d lt passes = (here, within)
         let more = length-append (filter p (take k xs)) (get_or xs k d ∷ filter p (drop (k + 1) xs)) in
         let front = length-filter p (take k xs) in
         omega (arith, size, more, front)
-
--- the elements of a filtered list are those that pass
-in_filter : {X : Type 0} (p : X → Bool) (xs : List X) (x : X) → Contains (filter p xs) x ↔ (Contains xs x × (p x ≡ true))
-in_filter {X} p xs x = (
-  λ at. (All-contains (Contains xs) (filter p xs) x (All-filter p (Contains xs) xs (All-contains_itself xs)) at, All-contains (λ (y : X). p y ≡ true) (filter p xs) x (filter_passes p xs) at),
-  λ is. by is.0.0 is.0.1 is.0.2 is.1,
-)
-  where
-    by : (k : ℕ) → k < length xs → get_or xs k x ≡ x → p x ≡ true → Contains (filter p xs) x
-    by k lt e passes =
-        let f = filtered_at p xs k x lt (ap p e ∙ passes) in
-        (count_by p (take k xs), f.1, f.0 ∙ e)
 
 position_strict : (x y : Position) → IsPositionBefore x y → IsPositionBefore y x → ⊥
 position_strict x y (inl a) (inl b) = omega (arith, a, b)

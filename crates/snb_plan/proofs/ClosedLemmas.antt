@@ -3,7 +3,8 @@ use Rattle.std.proofs.Common.{◌≡◌, ℕ, ◌+◌, ◌<◌, ◌≤◌, true,
 use Rattle.std.specs.List.{All, AllPairs, Contains}
 use Rattle.std.proofs.lemmas.Bool.{cases_lt}
 use Rattle.std.proofs.lemmas.List.{take-append-drop, take_more, take_all, get_or-take, get_or_default}
-use Rattle.std.proofs.lemmas.List.Elements.{All-append, All-cons, All-head, All-nil, All-tail, Contains-push, Contains-push_cases, Contains-append_left}
+use Rattle.std.proofs.lemmas.List.Elements.{All-append, All-cons, All-nil, Contains-push, Contains-push_cases, Contains-append_left}
+use Rattle.snb_base.proofs.ListLemmas.{all_at}
 use Rattle.snb_base.proofs.Laws.{contains_here, contains_there, push_split, split_here}
 use Rattle.std.specs.Prelude.{Result, Ok, Err, IsErrAnd}
 use Rattle.snb_schema.specs.declared.fault.Fault.{Fault}
@@ -209,11 +210,6 @@ stands_next holds all i u old new lt is s fine added =
 -- after the last update all are closed
 pub closed_all : (holds : Key → Type 0) (all : List Update) (i : ℕ) (added : Added) → length all ≤ i → Stands holds all (take i all) added → IsClosed holds all
 closed_all holds all i added past s = record { each = λ before u after splits. s.closed before u after (splits ∙ sym (take_all i all past)) }
-
--- what holds of all holds of the one between others
-all_at : {X : Type 0} (P : X → Type 0) (front : List X) (x : X) (rest : List X) → All P (front ++ x ∷ rest) → P x
-all_at P [] x rest a = All-head P x rest a
-all_at P (y ∷ front) x rest a = all_at P front x rest (All-tail P y (front ++ x ∷ rest) a)
 
 -- an element between others is one of the list
 between : {X : Type 0} (front : List X) (x : X) (rest : List X) → Contains (front ++ x ∷ rest) x

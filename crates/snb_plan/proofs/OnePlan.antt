@@ -4,6 +4,7 @@ use Rattle.std.specs.Prelude.{slice_get}
 use Rattle.std.specs.List.{AllPairs, Contains}
 use Rattle.std.proofs.lemmas.Option.{slice_get_within, get_or_from_slice_get}
 use Rattle.std.proofs.lemmas.List.Elements.{All-contains}
+use Rattle.snb_base.proofs.ListLemmas.{none_in, pairs_head}
 use Rattle.snb_base.proofs.Laws.{contains_cases, contains_here}
 use Rattle.snb_history.specs.declared.step.Step.{Step}
 use Rattle.snb_schema.specs.LineLanes.{LineLanes}
@@ -12,7 +13,7 @@ use Rattle.snb_history.specs.Schedule.{ComesBefore}
 use Rattle.snb_plan.specs.declared.instances.Instance.{Instance}
 use Rattle.snb_plan.specs.PlanLaws.{PlanIsOne}
 use Rattle.snb_plan.specs.Plans.{AreInOrder, AreUpdates, IsEarlier, IsInstance, IsLineOf, IsRead, IsSooner, IsUpdate, Operation, Placed, first_t, update_operation}
-use Rattle.snb_plan.proofs.Ordered.{one_order, pairs_head}
+use Rattle.snb_plan.proofs.Ordered.{one_order}
 
 earlier_strict : (x y : Placed) → IsEarlier x y → IsEarlier y x → ⊥
 earlier_strict x y (inl a) (inl b) = omega (arith, a, b)
@@ -45,9 +46,6 @@ t_of x y (inr (t, rest)) = omega (arith, t)
 placed_t : (x y : Placed) → IsEarlier x y → x.line.t ≤ y.line.t
 placed_t x y (inl lt) = omega (arith, lt)
 placed_t x y (inr (t, rest)) = omega (arith, t)
-
-none_in : {X : Type 0} (x : X) → Contains [] x → ⊥
-none_in x c = let l = c.1 in omega (arith, l)
 
 -- an element at a place is one of the list
 at_place : {X : Type 0} (xs : List X) (k : ℕ) (x : X) → slice_get xs k ≡ Some x → Contains xs x

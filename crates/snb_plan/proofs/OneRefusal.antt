@@ -1,7 +1,7 @@
 -- Updates are refused in one way at most.
 use Rattle.std.proofs.Common.{◌≡◌, List, [], ◌∷◌, ◌++◌, ◌⊎◌, inl, inr, refl, sym, ap, ◌∙◌, subst}
 use Rattle.std.specs.List.{All}
-use Rattle.std.proofs.lemmas.List.Elements.{All-head, All-tail}
+use Rattle.snb_base.proofs.ListLemmas.{all_at}
 use Rattle.snb_schema.specs.declared.key.Key.{Key}
 use Rattle.snb_schema.specs.declared.refusal.Missing.{Missing}
 use Rattle.snb_schema.specs.declared.refusal.Refusal.{Refusal}
@@ -28,11 +28,6 @@ splits_one (z ∷ xs) x rest (w ∷ ys) y more e =
         | inr above ↦ inr (inr (above.0, let p = above.1 in cc))
       ]
     ]
-
--- what holds of all holds of the one between others
-all_at : {X : Type 0} (P : X → Type 0) (front : List X) (x : X) (rest : List X) → All P (front ++ x ∷ rest) → P x
-all_at P [] x rest a = All-head P x rest a
-all_at P (y ∷ front) x rest a = all_at P front x rest (All-tail P y (front ++ x ∷ rest) a)
 
 -- two references that lack a property first are one
 one_unmet : (P : Missing → Type 0) (refs : List Missing) (m n : Missing) → IsFirstUnmet P refs m → IsFirstUnmet P refs n → m ≡ n

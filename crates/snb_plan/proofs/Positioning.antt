@@ -5,9 +5,9 @@ use Rattle.std.specs.List.Sorted.{IsPermutation, IsSorted}
 use Rattle.std.specs.Ordering.{nat_cmp, ordering_then, is_lt}
 use Rattle.std.proofs.lemmas.Bool.{cases_lt}
 use Rattle.std.proofs.lemmas.List.{get_or_default, take_more}
-use Rattle.std.proofs.lemmas.List.Elements.{All-append, Contains-append_cases, Contains-append_left, Contains-append_right}
-use Rattle.std.proofs.lemmas.List.Kept.{AllPairs-cons}
+use Rattle.std.proofs.lemmas.List.Elements.{Contains-append_cases, Contains-append_left, Contains-append_right}
 use Rattle.std.proofs.lemmas.List.Sums.{sum_by-cons}
+use Rattle.snb_base.proofs.ListLemmas.{none_in, pairs_append}
 use Rattle.snb_plan.specs.contracts.positions.PositionOrd.TheImpl.Laws.{total-law}
 use Rattle.snb_schema.specs.declared.op.Line.{Line}
 use Rattle.snb_schema.specs.LineLanes.{LineLanes}
@@ -15,14 +15,11 @@ use Rattle.snb_plan.specs.declared.instances.Instance.{Instance}
 use Rattle.snb_plan.specs.declared.positions.Position.{Position}
 use Rattle.snb_plan.specs.Plans.{numbered_lanes, read_lane}
 use Rattle.snb_plan.specs.Positions.{all_positions, lane_positions, no_instance, no_line, no_position, read_positions, AreUpdatePositions, IsReadPosition, IsPositionBefore, IsUpdatePosition}
-use Rattle.snb_plan.proofs.Ordered.{Distinct, by_three, distinct_from_pairs, distinct_permutation, pairs_from_sorted, pairs_head, pairs_tail, same_elements}
+use Rattle.snb_plan.proofs.Ordered.{Distinct, by_three, distinct_from_pairs, distinct_permutation, pairs_from_sorted, same_elements}
 
 -- the position of a t, a lane and a place
 abbrev pub position : ℕ → ℕ → ℕ → Position
 position t lane place = record { t = t; lane = lane; place = place }
-
-none_in : {X : Type 0} (x : X) → Contains [] x → ⊥
-none_in x c = let l = c.1 in omega (arith, l)
 
 -- ---- order
 
@@ -33,19 +30,6 @@ IsFurther a b = (a.lane < b.lane) ⊎ ((a.lane ≡ b.lane) × (a.place < b.place
 not_further : (s : Position) → IsFurther s s → ⊥
 not_further s (inl lt) = omega (arith, lt)
 not_further s (inr (same, lt)) = omega (arith, lt)
-
--- what is in order, and then what comes after it
-pub pairs_append : {X : Type 0} (R : X → X → Type 0) (xs ys : List X) → AllPairs R xs → AllPairs R ys → ((x y : X) → Contains xs x → Contains ys y → R x y) → AllPairs R (xs ++ ys)
-pairs_append R [] ys a b across = b
-pairs_append R (x ∷ xs) ys a b across =
-    AllPairs-cons R x (xs ++ ys)
-    (All-append (R x) xs ys (pairs_head R x xs a) (λ k d lt. across x (get_or ys k d) (0, omega arith, refl) (k, lt, at_itself ys k d lt)))
-    (pairs_append R xs ys (pairs_tail R x xs a) b (λ y z at. across y z (suc at.0, (let l = at.1 in omega (arith, l)), at.2)))
-  where
-    at_itself : {X : Type 0} (zs : List X) (k : ℕ) (d : X) → k < length zs → get_or zs k (get_or zs k d) ≡ get_or zs k d
-    at_itself [] k d lt = absurd (omega arith)
-    at_itself (z ∷ zs) zero d lt = refl
-    at_itself (z ∷ zs) (suc k) d lt = at_itself zs k d (omega (arith, lt))
 
 -- positions that the order of the code tells apart
 position_apart : (a b : Position) → is_lt (ordering_then (nat_cmp b.t a.t) (ordering_then (nat_cmp b.lane a.lane) (nat_cmp b.place a.place))) ≡ false → (a ≡ b → ⊥) → IsPositionBefore a b

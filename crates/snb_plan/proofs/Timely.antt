@@ -6,7 +6,7 @@ use Rattle.std.proofs.lemmas.Bool.{cases_lt}
 use Rattle.std.proofs.lemmas.List.{get_or-map, get_or_past, length-map}
 use Rattle.std.proofs.lemmas.List.Elements.{filter_map-append}
 use Rattle.std.proofs.lemmas.Option.{get_or_from_slice_get, slice_get_within}
-use Rattle.snb_base.proofs.Laws.{split_here}
+use Rattle.snb_base.proofs.ListLemmas.{split_at}
 use Rattle.snb_ratio.specs.Ratios.{due_of}
 use Rattle.snb_schema.specs.declared.key.Key.{Key}
 use Rattle.snb_history.specs.declared.step.Step.{Step}
@@ -26,10 +26,6 @@ stands_there : {X : Type 0} (xs : List X) (k : ℕ) → k < length xs → (x : X
 stands_there [] k lt = absurd (omega arith)
 stands_there (x ∷ xs) zero lt = (x, refl)
 stands_there (x ∷ xs) (suc k) lt = stands_there xs k (omega arith)
-
--- a list is what stands before a place, what stands there, and what stands after it
-split_at : {X : Type 0} (xs : List X) (k : ℕ) (x : X) → slice_get xs k ≡ Some x → take k xs ++ x ∷ drop (k + 1) xs ≡ xs
-split_at xs k x e = split_here xs k x (slice_get_within xs k x e) (sym (get_or_from_slice_get xs k x x e))
 
 -- the step of an operation
 step_here : (plan : Plan) (k : ℕ) (o : Operation) → slice_get plan.operations k ≡ Some o → step_of (schedule_of plan) k ≡ o.step

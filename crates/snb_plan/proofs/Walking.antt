@@ -7,6 +7,7 @@ use Rattle.std.proofs.lemmas.List.{get_or_default, take_more}
 use Rattle.std.proofs.lemmas.List.Elements.{All-cons, All-head, All-nil, All-tail, All-from_get_or}
 use Rattle.std.proofs.lemmas.List.Kept.{AllPairs-cons}
 use Rattle.std.proofs.Math.Seq.{get_or-append_seam}
+use Rattle.snb_base.proofs.ListLemmas.{pairs_head, pairs_tail}
 use Rattle.snb_base.proofs.Laws.{split_here}
 use Rattle.snb_schema.specs.declared.key.Key.{Key}
 use Rattle.snb_schema.specs.declared.op.Line.{Line}
@@ -22,7 +23,6 @@ use Rattle.snb_schema.specs.declared.file.FileId.{FileId}
 use Rattle.snb_plan.specs.Plans.{file_of, lane_of}
 use Rattle.snb_plan.specs.Positions.{line_at, no_line, update_at, updates_at, AreLines, StepsRise}
 use Rattle.snb_plan.proofs.ClosedLemmas.{Rises, Stands, first_wrong, stands_next}
-use Rattle.snb_plan.proofs.Ordered.{pairs_head, pairs_tail}
 
 -- ---- a list that is cut
 

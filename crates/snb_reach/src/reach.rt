@@ -9,7 +9,7 @@ ghost use Rattle.snb_reach.specs.Distances.{AreDistances};
 ghost use Rattle.snb_graph_model.specs.Soundness.{Held};
 
 use crate::levels::{grow, others};
-use crate::near::Near;
+use crate::near::{Near, by_id};
 use crate::sides::between;
 use snb_graph::Graph;
 use snb_read_model::{Answer, AnswerRow, Cell, CowText};
@@ -45,9 +45,8 @@ pub fn distances(
 pub fn listed(alloc: Global, met: &HashMap<u64, u64>) -> Result<Near, AllocError>
     ensures { IfOk result (λ near. (g : List Row) (start steps : ℕ) → AreDistances g start steps (get nat_eq met.now) → IsWithin g start steps near) }
 {
-    let mut near = others(alloc, met)?;
-    near.sort();
-    Ok(near)
+    let near = others(alloc, met)?;
+    Ok(by_id(alloc, near))
 }
 
 /// The persons at distance 1 to `steps` from a person, with their distances, by rising id. Nobody is

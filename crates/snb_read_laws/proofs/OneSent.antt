@@ -1,17 +1,17 @@
 -- The complex reads of messages and likes have one answer: IC2, IC7, IC8 and IC9.
 use Rattle.std.proofs.Common.{◌≡◌, ◌∙◌, ℕ, ◌<◌, Bool, true, false, ◌||◌, List, [], ◌∷◌, ap, filter, inl, inr, map, nat_le, nat_lt, not, refl, subst, sym}
 use Rattle.std.proofs.lemmas.Bool.{both_ways, cases_order, eq-eqb, lt-ltb, not-true}
-use Rattle.std.proofs.lemmas.List.Elements.{Contains-append_cases}
 use Rattle.std.specs.List.{Contains, flat_map, list_any}
+use Rattle.snb_base.proofs.ListLemmas.{in_flat, in_map}
 use Rattle.snb_schema.specs.declared.row.Row.{Row}
 use Rattle.snb_graph_model.specs.Graphs.{IsGraph}
 use Rattle.snb_graph_model.specs.Soundness.{Sound}
 use Rattle.snb_graph_integrity.specs.SoundLaws.{MessagesHaveOneAuthor}
 use Rattle.snb_read_order.specs.Laws.{OneFirst}
-use Rattle.snb_base.proofs.Laws.{contains_cases, contains_here, contains_there}
-use Rattle.snb_graph_model.proofs.Laws.{any_from, contains_none, in_filter}
+use Rattle.snb_graph_model.proofs.Laws.{any_from, in_filter}
 use Rattle.snb_read_model.specs.declared.cell.Cell.TheVariants as cell
 use Rattle.snb_read_model.specs.declared.like.Like.{Like}
+use Rattle.snb_read_model.specs.declared.sent.Sent.{Sent}
 use Rattle.snb_graph_model.specs.Around.{Message, comments, friends, is_friend, likes, messages, persons, replies, with_id}
 use Rattle.snb_read_model.specs.Cells.{Cell, column, number}
 use Rattle.snb_read_model.specs.ComplexReads.{Ic2, Ic7, Ic8, Ic9, IsAnswered, IsLiked, IsSent, beats, best_likes, latest, liked, messages_of, minutes}
@@ -21,35 +21,19 @@ use Rattle.snb_read_laws.proofs.OneWithin.{one_within}
 use Rattle.snb_read_laws.proofs.OneThings.{one_author, one_sender, sent_date}
 use Rattle.snb_read_laws.proofs.Ties.{falling, rising, two_ties}
 
--- ---- what joined lists hold
-
-in_map : {X Y : Type 0} (f : X → Y) (xs : List X) (y : Y) → Contains (map f xs) y → (x : X) × Contains xs x × (f x ≡ y)
-in_map f [] y c = absurd (contains_none y c)
-in_map f (x ∷ xs) y c = elim (contains_cases (f x) (map f xs) y c) [
-  | inl e ↦ (x, contains_here x xs, e)
-  | inr d ↦ (let (z, there, is) = in_map f xs y d in (z, contains_there x xs z there, is))
-]
-
-in_flat : {X Y : Type 0} (f : X → List Y) (xs : List X) (y : Y) → Contains (flat_map f xs) y → (x : X) × Contains xs x × Contains (f x) y
-in_flat f [] y c = absurd (contains_none y c)
-in_flat f (x ∷ xs) y c = elim (Contains-append_cases (f x) (flat_map f xs) y c) [
-  | inl d ↦ (x, contains_here x xs, d)
-  | inr d ↦ (let (z, there, held) = in_flat f xs y d in (z, contains_there x xs z there, held))
-]
-
 -- ---- messages of persons
 
-in_messages : (g : List Row) (passes : ℕ → Bool) (ps : List (ℕ × ℕ)) (s : ℕ × ℕ × ℕ) → Contains (messages_of g passes ps) s → Contains (messages g s.0) (s.1, s.2)
+in_messages : (g : List Row) (passes : ℕ → Bool) (ps : List (ℕ × ℕ)) (s : Sent) → Contains (messages_of g passes ps) s → Contains (messages g s.person) (s.message, s.date)
 in_messages g passes ps s c =
-    let (p, there, d) = in_flat (λ (p : ℕ × ℕ). map {A = ℕ × ℕ} {B = ℕ × ℕ × ℕ} (λ m. (p.0, m.0, m.1)) (filter (λ (m : ℕ × ℕ). passes m.1) (messages g p.0))) ps s c in
-    let (m, kept, is) = in_map {X = ℕ × ℕ} {Y = ℕ × ℕ × ℕ} (λ m. (p.0, m.0, m.1)) (filter (λ (m : ℕ × ℕ). passes m.1) (messages g p.0)) s d in
-    subst (λ (z : ℕ × ℕ × ℕ). Contains (messages g z.0) (z.1, z.2)) is ((in_filter (λ (m : ℕ × ℕ). passes m.1) (messages g p.0) m).0 kept).0
+    let (p, there, d) = in_flat (λ (p : ℕ × ℕ). map {A = ℕ × ℕ} {B = Sent} (λ m. record { person = p.0; message = m.0; date = m.1 }) (filter (λ (m : ℕ × ℕ). passes m.1) (messages g p.0))) ps s c in
+    let (m, kept, is) = in_map {X = ℕ × ℕ} {Y = Sent} (λ m. record { person = p.0; message = m.0; date = m.1 }) (filter (λ (m : ℕ × ℕ). passes m.1) (messages g p.0)) s d in
+    subst (λ (z : Sent). Contains (messages g z.person) (z.message, z.date)) is ((in_filter (λ (m : ℕ × ℕ). passes m.1) (messages g p.0) m).0 kept).0
 
-one_sent : (g : List Row) (m : ℕ × ℕ × ℕ) (a b : List Cell) → IsSent g m a → IsSent g m b → a ≡ b
+one_sent : (g : List Row) (m : Sent) (a b : List Cell) → IsSent g m a → IsSent g m b → a ≡ b
 one_sent g m a b r s =
-    let person : r.person ≡ s.person = same_only (persons g m.0) r.person s.person r.held s.held in
-    let message : r.message ≡ s.message = same_only (with_id g m.1) r.message s.message r.sent s.sent in
-    r.is ∙ (λ i. number m.0 ∷ cell.Words ((person i).first_name) ∷ cell.Words ((person i).last_name) ∷ number m.1 ∷ cell.Words ((message i).content) ∷ number m.2 ∷ []) ∙ sym s.is
+    let person : r.person ≡ s.person = same_only (persons g m.person) r.person s.person r.held s.held in
+    let message : r.message ≡ s.message = same_only (with_id g m.message) r.message s.message r.sent s.sent in
+    r.is ∙ (λ i. number m.person ∷ cell.Words ((person i).first_name) ∷ cell.Words ((person i).last_name) ∷ number m.message ∷ cell.Words ((message i).content) ∷ number m.date ∷ []) ∙ sym s.is
 
 module _ (first : OneFirst (List Cell)) (authors : MessagesHaveOneAuthor) (g : List Row) (graph : IsGraph g) (sound : Sound g) where
   one_latest : (passes : ℕ → Bool) (ps : List (ℕ × ℕ)) (a b : List (List Cell)) → Answers (messages_of g passes ps) (IsSent g) latest (First 20) a
@@ -57,11 +41,11 @@ module _ (first : OneFirst (List Cell)) (authors : MessagesHaveOneAuthor) (g : L
   one_latest passes ps = one_answers first (messages_of g passes ps) (IsSent g) latest (First 20) (one_sent g)
       (λ x y a b c d r s e.
       (let (dates, ids) = two_ties (Falling 6) (Rising 4) a b e in
-      let date = falling 6 a b x.2 y.2 (ap (column 6) r.is) (ap (column 6) s.is) dates in
-      let id = rising 4 a b x.1 y.1 (ap (column 4) r.is) (ap (column 4) s.is) ids in
-      let sender = one_sender authors g graph sound x.0 y.0 y.1 x.2 y.2 (subst (λ n. Contains (messages g x.0) (n, x.2)) id (in_messages g passes ps x c)) (in_messages g passes ps y d) in
-      let same : x ≡ y = λ i. (sender i, id i, date i) in
-      one_sent g y a b (subst (λ (z : ℕ × ℕ × ℕ). IsSent g z a) same r) s))
+      let date = falling 6 a b x.date y.date (ap (column 6) r.is) (ap (column 6) s.is) dates in
+      let id = rising 4 a b x.message y.message (ap (column 4) r.is) (ap (column 4) s.is) ids in
+      let sender = one_sender authors g graph sound x.person y.person y.message x.date y.date (subst (λ n. Contains (messages g x.person) (n, x.date)) id (in_messages g passes ps x c)) (in_messages g passes ps y d) in
+      let same : x ≡ y = λ i. record { person = sender i; message = id i; date = date i } in
+      one_sent g y a b (subst (λ (z : Sent). IsSent g z a) same r) s))
 
   pub one_ic2 : (person max_date : ℕ) (a b : List (List Cell)) → Ic2 g person max_date a → Ic2 g person max_date b → a ≡ b
   one_ic2 person max_date = one_latest (λ date. nat_le date max_date) (friends g person)

@@ -1,29 +1,11 @@
 -- There is an answer, where each thing shows a row.
-use Rattle.std.proofs.Common.{◌≡◌, List, [], ◌∷◌, inl, inr, map, refl}
-use Rattle.std.proofs.lemmas.List.Elements.{Contains-append_cases}
-use Rattle.std.specs.List.{AllZip, Contains, flat_map}
+use Rattle.std.proofs.Common.{List, [], ◌∷◌}
+use Rattle.std.specs.List.{AllZip, Contains}
 use Rattle.snb_read_order.specs.Laws.{SomeFirst}
-use Rattle.snb_base.proofs.Laws.{contains_cases, contains_here, contains_there}
-use Rattle.snb_graph_model.proofs.Laws.{contains_none}
+use Rattle.snb_base.proofs.Laws.{contains_here, contains_there}
 use Rattle.snb_read_model.specs.Cells.{Cell}
 use Rattle.snb_read_model.specs.Order.{Answers, Cut, Way, by}
 use Rattle.snb_read_laws.proofs.Ties.{by_total}
-
--- ---- what joined lists hold
-
-pub in_map : {X Y : Type 0} (f : X → Y) (xs : List X) (y : Y) → Contains (map f xs) y → (x : X) × Contains xs x × (f x ≡ y)
-in_map f [] y c = absurd (contains_none y c)
-in_map f (x ∷ xs) y c = elim (contains_cases (f x) (map f xs) y c) [
-  | inl e ↦ (x, contains_here x xs, e)
-  | inr d ↦ (let (z, there, is) = in_map f xs y d in (z, contains_there x xs z there, is))
-]
-
-pub in_flat : {X Y : Type 0} (f : X → List Y) (xs : List X) (y : Y) → Contains (flat_map f xs) y → (x : X) × Contains xs x × Contains (f x) y
-in_flat f [] y c = absurd (contains_none y c)
-in_flat f (x ∷ xs) y c = elim (Contains-append_cases (f x) (flat_map f xs) y c) [
-  | inl d ↦ (x, contains_here x xs, d)
-  | inr d ↦ (let (z, there, held) = in_flat f xs y d in (z, contains_there x xs z there, held))
-]
 
 -- ---- rows beside things
 

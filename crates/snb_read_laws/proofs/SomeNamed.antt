@@ -5,6 +5,7 @@ use Rattle.std.proofs.lemmas.Cmp.{nat_list_cmp_total}
 use Rattle.std.specs.Cmp.Lexicographic.{slice_cmp}
 use Rattle.std.specs.List.{Contains, filter_map}
 use Rattle.std.specs.Ordering.{nat_cmp}
+use Rattle.snb_base.proofs.ListLemmas.{in_flat, in_map}
 use Rattle.snb_schema.specs.declared.nodes.Place.{Place}
 use Rattle.snb_schema.specs.declared.row.Row.{Row}
 use Rattle.snb_schema.specs.declared.row.Row.TheVariants as row
@@ -25,7 +26,7 @@ use Rattle.snb_read_model.specs.Distance.{IsPerson}
 use Rattle.snb_read_model.specs.Order.{Falling, First, Rising, Whole}
 use Rattle.snb_read_laws.proofs.Lookups.{any, link_at, organisation_at, person_at, place_at, sites}
 use Rattle.snb_read_laws.proofs.Near.{near_held, some_within}
-use Rattle.snb_read_laws.proofs.SomeAnswers.{in_flat, in_map, some_answers, some_zip}
+use Rattle.snb_read_laws.proofs.SomeAnswers.{some_answers, some_zip}
 use Rattle.snb_read_laws.proofs.Ties.{stay_total}
 use Rattle.snb_read_laws.proofs.SomeSent.{some_latest}
 use Rattle.snb_read_laws.proofs.SomeShort.{city_only, lives}

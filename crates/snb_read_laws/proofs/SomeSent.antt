@@ -1,6 +1,7 @@
 -- The complex reads of messages and likes have an answer: IC2, IC7, IC8 and, with those near, IC9.
 use Rattle.std.proofs.Common.{ℕ, Bool, cond, List, [], ◌∷◌, refl, subst, filter, inl, inr, map, nat_le, not, arith}
 use Rattle.std.specs.List.{Contains, flat_map, list_any}
+use Rattle.snb_base.proofs.ListLemmas.{in_flat, in_map}
 use Rattle.snb_schema.specs.declared.row.Row.{Row}
 use Rattle.snb_schema.specs.declared.row.Row.TheVariants as row
 use Rattle.snb_schema.specs.declared.table.Table.TheVariants as table
@@ -12,12 +13,13 @@ use Rattle.snb_read_order.specs.Laws.{SomeFirst}
 use Rattle.snb_graph_model.proofs.Laws.{in_filter, like_there}
 use Rattle.snb_read_model.specs.Cells.{Cell}
 use Rattle.snb_read_model.specs.declared.like.Like.{Like}
+use Rattle.snb_read_model.specs.declared.sent.Sent.{Sent}
 use Rattle.snb_graph_model.specs.Around.{friends, likes, messages, replies}
 use Rattle.snb_read_model.specs.ComplexReads.{Ic2, Ic7, Ic8, IsAnswered, IsLiked, IsSent, beats, best_likes, latest, liked, messages_of}
 use Rattle.snb_read_model.specs.Distance.{IsPerson}
 use Rattle.snb_read_model.specs.Order.{Answers, Falling, First, Rising}
 use Rattle.snb_read_laws.proofs.Lookups.{any, comment_at, message_at, person_at}
-use Rattle.snb_read_laws.proofs.SomeAnswers.{in_flat, in_map, some_answers}
+use Rattle.snb_read_laws.proofs.SomeAnswers.{some_answers}
 use Rattle.snb_read_laws.proofs.SomeShort.{friend_held, reply_held, sent_held, some_author}
 
 module _ (g : List Row) (graph : IsGraph g) (sound : Sound g) where
@@ -35,11 +37,11 @@ module _ (g : List Row) (graph : IsGraph g) (sound : Sound g) where
       subst (λ (z : Like). IsPerson g z.person × HasMessage g z.message) is (liker_held m.0 k held, sent_held g graph sound person m there)
 
   -- the messages of persons who are held
-  sender_held : (passes : ℕ → Bool) (ps : List (ℕ × ℕ)) (s : ℕ × ℕ × ℕ) → ((p : ℕ × ℕ) → Contains ps p → IsPerson g p.0) → Contains (messages_of g passes ps) s → IsPerson g s.0 × HasMessage g s.1
+  sender_held : (passes : ℕ → Bool) (ps : List (ℕ × ℕ)) (s : Sent) → ((p : ℕ × ℕ) → Contains ps p → IsPerson g p.0) → Contains (messages_of g passes ps) s → IsPerson g s.person × HasMessage g s.message
   sender_held passes ps s all c =
-      let (p, there, d) = in_flat (λ (p : ℕ × ℕ). map {A = ℕ × ℕ} {B = ℕ × ℕ × ℕ} (λ m. (p.0, m.0, m.1)) (filter (λ (m : ℕ × ℕ). passes m.1) (messages g p.0))) ps s c in
-      let (m, kept, is) = in_map {X = ℕ × ℕ} {Y = ℕ × ℕ × ℕ} (λ m. (p.0, m.0, m.1)) (filter (λ (m : ℕ × ℕ). passes m.1) (messages g p.0)) s d in
-      subst (λ (z : ℕ × ℕ × ℕ). IsPerson g z.0 × HasMessage g z.1) is
+      let (p, there, d) = in_flat (λ (p : ℕ × ℕ). map {A = ℕ × ℕ} {B = Sent} (λ m. record { person = p.0; message = m.0; date = m.1 }) (filter (λ (m : ℕ × ℕ). passes m.1) (messages g p.0))) ps s c in
+      let (m, kept, is) = in_map {X = ℕ × ℕ} {Y = Sent} (λ m. record { person = p.0; message = m.0; date = m.1 }) (filter (λ (m : ℕ × ℕ). passes m.1) (messages g p.0)) s d in
+      subst (λ (z : Sent). IsPerson g z.person × HasMessage g z.message) is
       (all p there, sent_held g graph sound p.0 m ((in_filter (λ (m : ℕ × ℕ). passes m.1) (messages g p.0) m).0 kept).0)
 
   module _ (some : SomeFirst (List Cell)) where
@@ -47,8 +49,8 @@ module _ (g : List Row) (graph : IsGraph g) (sound : Sound g) where
         → (answer : List (List Cell)) × Answers (messages_of g passes ps) (IsSent g) latest (First 20) answer
     some_latest passes ps all = some_answers some (messages_of g passes ps) (IsSent g) latest (First 20) (λ s c.
         (let (who, held) = sender_held passes ps s all c in
-        let (p, is, named) = person_at g graph s.0 who in
-        let (m, sent) = message_at g graph s.1 held in
+        let (p, is, named) = person_at g graph s.person who in
+        let (m, sent) = message_at g graph s.message held in
         (_, record { person = p; held = is; message = m; sent = sent; is = refl })))
 
     pub some_ic2 : (person max_date : ℕ) → (answer : List (List Cell)) × Ic2 g person max_date answer

@@ -1,12 +1,12 @@
 -- Texts, cells and stays that compare equal are equal.
-use Rattle.std.proofs.Common.{◌≡◌, ◌∙◌, ℕ, ◌<◌, pos, List, [], ◌∷◌, refl, sym, arith}
-use Rattle.std.proofs.lemmas.Bool.Decides.{nat_tests}
+use Rattle.std.proofs.Common.{◌≡◌, ◌∙◌, ℕ, ◌<◌, pos, List, [], ◌∷◌, refl, sym}
 use Rattle.std.proofs.lemmas.Cmp.{back_total, by_ranked, int_cmp_total, nat_cmp_total, nat_list_cmp_total, on_total, ranked, then_total}
 use Rattle.std.specs.Cmp.{IsTotalOrder}
 use Rattle.std.specs.Cmp.Lexicographic.{slice_cmp}
 use Rattle.std.specs.Ordering.{int_cmp, nat_cmp, ordering_then}
 use Rattle.std.specs.declared.cmp.Ordering.{Ordering}
 use Rattle.std.specs.declared.cmp.Ordering.TheVariants.{Less, Equal, Greater}
+use Rattle.snb_read_order.proofs.Laws.{int_nat}
 use Rattle.snb_read_model.specs.declared.cell.Cell.TheVariants.{Words}
 use Rattle.snb_read_model.specs.Cells.{Cell, cell_cmp, column, number, number_in, text_in}
 use Rattle.snb_read_model.specs.ComplexReads.{Stay, stay_cmp}
@@ -57,9 +57,6 @@ equal_stays s t e =
     let year = equal_numbers s.1 t.1 years in
     let place = equal_texts s.2 t.2 places in
     λ i. (name i, year i, place i)
-
-int_nat : (a b : ℕ) → int_cmp (pos a) (pos b) ≡ nat_cmp a b
-int_nat a b = grind (arith, nat_tests)
 
 number_tie : (m n : ℕ) → cell_cmp (number m) (number n) ≡ Equal → m ≡ n
 number_tie m n e = equal_numbers m n (sym (int_nat m n) ∙ (both_equal (int_cmp (pos m) (pos n)) Equal e).0)

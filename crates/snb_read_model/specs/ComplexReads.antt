@@ -13,6 +13,7 @@ use Rattle.snb_schema.specs.declared.row.Row.{Row}
 use Rattle.snb_schema.specs.declared.table.Table.TheVariants as table
 use Rattle.snb_read_model.specs.declared.cell.Cell.TheVariants as cell
 use Rattle.snb_read_model.specs.declared.like.Like.{Like}
+use Rattle.snb_read_model.specs.declared.sent.Sent.{Sent}
 use Rattle.snb_read_model.specs.Cells.{Cell, number}
 use Rattle.snb_read_model.specs.Distance.{IsLength, IsWithin}
 use Rattle.snb_read_model.specs.Order.{Answers, FirstOf, Whole, First, Way, Rising, Falling}
@@ -90,17 +91,17 @@ module _ (g : List Row) where
     pub within : IsWithin g person 3 near
     pub answers : Answers (filter (is_named first_name) near) IsNamesake (Rising 3 ∷ Rising 2 ∷ Rising 1 ∷ []) (First 20) answer
 
-  -- the persons' messages that pass, each as (person, message, date)
-  abbrev pub messages_of : (ℕ → Bool) → List (ℕ × ℕ) → List (ℕ × ℕ × ℕ)
-  messages_of passes ps = flat_map (λ p. map (λ m. (p.0, m.0, m.1)) (filter (λ m. passes m.1) (messages g p.0))) ps
+  -- the persons' messages that pass
+  abbrev pub messages_of : (ℕ → Bool) → List (ℕ × ℕ) → List Sent
+  messages_of passes ps = flat_map (λ p. map (λ m. record { person = p.0; message = m.0; date = m.1 }) (filter (λ m. passes m.1) (messages g p.0))) ps
 
   -- a person's message
-  pub record IsSent (s : ℕ × ℕ × ℕ) (cells : List Cell) : Type 0 where
+  pub record IsSent (s : Sent) (cells : List Cell) : Type 0 where
     pub person : Person
-    pub held : persons g s.0 ≡ person ∷ []
+    pub held : persons g s.person ≡ person ∷ []
     pub message : Message
-    pub sent : with_id g s.1 ≡ message ∷ []
-    pub is : cells ≡ number s.0 ∷ cell.Words person.first_name ∷ cell.Words person.last_name ∷ number s.1 ∷ cell.Words message.content ∷ number s.2 ∷ []
+    pub sent : with_id g s.message ≡ message ∷ []
+    pub is : cells ≡ number s.person ∷ cell.Words person.first_name ∷ cell.Words person.last_name ∷ number s.message ∷ cell.Words message.content ∷ number s.date ∷ []
 
   -- IC2: the messages of friends up to the date, it included, twenty at most: the latest first
   abbrev pub Ic2 : ℕ → ℕ → List (List Cell) → Type 0

@@ -3,11 +3,16 @@
 ghost use Rattle.std.specs.Prelude.{◌≡◌, ◌<◌, ◌^◌, pos, IfOk};
 ghost use Rattle.snb_read_model.specs.declared.cell.Cell.TheVariants.{Number};
 
-use crate::cell_texts::CellTexts;
 use crate::cow_text::CowText;
-use crate::stays::Stays;
-use snb_base::Text;
+use snb_base::{OwnedList, Text};
 use std::alloc::AllocError;
+
+/// Texts, as a cell of an answer.
+pub type CellTexts<T> = OwnedList<T>;
+
+/// Where a person studied or worked, as a cell of an answer: each the name of an organisation, a year, and the
+/// name of the place where the organisation is.
+pub type Stays<T> = OwnedList<(T, u32, T)>;
 
 /// One value of an answer's row, with texts that are lent (`CowText`) or one's own (`Text`). A contract sees
 /// the same either way.
@@ -49,6 +54,13 @@ impl<T> Cell<T> {
     }
 }
 
+// An equal stay, with texts of its own.
+fn copy_stay(stay: &(CowText<'_>, u32, CowText<'_>)) -> Result<(Text, u32, Text), AllocError>
+    ensures { IfOk result (λ copy. copy ≡ stay.now) }
+{
+    Ok((stay.0.try_copy()?, stay.1, stay.2.try_copy()?))
+}
+
 impl<'a> Cell<CowText<'a>> {
     /// An equal cell, with texts of its own.
     pub fn try_copy(&self) -> Result<Cell<Text>, AllocError>
@@ -61,10 +73,10 @@ impl<'a> Cell<CowText<'a>> {
                 text: text.try_copy()?,
             }),
             Cell::List { texts } => Ok(Cell::List {
-                texts: texts.try_copy()?,
+                texts: texts.try_map(|text| text.try_copy())?,
             }),
             Cell::Stays { stays } => Ok(Cell::Stays {
-                stays: stays.try_copy()?,
+                stays: stays.try_map(|stay| copy_stay(stay))?,
             }),
         }
     }
@@ -82,20 +94,17 @@ impl Cell<Text> {
                 text: CowText::lent(text),
             },
             Cell::List { texts } => Cell::List {
-                texts: texts.lend()?,
+                texts: texts.try_map(|text| Ok(CowText::lent(text)))?,
             },
             Cell::Stays { stays } => Cell::Stays {
-                stays: stays.lend()?,
+                stays: stays.try_map(|stay| Ok((
+                    CowText::lent(&stay.0),
+                    stay.1,
+                    CowText::lent(&stay.2),
+                )))?,
             },
         };
         Ok(lent)
-    }
-
-    /// An equal cell, with texts of its own.
-    pub fn try_copy(&self) -> Result<Cell<Text>, AllocError>
-        ensures { IfOk result (λ c. c ≡ self.now) }
-    {
-        self.lend()?.try_copy()
     }
 
     /// The cell with the same texts, none of them copied.
@@ -109,10 +118,14 @@ impl Cell<Text> {
                 text: CowText::own(text),
             },
             Cell::List { texts } => Cell::List {
-                texts: texts.into_cow()?,
+                texts: texts.into_map(|text| Ok(CowText::own(text)))?,
             },
             Cell::Stays { stays } => Cell::Stays {
-                stays: stays.into_cow()?,
+                stays: stays.into_map(|(name, year, place)| Ok((
+                    CowText::own(name),
+                    year,
+                    CowText::own(place),
+                )))?,
             },
         };
         Ok(cow)

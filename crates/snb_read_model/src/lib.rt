@@ -3,22 +3,19 @@
 #![tactic(auto)]
 
 pub mod answer;
-pub mod answer_row;
 pub mod cell;
-pub mod cell_texts;
 pub mod cow_text;
 pub mod like;
-pub mod reply;
-pub mod stays;
+pub mod sent;
 pub mod tail;
 pub mod worked;
 
-pub use answer::Answer;
-pub use answer_row::AnswerRow;
-pub use cell::Cell;
-pub use cell_texts::CellTexts;
+pub use answer::{
+    Answer, AnswerRow, Reply, copy_answer, copy_reply, cow_reply, lend_answer, lend_reply,
+    reply_with_tail,
+};
+pub use cell::{Cell, CellTexts, Stays};
 pub use cow_text::CowText;
 pub use like::Like;
-pub use reply::Reply;
-pub use stays::Stays;
+pub use sent::Sent;
 pub use tail::Tail;

@@ -6,8 +6,7 @@ ghost use Rattle.snb_read_model.specs.Replies.{id_at, id_of, tail_reads};
 ghost use Rattle.snb_read_model.specs.Columns.{HaveColumns, IsOfColumn, Number};
 ghost use Rattle.snb_read_model.specs.Tails.{queries_of};
 
-use crate::answer::Answer;
-use crate::answer_row::AnswerRow;
+use crate::answer::{Answer, AnswerRow};
 use crate::cell::Cell;
 use crate::cow_text::CowText;
 use snb_schema::Query;

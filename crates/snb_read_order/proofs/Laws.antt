@@ -24,15 +24,15 @@ pub compares : {F X : Type 0} (g : Mut F (Bor X × (Bor X × Unit {0})) Ordering
     → ((a : Bor X × (Bor X × Unit {0})) (r : Ordering) (f' : F) → Called g f a r f' → (r ≡ by a.0.now a.1.0.now) × (f' ≡ f)) → ComparesAs g (λ x y. is_lt (by x y)) f
 compares g f by h = always_returns_same g (λ a r. is_lt r ≡ is_lt (by a.0.now a.1.0.now)) f (λ a r f' k. (ap is_lt (h a r f' k).0, (h a r f' k).1))
 
-int_nat : (a b : ℕ) → int_cmp (pos a) (pos b) ≡ nat_cmp a b
+pub int_nat : (a b : ℕ) → int_cmp (pos a) (pos b) ≡ nat_cmp a b
 int_nat a b = grind (arith, nat_tests)
 
-then_end : (o : Ordering) → ordering_then o Equal ≡ o
+pub then_end : (o : Ordering) → ordering_then o Equal ≡ o
 then_end Less = refl
 then_end Equal = refl
 then_end Greater = refl
 
-number_cmp : (a b : ℕ) → cell_cmp (number a) (number b) ≡ nat_cmp a b
+pub number_cmp : (a b : ℕ) → cell_cmp (number a) (number b) ≡ nat_cmp a b
 number_cmp a b = then_end (int_cmp (pos a) (pos b)) ∙ int_nat a b
 
 -- by two columns of numbers

@@ -13,7 +13,7 @@ use snb_complex_reads::sent::{ic2, ic9};
 use snb_graph::Graph;
 use snb_reach::reach::ic13;
 use snb_read_model::tail::tail_of;
-use snb_read_model::{Answer, CowText, Reply};
+use snb_read_model::{Answer, CowText, Reply, reply_with_tail};
 use snb_schema::Query;
 use snb_short_reads::messages::{is4, is5, is6, is7};
 use snb_short_reads::persons::{is1, is2, is3};
@@ -80,5 +80,5 @@ pub fn answer<'a>(
     let own = own_answer(alloc, graph, query)?;
     let follow = tail_of(query, &own).queries(alloc)?;
     let tail = own_answers(alloc, graph, &follow)?;
-    Reply::with_tail(alloc, own, tail)
+    reply_with_tail(alloc, own, tail)
 }

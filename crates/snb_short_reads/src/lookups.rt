@@ -3,7 +3,7 @@
 ghost use Rattle.std.specs.Prelude.{◌≡◌, ◌∷◌, [], IfOk, MatchOption};
 ghost use Rattle.snb_schema.specs.declared.table.Kind.TheVariants as kinds;
 ghost use Rattle.snb_schema.specs.RowKeys.{node_key};
-ghost use Rattle.snb_graph_maps.specs.Pairs.{rest};
+ghost use Rattle.snb_graph_links.specs.Pairs.{rest};
 ghost use Rattle.snb_read_model.specs.declared.cell.Cell.TheVariants.{Words};
 ghost use Rattle.snb_graph_model.specs.Around.{containers, is_friend, or_else, with_id};
 ghost use Rattle.snb_read_model.specs.Distance.{IsPerson};

@@ -1,7 +1,6 @@
 //! The short reads of a message.
 
 ghost use Rattle.std.specs.Prelude.{◌≡◌, ◌∷◌, [], IfOk};
-ghost use Rattle.std.specs.List.{All, AllZip};
 ghost use Rattle.snb_read_model.specs.ShortReads.{Is4, Is5, Is6, Is7, IsCreator, IsForum, IsReplyTo};
 ghost use Rattle.snb_short_reads.specs.Found.{AreReplies, IsReplyFound, without_author};
 ghost use Rattle.snb_graph_model.specs.Messages.{HasMessage};
@@ -10,6 +9,7 @@ ghost use Rattle.snb_graph_model.specs.Soundness.{Sound};
 use crate::lookups::{are_friends, author_id, forum, known, moderator, shown, words};
 use crate::persons::only;
 use crate::roots::root;
+use snb_base::list_of;
 use snb_graph::Graph;
 use snb_graph_integrity::law::sound_graphs;
 use snb_read_model::{Answer, AnswerRow, Cell, CowText};
@@ -134,24 +134,6 @@ fn reply_row(
     Ok(AnswerRow::from_vec(alloc, cells))
 }
 
-// The rows of replies to a message.
-fn reply_rows<'a>(
-    alloc: Global,
-    graph: &'a Graph,
-    message: u64,
-    found: &[(u64, u64, u64)],
-) -> Result<Answer<CowText<'a>>, AllocError>
-    requires sound { Sound graph.now }
-    requires found { All (IsReplyFound graph.now message) found.now }
-    ensures { IfOk result (AllZip (λ z row. IsReplyTo graph.now message (without_author z) row) found.now) }
-{
-    let mut answer = Answer::new(alloc);
-    for reply in found {
-        answer.push(reply_row(alloc, graph, message, *reply)?)?;
-    }
-    Ok(answer)
-}
-
 /// Short read 7: the direct replies to a message, from the latest on, each with its author and whether
 /// that author is a friend of the message's; of replies of one date those of the author of the lower id
 /// first, and of these the one of the lower id. A message that isn't held gives no rows.
@@ -164,5 +146,9 @@ pub fn is7(alloc: Global, graph: &Graph, message: u64) -> Result<Answer<CowText<
     let ordered = in_order(found, |a, b| {
         b.1.cmp(&a.1).then(a.2.cmp(&b.2)).then(a.0.cmp(&b.0))
     });
-    reply_rows(alloc, graph, message, &ordered)
+    list_of(
+        alloc,
+        ordered.as_slice(),
+        |reply| reply_row(alloc, graph, message, *reply),
+    )
 }

@@ -1,7 +1,6 @@
 //! The short reads of a person.
 
 ghost use Rattle.std.specs.Prelude.{◌≡◌, ◌∷◌, [], IfOk, Contains};
-ghost use Rattle.std.specs.List.{All, AllZip};
 ghost use Rattle.snb_schema.specs.declared.row.Row.TheVariants as row;
 ghost use Rattle.snb_read_model.specs.ShortReads.{Is1, Is2, Is3, IsFriend, IsProfile, IsRecent};
 ghost use Rattle.snb_short_reads.specs.Found.{IsFriendFound, IsMessageFound};
@@ -9,6 +8,7 @@ ghost use Rattle.snb_graph_model.specs.Soundness.{Sound};
 
 use crate::lookups::{author_id, city, collected, known, shown, words};
 use crate::roots::root;
+use snb_base::list_of;
 use snb_graph::Graph;
 use snb_graph_integrity::law::sound_graphs;
 use snb_read_model::{Answer, AnswerRow, Cell, CowText};
@@ -95,23 +95,6 @@ fn recent(
     Ok(AnswerRow::from_vec(alloc, cells))
 }
 
-// The rows of messages.
-fn recents<'a>(
-    alloc: Global,
-    graph: &'a Graph,
-    messages: &[(u64, u64)],
-) -> Result<Answer<CowText<'a>>, AllocError>
-    requires sound { Sound graph.now }
-    requires found { All (IsMessageFound graph.now) messages.now }
-    ensures { IfOk result (AllZip (IsRecent graph.now) messages.now) }
-{
-    let mut answer = Answer::new(alloc);
-    for message in messages {
-        answer.push(recent(alloc, graph, *message)?)?;
-    }
-    Ok(answer)
-}
-
 /// Short read 2: the ten latest messages of a person, each with the post at its root and that post's
 /// author; of messages of one date the one of the greater id first. A person who isn't held gives no
 /// rows.
@@ -124,7 +107,11 @@ pub fn is2(alloc: Global, graph: &Graph, person: u64) -> Result<Answer<CowText<'
     sound_graphs();
     let found = collected(alloc, graph.messages(person))?;
     let latest = first_of(found, 10, |a, b| b.1.cmp(&a.1).then(b.0.cmp(&a.0)));
-    recents(alloc, graph, &latest)
+    list_of(
+        alloc,
+        latest.as_slice(),
+        |message| recent(alloc, graph, *message),
+    )
 }
 
 // The row of a friend.
@@ -146,22 +133,6 @@ fn friend_row(
     Ok(AnswerRow::from_vec(alloc, cells))
 }
 
-// The rows of friends.
-fn friend_rows<'a>(
-    alloc: Global,
-    graph: &'a Graph,
-    friends: &[(u64, u64)],
-) -> Result<Answer<CowText<'a>>, AllocError>
-    requires { All (IsFriendFound graph.now) friends.now }
-    ensures { IfOk result (AllZip (IsFriend graph.now) friends.now) }
-{
-    let mut answer = Answer::new(alloc);
-    for friend in friends {
-        answer.push(friend_row(alloc, graph, *friend)?)?;
-    }
-    Ok(answer)
-}
-
 /// Short read 3: the friends of a person, from the latest friendship on; of friendships of one date the
 /// friend of the lower id first. A person who isn't held gives no rows.
 /// The condition: the graph is sound.
@@ -173,5 +144,9 @@ pub fn is3(alloc: Global, graph: &Graph, person: u64) -> Result<Answer<CowText<'
     sound_graphs();
     let found = collected(alloc, graph.friends(person))?;
     let ordered = in_order(found, |a, b| b.1.cmp(&a.1).then(a.0.cmp(&b.0)));
-    friend_rows(alloc, graph, &ordered)
+    list_of(
+        alloc,
+        ordered.as_slice(),
+        |friend| friend_row(alloc, graph, *friend),
+    )
 }

@@ -11,7 +11,7 @@ use crate::told::{flaw_of, told_counts, told_rows};
 use snb_base::Text;
 use snb_graph::Graph;
 use snb_handlers::{Call, Handler, Handlers, KINDS};
-use snb_read_model::Answer;
+use snb_read_model::{Answer, copy_answer};
 use snb_read_replies::reply::own_answer;
 use snb_schema::{Query, ReadKind};
 use snb_short_reads::persons::is3;
@@ -32,7 +32,7 @@ pub(crate) fn asked(alloc: Global, graph: &Graph, person: u64) -> Result<String,
             ensures { IfOk result (IsAnswer graph.now query.now) }
         {
             match query {
-                Query::Is3 { person } => is3(alloc, graph, *person)?.try_copy(),
+                Query::Is3 { person } => copy_answer(&is3(alloc, graph, *person)?),
                 _ => unreachable!(),
             }
         },
@@ -65,7 +65,7 @@ pub(crate) fn checked(alloc: Global, graph: Graph, file: &[u8]) -> Result<String
                 ensures { IfOk result (IsAnswer graph.now query.now) }
             {
                 count.set(count.get().saturating_add(1));
-                own_answer(alloc, graph, query)?.try_copy()
+                copy_answer(&own_answer(alloc, graph, query)?)
             },
         )?;
         if let Err(why) = handlers.register(Handler::new(kind, call)) {

@@ -12,7 +12,7 @@ use crate::words::{LOG_PATH, audit_words, words_of};
 use snb_base::{Channel, MemoryOutbox, MemoryShelf, Text};
 use snb_graph::Graph;
 use snb_handlers::{Call, Handler, Handlers, KINDS};
-use snb_read_model::Answer;
+use snb_read_model::{Answer, copy_answer};
 use snb_read_replies::reply::own_answer;
 use snb_schema::Query;
 use snb_test_script::files::add_file;
@@ -49,7 +49,7 @@ fn call<R: AllocGlobal + Threads + Wait + Sync>(
                 ensures { IfOk result (IsAnswer graph.now query.now) }
             {
                 asked.set(asked.get().saturating_add(1));
-                own_answer(alloc, graph, query)?.try_copy()
+                copy_answer(&own_answer(alloc, graph, query)?)
             },
         )?;
         if state.has_handler(kind) && handlers.register(Handler::new(kind, call)).is_err() {

@@ -15,7 +15,7 @@ use snb_graph::Graph;
 use snb_handlers::Handlers;
 use snb_input_files::{Load, Used};
 use snb_loader::load_dataset;
-use snb_read_model::{CowText, Reply};
+use snb_read_model::{CowText, Reply, lend_answer, lend_reply, reply_with_tail};
 use snb_schema::{Query, Refusal};
 use snb_validation::reply_text;
 use snb_walk::{Chance, Policy, Stop, Target, Trace};
@@ -39,7 +39,7 @@ fn put_step(alloc: Global, step: &(Target, Reply<Text>), to: &mut Vec<u8>) -> Re
         Target::Person { id } => format!(in alloc; "person {id} ")?,
         Target::Message { id } => format!(in alloc; "message {id} ")?,
     };
-    put_reply(words.as_str(), &step.1.lend()?, to)
+    put_reply(words.as_str(), &lend_reply(&step.1)?, to)
 }
 
 // The line of why a walk stopped.
@@ -57,7 +57,7 @@ fn stop_words(stop: Stop) -> &'static str
 fn walk_lines(alloc: Global, trace: &Trace) -> Result<Vec<u8>, AllocError>
     ensures { IfOk result (λ text. text.items ≡ walk_text trace.now.start trace.now.steps trace.now.stop) }
 {
-    let start = Reply::with_tail(alloc, trace.start.lend()?, Vec::new(alloc))?;
+    let start = reply_with_tail(alloc, lend_answer(&trace.start)?, Vec::new(alloc))?;
     let mut text = Vec::new(alloc);
     put_reply("start ", &start, &mut text)?;
     for step in trace.steps.as_slice() {

@@ -5,6 +5,7 @@ use Rattle.std.specs.List.{All, AllPairs, Contains}
 use Rattle.std.proofs.lemmas.Bool.{cases_Bool, eq-eqb, eqb-true}
 use Rattle.std.proofs.lemmas.List.Elements.{All-contains, All-from_recursion, Contains-append_cases, Contains-append_left, Contains-append_right}
 use Rattle.std.proofs.lemmas.Option.{get_or_from_slice_get, same_Some, slice_get_within}
+use Rattle.snb_base.proofs.ListLemmas.{at_contains, contains_at, given_by, gives, none_in}
 use Rattle.snb_base.proofs.Laws.{contains_cases, contains_here}
 use Rattle.snb_schema.specs.declared.key.Key.{Key}
 use Rattle.snb_schema.specs.declared.key.Key.TheVariants.{Node, Knows, LikesPost, LikesComment, Member}
@@ -27,7 +28,7 @@ use Rattle.snb_graph_model.specs.Graphs.{HoldsKey}
 use Rattle.snb_plan.specs.Closed.{IsClosed, IsClosedAt, IsMet, IsTaken, Update, is_in_lane}
 use Rattle.snb_plan.specs.Plans.{IsLineOf, IsPlan, IsRead, IsUpdate, Operation, Placed, Plan, file_of, first_t, lane_of, update_from, update_operation, updates_in}
 use Rattle.snb_trial.specs.Trial.{dataset, half, lane, lanes, line_of}
-use Rattle.snb_trial.proofs.Elements.{at_contains, behind_it, before_it, contains_at, given_by, given_in_order, gives, none_in}
+use Rattle.snb_trial.proofs.Elements.{behind_it, before_it, given_in_order}
 use Rattle.snb_trial.proofs.Numbered.{Rises}
 use Rattle.snb_trial.proofs.Seven.{Comment, Forum, Friendship, IsLineIn, Like, Membership, Person, Post, Seven, at_t, entry_of, in_lanes, in_line, in_order, lane_is, lane_later, lane_number, later, line_in, of_lane}
 

@@ -1,52 +1,13 @@
 -- Facts about lists: where elements stand, and lists in order.
-use Rattle.std.proofs.Common.{◌≡◌, ◌∷◌, ◌++◌, ◌∙◌, ℕ, zero, suc, ◌+◌, ◌<◌, ◌≤◌, ◌⊎◌, List, [], Option, Some, None, inl, inr, refl, ap, subst, arith}
-use Rattle.std.specs.Prelude.{slice_get}
-use Rattle.std.specs.List.{All, AllPairs, Contains, cons_option, filter_map, flat_map, range_with_len}
+use Rattle.std.proofs.Common.{◌≡◌, ◌∷◌, ◌++◌, ℕ, zero, suc, ◌+◌, ◌<◌, ◌≤◌, List, [], Option, Some, None, inl, inr, refl, subst, arith}
+use Rattle.std.specs.List.{AllPairs, Contains, cons_option, filter_map, flat_map, range_with_len}
 use Rattle.std.proofs.lemmas.List.Elements.{All-contains, Contains-append_cases, Contains-append_left, Contains-append_right}
 use Rattle.std.proofs.lemmas.List.Kept.{AllPairs-cons}
 use Rattle.std.proofs.lemmas.Bool.{cases_lt}
-use Rattle.std.proofs.lemmas.Option.{get_or_from_slice_get, same_Some, slice_get-get_or, slice_get_within}
+use Rattle.snb_base.proofs.ListLemmas.{all_of, given_by, gives, none_in, pairs_append, pairs_head, pairs_none, pairs_tail}
 use Rattle.snb_base.proofs.Laws.{contains_cases, contains_here, contains_there}
 
--- nothing is an element of the empty list
-pub none_in : {X : Type 0} (x : X) → Contains [] x → ⊥
-none_in x c = let l = c.1 in omega (arith, l)
-
--- what stands at a place is an element, and an element stands at a place
-pub at_contains : {X : Type 0} (xs : List X) (k : ℕ) (x : X) → slice_get xs k ≡ Some x → Contains xs x
-at_contains xs k x e = (k, slice_get_within xs k x e, get_or_from_slice_get xs k x x e)
-
-pub contains_at : {X : Type 0} (xs : List X) (x : X) → Contains xs x → (k : ℕ) × (slice_get xs k ≡ Some x)
-contains_at xs x c = (c.0, slice_get-get_or xs c.0 x c.1 ∙ ap Some c.2)
-
--- what holds of each element holds of all
-pub all_of : {X : Type 0} (P : X → Type 0) (xs : List X) → ((x : X) → Contains xs x → P x) → All P xs
-all_of P [] each k d lt = absurd (omega (arith, lt))
-all_of P (x ∷ xs) each zero d lt = each x (contains_here x xs)
-all_of P (x ∷ xs) each (suc k) d lt = all_of P xs (λ y c. each y (contains_there x xs y c)) k d (omega (arith, lt))
-
 -- ---- lists in order
-
-pub pairs_none : {X : Type 0} (R : X → X → Type 0) → AllPairs R []
-pairs_none R i j d below lt = absurd (omega (arith, lt))
-
--- what comes first comes before all others
-pub pairs_head : {X : Type 0} (R : X → X → Type 0) (x : X) (xs : List X) → AllPairs R (x ∷ xs) → All (R x) xs
-pairs_head R x xs pairs k d lt = pairs 0 (suc k) d (omega arith) (omega (arith, lt))
-
-pub pairs_tail : {X : Type 0} (R : X → X → Type 0) (x : X) (xs : List X) → AllPairs R (x ∷ xs) → AllPairs R xs
-pairs_tail R x xs pairs i j d below lt = pairs (suc i) (suc j) d (omega (arith, below)) (omega (arith, lt))
-
--- two lists in order, where each element of the first comes before each of the second
-pub pairs_append : {X : Type 0} (R : X → X → Type 0) (xs ys : List X) → AllPairs R xs → AllPairs R ys → ((x y : X) → Contains xs x → Contains ys y → R x y) → AllPairs R (xs ++ ys)
-pairs_append R [] ys p q apart = q
-pairs_append R (x ∷ xs) ys p q apart =
-    AllPairs-cons R x (xs ++ ys)
-    (all_of (R x) (xs ++ ys) (λ y c. elim (Contains-append_cases xs ys y c) [
-      | inl front ↦ All-contains (R x) xs y (pairs_head R x xs p) front
-      | inr back ↦ apart x y (contains_here x xs) back
-    ]))
-    (pairs_append R xs ys (pairs_tail R x xs p) q (λ y z c d. apart y z (contains_there x xs y c) d))
 
 -- what stands before an element of a list in order comes before it, and it comes before what stands behind it
 pub before_it : {X : Type 0} (R : X → X → Type 0) (front : List X) (x : X) (back : List X) → AllPairs R (front ++ x ∷ back) → (y : X) → Contains front y → R y x
@@ -62,35 +23,6 @@ behind_it R [] x back pairs y c = All-contains (R x) back y (pairs_head R x back
 behind_it R (z ∷ front) x back pairs y c = behind_it R front x back (pairs_tail R z (front ++ x ∷ back) pairs) y c
 
 -- ---- what is taken out
-
-option_cases : {X : Type 0} (o : Option X) (xs : List X) (y : X) → Contains (cons_option o xs) y → (o ≡ Some y) ⊎ Contains xs y
-option_cases None xs y c = inr c
-option_cases (Some x) xs y c = elim (contains_cases x xs y c) [ inl same ↦ inl (ap Some same) | inr rest ↦ inr rest ]
-
-option_here : {X : Type 0} (o : Option X) (xs : List X) (y : X) → o ≡ Some y → Contains (cons_option o xs) y
-option_here None xs y q = absurd cc
-option_here (Some x) xs y q = subst (Contains (x ∷ xs)) (same_Some x y q) (contains_here x xs)
-
-option_there : {X : Type 0} (o : Option X) (xs : List X) (y : X) → Contains xs y → Contains (cons_option o xs) y
-option_there None xs y c = c
-option_there (Some x) xs y c = contains_there x xs y c
-
--- what a list gives comes from one of its elements, and what an element gives is given
-pub given_by : {X Y : Type 0} (f : X → Option Y) (xs : List X) (y : Y) → Contains (filter_map f xs) y → (x : X) × Contains xs x × (f x ≡ Some y)
-given_by f [] y c = absurd (none_in y c)
-given_by f (x ∷ xs) y c =
-    elim (option_cases (f x) (filter_map f xs) y c) [
-      | inl here ↦ (x, contains_here x xs, here)
-      | inr rest ↦ let w = given_by f xs y rest in (w.0, contains_there x xs w.0 w.1, w.2)
-    ]
-
-pub gives : {X Y : Type 0} (f : X → Option Y) (xs : List X) (x : X) (y : Y) → Contains xs x → f x ≡ Some y → Contains (filter_map f xs) y
-gives f [] x y c q = absurd (none_in x c)
-gives f (z ∷ xs) x y c q =
-    elim (contains_cases z xs x c) [
-      | inl here ↦ option_here (f z) (filter_map f xs) y (ap f here ∙ q)
-      | inr rest ↦ option_there (f z) (filter_map f xs) y (gives f xs x y rest q)
-    ]
 
 option_pairs : {Y : Type 0} (S : Y → Y → Type 0) (o : Option Y) (ys : List Y) → ((y z : Y) → o ≡ Some y → Contains ys z → S y z) → AllPairs S ys → AllPairs S (cons_option o ys)
 option_pairs S None ys first pairs = pairs

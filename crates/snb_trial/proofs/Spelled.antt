@@ -7,6 +7,7 @@ use Rattle.std.specs.Str.{IsUtf8}
 use Rattle.std.proofs.lemmas.List.Elements.{All-cons, All-from_recursion, All-nil, All-weaker}
 use Rattle.std.proofs.lemmas.Str.{IsUtf8-from_ascii, IsUtf8-nil}
 use Rattle.std.proofs.lemmas.Str.Ascii.{IsAscii-from_all}
+use Rattle.snb_base.proofs.ListLemmas.{all_of, none_in}
 use Rattle.snb_base.specs.Calendar.{IsDigit}
 use Rattle.snb_base.specs.Spellings.{last_id, last_time}
 use Rattle.snb_base.proofs.Laws.{number_spelled}
@@ -24,7 +25,6 @@ use Rattle.snb_schema.specs.TableRows.{IsFieldText}
 use Rattle.snb_schema.specs.UpdateLines.{IsOfTwo, canonical_line, forum_inserts, kind_of, line_columns, line_values, op_number, op_values, person_inserts}
 use Rattle.snb_columns.specs.Laws.{OwnLineOfValues}
 use Rattle.snb_trial.specs.Trial.{half, lane, lanes, line_of}
-use Rattle.snb_trial.proofs.Elements.{all_of, none_in}
 use Rattle.snb_trial.proofs.Seven.{Comment, Forum, Friendship, IsLineIn, Like, Membership, Person, Post, Seven, entry_of, in_order, lane_number, line_in, of_lane}
 
 -- ---- values that have a spelling

@@ -15,7 +15,7 @@ use crate::values::items_in;
 use serde_json::Value;
 use snb_base::Text;
 use snb_read_model::tail::tail_of;
-use snb_read_model::{Answer, AnswerRow, Reply};
+use snb_read_model::{Answer, AnswerRow, Reply, lend_answer, reply_with_tail};
 use snb_schema::Query;
 use std::alloc::{AllocError, Global};
 
@@ -143,7 +143,7 @@ fn tail_in(
         ((answers : List (List (List AnyCell))) → ¬ AreAlong IsAnswerTo (tail_reads query.now own.now) (map view items.now) answers)
         (λ answers. AreAlong IsAnswerTo (tail_reads query.now own.now) (map view items.now) answers.items)) }
 {
-    let queries = tail_of(query, &own.lend()?).queries(alloc)?;
+    let queries = tail_of(query, &lend_answer(own)?).queries(alloc)?;
     answers_of(alloc, queries.as_slice(), items)
 }
 
@@ -166,7 +166,7 @@ fn reply_of(
     let Some(tail) = tail_in(alloc, query, &own, others)? else {
         return Ok(None);
     };
-    Ok(Some(Reply::with_tail(alloc, own, tail)?))
+    Ok(Some(reply_with_tail(alloc, own, tail)?))
 }
 
 /// The reply to a query that a value is.

@@ -4,4 +4,5 @@ mod Inserting
 mod LawFacts
 pub mod Laws
 mod Refusing
+mod SameFacts
 mod Telling

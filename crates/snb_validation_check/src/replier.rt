@@ -6,7 +6,7 @@ ghost use Rattle.snb_read_model.specs.Replies.{IsReply};
 
 use snb_graph::Graph;
 use snb_handlers::Handlers;
-use snb_read_model::{CowText, Reply};
+use snb_read_model::{CowText, Reply, cow_reply};
 use snb_read_replies::reply::answer;
 use snb_schema::Query;
 use std::alloc::{AllocError, Global};
@@ -60,6 +60,6 @@ impl Replier for Handlers {
         graph: &'a Graph,
         query: &Query,
     ) -> Result<Reply<CowText<'a>>, AllocError> {
-        self.reply(graph, query)?.into_cow()
+        cow_reply(self.reply(graph, query)?)
     }
 }

@@ -1,41 +1,49 @@
 //! Whether two replies are one, down to the cells. The first one's texts are lent, the other's its own.
 
-ghost use Rattle.std.specs.Prelude.{◌≡◌, ◌↔◌, ℕ, List, IsTrue};
+ghost use Rattle.std.specs.Prelude.{◌≡◌, ◌↔◌, IsTrue};
+ghost use Rattle.std.specs.List.{AllZip};
 
-use snb_base::Text;
-use snb_read_model::{Answer, AnswerRow, Cell, CowText, Reply};
+use snb_base::{OwnedList, Text};
+use snb_read_model::{Cell, CowText, Reply};
 
-// Whether two stays have the same names and year.
-fn same_stay(a: &(CowText<'_>, u32, CowText<'_>), b: &(Text, u32, Text)) -> bool
-    ensures { IsTrue result ↔ (a.now ≡ b.now) }
-{
-    if a.1 != b.1 {
-        return false;
-    }
-    if !a.0.same(&b.0) {
-        return false;
-    }
-    a.2.same(&b.2)
+/// What can be compared with a `U`.
+trait Same<U> {
+    /// Which values are the same.
+    ghost is: { Self → U → Type 0 };
+
+    /// Whether the two are the same. Takes no memory.
+    fn same(&self, other: &U) -> bool
+        ensures { IsTrue result ↔ is self.now other.now };
 }
 
-// Whether two lists of stays are one.
-fn same_stays(a: &[(CowText<'_>, u32, CowText<'_>)], b: &[(Text, u32, Text)]) -> bool
-    ensures { IsTrue result ↔ (a.now ≡ b.now) }
-{
-    if a.len() != b.len() {
-        return false;
+impl<'a> Same<Text> for CowText<'a> {
+    ghost is = { λ a b. a ≡ b };
+
+    fn same(&self, other: &Text) -> bool {
+        CowText::same(self, other)
     }
-    for at in 0..a.len() {
-        if !same_stay(&a[at], &b[at]) {
-            return false;
-        }
-    }
-    true
 }
 
-// Whether two lists of texts are one.
-fn same_texts(a: &[CowText<'_>], b: &[Text]) -> bool
-    ensures { IsTrue result ↔ (a.now ≡ b.now) }
+impl<'a> Same<(Text, u32, Text)> for (CowText<'a>, u32, CowText<'a>) {
+    ghost is = { λ a b. a ≡ b };
+
+    fn same(&self, other: &(Text, u32, Text)) -> bool {
+        self.1 == other.1 && self.0.same(&other.0) && self.2.same(&other.2)
+    }
+}
+
+/// Lists are the same where they have as many items, and those in one place are the same.
+impl<T: Same<U> + Drop, U: Drop> Same<OwnedList<U>> for OwnedList<T> {
+    ghost is = { AllZip T.is };
+
+    fn same(&self, other: &OwnedList<U>) -> bool {
+        same_items(self.as_slice(), other.as_slice())
+    }
+}
+
+// Whether two lists have as many items, and those in one place are the same.
+fn same_items<T: Same<U>, U>(a: &[T], b: &[U]) -> bool
+    ensures { IsTrue result ↔ AllZip T.is a.now b.now }
 {
     if a.len() != b.len() {
         return false;
@@ -48,77 +56,33 @@ fn same_texts(a: &[CowText<'_>], b: &[Text]) -> bool
     true
 }
 
-// Whether two cells are one.
-fn same_cell(a: &Cell<CowText<'_>>, b: &Cell<Text>) -> bool
-    ensures { IsTrue result ↔ (a.now ≡ b.now) }
-{
-    match a {
-        Cell::Number { value } => match b {
-            Cell::Number { value: other } => *value == *other,
-            _ => false,
-        },
-        Cell::Flag { value } => match b {
-            Cell::Flag { value: other } => *value == *other,
-            _ => false,
-        },
-        Cell::Words { text } => match b {
-            Cell::Words { text: other } => text.same(other),
-            _ => false,
-        },
-        Cell::List { texts } => match b {
-            Cell::List { texts: other } => same_texts(texts.as_slice(), other.as_slice()),
-            _ => false,
-        },
-        Cell::Stays { stays } => match b {
-            Cell::Stays { stays: other } => same_stays(stays.as_slice(), other.as_slice()),
-            _ => false,
-        },
-    }
-}
+impl<'a> Same<Cell<Text>> for Cell<CowText<'a>> {
+    ghost is = { λ a b. a ≡ b };
 
-// Whether two rows are one.
-fn same_row(a: &[Cell<CowText<'_>>], b: &[Cell<Text>]) -> bool
-    ensures { IsTrue result ↔ (a.now ≡ b.now) }
-{
-    if a.len() != b.len() {
-        return false;
-    }
-    for at in 0..a.len() {
-        if !same_cell(&a[at], &b[at]) {
-            return false;
+    fn same(&self, other: &Cell<Text>) -> bool {
+        match self {
+            Cell::Number { value } => match other {
+                Cell::Number { value: other } => *value == *other,
+                _ => false,
+            },
+            Cell::Flag { value } => match other {
+                Cell::Flag { value: other } => *value == *other,
+                _ => false,
+            },
+            Cell::Words { text } => match other {
+                Cell::Words { text: other } => text.same(other),
+                _ => false,
+            },
+            Cell::List { texts } => match other {
+                Cell::List { texts: other } => texts.same(other),
+                _ => false,
+            },
+            Cell::Stays { stays } => match other {
+                Cell::Stays { stays: other } => stays.same(other),
+                _ => false,
+            },
         }
     }
-    true
-}
-
-// Whether two answers are one.
-fn same_answer(a: &[AnswerRow<CowText<'_>>], b: &[AnswerRow<Text>]) -> bool
-    ensures { IsTrue result ↔ (a.now ≡ b.now) }
-{
-    if a.len() != b.len() {
-        return false;
-    }
-    for at in 0..a.len() {
-        if !same_row(a[at].as_slice(), b[at].as_slice()) {
-            return false;
-        }
-    }
-    true
-}
-
-// Whether two lists of answers are one.
-fn same_answers(a: &[Answer<CowText<'_>>], b: &[Answer<Text>]) -> bool
-    ensures { IsTrue result ↔ (a.now ≡ b.now) }
-{
-    if a.len() != b.len() {
-        return false;
-    }
-    for at in 0..a.len() {
-        if !same_answer(a[at].as_slice(), b[at].as_slice()) {
-            return false;
-        }
-    }
-    true
 }
 
 /// Whether two replies are one: the same answers in the same order, each with the same rows in the same
@@ -126,5 +90,5 @@ fn same_answers(a: &[Answer<CowText<'_>>], b: &[Answer<Text>]) -> bool
 pub(crate) fn same_reply(a: &Reply<CowText<'_>>, b: &Reply<Text>) -> bool
     ensures { IsTrue result ↔ (a.now ≡ b.now) }
 {
-    same_answers(a.as_slice(), b.as_slice())
+    a.same(b)
 }

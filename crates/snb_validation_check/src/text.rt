@@ -4,6 +4,7 @@ ghost use Rattle.std.specs.Prelude.{◌≡◌, ◌++◌, IfOk, OnOk};
 ghost use Rattle.snb_validation_check.specs.CheckTexts.{difference_text, tally_status, tally_text};
 
 use crate::difference::Difference;
+use snb_read_model::lend_reply;
 use snb_validation::reply_text;
 use std::alloc::{AllocError, Global};
 
@@ -27,9 +28,9 @@ fn difference_lines(alloc: Global, one: &Difference) -> Result<Vec<u8>, AllocErr
 {
     let line = one.line;
     let mut text = format!(in alloc; "differs line {line}\nexpected ")?.into_bytes();
-    reply_text(&one.expected.lend()?, &mut text)?;
+    reply_text(&lend_reply(&one.expected)?, &mut text)?;
     text.extend_from_slice(b"\ngiven ")?;
-    reply_text(&one.given.lend()?, &mut text)?;
+    reply_text(&lend_reply(&one.given)?, &mut text)?;
     text.push(b'\n')?;
     Ok(text)
 }

@@ -5,7 +5,6 @@
 pub mod law;
 pub mod policy;
 mod reading;
-pub mod steps;
 pub mod target;
 mod targets;
 pub mod trace;
@@ -13,7 +12,6 @@ pub mod walking;
 
 pub use policy::{Call, Policy};
 pub use snb_ratio::Chance;
-pub use steps::Steps;
 pub use target::{Pick, Stop, Target};
-pub use trace::Trace;
+pub use trace::{Steps, Trace};
 pub use walking::walk;

@@ -1,9 +1,11 @@
 //! What a walk leaves.
 
-use crate::steps::Steps;
-use crate::target::Stop;
-use snb_base::Text;
-use snb_read_model::Answer;
+use crate::target::{Stop, Target};
+use snb_base::{OwnedList, Text};
+use snb_read_model::{Answer, Reply};
+
+/// The steps of a walk in order: to which target each one went, and the reply to its reads.
+pub type Steps = OwnedList<(Target, Reply<Text>)>;
 
 /// A walk: the answer that it began with, its steps, and why it stopped.
 pub struct Trace {

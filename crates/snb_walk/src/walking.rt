@@ -7,10 +7,9 @@ ghost use Rattle.snb_walk.specs.Walks.{IsWalk, MayGo, Stops};
 
 use crate::policy::Policy;
 use crate::reading::step_to;
-use crate::steps::Steps;
 use crate::target::{Stop, Target};
 use crate::targets::push_targets;
-use crate::trace::Trace;
+use crate::trace::{Steps, Trace};
 use snb_graph::Graph;
 use snb_handlers::Handlers;
 use snb_ratio::Chance;

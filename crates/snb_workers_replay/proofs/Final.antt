@@ -7,6 +7,7 @@ use Rattle.std.proofs.lemmas.Bool.{cases_Bool, cases_lt, eqb-true}
 use Rattle.std.proofs.lemmas.List.{length-map}
 use Rattle.std.proofs.lemmas.List.Sums.{sum_by-cons}
 use Rattle.std.proofs.lemmas.List.Sorted.{IsPermutation-append_right, IsPermutation-trans}
+use Rattle.snb_base.proofs.ListLemmas.{contains_at, split_at}
 use Rattle.snb_history.specs.declared.event.Event.{Event}
 use Rattle.snb_history.specs.declared.event.Event.TheVariants.{Start, Finish, Halt}
 use Rattle.snb_schema.specs.declared.op.Op.{Op}
@@ -19,7 +20,7 @@ use Rattle.snb_history.specs.Schedule.{IsOperation, Schedule}
 use Rattle.snb_plan.specs.Plans.{Operation, Plan, schedule_of}
 use Rattle.snb_workers_replay.specs.Laws.{CompleteIsFinal}
 use Rattle.snb_workers_replay.specs.Replay.{all_rows, insert_at, insert_in, inserts_in, rows_in}
-use Rattle.snb_workers_replay.proofs.Lists.{contains_at, of_any, split_at}
+use Rattle.snb_workers_replay.proofs.Lists.{of_any}
 use Rattle.snb_workers_replay.proofs.Times.{above_none, from, moved, times, within_once}
 
 -- ---- rows by the numbers of operations

@@ -6,6 +6,7 @@ use Rattle.std.proofs.lemmas.Bool.{eq-eqb, eqb-true}
 use Rattle.std.proofs.lemmas.List.Elements.{Contains-append_cases, Contains-append_left, Contains-append_right}
 use Rattle.std.proofs.lemmas.List.Sorted.{Contains-permutation, IsPermutation-sym}
 use Rattle.std.specs.List.Sorted.{IsPermutation}
+use Rattle.snb_base.proofs.ListLemmas.{given_by, gives, none_in}
 use Rattle.snb_history.specs.declared.event.Event.{Event}
 use Rattle.snb_history.specs.declared.event.Event.TheVariants.{Start, Finish, Halt}
 use Rattle.snb_schema.specs.declared.op.Op.{Op}
@@ -17,7 +18,7 @@ use Rattle.snb_graph_model.specs.Graphs.{HasKey}
 use Rattle.snb_plan.specs.Plans.{Plan}
 use Rattle.snb_base.proofs.Laws.{contains_cases, contains_here, contains_there}
 use Rattle.snb_workers_replay.specs.Replay.{IsAfter, finished_insert, insert_at, inserts_in, rows_in}
-use Rattle.snb_workers_replay.proofs.Lists.{any_of, given_by, gives, none_in, of_any}
+use Rattle.snb_workers_replay.proofs.Lists.{any_of, of_any}
 
 -- ---- inserts
 

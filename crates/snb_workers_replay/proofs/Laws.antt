@@ -7,6 +7,7 @@ use Rattle.std.specs.List.Sorted.{IsPermutation}
 use Rattle.std.proofs.lemmas.List.Concat.{flat_map-append}
 use Rattle.std.proofs.lemmas.List.Elements.{All-append, All-contains, filter_map-append}
 use Rattle.std.proofs.lemmas.List.Sorted.{IsPermutation-append_left, IsPermutation-trans}
+use Rattle.snb_base.proofs.ListLemmas.{at_contains}
 use Rattle.snb_history.specs.declared.event.Event.{Event}
 use Rattle.snb_history.specs.declared.event.Event.TheVariants.{Finish}
 use Rattle.snb_schema.specs.declared.op.Line.{Line}
@@ -19,7 +20,6 @@ use Rattle.snb_graph_model.specs.Graphs.{HasGained}
 use Rattle.snb_plan.specs.Plans.{Ask, Insert, IsLineOf, IsOfStreams, IsRead, IsUpdate, Operation, Placed, Plan, Work, first_t, lane_of, numbered_lanes}
 use Rattle.snb_inserts.specs.Applying.{HasLine}
 use Rattle.snb_workers_replay.specs.Replay.{IsAfter, IsBefore, finished_insert, insert_at, insert_in, inserts_before, inserts_in, rows_before, rows_in}
-use Rattle.snb_workers_replay.proofs.Lists.{at_contains}
 use Rattle.snb_workers_replay.proofs.Updates.{step_at, update_at}
 
 -- what an operation of a plan inserts has a line

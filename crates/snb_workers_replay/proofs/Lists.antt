@@ -1,25 +1,15 @@
 -- Facts about lists: where elements stand, and what is taken out of a list.
-use Rattle.std.proofs.Common.{◌≡◌, ◌∷◌, ◌++◌, ◌∙◌, ℕ, ◌+◌, ◌<◌, ◌⊎◌, List, [], take, drop, Bool, true, Option, Some, None, inl, inr, sym, ap, subst, arith, length-take}
+use Rattle.std.proofs.Common.{◌≡◌, ◌∷◌, ◌++◌, ◌∙◌, ℕ, ◌+◌, ◌<◌, List, [], take, drop, Bool, true, Option, Some, inl, inr, sym, ap, arith, length-take}
 use Rattle.std.specs.Prelude.{Contains, slice_get}
 use Rattle.std.specs.List.{cons_option, filter_map, list_any}
 use Rattle.std.proofs.lemmas.Bool.{cases_Bool}
 use Rattle.std.proofs.lemmas.List.{get_or-take}
 use Rattle.std.proofs.lemmas.List.Elements.{filter_map-append}
-use Rattle.std.proofs.lemmas.Option.{get_or_from_slice_get, same_Some, slice_get-get_or, slice_get_within}
-use Rattle.snb_base.proofs.Laws.{contains_cases, contains_here, contains_there, split_here}
-
--- nothing is an element of the empty list
-pub none_in : {X : Type 0} (x : X) → Contains [] x → ⊥
-none_in x c = let l = c.1 in omega (arith, l)
+use Rattle.std.proofs.lemmas.Option.{get_or_from_slice_get, slice_get-get_or, slice_get_within}
+use Rattle.snb_base.proofs.ListLemmas.{gives, none_in, split_at}
+use Rattle.snb_base.proofs.Laws.{contains_cases, contains_here, contains_there}
 
 -- ---- places
-
--- what stands at a place is an element, and an element stands at a place
-pub at_contains : {X : Type 0} (xs : List X) (k : ℕ) (x : X) → slice_get xs k ≡ Some x → Contains xs x
-at_contains xs k x e = (k, slice_get_within xs k x e, get_or_from_slice_get xs k x x e)
-
-pub contains_at : {X : Type 0} (xs : List X) (x : X) → Contains xs x → (k : ℕ) × (slice_get xs k ≡ Some x)
-contains_at xs x c = (c.0, slice_get-get_or xs c.0 x c.1 ∙ ap Some c.2)
 
 -- what stands before a place is an element of the front that ends there, and the other way round
 pub in_front : {X : Type 0} (xs : List X) (j k : ℕ) (x : X) → slice_get xs j ≡ Some x → j < k → Contains (take k xs) x
@@ -34,40 +24,7 @@ from_front xs k x c =
     let lt : c.0 < k = omega (arith, within, size) in
     (c.0, lt, slice_get-get_or xs c.0 x (omega (arith, within, size)) ∙ ap Some (sym (get_or-take k xs c.0 x lt) ∙ c.2))
 
--- a list is what stands before a place, what stands there, and what stands after it
-pub split_at : {X : Type 0} (xs : List X) (k : ℕ) (x : X) → slice_get xs k ≡ Some x → take k xs ++ x ∷ drop (k + 1) xs ≡ xs
-split_at xs k x e = split_here xs k x (slice_get_within xs k x e) (sym (get_or_from_slice_get xs k x x e))
-
 -- ---- what is taken out
-
-option_cases : {X : Type 0} (o : Option X) (xs : List X) (y : X) → Contains (cons_option o xs) y → (o ≡ Some y) ⊎ Contains xs y
-option_cases None xs y c = inr c
-option_cases (Some x) xs y c = elim (contains_cases x xs y c) [ inl same ↦ inl (ap Some same) | inr rest ↦ inr rest ]
-
-option_here : {X : Type 0} (o : Option X) (xs : List X) (y : X) → o ≡ Some y → Contains (cons_option o xs) y
-option_here None xs y q = absurd cc
-option_here (Some x) xs y q = subst (Contains (x ∷ xs)) (same_Some x y q) (contains_here x xs)
-
-option_there : {X : Type 0} (o : Option X) (xs : List X) (y : X) → Contains xs y → Contains (cons_option o xs) y
-option_there None xs y c = c
-option_there (Some x) xs y c = contains_there x xs y c
-
--- what a list gives comes from one of its elements, and what an element gives is given
-pub given_by : {X Y : Type 0} (f : X → Option Y) (xs : List X) (y : Y) → Contains (filter_map f xs) y → (x : X) × Contains xs x × (f x ≡ Some y)
-given_by f [] y c = absurd (none_in y c)
-given_by f (x ∷ xs) y c =
-    elim (option_cases (f x) (filter_map f xs) y c) [
-      | inl here ↦ (x, contains_here x xs, here)
-      | inr rest ↦ let w = given_by f xs y rest in (w.0, contains_there x xs w.0 w.1, w.2)
-    ]
-
-pub gives : {X Y : Type 0} (f : X → Option Y) (xs : List X) (x : X) (y : Y) → Contains xs x → f x ≡ Some y → Contains (filter_map f xs) y
-gives f [] x y c q = absurd (none_in x c)
-gives f (z ∷ xs) x y c q =
-    elim (contains_cases z xs x c) [
-      | inl here ↦ option_here (f z) (filter_map f xs) y (ap f here ∙ q)
-      | inr rest ↦ option_there (f z) (filter_map f xs) y (gives f xs x y rest q)
-    ]
 
 -- what is given is what stands before a place gives, what is given there, and what is given after it
 pub given_split : {X Y : Type 0} (f : X → Option Y) (xs : List X) (k : ℕ) (x : X) (y : Y) → slice_get xs k ≡ Some x → f x ≡ Some y

@@ -5,6 +5,7 @@ use Rattle.std.specs.List.Sorted.{IsStrictlySortedBy}
 use Rattle.std.proofs.lemmas.List.Elements.{All-cons, All-nil}
 use Rattle.std.proofs.lemmas.Option.{same_Some}
 use Rattle.std.proofs.lemmas.Str.{IsUtf8-from_ascii, IsUtf8-nil}
+use Rattle.snb_base.proofs.ListLemmas.{none_in}
 use Rattle.snb_base.specs.Spellings.{Num}
 use Rattle.snb_base.proofs.Laws.{contains_cases, contains_here}
 use Rattle.snb_history.specs.declared.event.Event.TheVariants.{Start, Finish}
@@ -33,7 +34,6 @@ use Rattle.snb_plan.specs.Closed.{IsClosed, IsClosedAt, IsMet, Update}
 use Rattle.snb_plan.specs.Plans.{IsLineOf, IsPlan, IsRead, IsUpdate, Operation, Placed, file_of, lane_of, schedule_of, update_operation, updates_in}
 use Rattle.snb_workers_replay.specs.Laws.{IsReplayed}
 use Rattle.snb_workers_replay.specs.Worked.{city, newcomer, one_insert, one_lane, one_turn, only}
-use Rattle.snb_workers_replay.proofs.Lists.{none_in}
 
 -- an element of a list of one is that one
 single : {X : Type 0} (x y : X) → Contains (x ∷ []) y → x ≡ y

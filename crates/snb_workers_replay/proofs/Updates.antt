@@ -4,6 +4,7 @@ use Rattle.std.specs.Prelude.{Contains, slice_get}
 use Rattle.std.specs.List.{filter_map}
 use Rattle.std.proofs.lemmas.List.{get_or-map, length-map}
 use Rattle.std.proofs.lemmas.Option.{get_or_from_slice_get, same_Some, slice_get_within}
+use Rattle.snb_base.proofs.ListLemmas.{at_contains, contains_at, given_by, gives}
 use Rattle.snb_schema.specs.declared.key.Key.{Key}
 use Rattle.snb_schema.specs.declared.op.Op.{Op}
 use Rattle.snb_history.specs.declared.step.Step.{Step}
@@ -16,7 +17,7 @@ use Rattle.snb_plan.specs.declared.plan.Source.{Source}
 use Rattle.snb_plan.specs.Closed.{IsClosed, IsClosedAt, Update}
 use Rattle.snb_plan.specs.Plans.{Ask, Insert, IsPlan, IsLineOf, IsRead, IsUpdate, Operation, Placed, Plan, Work, file_of, first_t, lane_of, numbered_lanes, schedule_of, update_from, update_operation, updates_in}
 use Rattle.snb_workers_replay.specs.Replay.{insert_at, insert_in}
-use Rattle.snb_workers_replay.proofs.Lists.{at_contains, contains_at, from_front, given_by, given_split, gives, in_front}
+use Rattle.snb_workers_replay.proofs.Lists.{from_front, given_split, in_front}
 
 -- the update that an operation is, if it is one
 abbrev pub update_of : Operation → Option Update

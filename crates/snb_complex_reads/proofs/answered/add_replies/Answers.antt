@@ -1,6 +1,6 @@
 use Rattle.std.proofs.Common.{◌∷◌, [], sym, subst}
 use Rattle.std.specs.List.Sorted.{IsPermutation}
-use Rattle.snb_graph_maps.specs.Pairs.{rest}
+use Rattle.snb_graph_links.specs.Pairs.{rest}
 use Rattle.snb_graph_model.specs.Around.{replies}
 use Rattle.snb_complex_reads.proofs.Moves.{appended_done, appended_next}
 use Rattle.snb_complex_reads.proofs.answered.add_replies.Goals as goal

@@ -1,5 +1,5 @@
 use Rattle.std.proofs.Common.{◌≡◌, ◌++◌}
-use Rattle.snb_graph_maps.specs.Pairs.{rest}
+use Rattle.snb_graph_links.specs.Pairs.{rest}
 use Rattle.snb_complex_reads.proofs.answered.add_replies.Given as goal
 
 abbrev pub invariant-loop-comment : goal.invariant-loop-comment

@@ -1,7 +1,7 @@
 use Rattle.std.proofs.Common.{◌++◌, ℕ}
 use Rattle.std.specs.List.{flat_map}
 use Rattle.std.specs.List.Sorted.{IsPermutation}
-use Rattle.snb_graph_maps.specs.Pairs.{rest}
+use Rattle.snb_graph_links.specs.Pairs.{rest}
 use Rattle.snb_graph_model.specs.Around.{replies}
 use Rattle.snb_complex_reads.proofs.answered.ic8.Given as goal
 

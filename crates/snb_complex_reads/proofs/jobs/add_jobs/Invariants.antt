@@ -1,7 +1,7 @@
 use Rattle.std.proofs.Common.{◌++◌, ℕ, List, nat_eq}
 use Rattle.std.specs.HashMap.{get}
 use Rattle.std.specs.List.{All}
-use Rattle.snb_graph_maps.specs.Pairs.{rest}
+use Rattle.snb_graph_links.specs.Pairs.{rest}
 use Rattle.snb_complex_reads.proofs.JobLemmas.{IsAddingJobs}
 use Rattle.snb_complex_reads.specs.Found.{IsStayFound}
 use Rattle.snb_complex_reads.specs.Jobs.{AreJobs, AreSeen, jobs_by}

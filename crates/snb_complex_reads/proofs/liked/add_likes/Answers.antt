@@ -1,7 +1,7 @@
 use Rattle.std.proofs.Common.{◌∷◌, [], sym, ap, subst, map}
 use Rattle.std.proofs.lemmas.List.Sorted.{IsPermutation-map}
 use Rattle.std.specs.List.Sorted.{IsPermutation}
-use Rattle.snb_graph_maps.specs.Pairs.{rest}
+use Rattle.snb_graph_links.specs.Pairs.{rest}
 use Rattle.snb_graph_model.specs.Around.{likes}
 use Rattle.snb_complex_reads.proofs.Moves.{appended_done, appended_next}
 use Rattle.snb_complex_reads.specs.Found.{like_of}

@@ -1,5 +1,5 @@
 use Rattle.std.proofs.Common.{◌≡◌, ◌++◌, map}
-use Rattle.snb_graph_maps.specs.Pairs.{rest}
+use Rattle.snb_graph_links.specs.Pairs.{rest}
 use Rattle.snb_complex_reads.specs.Found.{like_of}
 use Rattle.snb_complex_reads.proofs.liked.add_likes.Given as goal
 

@@ -1,5 +1,5 @@
 use Rattle.std.proofs.Common.{rules, sym, subst, ap}
-use Rattle.snb_graph_maps.specs.Pairs.{rest}
+use Rattle.snb_graph_links.specs.Pairs.{rest}
 use Rattle.snb_read_order.proofs.Laws.{compares}
 use Rattle.snb_read_model.specs.ComplexReads.{AreStays, stay_cmp}
 use Rattle.snb_complex_reads.proofs.NamesakeLemmas.{naming_begins, naming_done, naming_head, naming_next, stay_total}

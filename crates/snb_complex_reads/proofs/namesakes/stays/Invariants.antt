@@ -1,4 +1,4 @@
-use Rattle.snb_graph_maps.specs.Pairs.{rest}
+use Rattle.snb_graph_links.specs.Pairs.{rest}
 use Rattle.snb_complex_reads.proofs.NamesakeLemmas.{IsNaming}
 use Rattle.snb_complex_reads.proofs.namesakes.stays.Given as goal
 

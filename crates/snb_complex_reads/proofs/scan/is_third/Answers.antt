@@ -2,7 +2,7 @@ use Rattle.std.proofs.Common.{ℕ, ap, nat_eq, sym, ◌∙◌}
 use Rattle.std.proofs.lemmas.List.Sorted.{list_any-IsPermutation}
 use Rattle.std.specs.HashMap.{get}
 use Rattle.std.specs.List.{list_any}
-use Rattle.snb_graph_maps.specs.Pairs.{rest}
+use Rattle.snb_graph_links.specs.Pairs.{rest}
 use Rattle.snb_complex_reads.specs.Scan.{is_two}
 use Rattle.snb_complex_reads.proofs.scan.is_third.Goals as goal
 

@@ -2,7 +2,7 @@
 use Rattle.std.proofs.Common.{◌≡◌, nat_eq}
 use Rattle.std.specs.HashMap.{get}
 use Rattle.std.specs.List.{list_any}
-use Rattle.snb_graph_maps.specs.Pairs.{rest}
+use Rattle.snb_graph_links.specs.Pairs.{rest}
 use Rattle.snb_complex_reads.specs.Scan.{has_second, is_two}
 use Rattle.snb_complex_reads.proofs.scan.is_third.Given as goal
 

@@ -1,8 +1,8 @@
-use Rattle.std.proofs.Common.{[], nat_le, sym, subst}
+use Rattle.std.proofs.Common.{[], nat_le, rules, sym, subst}
 use Rattle.std.proofs.lemmas.List.Sorted.{All-permutation, IsPermutation-refl}
 use Rattle.std.proofs.lemmas.Result.{IfOk-weaker}
 use Rattle.std.specs.List.Sorted.{IsPermutation}
-use Rattle.snb_graph_maps.specs.Pairs.{rest}
+use Rattle.snb_graph_links.specs.Pairs.{rest}
 use Rattle.snb_graph_model.specs.Around.{friends}
 use Rattle.snb_read_model.specs.ComplexReads.{IsSent, latest}
 use Rattle.snb_read_model.specs.Order.{First}
@@ -18,7 +18,7 @@ loop-friend-init c = ([], c.none_yet-top.ensures, IsPermutation-refl _)
 pub loop-friend-preserved : goal.loop-friend-preserved
 loop-friend-preserved c =
     let (found, are, moves) = c.loop-friend.invariant in
-    let (now, kept, more) = c.in_ok-offer_until.ensures found are in
+    let (now, kept, more) = c.in_ok-offer_messages.ensures (λ date. nat_le date c.args.max_date) (λ date answer k. search rules) found are in
     (now, kept, joined_next (λ p. sent_by c.args.graph.now (λ date. nat_le date c.args.max_date) p.0) _ found now _ (rest c.next.new.self) (c.in-Some.friend, c.in-Some.field-0-1) c.in-Some.ensures.steps more moves)
 
 pub latest_sent-requires : goal.latest_sent-requires

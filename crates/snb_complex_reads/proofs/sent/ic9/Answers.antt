@@ -1,4 +1,4 @@
-use Rattle.std.proofs.Common.{[], nat_lt}
+use Rattle.std.proofs.Common.{[], nat_lt, rules}
 use Rattle.std.proofs.lemmas.List.Sorted.{All-permutation, IsPermutation-refl}
 use Rattle.std.proofs.lemmas.Result.{IfOk-weaker}
 use Rattle.snb_read_model.specs.ComplexReads.{IsSent, latest}
@@ -15,7 +15,7 @@ loop-one-init c = ([], c.none_yet-top.ensures, IsPermutation-refl _)
 pub loop-one-preserved : goal.loop-one-preserved
 loop-one-preserved c =
     let (found, are, moves) = c.loop-one.invariant in
-    let (now, kept, more) = c.in_ok-offer_before.ensures found are in
+    let (now, kept, more) = c.in_ok-offer_messages.ensures (λ date. nat_lt date c.args.max_date) (λ date answer k. search rules) found are in
     (now, kept, joined_more (λ p. sent_by c.args.graph.now (λ date. nat_lt date c.args.max_date) p.0) c.as_slice-one-items.result.now c.loop-one.one-index (0, 0) found now c.loop-one-test.true moves more)
 
 pub latest_sent-requires : goal.latest_sent-requires

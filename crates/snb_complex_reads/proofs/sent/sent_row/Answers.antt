@@ -4,7 +4,7 @@ use Rattle.snb_complex_reads.proofs.sent.sent_row.Goals as goal
 
 pub unreachable-requires : goal.unreachable-requires
 unreachable-requires c =
-    let (x, is) = shows c.args.graph.now c.known.ensures c.sound_graphs.ensures.numbers c.args.sent.1 c.requires.message.held in
+    let (x, is) = shows c.args.graph.now c.known.ensures c.sound_graphs.ensures.numbers c.args.sent.now.message c.requires.message.held in
     let none = c.in_default.ensures in
     cc
 
@@ -12,7 +12,7 @@ pub returns : goal.returns
 returns c = record {
   person = c.known-person.result.now;
   held = c.known-person.ensures.only;
-  message = record { id = c.args.sent.1; date = c.in-Some.field-0-0; content = c.in-Some.content.now };
+  message = record { id = c.args.sent.now.message; date = c.in-Some.field-0-0; content = c.in-Some.content.now };
   sent = c.in-Some.ensures.only;
   is = search rules;
 }

@@ -2,7 +2,7 @@ use Rattle.std.proofs.Common.{◌≡◌, suc, ◌-◌, IsSome, arith, nat_eq, sy
 use Rattle.std.specs.HashMap.{get}
 use Rattle.std.specs.List.Sorted.{IsPermutation}
 use Rattle.snb_graph_model.specs.Around.{friends}
-use Rattle.snb_graph_maps.specs.Pairs.{rest}
+use Rattle.snb_graph_links.specs.Pairs.{rest}
 use Rattle.snb_graph_rows.proofs.Laws.{contains_here}
 use Rattle.snb_reach.proofs.LevelLemmas.{growing_met, met_stays}
 use Rattle.snb_reach.proofs.LookLemmas.{all_looked, looked, looks}

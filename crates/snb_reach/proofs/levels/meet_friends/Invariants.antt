@@ -1,6 +1,6 @@
 use Rattle.std.proofs.Common.{IsSome, nat_eq}
 use Rattle.std.specs.HashMap.{get}
-use Rattle.snb_graph_maps.specs.Pairs.{rest}
+use Rattle.snb_graph_links.specs.Pairs.{rest}
 use Rattle.snb_reach.proofs.LookLemmas.{IsLooking}
 use Rattle.snb_reach.specs.Levels.{IsGrowing, StaysMet}
 use Rattle.snb_reach.proofs.levels.meet_friends.Given as goal

@@ -3,7 +3,7 @@ use Rattle.std.specs.HashMap.{get}
 use Rattle.std.specs.List.Sorted.{IsPermutation}
 use Rattle.snb_read_model.specs.Distance.{Walk}
 use Rattle.snb_graph_model.specs.Around.{friends}
-use Rattle.snb_graph_maps.specs.Pairs.{rest}
+use Rattle.snb_graph_links.specs.Pairs.{rest}
 use Rattle.snb_graph_rows.proofs.Laws.{contains_here}
 use Rattle.snb_reach.proofs.LookLemmas.{all_looked, looked, looks}
 use Rattle.snb_reach.proofs.SideLemmas.{marked, met_other}

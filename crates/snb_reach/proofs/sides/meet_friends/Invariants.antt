@@ -1,6 +1,6 @@
 use Rattle.std.proofs.Common.{◌≡◌, ◌+◌, length, nat_eq, Some}
 use Rattle.std.specs.HashMap.{get, hash_map_len}
-use Rattle.snb_graph_maps.specs.Pairs.{rest}
+use Rattle.snb_graph_links.specs.Pairs.{rest}
 use Rattle.snb_reach.proofs.LookLemmas.{IsLooking}
 use Rattle.snb_reach.specs.Sides.{IsSide, KeepsMark, SameOthers}
 use Rattle.snb_reach.proofs.sides.meet_friends.Given as goal

@@ -1,4 +1,4 @@
-use Rattle.snb_graph_maps.specs.Pairs.{rest}
+use Rattle.snb_graph_links.specs.Pairs.{rest}
 use Rattle.snb_short_reads.proofs.Laws.{IsFinding}
 use Rattle.snb_short_reads.proofs.messages.replies.Given as goal
 

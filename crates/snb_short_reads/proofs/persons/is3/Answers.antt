@@ -2,6 +2,7 @@ use Rattle.std.proofs.Common.{rules}
 use Rattle.std.proofs.lemmas.List.Elements.{All-contains_itself, All-weaker}
 use Rattle.std.proofs.lemmas.Result.{IfOk-weaker}
 use Rattle.std.specs.List.{All, Contains}
+use Rattle.snb_base.proofs.ListLemmas.{each_at, each_made}
 use Rattle.snb_read_order.proofs.Laws.{compares, walked}
 use Rattle.snb_graph_model.proofs.Laws.{friend_there}
 use Rattle.snb_graph_model.specs.Around.{friends}
@@ -9,19 +10,22 @@ use Rattle.snb_read_model.specs.Order.{Whole}
 use Rattle.snb_short_reads.proofs.Laws.{friend_found}
 use Rattle.snb_short_reads.proofs.RowLemmas.{friends_first, friends_total, is3_answers}
 use Rattle.snb_short_reads.specs.Found.{IsFriendFound}
+use Rattle.snb_read_model.specs.ShortReads.{IsFriend}
 use Rattle.snb_short_reads.proofs.persons.is3.Goals as goal
 
-pub friend_rows-requires : goal.friend_rows-requires
-friend_rows-requires c =
+pub list_of-requires : goal.list_of-requires
+list_of-requires c =
     let g = c.args.graph.now in
     let all : All (IsFriendFound g) (friends g c.args.person) = All-weaker (Contains (friends g c.args.person)) (IsFriendFound g)
     (λ f d. friend_found g c.known.ensures c.sound_graphs.ensures.numbers c.requires.sound.held c.args.person f.0 f.1 (friend_there g c.args.person f.0 f.1 d)) (friends g c.args.person) (All-contains_itself (friends g c.args.person)) in
-    walked (IsFriendFound g) friends_first Whole _ _ _ _ _ all c.friends.ensures.same c.in_ok-found.ensures
-    (c.in_order-ordered.ensures friends_first friends_total (compares _ _ friends_first (λ a r q k. search rules))) c.deref.ensures.value
+    let each = each_at (IsFriendFound g) _
+    (walked (IsFriendFound g) friends_first Whole _ _ _ _ _ all c.friends.ensures.same c.in_ok-found.ensures
+    (c.in_order-ordered.ensures friends_first friends_total (compares _ _ friends_first (λ a r q k. search rules))) c.as_slice.ensures.value) in
+    search (rules, each)
 
 pub returns : goal.returns
 returns c =
     let g = c.args.graph.now in
-    IfOk-weaker c.friend_rows.result _ _ (λ a z. is3_answers g c.args.person _ _ _ a
+    IfOk-weaker c.list_of.result _ _ (λ a z. is3_answers g c.args.person _ _ _ a
     c.friends.ensures.same c.in_ok-found.ensures
-    (c.in_order-ordered.ensures friends_first friends_total (compares _ _ friends_first (λ a r q k. search rules))) (rw c.deref.ensures.value at z)) c.friend_rows.ensures
+    (c.in_order-ordered.ensures friends_first friends_total (compares _ _ friends_first (λ a r q k. search rules))) (rw c.as_slice.ensures.value at z)) (each_made _ _ (IsFriend g) (λ p row k. search rules) c.list_of.result _ c.list_of.ensures)

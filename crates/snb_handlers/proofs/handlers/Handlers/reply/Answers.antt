@@ -11,4 +11,4 @@ answer-requires-clause-kind g c = c.requires.all (kind_of c.args.query.now)
 pub tail_of-requires : goal.tail_of-requires
 tail_of-requires g c =
     let columns = columns_of_answer c.args.graph.now c.args.query.now c.in_ok-own.own c.in_ok-own.ensures in
-    record { columns = subst (λ (answer : List (List Cell)). HaveColumns c.args.query.now answer) (sym c.in_ok-lend.ensures) columns }
+    record { columns = subst (λ (answer : List (List Cell)). HaveColumns c.args.query.now answer) (sym c.in_ok-lend_answer.ensures) columns }
