@@ -21,12 +21,13 @@ use Rattle.snb_graph_adjacency.specs.declared.indexes.Indexes.{Indexes}
 use Rattle.snb_graph_adjacency.specs.declared.link.Link.{Link}
 use Rattle.snb_graph_adjacency.specs.declared.link.Walk.{Walk}
 use Rattle.snb_graph_adjacency.specs.declared.link.Walk.TheVariants.{Friends, Messages, Replies, PostLikes, CommentLikes, Work, Study}
-use Rattle.snb_graph_adjacency.specs.Concerns.{concerns}
+use Rattle.snb_graph_adjacency.specs.LinkDelta.{IsAlone}
 use Rattle.snb_graph_adjacency.specs.Kept.{HasFrozenLink, HasLink, IsAlong, IsIndexed, along}
-use Rattle.snb_graph_adjacency.proofs.Laws.{more_backed, mute_indexed}
 use Rattle.snb_graph_tables.proofs.Laws.{contains_gained}
 use Rattle.snb_graph_tables.specs.Parts.{HasGivenBack}
-use Rattle.snb_graph.specs.Additions.{AddsUp, HasClash, HasTaken, HoldsAll, IsKept}
+use Rattle.snb_graph_tables.specs.Entries.{name_key}
+use Rattle.snb_graph.specs.declared.additions.Noted.{Noted}
+use Rattle.snb_graph.specs.Additions.{AreNew, HasClash, HasTaken, HoldsAll, IsFirstAlone, IsKept, IsNoteOf, Lead}
 
 pub not_held : {H : Type 0} (test : Bool) → IsTrue test ↔ H → test ≡ false → ¬ H
 not_held true same e = absurd (false≢true (sym e))
@@ -48,11 +49,6 @@ none_indexed g s is graph none = record {
   graph = graph;
   same = λ l. (λ x. absurd (none l x), λ x. absurd (none_along l.walk l.of (l.id, l.date) (subst (λ h. IsAlong h l) is x)));
 }
-
--- a row along which no walk goes was added, or wasn't
-pub mute_after : {E : Type 0} (result : Result (Unit {0}) E) (old new : List Row) (r : Row) (s : Indexes) → ((w : Walk) → concerns w r ≡ false) → IsIndexed old s → OnOk result (HasGained old (r ∷ []) new) → OnErr result (new ≡ old) → IsIndexed new s
-mute_after (Ok x) old new r s mute is ok err = mute_indexed old new r s mute is ok
-mute_after (Err e) old new r s mute is ok err = subst (λ g. IsIndexed g s) (sym err) is
 
 -- a row that stands apart from a row doesn't stand among those before it
 not_before : {X : Type 0} (e : X → X → Bool) (xs : List X) (x : X) → IsDistinct e (xs ++ x ∷ []) → e x x ≡ true → ¬ Contains xs x
@@ -77,13 +73,6 @@ once old new r graph rows =
   where
     flips : (x y : Row) → eq_by_cmp row_order x y ≡ eq_by_cmp row_order y x
     flips x y = (eq_by_cmp_equiv row_total).symm x y
-
--- its slot is free
-pub left_free : (old new : List Row) (r : Row) → IsGraph old → IsPermutation old (new ++ r ∷ []) → ¬ HasSlot new (slot_of r)
-left_free old new r graph rows has =
-    let still = Contains-permutation (new ++ r ∷ []) old has.it (IsPermutation-sym old (new ++ r ∷ []) rows) (Contains-append_left new (r ∷ []) has.it has.held) in
-    let this = Contains-permutation (new ++ r ∷ []) old r (IsPermutation-sym old (new ++ r ∷ []) rows) (Contains-append_right new (r ∷ []) r (contains_here r [])) in
-    once old new r graph rows (subst (Contains new) (graph.apart has.it r still this has.fills) has.held)
 
 -- ---- rows added all together
 
@@ -119,52 +108,6 @@ taken_clash g more now all after r taken has splits = record {
   filled = record { it = has.it; held = Contains-permutation now (g ++ more) has.it taken.rows has.held; fills = has.fills };
 }
 
-pub adds_up : (g more now : List Row) → HasTaken g more now → AddsUp g more now
-adds_up g more now taken = record {
-  from = taken.from;
-  graph = taken.graph;
-  same = λ r. (
-    λ c. Contains-append_cases g more r (Contains-permutation now (g ++ more) r taken.rows c),
-    λ h. Contains-permutation (g ++ more) now r (IsPermutation-sym now (g ++ more) taken.rows) (elim h [ inl c ↦ Contains-append_left g more r c | inr c ↦ Contains-append_right g more r c ]),
-  );
-  apart = λ before r after splits h. taken.new (record {
-    before = before;
-    one = r;
-    after = after;
-    splits = splits;
-    filled = record { it = r; held = elim h [ inl c ↦ Contains-append_left g before r c | inr c ↦ Contains-append_right g before r c ]; fills = refl };
-  });
-}
-
-pub one_back : (g front now next : List Row) (r : Row) → AddsUp g (front ++ r ∷ []) now → HasGivenBack now r next → AddsUp g front next
-one_back g front now next r adds back = record {
-  from = adds.from;
-  graph = back.graph;
-  same = λ x. (
-    λ c.
-        let still = Contains-permutation (next ++ r ∷ []) now x (IsPermutation-sym now (next ++ r ∷ []) back.rows) (Contains-append_left next (r ∷ []) x c) in
-        elim ((adds.same x).0 still) [
-          | inl old ↦ inl old
-          | inr more ↦ elim (last_cases front r x more) [ inl first ↦ inr first | inr e ↦ absurd (once now next r adds.graph back.rows (subst (Contains next) (sym e) c)) ]
-        ],
-    λ h. elim (contains_gained next now r x back.rows ((adds.same x).1 (elim h [ inl old ↦ inl old | inr first ↦ inr (Contains-append_left front (r ∷ []) x first) ]))) [
-      | inl c ↦ c
-      | inr e ↦ absurd (adds.apart front r [] refl (elim h [ inl old ↦ inl (subst (Contains g) (sym e) old) | inr first ↦ inr (subst (Contains front) (sym e) first) ]))
-    ],
-  );
-  apart = λ before x after splits. adds.apart before x (after ++ r ∷ []) (sym (append_assoc before (x ∷ after) (r ∷ [])) ∙ ap (λ l. l ++ r ∷ []) splits);
-}
-  where
-    last_cases : (xs : List Row) (y x : Row) → Contains (xs ++ y ∷ []) x → Contains xs x ⊎ (y ≡ x)
-    last_cases xs y x c = elim (Contains-append_cases xs (y ∷ []) x c) [ inl h ↦ inl h | inr h ↦ elim (contains_cases y [] x h) [ inl e ↦ inr e | inr d ↦ absurd (omega (arith, d.1)) ] ]
-
-pub all_back : (g now : List Row) → GraphsAreTheirRows → AddsUp g [] now → now ≡ g
-all_back g now law adds = law now g adds.graph adds.from (λ r. (λ c. elim ((adds.same r).0 c) [ inl old ↦ old | inr none ↦ absurd (omega (arith, none.1)) ], λ c. (adds.same r).1 (inl c)))
-
--- a row of a graph that adds up is held
-pub last_held : (g front now : List Row) (r : Row) → AddsUp g (front ++ r ∷ []) now → Contains now r
-last_held g front now r adds = (adds.same r).1 (inr (Contains-append_right front (r ∷ []) r (contains_here r [])))
-
 pub none_left : {X : Type 0} (xs : List X) → length xs ≡ 0 → xs ≡ []
 none_left [] e = refl
 none_left (x ∷ xs) e = absurd (omega (arith, e))
@@ -177,18 +120,64 @@ next_item {X} xs all x front at =
     drop-cons all (length xs) x at.0 ∙ ap (λ (y : X). y ∷ drop (suc (length xs)) all) (sym at.1) ∙ ap (λ (n : ℕ). x ∷ drop n all) (sym (add-one (length xs))) in
     ap (λ (ys : List X). ys ++ x ∷ drop (length xs + 1) all) first ∙ ap (λ (ys : List X). take (length xs) all ++ ys) (sym rest) ∙ take-append-drop (length xs) all
 
--- a row that was added isn't of a frozen row's key
-pub not_frozen : (g front now frozen : List Row) (r : Row) → AddsUp g (front ++ r ∷ []) now → HoldsAll g frozen → ¬ HasKey frozen (row_key r)
-not_frozen g front now frozen r adds holds has =
-    let there = holds has.it has.held in
-    let one = adds.graph.apart has.it r ((adds.same has.it).1 (inl there)) (last_held g front now r adds) (ap slot has.keyed) in
-    adds.apart front r [] refl (inl (subst (Contains g) one there))
-
 -- without links and frozen rows nothing is wrong
 pub none_kept : (g : Stock) (s : Indexes) → g.rows ≡ [] → IsGraph g.rows → ((l : Link) → ¬ HasLink s l) → ((l : Link) → ¬ HasFrozenLink s l) → IsKept g s
 none_kept g s is graph none free = record { indexed = none_indexed g.rows s is graph none; backed = λ l has. absurd (free l has) }
 
--- a row along which no walk goes was added, or wasn't
-pub mute_kept : {E : Type 0} (result : Result (Unit {0}) E) (old new : Stock) (r : Row) (s : Indexes) → ((w : Walk) → concerns w r ≡ false) → IsKept old s → OnOk result (HasGained old.rows (r ∷ []) new.rows) → OnErr result (new ≡ old) → ((x : Row) → Contains old.frozen x → Contains new.frozen x) → IsKept new s
-mute_kept (Ok x) old new r s mute is ok err more = record { indexed = mute_indexed old.rows new.rows r s mute is.indexed ok; backed = more_backed old.frozen new.frozen s more is.backed }
-mute_kept (Err e) old new r s mute is ok err more = subst (λ (g : Stock). IsKept g s) (sym err) is
+-- ---- rows that are noted
+
+-- a row that was gained is held
+pub row_there : (before now : List Row) (r : Row) (note : Noted) → IsNoteOf before r now note → Contains now r
+row_there before now r note is = Contains-permutation (before ++ r ∷ []) now r (IsPermutation-sym now (before ++ r ∷ []) is.gained.rows) (Contains-append_right before (r ∷ []) r (contains_here r []))
+
+-- and so are those before it
+pub old_there : (before now : List Row) (r x : Row) (note : Noted) → IsNoteOf before r now note → Contains before x → Contains now x
+old_there before now r x note is c = Contains-permutation (before ++ r ∷ []) now x (IsPermutation-sym now (before ++ r ∷ []) is.gained.rows) (Contains-append_left before (r ∷ []) x c)
+
+-- what it is called isn't a frozen row's key, where the frozen rows were held before
+pub not_frozen : (before now frozen : List Row) (r : Row) (note : Noted) → IsNoteOf before r now note → HoldsAll before frozen → ¬ HasKey frozen (name_key note.name)
+not_frozen before now frozen r note is holds has = is.free (record { it = has.it; held = holds has.it has.held; fills = ap slot (has.keyed ∙ is.named) })
+
+-- without it the graph is the one before
+pub taken_back : (before now next : List Row) (r : Row) (note : Noted) → GraphsAreTheirRows → IsGraph before → IsGraph now → IsNoteOf before r now note → HasGivenBack now r next → next ≡ before
+taken_back before now next r note law from graph is back = law next before back.graph from (λ x. (
+  λ c. elim (contains_gained before now r x is.gained.rows (Contains-permutation (next ++ r ∷ []) now x (IsPermutation-sym now (next ++ r ∷ []) back.rows) (Contains-append_left next (r ∷ []) x c))) [
+    | inl old ↦ old
+    | inr this ↦ absurd (once now next r graph back.rows (subst (Contains next) (sym this) c))
+  ],
+  λ c. elim (contains_gained next now r x back.rows (old_there before now r x note is c)) [
+    | inl old ↦ old
+    | inr this ↦ absurd (is.free (record { it = x; held = c; fills = ap slot_of (sym this) }))
+  ],
+))
+
+-- a further note leads on
+pub lead_on : (g now next : List Row) (notes : List Noted) (r : Row) (note : Noted) → Lead g notes now → IsNoteOf now r next note → Lead g (notes ++ note ∷ []) next
+lead_on g now next [] r note e is = (r, next, subst (λ x. IsNoteOf x r next note) e is, refl)
+lead_on g now next (n ∷ notes) r note lead is = (lead.0, lead.1, lead.2, lead_on lead.1 now next notes r note lead.3 is)
+
+-- the last note leads from the graph to which the others lead
+pub lead_last : (g now : List Row) (front : List Noted) (note : Noted) → Lead g (front ++ note ∷ []) now → (r : Row) × (before : List Row) × IsNoteOf before r now note × Lead g front before
+lead_last g now [] note lead = (lead.0, g, subst (λ x. IsNoteOf g lead.0 x note) (sym lead.3) lead.2, refl)
+lead_last g now (n ∷ front) note lead =
+    let rest = lead_last lead.1 now front note lead.3 in
+    (rest.0, rest.1, rest.2, (lead.0, lead.1, lead.2, rest.3))
+
+-- where notes lead is a graph, which has all that was there
+pub lead_graph : (g now : List Row) (notes : List Noted) → IsGraph g → Lead g notes now → IsGraph now
+lead_graph g now [] graph e = subst IsGraph (sym e) graph
+lead_graph g now (n ∷ notes) graph lead = lead_graph lead.1 now notes lead.2.gained.graph lead.3
+
+pub lead_holds : (g now frozen : List Row) (notes : List Noted) → Lead g notes now → HoldsAll g frozen → HoldsAll now frozen
+lead_holds g now frozen [] e holds = subst (λ x. HoldsAll x frozen) (sym e) holds
+lead_holds g now frozen (n ∷ notes) lead holds = lead_holds lead.1 now frozen notes lead.3 (λ x c. old_there g lead.1 lead.0 x n lead.2 (holds x c))
+
+-- a row that is new is new among those that were taken
+pub still_new : (g more now all after : List Row) (r : Row) → HasTaken g more now → AreNew g all → more ++ r ∷ after ≡ all → ¬ HasSlot now (slot_of r)
+still_new g more now all after r taken new splits has = new (taken_clash g more now all after r taken has splits)
+
+-- the first of rows is alone in the graph without notes
+pub first_alone : (g now yielded rows after : List Row) (notes : List Noted) (r : Row) → length notes ≡ length yielded → Lead g notes now → yielded ++ r ∷ after ≡ rows → IsFirstAlone g rows → notes ≡ [] → IsAlone now r
+first_alone g now [] rows after [] r same lead splits alone e = subst (λ h. IsAlone h r) (sym lead) (alone r after (sym splits))
+first_alone g now (y ∷ ys) rows after [] r same lead splits alone e = absurd (omega (arith, same))
+first_alone g now yielded rows after (n ∷ ns) r same lead splits alone e = absurd cc

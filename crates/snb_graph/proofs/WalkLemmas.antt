@@ -23,7 +23,7 @@ use Rattle.snb_graph_model.proofs.Laws.{IsApart, chosen_from, friends_apart, in_
 use Rattle.snb_graph_model.specs.Around.{friends, likes, likes_in, messages, replies, stay_in, study, work}
 use Rattle.snb_graph_model.specs.Graphs.{HasKey, IsGraph, key_order, part_of, row_order, rows}
 use Rattle.snb_graph_model.specs.Soundness.{Held}
-use Rattle.snb_graph_maps.specs.Pairs.{ArePairsOf}
+use Rattle.snb_graph_links.specs.Pairs.{ArePairsOf}
 use Rattle.snb_graph_rows.specs.KeysApart.{table_itself, then_last}
 use Rattle.snb_graph_adjacency.specs.declared.indexes.Indexes.{Indexes}
 use Rattle.snb_graph_adjacency.specs.declared.link.Walk.{Walk}

@@ -1,6 +1,6 @@
 //! The graph, with what is walked along.
 
-ghost use Rattle.std.specs.Prelude.{◌≢◌, length, map, All, ◌≡◌, ◌∷◌, [], ◌↔◌, Contains, IsTrue, IsSome, IfSome, IfOk, IfErr, OnOk, OnErr, Err};
+ghost use Rattle.std.specs.Prelude.{◌≢◌, length, map, All, ◌≡◌, ◌∷◌, [], ◌↔◌, Contains, IsSome, IfSome, IfOk, IfErr, OnOk, OnErr, Err};
 ghost use Rattle.std.specs.Option.{option_copied};
 ghost use Rattle.snb_schema.specs.declared.layout.KeyColumns.TheVariants as columns;
 ghost use Rattle.snb_schema.specs.declared.layout.Shape.TheVariants as shapes;
@@ -17,16 +17,16 @@ ghost use Rattle.snb_graph_integrity.specs.Outcomes.{IsWrong};
 ghost use Rattle.snb_graph_rows.specs.Edges.{link_of};
 ghost use Rattle.snb_graph_tables.specs.declared.insert.Insert.TheVariants as Insert;
 ghost use Rattle.snb_graph_tables.specs.Words.{words_of};
-ghost use Rattle.snb_graph.specs.Additions.{AreNew, HasClash};
+ghost use Rattle.snb_graph.specs.Additions.{AreNew, HasClash, IsFirstAlone};
 ghost use Rattle.snb_graph.specs.Walks.{IsWalkOver};
-ghost use Rattle.snb_graph_maps.specs.Pairs.{rest};
+ghost use Rattle.snb_graph_links.specs.Pairs.{rest};
 
-use crate::additions::{insert, insert_each, take_all};
+use crate::additions::{insert, insert_each, move_each, take_all};
 use snb_graph_adjacency::{Indexes, Walk};
 use snb_graph_integrity::Unsound;
 use snb_graph_integrity::sound::sound;
-use snb_graph_maps::{Layer, Links, Walk as Entries};
-use snb_graph_tables::same::holds_same;
+use snb_graph_links::Links;
+use snb_graph_maps::{Layer, Walk as Entries};
 use snb_graph_tables::{Insert, TableRows, Tables, Words};
 use snb_schema::{Comment, Forum, Held, Key, Named, Organisation, Person, Place, Post, Row, Table};
 use std::alloc::{AllocError, Global};
@@ -73,6 +73,21 @@ impl Graph {
             links: Indexes::empty(alloc),
             alloc,
         }
+    }
+
+    /// The graph of the rows of tables, all of them frozen, with the links that are walked along: in the time of a
+    /// sort. An error says that memory doesn't suffice.
+    pub fn of(alloc: Global, mut tables: Tables) -> Result<Graph, AllocError>
+        ensures { IfOk result (λ graph. graph ≡ tables.rows) }
+    {
+        tables.freeze()?;
+        let links = Indexes::of(alloc, &tables)?;
+        links.known();
+        Ok(Graph {
+            tables,
+            links,
+            alloc,
+        })
     }
 
     /// The rows are a graph.
@@ -144,15 +159,6 @@ impl Graph {
         ensures held { IsSome result ↔ HasKey self.now (node_key kinds.Comment id) }
     {
         self.tables.comment(id)
-    }
-
-    /// Whether this very row is held. Takes no memory.
-    /// The condition: the row is one that its table can have.
-    pub fn same_row(&self, row: &Row) -> bool
-        requires { IsTableRow row.now }
-        ensures { IsTrue result ↔ Contains self.now row.now }
-    {
-        holds_same(&self.tables, row)
     }
 
     /// How many rows a table has. It counts those of a table of edges or words one by one.
@@ -261,7 +267,9 @@ impl Graph {
     }
 
     /// Adds a row. `Duplicate` says that a row of its slot is held, and `Memory` that memory doesn't
-    /// suffice. After either the graph is as it was. It doesn't look at references.
+    /// suffice. After either the graph is as it was. It doesn't look at references. Of a graph that was never
+    /// frozen the rows wait in the order in which they came: a look-up finds each at once, but a walk looks at
+    /// all of them for each next one, so such a graph is frozen before it is walked.
     /// The condition: the row is one that its table can have.
     pub fn insert_row(&mut self, row: Row) -> Result<(), Insert>
         requires { IsTableRow row }
@@ -295,6 +303,30 @@ impl Graph {
         }
     }
 
+    /// Adds all of the rows, which are new, or none. It tests nothing, and searches for the place of each row
+    /// alone. An error says that memory doesn't suffice, and then the graph is as it was. It doesn't look at
+    /// references.
+    /// The conditions: each row is one that its table can have; no row of the slot of one of them is held, and no
+    /// two of them have one slot; and if the first is a message, no edge that is held leads from it.
+    pub fn insert_new(&mut self, rows: Vec<Row>) -> Result<(), AllocError>
+        requires shaped { All IsTableRow rows.items }
+        requires new { AreNew self.old rows.items }
+        requires alone { IsFirstAlone self.old rows.items }
+        ensures ok { OnOk result (HasGained self.old rows.items self.new) }
+        ensures err { OnErr result (self.new ≡ self.old) }
+    {
+        self.tables.known();
+        self.tables.shared();
+        let mut added = Vec::with_capacity(*rows.allocator(), rows.len())?;
+        match move_each(&mut self.tables, &mut self.links, rows, &mut added) {
+            Ok(()) => Ok(()),
+            Err(error) => {
+                take_all(&mut self.tables, &mut self.links, added);
+                Err(error)
+            }
+        }
+    }
+
     /// Whether the graph is sound, where each node that a row refers to is held: each node has the
     /// edges that it must have, and the chain of each comment's parents ends at a post. `Lacks` names
     /// the first edge that is missing, by the node's table, then its id, then the edge's table. `Cycle`
@@ -309,8 +341,9 @@ impl Graph {
         sound(self.alloc, &self.tables)
     }
 
-    /// Makes all rows frozen, so that copies of the graph share them. The rows stay, whatever it answers:
-    /// an error says that memory doesn't suffice, and then some of them may be frozen and others not.
+    /// Makes all rows frozen, so that copies of the graph share them; rows that waited are put in order, and walks
+    /// over them take no longer than over others. The rows stay, whatever it answers: an error says that memory
+    /// doesn't suffice, and then some of them may be frozen and others not.
     pub fn freeze(&mut self) -> Result<(), AllocError>
         ensures { self.new ≡ self.old }
     {

@@ -9,7 +9,7 @@ ghost use Rattle.snb_graph_model.specs.Graphs.{fills, rows};
 ghost use Rattle.snb_graph_model.specs.Soundness.{edges_of, needs, needs_of};
 
 use crate::unsound::Unsound;
-use snb_graph_tables::Tables;
+use snb_graph_tables::{Entry, Tables};
 use snb_schema::layout::key_columns_of;
 use snb_schema::{KeyColumns, Row, Table};
 
@@ -97,7 +97,7 @@ fn is_filled(tables: &Tables, edge: Table, id: u64) -> bool
         from: id,
         to: id,
     };
-    tables.holds(&row)
+    tables.holds(&Entry::of(row))
 }
 
 // The first edge that a node lacks.

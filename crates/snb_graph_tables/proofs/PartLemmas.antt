@@ -1,5 +1,5 @@
 -- Rows in parts, as one list.
-use Rattle.std.proofs.Common.{◌≡◌, ℕ, ◌<◌, ◌+◌, zero, suc, length, ◌⊎◌, List, [], ◌∷◌, ◌++◌, refl, sym, ap, ◌∙◌, subst, inl, inr, arith, map, append_assoc, append-nil, length-append}
+use Rattle.std.proofs.Common.{◌≡◌, ℕ, ◌<◌, ◌+◌, zero, suc, length, ◌⊎◌, List, [], ◌∷◌, ◌++◌, refl, sym, ap, ◌∙◌, subst, inl, inr, arith, append_assoc, append-nil, length-append}
 use Rattle.std.specs.declared.cmp.Ordering.TheVariants.{Less}
 use Rattle.std.specs.Ordering.{nat_cmp, ordering_then}
 use Rattle.std.specs.List.{All, Contains, AllByRecursion}
@@ -13,7 +13,6 @@ use Rattle.snb_schema.specs.declared.layout.Shape.TheVariants as shapes
 use Rattle.snb_schema.specs.declared.row.Row.TheVariants as row
 use Rattle.snb_schema.specs.declared.table.Table.{Table}
 use Rattle.snb_schema.specs.Layouts.{key_columns, shape}
-use Rattle.snb_schema.specs.RowLines.{table_of, row_shape}
 use Rattle.snb_graph_rows.specs.Edges.{edge_of, edge_row}
 use Rattle.snb_graph_model.specs.Graphs.{IsGraph, HasGained}
 use Rattle.snb_schema.specs.RowKeys.{RowKey, row_key, slot, slot_of}
@@ -21,19 +20,15 @@ use Rattle.snb_graph_model.specs.Graphs.{part, part_of, row_order, key_order, Ha
 use Rattle.snb_graph_rows.specs.Keyed.{IsPart, key_table}
 use Rattle.snb_schema.specs.TableRows.{IsTableRow}
 use Rattle.snb_graph_rows.specs.Rows.{HasLost, Stock}
-use Rattle.snb_graph_tables.specs.Parts.{joined, AreParts, IsWhole, HasGivenBack}
-use Rattle.snb_graph_tables.proofs.Laws.{contains_gained}
+use Rattle.snb_graph_maps.specs.declared.layer.Layer.{Layer}
+use Rattle.snb_graph_maps.specs.declared.layer.Layer.TheVariants as layers
+use Rattle.snb_graph_maps.proofs.Laws.{on_err}
+use Rattle.snb_graph_tables.specs.Parts.{joined, AreParts, IsWhole, HasGivenBack, HasPut}
+use Rattle.snb_graph_tables.proofs.Laws.{contains_gained, frozen_is, rows_is}
 
 -- the rows of parts, and what copies share of them
 abbrev pub stock_of : List (List Row) → List (List Row) → Stock
 stock_of ss fs = record { rows = joined ss; frozen = joined fs }
-
--- the same of a list of both
-abbrev pub stock_list : List Stock → Stock
-stock_list ss = stock_of (map (λ s. s.rows) ss) (map (λ s. s.frozen) ss)
-
-abbrev pub IsWholeStock : List Stock → Type 0
-IsWholeStock ss = IsWhole (map (λ s. s.rows) ss)
 
 -- the part at a place
 abbrev pub at : List (List Row) → ℕ → List Row
@@ -158,6 +153,10 @@ above n (s ∷ ss) r are c =
 pub in_part : (ss : List (List Row)) (r : Row) (i : ℕ) → AreParts 0 ss → Contains (joined ss) r → part r ≡ i → Contains (at ss i) r
 in_part ss r i are c is = let found = above 0 ss r are c in subst (λ j. Contains (at ss j) r) (let same : found.0 ≡ i = (let e = found.1 in omega (arith, e, is)) in same) found.2
 
+-- the rows of a part are ones that their tables can have
+pub part_fit : (ss : List (List Row)) (i : ℕ) → IsWhole ss → All IsTableRow (at ss i)
+part_fit ss i whole = All-weaker (Contains (at ss i)) IsTableRow (λ r c. All-contains IsTableRow (joined ss) r whole.graph.of_tables (in_whole ss i r c)) (at ss i) (All-contains_itself (at ss i))
+
 -- ---- one row more
 
 pub graph_gained : (old new : List Row) (r : Row) → IsGraph old → IsPermutation new (old ++ r ∷ []) → IsStrictlySortedBy row_order new → ¬ HasSlot old (slot_of r) → IsTableRow r → IsGraph new
@@ -199,6 +198,21 @@ put_part ss i new now given r (Ok x) l view is whole part ok err free shaped =
     (all.0, subst (λ g. HasGained g (given ∷ []) (joined (with_part ss i new))) view (subst (λ q. HasGained (joined ss) (q ∷ []) (joined (with_part ss i new))) (sym is) all.1))
 put_part ss i new now given r (Err e) l view is whole part ok err free shaped = (subst IsWhole (sym (same_part ss i new l err)) whole, tt)
 
+-- and so is what it answers of the frozen rows
+pub put_into : {E : Type 0} (half : Layer) (ss fs : List (List Row)) (i : ℕ) (x now : Stock) (given r : Row) (result : Result (Unit {0}) E) → i < length ss → i < length fs → stock_of ss fs ≡ now → given ≡ r → IsWhole ss → IsPart i x.rows →
+    OnOk result (IsPermutation x.rows (at ss i ++ r ∷ [])) → OnErr result (x ≡ record { rows = at ss i; frozen = at fs i }) → (half ≡ layers.Added → x.frozen ≡ at fs i) → ((y : Row) → Contains (at fs i) y → Contains x.frozen y) →
+    ¬ HasSlot now.rows (slot_of given) → IsTableRow given → IsWhole (with_part ss i x.rows) × HasPut half now given result (stock_of (with_part ss i x.rows) (with_part fs i x.frozen))
+put_into half ss fs i x now given r result l m view is whole part ok err frozen more free shaped =
+    let put = put_part ss i x.rows now.rows given r result l (rows_is view) is whole part ok (on_err result rows_is err) free shaped in (
+      put.0,
+      record {
+        ok = put.1;
+        err = on_err result (λ e. (λ j. stock_of (same_part ss i x.rows l (rows_is e) j) (same_part fs i x.frozen m (frozen_is e) j)) ∙ view) err;
+        frozen = λ added. ap joined (same_part fs i x.frozen m (frozen added)) ∙ frozen_is view;
+        more = λ y c. joined_more fs i x.frozen more y (subst (λ g. Contains g y) (sym (frozen_is view)) c);
+      },
+    )
+
 pub new_key : (ss : List (List Row)) (i : ℕ) (now : List Row) (given r : Row) → joined ss ≡ now → given ≡ r → ¬ HasSlot now (slot_of given) → ¬ HasKey (at ss i) (row_key r)
 new_key ss i now given r view is free = no_key ss i r (subst (λ g. ¬ HasSlot g (slot_of r)) (sym view) (subst (λ q. ¬ HasSlot now (slot_of q)) is free))
 
@@ -228,10 +242,6 @@ dated_row t a b date is = ap (λ s. edge_of s (key_columns t) t a b date) (sym i
 
 pub yeared_row : (t : Table) (a b year : ℕ) → shapes.Yeared ≡ shape t → edge_row (t, a, b, []) year ≡ row.Yeared t a b year
 yeared_row t a b year is = ap (λ s. edge_of s (key_columns t) t a b year) (sym is)
-
--- a row and its table have one shape
-pub shape_at : (given r : Row) → given ≡ r → IsTableRow given → row_shape r ≡ shape (table_of r)
-shape_at given r is shaped = (subst IsTableRow is shaped).shaped
 
 -- how many rows ten parts have
 pub joined_count : (a b c d e f g h i j : List Row) → length (joined (a ∷ b ∷ c ∷ d ∷ e ∷ f ∷ g ∷ h ∷ i ∷ j ∷ [])) ≡ length a + length b + length c + length d + length e + length f + length g + length h + length i + length j
@@ -280,10 +290,6 @@ part_lost ss i new now k l view whole one lost is has =
     let rows : (r : Row) → Contains now r → row_key r ≡ k → IsPermutation (joined ss) (joined (with_part ss i new) ++ r ∷ []) = λ r c e. joined_lost ss i new (r ∷ []) l (lost r (here r c e) e) in
     let graph : IsGraph (joined (with_part ss i new)) = graph_lost (joined ss) _ has.it whole.graph (rows has.it has.held has.keyed) (parts_rise 0 _ parts) in
     (record { parts = parts; graph = graph }, λ r c e. record { graph = graph; rows = subst (λ g. IsPermutation g (joined (with_part ss i new) ++ r ∷ [])) view (rows r c e) })
-
--- a row of a graph is of its table's shape
-pub held_shape : (g : List Row) (given r : Row) → IsGraph g → Contains g given → given ≡ r → row_shape r ≡ shape (table_of r)
-held_shape g given r graph held is = shape_at given r is (All-contains IsTableRow g given graph.of_tables held)
 
 -- what is frozen after the first of the parts
 pub frozen_first : {T E : Type 0} (a : Result T E) (f r : List Row) → OnOk a (f ≡ r) → OnOk a (f ∷ [] ≡ r ∷ [])

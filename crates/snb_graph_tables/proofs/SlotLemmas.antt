@@ -4,9 +4,7 @@ use Rattle.std.specs.List.{Contains}
 use Rattle.snb_schema.specs.declared.row.Row.{Row}
 use Rattle.snb_schema.specs.declared.table.Table.{Table}
 use Rattle.snb_schema.specs.declared.table.Table.TheVariants as table
-use Rattle.snb_schema.specs.Layouts.{key_columns, shape}
-use Rattle.snb_schema.specs.declared.layout.KeyColumns.TheVariants.{First}
-use Rattle.snb_schema.specs.declared.layout.Shape.TheVariants as shapes
+use Rattle.snb_schema.specs.Layouts.{shape}
 use Rattle.std.specs.Option.{unwrap_or, IfSome}
 use mathlib.Core.Bool.{false≢true}
 use Rattle.snb_schema.specs.RowKeys.{RowKey, row_key, slot, sharing}
@@ -81,14 +79,6 @@ twin_iff now k t test shares same = (
     some_one : (u v : Table) → Some v ≡ Some u → v ≡ u
     some_one u v e = ap (λ (o : Option Table). unwrap_or o v) e
 
--- a table that has a twin has its first column as its key
-pub twin_first : (t u : Table) → twin t ≡ Some u → key_columns t ≡ First
-twin_first table.Post u e = refl
-twin_first table.Comment u e = refl
-twin_first table.CommentReplyOfPost u e = refl
-twin_first table.CommentReplyOfComment u e = refl
-twin_first t u e = absurd cc
-
 pub holds_else : (now : List Row) (k : RowKey) (row twins : Bool) → row ≡ false → (IsTrue row ↔ HasKey now k) → (IsTrue twins ↔ HasTwin now k) → (IsTrue twins ↔ HasSlot now (slot k))
 holds_else now k row twins none own other = (
   λ yes. slot_from_twin now k (other.0 yes),
@@ -97,24 +87,6 @@ holds_else now k row twins none own other = (
   where
     not_true : (b : Bool) → b ≡ false → IsTrue b → ⊥
     not_true b e t = absurd (false≢true (sym e ∙ t))
-
--- a table of words shares its keys with no other
-no_twin : (u v : Table) → shapes.Word ≡ shape u → twin u ≡ Some v → ⊥
-no_twin table.Post v e f = absurd cc
-no_twin table.Comment v e f = absurd cc
-no_twin table.CommentReplyOfPost v e f = absurd cc
-no_twin table.CommentReplyOfComment v e f = absurd cc
-no_twin u v e f = absurd cc
-
-pub word_slot : (now : List Row) (k : RowKey) (test : Bool) → shapes.Word ≡ shape k.0 → (IsTrue test ↔ HasKey now k) → (IsTrue test ↔ HasSlot now (slot k))
-word_slot now k test is same = (
-  λ yes. slot_from_key now k (same.0 yes),
-  λ has. elim (slot_cases now k has) [ inl one ↦ same.1 one | inr two ↦ absurd (no_twin k.0 two.other is two.shares) ],
-)
-
--- a word's table is of the last part
-pub word_part : (t : Table) → shapes.Word ≡ shape t → part_of (shape t) ≡ 9
-word_part t is = ap part_of (sym is)
 
 -- what a shelf finds is a row of the whole
 pub found_in_part : {X : Type 0} (ss : List (List Row)) (i : ℕ) (now : List Row) (o : Option X) (f : X → Row) (A B : X → Type 0) → joined ss ≡ now → IfSome o (λ v. A v × Contains (at ss i) (f v)) → ((v : X) → A v → B v) → IfSome o (λ v. B v × Contains now (f v))

@@ -1,9 +1,12 @@
 -- A graph's rows in parts.
-use Rattle.std.specs.Prelude.{ℕ, suc, List, [], ◌∷◌, ◌++◌, IsPermutation}
+use Rattle.std.specs.Prelude.{◌≡◌, ℕ, suc, List, [], ◌∷◌, ◌++◌, Contains, IsPermutation, OnErr, OnOk, Result}
+use Rattle.snb_graph_maps.specs.declared.layer.Layer.{Layer}
+use Rattle.snb_graph_maps.specs.declared.layer.Layer.TheVariants as layers
 use Rattle.snb_schema.specs.declared.row.Row.{Row}
 use Rattle.snb_graph_tables.specs.declared.tables.Tables.TheInside.{Inside}
-use Rattle.snb_graph_model.specs.Graphs.{IsGraph}
+use Rattle.snb_graph_model.specs.Graphs.{HasGained, IsGraph}
 use Rattle.snb_graph_rows.specs.Keyed.{IsPart}
+use Rattle.snb_graph_rows.specs.Rows.{Stock}
 
 -- lists, one after another
 abbrev pub joined : List (List Row) → List Row
@@ -32,3 +35,10 @@ frozen_parts g = g.places.frozen ∷ g.tag_classes.frozen ∷ g.tags.frozen ∷ 
 pub record HasGivenBack (old : List Row) (r : Row) (new : List Row) : Type 0 where
   pub graph : IsGraph new
   pub rows : IsPermutation old (new ++ r ∷ [])
+
+-- a row was added, which is frozen only if it went into that half, or all is as it was; what was frozen is
+pub record HasPut {E : Type 0} (half : Layer) (old : Stock) (r : Row) (result : Result (Unit {0}) E) (new : Stock) : Type 0 where
+  pub ok : OnOk result (HasGained old.rows (r ∷ []) new.rows)
+  pub err : OnErr result (new ≡ old)
+  pub frozen : half ≡ layers.Added → new.frozen ≡ old.frozen
+  pub more : (x : Row) → Contains old.frozen x → Contains new.frozen x

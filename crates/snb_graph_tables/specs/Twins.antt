@@ -1,7 +1,6 @@
 -- Tables that share their keys.
 use Rattle.std.specs.Prelude.{◌≡◌, Option, Some, None, List}
 use Rattle.snb_schema.specs.declared.row.Row.{Row}
-use Rattle.snb_schema.specs.declared.row.Row.TheVariants as row
 use Rattle.snb_schema.specs.declared.table.Table.{Table}
 use Rattle.snb_schema.specs.declared.table.Table.TheVariants as table
 use Rattle.snb_schema.specs.RowKeys.{RowKey}
@@ -20,8 +19,3 @@ pub record HasTwin (g : List Row) (k : RowKey) : Type 0 where
   pub other : Table
   pub shares : twin k.0 ≡ Some other
   pub has : HasKey g (other, k.1, k.2, k.3)
-
--- the row is no email and no language
-abbrev pub IsNoWord : Row → Type 0
-IsNoWord (row.Word t person text) = ⊥
-IsNoWord _ = Unit {0}

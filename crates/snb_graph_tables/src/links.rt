@@ -1,6 +1,6 @@
-//! Links as entries.
+//! Edges as entries.
 
-ghost use Rattle.std.specs.Prelude.{◌≡◌};
+ghost use Rattle.std.specs.Prelude.{◌≡◌, ◌↔◌, [], ℕ, IsTrue};
 ghost use Rattle.snb_schema.specs.RowKeys.{row_key};
 ghost use Rattle.snb_graph_tables.specs.Twins.{twin};
 ghost use Rattle.snb_schema.specs.declared.row.Row.TheVariants as row;
@@ -8,10 +8,11 @@ ghost use Rattle.snb_schema.specs.declared.layout.Shape.TheVariants as shapes;
 ghost use Rattle.snb_schema.specs.Layouts.{key_columns, shape};
 ghost use Rattle.snb_graph_rows.specs.Edges.{edge_row};
 ghost use Rattle.snb_graph_rows.specs.KeysApart.{edge_name};
+ghost use Rattle.snb_graph_model.specs.Graphs.{IsOfEdges};
 
 use snb_graph_rows::EdgeKey;
-use snb_schema::layout::key_columns_of;
-use snb_schema::{KeyColumns, Table};
+use snb_schema::layout::{key_columns_of, shape_of};
+use snb_schema::{KeyColumns, Shape, Table};
 
 /// The key of a link, and its other end, 0 where both ends are the key.
 pub fn link_entry(table: Table, from: u64, to: u64) -> (EdgeKey, u64)
@@ -44,6 +45,22 @@ pub fn link_entry(table: Table, from: u64, to: u64) -> (EdgeKey, u64)
             },
             0,
         ),
+    }
+}
+
+/// Whether two edges of one key are equal, by what each has beside it: nothing where both ends are the key
+/// and there is neither date nor year.
+/// The condition: the table is one of edges.
+pub fn same_beside(table: Table, one: u64, other: u64) -> bool
+    requires { IsOfEdges table }
+    ensures { (a b : ℕ) → IsTrue result ↔ (edge_row (table, a, b, []) one ≡ edge_row (table, a, b, []) other) }
+{
+    match shape_of(table) {
+        Shape::Link => match key_columns_of(table) {
+            KeyColumns::FirstTwo => true,
+            _ => one == other,
+        },
+        _ => one == other,
     }
 }
 

@@ -56,8 +56,8 @@ pub fn apply(alloc: Global, graph: &mut Graph, op: &Op) -> Result<(), Applied>
     }
 }
 
-/// Adds the rows of an insert that finds all that it refers to and whose keys are new. The one error is want
-/// of memory, after which the graph is as it was.
+/// Adds the rows of an insert that finds all that it refers to and whose keys are new: it tests nothing. The one
+/// error is want of memory, after which the graph is as it was.
 /// The conditions: some line of an update stream is the insert's; the graph is sound; and it holds all that
 /// the insert refers to, and no key that it takes.
 pub fn apply_welcome(alloc: Global, graph: &mut Graph, op: &Op) -> Result<(), AllocError>
@@ -68,11 +68,8 @@ pub fn apply_welcome(alloc: Global, graph: &mut Graph, op: &Op) -> Result<(), Al
     ensures sound { OnOk result (Sound graph.new) }
     ensures err { OnErr result (graph.new ≡ graph.old) }
 {
-    match apply(alloc, graph, op) {
-        Ok(()) => Ok(()),
-        Err(Applied::Memory) => Err(AllocError),
-        // All that the insert refers to is held, and none of the keys that it takes is.
-        Err(Applied::Missing { .. }) => unreachable!(),
-        Err(Applied::Duplicate) => unreachable!(),
-    }
+    graph.known();
+    inserts_are_kept();
+    let rows = rows_of(alloc, op)?;
+    graph.insert_new(rows)
 }

@@ -1,28 +1,33 @@
 use Rattle.std.proofs.Common.{rules, sym, subst}
-use Rattle.snb_graph.specs.Additions.{AddsUp, HoldsAll}
-use Rattle.snb_graph.proofs.GraphLemmas.{all_back, last_held, none_left, not_frozen, one_back}
+use Rattle.snb_graph.specs.Additions.{HoldsAll, Lead}
+use Rattle.snb_graph.proofs.GraphLemmas.{lead_graph, lead_holds, lead_last, none_left}
 use Rattle.snb_graph.proofs.additions.take_all.Goals as goal
 
-pub take_back-requires-clause-held : goal.take_back-requires-clause-held
-take_back-requires-clause-held c =
-    let some = c.loop-row.invariant.some in
-    last_held some.0 c.pop.new.self.items c.loop-row.tables.rows c.in-Some.row (subst (λ l. AddsUp some.0 l c.loop-row.tables.rows) c.in-Some.ensures.items some.1)
+pub take_last-requires-clause-some : goal.take_last-requires-clause-some
+take_last-requires-clause-some c =
+    let (old, graph, lead, holds) = c.loop-noted.invariant.some in
+    let front = c.pop.new.self.items in
+    let (r, before, is, rest) = lead_last old c.loop-noted.tables.rows front c.in-Some.noted (subst (λ l. Lead old l c.loop-noted.tables.rows) c.in-Some.ensures.items lead) in
+    (before, r, lead_graph old before front graph rest, is, lead_holds old before c.loop-noted.tables.frozen front rest holds)
 
-pub take_back-requires-clause-free : goal.take_back-requires-clause-free
-take_back-requires-clause-free c =
-    let some = c.loop-row.invariant.some in
-    not_frozen some.0 c.pop.new.self.items c.loop-row.tables.rows c.loop-row.tables.frozen c.in-Some.row (subst (λ l. AddsUp some.0 l c.loop-row.tables.rows) c.in-Some.ensures.items some.1) some.2
-
-pub loop-row-preserved : goal.loop-row-preserved
-loop-row-preserved c =
-    let some = c.loop-row.invariant.some in
+pub loop-noted-preserved : goal.loop-noted-preserved
+loop-noted-preserved c =
+    let front = c.pop.new.self.items in
+    let (old, graph, lead, holds) = c.loop-noted.invariant.some in
+    let (r, before, is, rest) = lead_last old c.loop-noted.tables.rows front c.in-Some.noted (subst (λ l. Lead old l c.loop-noted.tables.rows) c.in-Some.ensures.items lead) in
     record {
-      some = (some.0, one_back some.0 c.pop.new.self.items c.loop-row.tables.rows c.take_back.new.tables.rows c.in-Some.row (subst (λ l. AddsUp some.0 l c.loop-row.tables.rows) c.in-Some.ensures.items some.1) c.take_back.ensures.back, subst (HoldsAll some.0) (sym c.take_back.ensures.frozen) some.2);
-      all = λ old adds. one_back old c.pop.new.self.items c.loop-row.tables.rows c.take_back.new.tables.rows c.in-Some.row (subst (λ l. AddsUp old l c.loop-row.tables.rows) c.in-Some.ensures.items (c.loop-row.invariant.all old adds)) c.take_back.ensures.back;
-      kept = c.take_back.ensures.kept;
+      some = (
+        old,
+        graph,
+        subst (Lead old front) (sym (c.take_last.ensures.back before r (lead_graph old before front graph rest) is)) rest,
+        subst (HoldsAll old) (sym c.take_last.ensures.frozen) holds,
+      );
+      all = λ base from first.
+          let (q, mid, own, others) = lead_last base c.loop-noted.tables.rows front c.in-Some.noted (subst (λ l. Lead base l c.loop-noted.tables.rows) c.in-Some.ensures.items (c.loop-noted.invariant.all base from first)) in
+          subst (Lead base front) (sym (c.take_last.ensures.back mid q (lead_graph base mid front from others) own)) others;
+      kept = c.take_last.ensures.kept;
     }
 
 pub returns-clause-back : goal.returns-clause-back
-returns-clause-back c old adds =
-    all_back old c.loop-row.tables.rows c.graphs_are_their_rows.ensures
-    (subst (λ l. AddsUp old l c.loop-row.tables.rows) (none_left c.loop-row.left.items (let e = c.in_default.ensures.cases.0 in search (rules, e))) (c.loop-row.invariant.all old adds))
+returns-clause-back c old graph lead =
+    subst (λ l. Lead old l c.loop-noted.tables.rows) (none_left c.loop-noted.left.items (let e = c.in_default.ensures.cases.0 in search (rules, e))) (c.loop-noted.invariant.all old graph lead)

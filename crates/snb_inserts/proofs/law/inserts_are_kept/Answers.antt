@@ -1,3 +1,4 @@
+use Rattle.snb_inserts.proofs.Alone.{messages_alone}
 use Rattle.snb_inserts.proofs.Fitting.{rows_fit}
 use Rattle.snb_inserts.proofs.Newness.{rows_new}
 use Rattle.snb_inserts.proofs.Referring.{held_kept}
@@ -9,6 +10,9 @@ returns-clause-fit c = rows_fit c.plain_fields.ensures
 
 pub returns-clause-new : goal.returns-clause-new
 returns-clause-new c = rows_new c.plain_fields.ensures
+
+pub returns-clause-alone : goal.returns-clause-alone
+returns-clause-alone c = messages_alone
 
 pub returns-clause-held : goal.returns-clause-held
 returns-clause-held c = held_kept

@@ -1,4 +1,4 @@
-use Rattle.snb_graph_maps.specs.Pairs.{rest}
+use Rattle.snb_graph_links.specs.Pairs.{rest}
 use Rattle.snb_graph.proofs.WalkLemmas.{friends_walk}
 use Rattle.snb_graph.proofs.graph.Graph.friends.Goals as goal
 

@@ -1,6 +1,6 @@
 use Rattle.std.proofs.Common.{refl}
 use mathlib.Core.Bool.{false≢true}
-use Rattle.snb_graph_maps.specs.Pairs.{rest}
+use Rattle.snb_graph_links.specs.Pairs.{rest}
 use Rattle.snb_graph.proofs.WalkLemmas.{comment_likes, comment_likes_walk, post_likes, post_likes_walk}
 use Rattle.snb_graph.proofs.graph.Graph.likes.Goals as goal
 

@@ -1,0 +1,51 @@
+-- No edge leads from a message that isn't held, where references are.
+use Rattle.std.proofs.Common.{◌≡◌, ◌∙◌, ◌++◌, ◌∷◌, ℕ, List, All, Some, None, ap, inl, inr, refl, subst, sym}
+use Rattle.std.proofs.lemmas.List.Elements.{All-head}
+use Rattle.std.specs.List.{Contains}
+use Rattle.snb_schema.specs.declared.key.Key.TheVariants.{Node}
+use Rattle.snb_schema.specs.declared.op.Op.TheVariants as ops
+use Rattle.snb_schema.specs.declared.row.Row.{Row}
+use Rattle.snb_schema.specs.declared.row.Row.TheVariants as row
+use Rattle.snb_schema.specs.declared.table.Kind.{Kind}
+use Rattle.snb_schema.specs.declared.table.Kind.TheVariants as kinds
+use Rattle.snb_schema.specs.declared.table.Table.{Table}
+use Rattle.snb_schema.specs.References.{end_ref, from_kind, ref, to_kind}
+use Rattle.snb_schema.specs.RowKeys.{node_key}
+use Rattle.snb_graph.specs.Additions.{IsFirstAlone}
+use Rattle.snb_graph_adjacency.specs.Links.{message_of}
+use Rattle.snb_graph_model.specs.Graphs.{HasKey}
+use Rattle.snb_graph_model.specs.Soundness.{Held}
+use Rattle.snb_inserts.specs.Laws.{MessagesAreAlone}
+use Rattle.snb_inserts.proofs.Owners.{IsHere}
+use Rattle.snb_inserts.proofs.TakenLemmas.{two_held}
+
+-- the node from which an edge leads is held
+from_here : (g : List Row) → Held g → (t : Table) (k : Kind) (id to : ℕ) → from_kind t ≡ Some k → Contains g (row.Link t id to) → HasKey g (node_key k id)
+from_here g held t k id to is c = All-head (IsHere g) (1, ref k id) (end_ref 2 (to_kind t) to) (subst (λ o. All (IsHere g) (end_ref 1 o id ++ end_ref 2 (to_kind t) to)) is (held (row.Link t id to) c))
+
+first_is : {X : Type 0} (x y : X) (xs ys : List X) → x ∷ xs ≡ y ∷ ys → x ≡ y
+first_is x y xs ys e = cc
+
+some_is : {X : Type 0} (x y : X) → Some x ≡ Some y → x ≡ y
+some_is x y e = cc
+
+-- the first of rows is a message that isn't held, or none
+new_message : (g : List Row) (first : Row) (more : List Row) (k : Kind) (id date : ℕ) → Held g → message_of first ≡ Some (k, id, date) → ¬ HasKey g (node_key k id) → IsFirstAlone g (first ∷ more)
+new_message g first more k id date held is none r rest e j n d message t from to c =
+    let same = some_is (k, id, date) (j, n, d) (sym is ∙ ap message_of (first_is first r more rest e) ∙ message) in
+    none (subst (λ (m : Kind × ℕ × ℕ). HasKey g (node_key m.0 m.1)) (sym same) (from_here g held t j n to from c))
+
+no_message : (g : List Row) (first : Row) (more : List Row) → message_of first ≡ None → IsFirstAlone g (first ∷ more)
+no_message g first more is r rest e j n d message t from to c = let same : None ≡ Some (j, n, d) = sym is ∙ ap message_of (first_is first r more rest e) ∙ message in absurd cc
+
+pub messages_alone : MessagesAreAlone
+messages_alone g (ops.AddPost id image date ip browser language content size author forum country tags) held welcome =
+    new_message g _ _ kinds.Post id date held refl (λ has. welcome.1 ((two_held g (Node kinds.Post id) (Node kinds.Comment id)).1 (inl has)))
+messages_alone g (ops.AddComment id date ip browser content size author country parent tags) held welcome =
+    new_message g _ _ kinds.Comment id date held refl (λ has. welcome.1 ((two_held g (Node kinds.Post id) (Node kinds.Comment id)).1 (inr has)))
+messages_alone g (ops.AddPerson id first last gender birthday created ip browser city languages emails tags study work) held welcome = no_message g _ _ refl
+messages_alone g (ops.LikePost person post date) held welcome = no_message g _ _ refl
+messages_alone g (ops.LikeComment person comment date) held welcome = no_message g _ _ refl
+messages_alone g (ops.AddForum id title date moderator tags) held welcome = no_message g _ _ refl
+messages_alone g (ops.AddMember person forum date) held welcome = no_message g _ _ refl
+messages_alone g (ops.AddFriend one other date) held welcome = no_message g _ _ refl
