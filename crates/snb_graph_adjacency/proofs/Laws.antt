@@ -1,5 +1,5 @@
 -- Laws that proofs above cite: what one row more or fewer makes of the links kept beside the rows.
-use Rattle.std.proofs.Common.{◌≡◌, ◌∙◌, ◌++◌, ◌∷◌, [], ℕ, false, List, refl, inl, inr}
+use Rattle.std.proofs.Common.{◌∙◌, ◌++◌, ◌∷◌, [], ℕ, List, refl, inl, inr}
 use Rattle.std.specs.List.{Contains}
 use Rattle.std.specs.List.Sorted.{IsPermutation}
 use Rattle.snb_schema.specs.declared.row.Row.{Row}
@@ -12,10 +12,8 @@ use Rattle.snb_graph_adjacency.specs.declared.link.Walk.{Walk}
 use Rattle.snb_graph_adjacency.specs.declared.link.Walk.TheVariants.{Friends, Messages, Replies, PostLikes, CommentLikes, Work, Study}
 use Rattle.snb_graph_adjacency.specs.Links.{Tells}
 use Rattle.snb_graph_adjacency.proofs.LinkLemmas.{frozen_before, new_own, still_own}
-use Rattle.snb_graph_adjacency.specs.Concerns.{concerns}
 use Rattle.snb_graph_adjacency.specs.Kept.{AreOwn, HasFrozenLink, HasLink, HasLostLinkDelta, HasLinkDelta, IsBacked, IsFresh, IsIndexed, SameFrozen, SameLinks}
 use Rattle.snb_graph_adjacency.specs.LinkDelta.{IsLinkDelta}
-use Rattle.snb_graph_adjacency.proofs.LinkDeltaLemmas.{silent, still_tells}
 use Rattle.snb_graph_adjacency.proofs.TellLemmas.{along_tells, links_told, told_indexed}
 
 -- with the delta the links go with the rows and one more
@@ -28,20 +26,6 @@ delta_indexed old new r s t delta is says has gained = told_indexed new t gained
 -- the delta are new, where the row's slot is free
 pub delta_fresh : (g : List Row) (r : Row) (s : Indexes) (delta : LinkDelta) → IsIndexed g s → IsLinkDelta g r delta → ¬ HasSlot g (slot_of r) → IsFresh s delta
 delta_fresh g r s delta is says free = record { new = λ k told l same x. says.fresh free k told l same ((links_told g s is l).0 x); apart = says.apart }
-
--- a row along which no walk goes changes no link
-pub mute_indexed : (old new : List Row) (r : Row) (s : Indexes) → ((w : Walk) → concerns w r ≡ false) → IsIndexed old s → HasGained old (r ∷ []) new → IsIndexed new s
-mute_indexed old new r s mute is gained = told_indexed new s gained.graph (λ l. (
-  λ x. still_tells old new r l.walk gained.rows l.of l.id l.date ((links_told old s is l).0 x),
-  λ x. (links_told old s is l).1 (silent old new r l.walk gained.rows (mute l.walk) l.of l.id l.date x),
-))
-
--- the same of one row fewer
-pub mute_left : (old new : List Row) (r : Row) (s : Indexes) → ((w : Walk) → concerns w r ≡ false) → IsIndexed old s → IsGraph new → IsPermutation old (new ++ r ∷ []) → IsIndexed new s
-mute_left old new r s mute is graph rows = told_indexed new s graph (λ l. (
-  λ x. silent new old r l.walk rows (mute l.walk) l.of l.id l.date ((links_told old s is l).0 x),
-  λ x. (links_told old s is l).1 (still_tells new old r l.walk rows l.of l.id l.date x),
-))
 
 -- without the delta the links go with the rows without one
 pub delta_left : (old new : List Row) (r : Row) (s t : Indexes) (delta : LinkDelta) → IsIndexed old s → IsGraph new → IsPermutation old (new ++ r ∷ []) → IsLinkDelta new r delta → ¬ HasSlot new (slot_of r) → HasLostLinkDelta s delta t → IsIndexed new t

@@ -2,3 +2,4 @@ pub mod Laws
 pub mod LinkLemmas
 pub mod LinkDeltaLemmas
 mod TellLemmas
+pub mod WholeLemmas

@@ -29,7 +29,7 @@ use Rattle.snb_graph_adjacency.specs.declared.link.Walk.TheVariants.{Friends, Me
 use Rattle.snb_graph_adjacency.specs.Concerns.{concerns}
 use Rattle.snb_graph_adjacency.specs.Kept.{IsTold, SameEnds}
 use Rattle.snb_graph_adjacency.specs.Links.{IsCreatorTable, IsFriendship, IsParentTable, LeadsTo, Tells, message_of}
-use Rattle.snb_graph_adjacency.specs.LinkDelta.{IsDated, IsLed, IsLedNowhere, IsLinkDelta, IsLinkDeltaOf, IsUndated, TellsLink, link}
+use Rattle.snb_graph_adjacency.specs.LinkDelta.{IsAlone, IsDated, IsLed, IsLedNowhere, IsLinkDelta, IsLinkDeltaOf, IsUndated, TellsLink, link}
 use Rattle.snb_graph_adjacency.proofs.LinkLemmas.{same_walk, some_is}
 
 -- ---- rows old and new
@@ -177,7 +177,7 @@ no_link : (t : Table) (a b : ℕ) (k : Kind) (id date : ℕ) (n : Row) → n ≡
 no_link t a b k id date n e is = let none = sym (ap message_of e) ∙ is in absurd cc
 
 -- of two messages that are one, kind, id and date are the same
-one_message : (n : Row) (k j : Kind) (id date id' date' : ℕ) → message_of n ≡ Some (k, id, date) → message_of n ≡ Some (j, id', date') → ◌≡◌ {A = Kind × ℕ × ℕ} (k, id, date) (j, id', date')
+pub one_message : (n : Row) (k j : Kind) (id date id' date' : ℕ) → message_of n ≡ Some (k, id, date) → message_of n ≡ Some (j, id', date') → ◌≡◌ {A = Kind × ℕ × ℕ} (k, id, date) (j, id', date')
 one_message n k j id date id' date' a b = some_is (k, id, date) (j, id', date') (sym a ∙ b)
 
 -- the ends of a link
@@ -195,7 +195,7 @@ link_end r = 0
 
 module _ (F : Table → Type 0) (family : IsFamily F) (g : List Row) (graph : IsGraph g) where
   -- messages of one id are one
-  one_node : (n m : Row) (k j : Kind) (id id' date date' : ℕ) → Contains g n → Contains g m → id ≡ id' → message_of n ≡ Some (k, id, date) → message_of m ≡ Some (j, id', date') → n ≡ m
+  pub one_node : (n m : Row) (k j : Kind) (id id' date date' : ℕ) → Contains g n → Contains g m → id ≡ id' → message_of n ≡ Some (k, id, date) → message_of m ≡ Some (j, id', date') → n ≡ m
   one_node n m k j id id' date date' cn cm same a b =
       graph.apart n m cn cm (node_slot n k id date a ∙ ap (λ (i : ℕ). (table.Post, i, 0, [])) same ∙ sym (node_slot m j id' date' b))
 
@@ -648,3 +648,11 @@ other_row (row.Link t a b) one two three four five w = absurd (three t a b refl)
 other_row (row.Dated t a b d) one two three four five w = absurd (four t a b d refl)
 other_row (row.Yeared t a b y) one two three four five w = absurd (five t a b y refl)
 other_row r one two three four five w = refl
+
+-- a message from which no edge leads makes no link
+pub lone_message : (g : List Row) (r : Row) (k : Kind) (id date : ℕ) → IsGraph g → message_of r ≡ Some (k, id, date) → IsAlone g r → IsLinkDelta g r (record { first = None; second = None })
+lone_message g r k id date graph is alone =
+    two_delta g r Messages Replies None None (λ e. absurd cc)
+    (message_delta Messages IsCreatorTable along_messages g graph r k id date is None None tt (λ e t among from to. alone k id date is t from to) tt (λ e. refl))
+    (message_delta Replies IsParentTable along_replies g graph r k id date is None None tt (λ e t among from to. alone k id date is t from to) tt (λ e. refl))
+    (message_mute r k id date is)

@@ -2,7 +2,7 @@
 use Rattle.std.proofs.Common.{◌≡◌, ◌≢◌, ◌⊎◌, ℕ, Option, Some, None, refl, sym, ap, ◌∙◌, subst, inl, inr}
 use Rattle.std.specs.Option.{unwrap_or}
 use Rattle.std.specs.List.{Contains}
-use Rattle.snb_graph_maps.specs.Pairs.{HasAdded, HasDropped, HasFrozenPair, HasPair, Lists, SamePairs, pairs_at}
+use Rattle.snb_graph_links.specs.Pairs.{HasAdded, HasDropped, HasFrozenPair, HasPair, Lists, SamePairs, pairs_at}
 use Rattle.snb_graph_adjacency.specs.declared.indexes.Indexes.{Indexes}
 use Rattle.snb_graph_adjacency.specs.declared.link.Link.{Link}
 use Rattle.snb_graph_adjacency.specs.declared.link.LinkDelta.{LinkDelta}

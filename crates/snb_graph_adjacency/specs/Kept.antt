@@ -2,7 +2,7 @@
 use Rattle.std.specs.Prelude.{◌≡◌, ◌↔◌, ◌⊎◌, ℕ, Option, Some, List, Contains}
 use Rattle.snb_schema.specs.declared.row.Row.{Row}
 use Rattle.snb_schema.specs.declared.table.Table.TheVariants as table
-use Rattle.snb_graph_maps.specs.Pairs.{HasFrozenPair, HasPair, Lists}
+use Rattle.snb_graph_links.specs.Pairs.{HasFrozenPair, HasPair, Lists}
 use Rattle.snb_graph_model.specs.Around.{friends, likes_in, messages, replies, study, work}
 use Rattle.snb_graph_model.specs.Graphs.{IsGraph}
 use Rattle.snb_graph_adjacency.specs.declared.indexes.Indexes.{Indexes}

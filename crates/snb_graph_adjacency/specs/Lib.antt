@@ -2,3 +2,4 @@ pub mod Concerns
 pub mod Kept
 pub mod Links
 pub mod LinkDelta
+pub mod Whole

@@ -50,3 +50,7 @@ IsLed Among g kind id to = (t : Table) × Among t × (from_kind t ≡ Some kind)
 -- no edge of the tables does
 abbrev pub IsLedNowhere : (Table → Type 0) → List Row → Kind → ℕ → Type 0
 IsLedNowhere Among g kind id = (t : Table) → Among t → from_kind t ≡ Some kind → (to : ℕ) → ¬ Contains g (row.Link t id to)
+
+-- no edge leads from the message
+abbrev pub IsAlone : List Row → Row → Type 0
+IsAlone g r = (kind : Kind) (id date : ℕ) → message_of r ≡ Some (kind, id, date) → (t : Table) → from_kind t ≡ Some kind → (to : ℕ) → ¬ Contains g (row.Link t id to)

@@ -1,12 +1,15 @@
 //! The links of a graph, for each walk in a map of its own.
 
 ghost use Rattle.std.specs.Prelude.{◌≡◌, Some, IfOk, OnOk, OnErr};
-ghost use Rattle.snb_graph_maps.specs.Pairs.{ArePairsOf, rest};
-ghost use Rattle.snb_graph_adjacency.specs.Kept.{at, AreOwn, HasFrozenLink, HasGainedLink, HasGainedSome, HasLink, HasLostLink, HasLostLinkDelta, HasLostSome, HasLinkDelta, IsFresh, IsNewLink, IsOwnLink, SameFrozen, SameLinks};
+ghost use Rattle.snb_graph_links.specs.Pairs.{ArePairsOf, rest};
+ghost use Rattle.snb_graph_adjacency.specs.Kept.{at, AreOwn, HasFrozenLink, HasGainedLink, HasGainedSome, HasLink, HasLostLink, HasLostLinkDelta, HasLostSome, HasLinkDelta, IsFresh, IsIndexed, IsNewLink, IsOwnLink, SameFrozen, SameLinks};
 ghost use Rattle.snb_graph_adjacency.specs.declared.link.Link.{Link};
 
 use crate::link::{Link, LinkDelta, Walk};
-use snb_graph_maps::{AdjacencyMap, Links};
+use crate::whole::{edges, friends, messages, replies};
+use snb_graph_links::{AdjacencyMap, Links};
+use snb_graph_tables::Tables;
+use snb_schema::Table;
 use std::alloc::{AllocError, Global};
 
 /// The links of a graph.
@@ -49,6 +52,22 @@ impl Indexes {
             work: AdjacencyMap::empty(alloc),
             study: AdjacencyMap::empty(alloc),
         }
+    }
+
+    /// The links of all rows, frozen, in the time of a sort. An error says that memory doesn't suffice.
+    pub fn of(alloc: Global, tables: &Tables) -> Result<Indexes, AllocError>
+        ensures { IfOk result (IsIndexed tables.now.rows) }
+    {
+        tables.known();
+        Ok(Indexes {
+            friends: friends(alloc, tables)?,
+            messages: messages(alloc, tables)?,
+            replies: replies(alloc, tables)?,
+            post_likes: edges(alloc, tables, Table::PersonLikesPost, true)?,
+            comment_likes: edges(alloc, tables, Table::PersonLikesComment, true)?,
+            work: edges(alloc, tables, Table::PersonWorkAtOrganisation, false)?,
+            study: edges(alloc, tables, Table::PersonStudyAtOrganisation, false)?,
+        })
     }
 
     /// A law: each frozen link is kept.

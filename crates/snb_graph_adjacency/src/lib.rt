@@ -4,6 +4,7 @@
 pub mod indexes;
 pub mod link;
 pub mod link_delta;
+mod whole;
 
 pub use indexes::Indexes;
 pub use link::Walk;

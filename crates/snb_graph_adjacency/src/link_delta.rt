@@ -6,14 +6,14 @@ ghost use Rattle.snb_schema.specs.declared.row.Row.TheVariants as row;
 ghost use Rattle.snb_schema.specs.declared.table.Kind.TheVariants as kinds;
 ghost use Rattle.snb_schema.specs.TableRows.{IsTableRow};
 ghost use Rattle.snb_graph_adjacency.specs.Links.{IsCreatorTable, IsParentTable, message_of};
-ghost use Rattle.snb_graph_adjacency.specs.LinkDelta.{IsDated, IsLed, IsLedNowhere, IsLinkDelta, IsUndated, link};
+ghost use Rattle.snb_graph_adjacency.specs.LinkDelta.{IsAlone, IsDated, IsLed, IsLedNowhere, IsLinkDelta, IsUndated, link};
 
 use crate::link::{Link, LinkDelta, Walk};
 use snb_graph_tables::Tables;
 use snb_schema::{Row, Table};
 
-// The creation date of a post.
-fn post_date(tables: &Tables, id: u64) -> Option<u64>
+/// The creation date of a post.
+pub(crate) fn post_date(tables: &Tables, id: u64) -> Option<u64>
     ensures found { IfSome result (IsDated tables.now.rows kinds.Post id) }
     ensures none { result ≡ None → IsUndated tables.now.rows kinds.Post id }
 {
@@ -23,8 +23,8 @@ fn post_date(tables: &Tables, id: u64) -> Option<u64>
     }
 }
 
-// The creation date of a comment.
-fn comment_date(tables: &Tables, id: u64) -> Option<u64>
+/// The creation date of a comment.
+pub(crate) fn comment_date(tables: &Tables, id: u64) -> Option<u64>
     ensures found { IfSome result (IsDated tables.now.rows kinds.Comment id) }
     ensures none { result ≡ None → IsUndated tables.now.rows kinds.Comment id }
 {
@@ -211,6 +211,16 @@ fn post_delta(tables: &Tables, id: u64, date: u64) -> LinkDelta
     }
 }
 
+// No links.
+fn no_delta() -> LinkDelta
+    ensures { result ≡ record { first = None; second = None } }
+{
+    LinkDelta {
+        first: None,
+        second: None,
+    }
+}
+
 /// What a row more makes of the links that the rows tell of.
 /// The condition: the row is one that its table can have.
 pub fn delta_of(tables: &Tables, row: &Row) -> LinkDelta
@@ -237,5 +247,20 @@ pub fn delta_of(tables: &Tables, row: &Row) -> LinkDelta
             first: None,
             second: None,
         },
+    }
+}
+
+/// The same, without a look for the edges of a message.
+/// The conditions: the row is one that its table can have, and if it is a message, no edge leads from it.
+pub fn lone_delta(tables: &Tables, row: &Row) -> LinkDelta
+    requires shaped { IsTableRow row.now }
+    requires alone { IsAlone tables.now.rows row.now }
+    ensures { IsLinkDelta tables.now.rows row.now result }
+{
+    tables.known();
+    match row {
+        Row::Post { post: _ } => no_delta(),
+        Row::Comment { comment: _ } => no_delta(),
+        _ => delta_of(tables, row),
     }
 }

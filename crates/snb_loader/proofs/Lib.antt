@@ -13,4 +13,3 @@ mod PastFacts
 mod StreamFacts
 pub mod Laws
 pub mod FileSinkFacts
-mod WordFacts

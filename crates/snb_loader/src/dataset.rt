@@ -62,10 +62,9 @@ pub fn load_dataset<S: Shelf>(
         Err(load) => return Err(load),
     };
     let now = walk.used;
-    let mut graph = walk.file_sink.into_graph();
-    if graph.freeze().is_err() {
+    let Ok(graph) = walk.file_sink.into_graph() else {
         return Err(Load::Memory);
-    }
+    };
     match graph.sound() {
         Ok(()) => {
             *used = now;

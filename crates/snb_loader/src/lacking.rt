@@ -4,7 +4,7 @@ ghost use Rattle.std.specs.Prelude.{◌≡◌, ◌++◌, ◌↔◌, true, IsTrue
 ghost use Rattle.snb_schema.specs.References.{edge_refs, end_ref, from_kind, refs_of_row, to_kind};
 ghost use Rattle.snb_loader.specs.Tables.{FindsLacking, may_repeat};
 
-use snb_graph::Graph;
+use snb_graph_tables::Tables;
 use snb_schema::layout::layout_of;
 use snb_schema::{Held, Key, Kind, Row, Table};
 
@@ -23,13 +23,13 @@ fn to_kind(table: Table) -> Option<Kind>
 }
 
 // The column, where the node to which it refers isn't held.
-fn lacking_end(graph: &Graph, column: u32, kind: Option<Kind>, id: u64) -> Option<u32>
-    ensures { FindsLacking graph.now (end_ref column kind id) result }
+fn lacking_end(tables: &Tables, column: u32, kind: Option<Kind>, id: u64) -> Option<u32>
+    ensures { FindsLacking tables.now.rows (end_ref column kind id) result }
 {
     match kind {
         None => None,
         Some(kind) => {
-            if graph.has(&Key::Node { kind, id }) {
+            if tables.has(&Key::Node { kind, id }) {
                 None
             } else {
                 Some(column)
@@ -40,51 +40,51 @@ fn lacking_end(graph: &Graph, column: u32, kind: Option<Kind>, id: u64) -> Optio
 
 // The first of the columns 1 and 2 that refers to a node that isn't held.
 fn lacking_of_two(
-    graph: &Graph,
+    tables: &Tables,
     first: Option<Kind>,
     one: u64,
     second: Option<Kind>,
     other: u64,
 ) -> Option<u32>
-    ensures { FindsLacking graph.now (end_ref 1 first one ++ end_ref 2 second other) result }
+    ensures { FindsLacking tables.now.rows (end_ref 1 first one ++ end_ref 2 second other) result }
 {
-    match lacking_end(graph, 1, first, one) {
+    match lacking_end(tables, 1, first, one) {
         Some(column) => Some(column),
-        None => lacking_end(graph, 2, second, other),
+        None => lacking_end(tables, 2, second, other),
     }
 }
 
 // The first column of an edge's line that refers to a node that isn't held.
-fn lacking_of_edge(graph: &Graph, table: Table, from: u64, to: u64, turned: bool) -> Option<u32>
-    ensures { FindsLacking graph.now (edge_refs table from to turned) result }
+fn lacking_of_edge(tables: &Tables, table: Table, from: u64, to: u64, turned: bool) -> Option<u32>
+    ensures { FindsLacking tables.now.rows (edge_refs table from to turned) result }
 {
     if turned {
-        lacking_of_two(graph, to_kind(table), to, from_kind(table), from)
+        lacking_of_two(tables, to_kind(table), to, from_kind(table), from)
     } else {
-        lacking_of_two(graph, from_kind(table), from, to_kind(table), to)
+        lacking_of_two(tables, from_kind(table), from, to_kind(table), to)
     }
 }
 
 /// The first column of a row's line that refers to a node that isn't held; none where all are. A
 /// line may have the ends of its row the other way round.
-pub fn first_lacking(graph: &Graph, row: &Row, turned: bool) -> Option<u32>
-    ensures { FindsLacking graph.now (refs_of_row row.now turned) result }
+pub fn first_lacking(tables: &Tables, row: &Row, turned: bool) -> Option<u32>
+    ensures { FindsLacking tables.now.rows (refs_of_row row.now turned) result }
 {
     match row {
-        Row::Link { table, from, to } => lacking_of_edge(graph, *table, *from, *to, turned),
+        Row::Link { table, from, to } => lacking_of_edge(tables, *table, *from, *to, turned),
         Row::Dated {
             table,
             from,
             to,
             ..
-        } => lacking_of_edge(graph, *table, *from, *to, turned),
+        } => lacking_of_edge(tables, *table, *from, *to, turned),
         Row::Yeared {
             table,
             from,
             to,
             ..
-        } => lacking_of_edge(graph, *table, *from, *to, turned),
-        Row::Word { table, person, .. } => lacking_end(graph, 1, from_kind(*table), *person),
+        } => lacking_of_edge(tables, *table, *from, *to, turned),
+        Row::Word { table, person, .. } => lacking_end(tables, 1, from_kind(*table), *person),
         _ => None,
     }
 }

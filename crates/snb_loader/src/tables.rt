@@ -1,51 +1,43 @@
 //! The tables of a dataset, read into a graph.
 
-ghost use Rattle.std.specs.Prelude.{◌≡◌, ◌≤◌, [], OnErr, OnOk, IfErr, IfOk, Some, false, true};
+ghost use Rattle.std.specs.Prelude.{◌≡◌, ◌≤◌, [], OnErr, OnOk, IfOk, Some};
 ghost use Rattle.snb_base.specs.Shelf.{IsRead};
 ghost use Rattle.snb_input_files.specs.Format.{Lawful};
 ghost use Rattle.snb_input_files.specs.Loading.{is_read_fault};
 ghost use Rattle.snb_input_files.specs.Stages.{IsStage, IsWalkWithin, before};
 ghost use Rattle.snb_schema.specs.declared.limits.TheConstants.{MAX_BYTES, MAX_ROWS};
 ghost use Rattle.snb_schema.specs.Faults.{OnBad};
-ghost use Rattle.snb_schema.specs.declared.row.Row.TheVariants as row;
 ghost use Rattle.snb_schema.specs.TableRows.{IsTableRow};
 ghost use Rattle.snb_loader.specs.Order.{table_series};
 ghost use Rattle.snb_loader.specs.Tables.{HasTaken, IsHeard, IsSecond, IsTableFileSink, may_repeat, table_format};
 
 use crate::lacking::{first_lacking, may_repeat};
 use crate::order::table_series;
-use snb_base::{Shelf, Text};
+use snb_base::Shelf;
 use snb_csv::TableLines;
 use snb_csv::law::{one_column, one_row, rows_of_fields_fit};
 use snb_graph::Graph;
-use snb_graph_tables::Insert;
+use snb_graph_maps::Layer;
+use snb_graph_tables::{Entry, Tables};
 use snb_input_files::{FileSink, Load, Used, Walk, walk_stage};
 use snb_input_lines::Sink;
 use snb_schema::limits::MAX_ROWS;
-use snb_schema::{Fault, FileId, Placed, Refusal, Row, Table};
+use snb_schema::{Fault, FileId, Placed, Refusal, Row};
 use std::alloc::{AllocError, Global};
 use std::marker::Model;
 
-// An equal row.
-fn copy_of(row: &Row) -> Result<Row, Fault>
-    ensures ok { IfOk result (λ copy. copy ≡ row.now) }
-    ensures err { IfErr result (λ why. why ≡ Fault.Memory) }
-{
-    match row.clone() {
-        Ok(copy) => Ok(copy),
-        Err(_) => Err(Fault::Memory),
-    }
-}
-
-/// The graph of the rows so far. A line that repeats an edge or a word changes nothing.
+/// The rows so far, which wait for their graph. A line that repeats an edge or a word changes nothing.
 pub struct TableGraph {
     alloc: Global,
-    graph: Graph,
+    tables: Tables,
 }
 
 impl Drop for TableGraph {
     fn drop(self) {
-        let TableGraph { alloc: _, graph: _ } = self;
+        let TableGraph {
+            alloc: _,
+            tables: _,
+        } = self;
     }
 }
 
@@ -55,7 +47,7 @@ impl Model for TableGraph {
 
     ghost Value = { List Row };
 
-    ghost view = { λ s. s.graph };
+    ghost view = { λ s. s.tables.rows };
 }
 
 impl TableGraph {
@@ -65,91 +57,16 @@ impl TableGraph {
     {
         TableGraph {
             alloc,
-            graph: Graph::empty(alloc),
+            tables: Tables::empty(alloc),
         }
     }
 
-    /// The graph, by value.
-    pub fn into_graph(self) -> Graph
-        ensures { result ≡ self }
+    /// The graph of the rows, all of them frozen. An error says that memory doesn't suffice.
+    pub fn into_graph(self) -> Result<Graph, AllocError>
+        ensures { IfOk result (λ graph. graph ≡ self) }
     {
-        let TableGraph { alloc: _, graph } = self;
-        graph
-    }
-
-    // Adds a word, unless it is held.
-    fn put_word(&mut self, table: Table, person: u64, text: Text) -> Result<(), AllocError>
-        requires { IsTableRow (row.Word table person text) }
-        ensures ok { OnOk result (HasTaken self.old (row.Word table person text) self.new) }
-        ensures err { OnErr result (self.new ≡ self.old) }
-    {
-        self.graph.known();
-        let row = Row::Word {
-            table,
-            person,
-            text,
-        };
-        match self.graph.insert_row(row) {
-            Ok(()) => Ok(()),
-            Err(Insert::Duplicate) => Ok(()),
-            Err(Insert::Memory) => Err(AllocError),
-        }
-    }
-
-    // Adds an edge, unless it is held. `Bad` says that a row has its slot, which it doesn't repeat.
-    fn put_edge(&mut self, file: FileId, line: u32, row: Row) -> Result<(), Fault>
-        requires shaped { IsTableRow row }
-        requires edge { may_repeat row ≡ true }
-        ensures ok { OnOk result (HasTaken self.old row self.new) }
-        ensures bad { OnBad result (λ r. IsSecond self.old row × (r ≡ Refusal.Duplicate file line)) }
-        ensures same { OnErr result (self.new ≡ self.old) }
-    {
-        let copy = copy_of(&row)?;
-        match self.graph.insert_row(row) {
-            Ok(()) => Ok(()),
-            Err(Insert::Duplicate) => {
-                if self.graph.same_row(&copy) {
-                    Ok(())
-                } else {
-                    Err(Fault::Bad {
-                        refusal: Refusal::Duplicate { file, line },
-                    })
-                }
-            }
-            Err(Insert::Memory) => Err(Fault::Memory),
-        }
-    }
-
-    // Adds a node. `Bad` says that a row has its slot.
-    fn put_node(&mut self, file: FileId, line: u32, row: Row) -> Result<(), Fault>
-        requires shaped { IsTableRow row }
-        requires node { may_repeat row ≡ false }
-        ensures ok { OnOk result (HasTaken self.old row self.new) }
-        ensures bad { OnBad result (λ r. IsSecond self.old row × (r ≡ Refusal.Duplicate file line)) }
-        ensures same { OnErr result (self.new ≡ self.old) }
-    {
-        match self.graph.insert_row(row) {
-            Ok(()) => Ok(()),
-            Err(Insert::Duplicate) => Err(Fault::Bad {
-                refusal: Refusal::Duplicate { file, line },
-            }),
-            Err(Insert::Memory) => Err(Fault::Memory),
-        }
-    }
-
-    // Adds a row that is no word, unless it repeats an edge. `Bad` says that a row has its slot, which it
-    // doesn't repeat.
-    fn put_other(&mut self, file: FileId, line: u32, row: Row) -> Result<(), Fault>
-        requires { IsTableRow row }
-        ensures ok { OnOk result (HasTaken self.old row self.new) }
-        ensures bad { OnBad result (λ r. IsSecond self.old row × (r ≡ Refusal.Duplicate file line)) }
-        ensures same { OnErr result (self.new ≡ self.old) }
-    {
-        if may_repeat(&row) {
-            self.put_edge(file, line, row)
-        } else {
-            self.put_node(file, line, row)
-        }
+        let TableGraph { alloc, tables } = self;
+        Graph::of(alloc, tables)
     }
 
     // Adds a row, unless it repeats an edge or a word. `Bad` says that a row has its slot, which it
@@ -160,16 +77,19 @@ impl TableGraph {
         ensures bad { OnBad result (λ r. IsSecond self.old row × (r ≡ Refusal.Duplicate file line)) }
         ensures same { OnErr result (self.new ≡ self.old) }
     {
-        match row {
-            Row::Word {
-                table,
-                person,
-                text,
-            } => match self.put_word(table, person, text) {
-                Ok(()) => Ok(()),
-                Err(_) => Err(Fault::Memory),
-            },
-            other => self.put_other(file, line, other),
+        let repeats = may_repeat(&row);
+        let entry = Entry::of(row);
+        if self.tables.holds(&entry) {
+            if repeats && self.tables.has_same(&entry) {
+                return Ok(());
+            }
+            return Err(Fault::Bad {
+                refusal: Refusal::Duplicate { file, line },
+            });
+        }
+        match self.tables.put(entry, Layer::Frozen) {
+            Ok(()) => Ok(()),
+            Err(_) => Err(Fault::Memory),
         }
     }
 }
@@ -182,7 +102,7 @@ impl Sink<Placed> for TableGraph {
 
     fn put(&mut self, file: FileId, item: Placed) -> Result<(), Fault> {
         let line = item.line;
-        match first_lacking(&self.graph, &item.row, item.turned) {
+        match first_lacking(&self.tables, &item.row, item.turned) {
             Some(column) => Err(Fault::Bad {
                 refusal: Refusal::Dangling { file, line, column },
             }),

@@ -7,5 +7,5 @@ use Rattle.snb_loader.proofs.lacking.lacking_end.Goals as goal
 
 pub returns-else-has : goal.returns-else-has
 returns-else-has c =
-    subst (λ (k : Option Kind). IsFirstLacking c.args.graph.now (end_ref c.args.column k c.args.id) c.args.column) (sym c.in-Some.is)
-    (one_lacking c.args.graph.now c.args.column c.in-Some.kind c.args.id (not_held c.has.result c.has.ensures c.if-has.false))
+    subst (λ (k : Option Kind). IsFirstLacking c.args.tables.now.rows (end_ref c.args.column k c.args.id) c.args.column) (sym c.in-Some.is)
+    (one_lacking c.args.tables.now.rows c.args.column c.in-Some.kind c.args.id (not_held c.has.result c.has.ensures c.if-has.false))

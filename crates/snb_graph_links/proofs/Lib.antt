@@ -1,0 +1,4 @@
+mod PairLemmas
+mod HasLemmas
+mod RunLemmas
+mod LinkRunLemmas

@@ -1,5 +1,0 @@
-use Rattle.snb_graph_maps.proofs.HasLemmas.{frozen_pair}
-use Rattle.snb_graph_maps.proofs.adjacency_map.AdjacencyMap.known.Goals as goal
-
-pub returns : goal.returns
-returns c = rw (← c.self.view_is) (frozen_pair _ c.self.invariant)

@@ -1,6 +1,0 @@
-use Rattle.std.proofs.Common.{drop}
-use Rattle.snb_graph_maps.proofs.PairLemmas.{IsJoinedSoFar}
-use Rattle.snb_graph_maps.proofs.adjacency_map.joined.Given as goal
-
-abbrev pub invariant-loop-of : goal.invariant-loop-of
-invariant-loop-of l = IsJoinedSoFar l.frozen l.added.entries l.whole.entries (drop l.of-index l.of-items)
