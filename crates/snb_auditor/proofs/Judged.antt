@@ -1,5 +1,5 @@
 -- What is known of an event once some rules were tried.
-use Rattle.std.proofs.Common.{◌≡◌, ℕ, suc, ◌<◌, length, cond, inl, inr, sym, ap, ◌∙◌, subst, refl, arith, eqb, Option, Some}
+use Rattle.std.proofs.Common.{◌≡◌, ℕ, suc, ◌<◌, length, inl, inr, sym, subst, refl, arith, Option, Some}
 use Rattle.std.proofs.lemmas.Bool.{cases_lt}
 use Rattle.snb_history.specs.declared.event.Event.{Event}
 use Rattle.snb_history.specs.Rules.{Rule, V1, V2, V3, V4, V5, V6, V7, V8, V9, number, Obeys, Fits}
@@ -8,26 +8,7 @@ use Rattle.snb_book.specs.Kept.{Kept}
 use Rattle.snb_auditor.specs.declared.verdict.Violation.{Violation}
 use Rattle.snb_auditor.specs.declared.auditor.Values.{Values}
 use Rattle.snb_auditor.specs.Judging.{Judges}
-
--- the rule of a number
-rule_of : ℕ → Rule
-rule_of n =
-    cond (eqb n 1) V1 (cond (eqb n 2) V2 (cond (eqb n 3) V3 (cond (eqb n 4) V4 (cond (eqb n 5) V5 (cond (eqb n 6) V6 (cond (eqb n 7) V7 (cond (eqb n 8) V8 V9)))))))
-
-rule_of-number : (r : Rule) → rule_of (number r) ≡ r
-unfolding rule_of
-rule_of-number V1 = refl
-rule_of-number V2 = refl
-rule_of-number V3 = refl
-rule_of-number V4 = refl
-rule_of-number V5 = refl
-rule_of-number V6 = refl
-rule_of-number V7 = refl
-rule_of-number V8 = refl
-rule_of-number V9 = refl
-
-pub number-same : (q r : Rule) → number q ≡ number r → q ≡ r
-number-same q r e = sym (rule_of-number q) ∙ ap rule_of e ∙ rule_of-number r
+use Rattle.snb_history.proofs.Laws.{number-same}
 
 -- the event obeys the rules whose numbers are below n
 abbrev pub Passes : Kept → Event → ℕ → Type 0

@@ -1,5 +1,5 @@
 -- A history has one verdict.
-use Rattle.std.proofs.Common.{◌≡◌, ℕ, List, [], ◌∷◌, ◌++◌, length, true, ◌⊎◌, inl, inr, refl, sym, ap, ◌∙◌, subst, arith}
+use Rattle.std.proofs.Common.{◌≡◌, ℕ, List, [], ◌∷◌, ◌++◌, length, true, inl, inr, refl, sym, ap, ◌∙◌, subst, arith}
 use Rattle.std.specs.Prelude.{ℤ}
 use Rattle.std.proofs.lemmas.Bool.{cases_order, eq-eqb}
 use Rattle.snb_history.specs.declared.event.Event.{Event}
@@ -13,23 +13,8 @@ use Rattle.snb_auditor.specs.declared.verdict.Violation.{Violation}
 use Rattle.snb_auditor.specs.declared.verdict.Verdict.TheVariants.{Violated, Halted, Incomplete, TooLate, Accepted}
 use Rattle.snb_auditor.specs.Verdicts.{IsFirstHalt, IsVerdict, IsViolation, NobodyHalted, on_time}
 use Rattle.snb_auditor.specs.VerdictLaws.{VerdictIsOne, AcceptedExactly}
-use Rattle.snb_auditor.proofs.Judged.{number-same}
-
--- two places of one list: the same, or one before the other
-same_list_split : {X : Type 0} (g : List X) (x : X) (r g' : List X) (x' : X) (r' : List X) → g ++ x ∷ r ≡ g' ++ x' ∷ r'
-    → ((g ≡ g') × (x ≡ x')) ⊎ (((m : List X) × (g ++ x ∷ m ≡ g')) ⊎ ((m : List X) × (g' ++ x' ∷ m ≡ g)))
-same_list_split [] x r [] x' r' q = inl (refl, cc)
-same_list_split [] x r (y ∷ g') x' r' q = inr (inl (g', cc))
-same_list_split (y ∷ g) x r [] x' r' q = inr (inr (g, cc))
-same_list_split (y ∷ g) x r (z ∷ g') x' r' q =
-    let same : y ≡ z = cc in
-    elim (same_list_split g x r g' x' r' cc) [
-      | inl p ↦ inl (let a : g ≡ g' = p.0 in cc, p.1)
-      | inr other ↦ elim other [
-        | inl p ↦ inr (inl (p.0, let a : g ++ x ∷ p.0 ≡ g' = p.1 in cc))
-        | inr p ↦ inr (inr (p.0, let a : g' ++ x' ∷ p.0 ≡ g = p.1 in cc))
-      ]
-    ]
+use Rattle.snb_base.proofs.Laws.{same_list_split}
+use Rattle.snb_history.proofs.Laws.{number-same}
 
 -- the first rule that an event breaks is one, and so are its values
 one_break : (s : Schedule) (workers : ℕ) (h : List Event) (e : Event) (q r : Rule) (one other : Told) → Breaks s workers h e q one → Breaks s workers h e r other → (q ≡ r) × (one ≡ other)
@@ -113,6 +98,7 @@ same_unfinished s h j k a b =
 same_counts : (a b c d : ℕ) (x y : ℕ) → a ≡ x → c ≡ x → b ≡ y → d ≡ y → (a ≡ c) × (b ≡ d)
 same_counts a b c d x y p q r t = (p ∙ sym q, r ∙ sym t)
 
+-- the verdict on a history is one
 pub verdict_is_one : VerdictIsOne
 verdict_is_one s workers h (Violated u) (Violated v) a b = ap Violated (same_violated s workers h u v a b)
 verdict_is_one s workers h (Violated u) (Halted w) a b = absurd (legal_no_break s workers h u b.0 a)
@@ -142,6 +128,7 @@ verdict_is_one s workers h (Accepted x y) (TooLate i j) a b = absurd (let more =
 verdict_is_one s workers h (Accepted x y) (Accepted i j) a b =
     let these : x ≡ i = a.2 ∙ sym b.2 in let all : y ≡ j = a.3 ∙ sym b.3 in ap (λ (n : ℕ). Accepted n y) these ∙ ap (λ (n : ℕ). Accepted i n) all
 
+-- a history is accepted exactly where it is legal and complete and at least 95 of 100 operations start in time
 pub accepted_exactly : AcceptedExactly
 accepted_exactly s workers h = (
   λ one. let is : IsVerdict s workers h (Accepted one.0 one.1) = one.2 in (is.0, is.1, is.4),

@@ -106,6 +106,7 @@ of_legal s workers h legal =
       ]
     ]
 
+-- every history whose moments aren't too great has a verdict
 pub verdict_exists : VerdictExists
 verdict_exists s workers h small =
     elim (legal_or_not s workers h small) [

@@ -1,9 +1,9 @@
 -- What an auditor keeps beside its book, after one more event.
-use Rattle.std.proofs.Common.{◌≡◌, ℕ, ◌<◌, List, [], ◌∷◌, ◌++◌, length, get_or, set, replicate, Bool, true, false, cond, inl, inr, refl, sym, ap, ◌∙◌, subst, arith, Option, Some, None, eqb}
+use Rattle.std.proofs.Common.{◌≡◌, ℕ, ◌<◌, List, [], ◌∷◌, ◌++◌, length, get_or, set, replicate, Bool, true, false, cond, inl, inr, sym, ap, ◌∙◌, subst, arith, Option, Some, None, eqb}
 use Rattle.std.specs.Prelude.{slice_index}
 use Rattle.std.specs.List.{list_any, position_or_len}
 use Rattle.std.proofs.lemmas.Bool.{cases_eq, eq-eqb, ne_eqb}
-use Rattle.std.proofs.lemmas.List.{get_or-set_same, get_or-set_other, get_or-replicate, length-replicate}
+use Rattle.std.proofs.lemmas.List.{get_or-replicate, length-replicate}
 use Rattle.std.proofs.Math.ListN.{length-set}
 use Rattle.snb_history.specs.declared.event.Event.{Event}
 use Rattle.snb_history.specs.declared.event.Event.TheVariants.{Start, Finish, Halt}
@@ -14,18 +14,12 @@ use Rattle.snb_book.specs.Kept.{Kept}
 use Rattle.snb_auditor.specs.declared.verdict.Violation.{Violation}
 use Rattle.snb_auditor.specs.Audits.{Audit}
 use Rattle.snb_auditor.specs.Judging.{AreStopped, AreBegun}
-use Rattle.snb_history.proofs.Laws.{halted-push, hand-push, hand_has_start}
+use Rattle.snb_history.proofs.Laws.{halted-push, hand-push, hand_started}
+use Rattle.snb_base.proofs.Laws.{get_or-set}
 
 -- the book with one more event
 abbrev pub and_then : Kept → Event → Kept
 and_then b e = record { schedule = b.schedule; workers = b.workers; history = b.history ++ e ∷ [] }
-
-get_or-set : {X : Type 0} (xs : List X) (i k : ℕ) (x d : X) → i < length xs → get_or (set xs i x) k d ≡ cond (eqb i k) x (get_or xs k d)
-get_or-set {X} xs i k x d lt =
-    elim (cases_eq i k) [
-      | inl same ↦ rw (eq-eqb i k same) (ap (λ (j : ℕ). get_or (set xs i x) j d) (sym same) ∙ get_or-set_same xs i x d lt)
-      | inr other ↦ rw (ne_eqb i k other) (get_or-set_other xs i k x d (λ q. other (sym q)))
-    ]
 
 -- nothing has happened
 pub AreStopped-none : (s : Schedule) (workers : ℕ) → AreStopped (record { schedule = s; workers = workers; history = [] }) (replicate workers false)
@@ -63,12 +57,6 @@ position-end p (x ∷ g) e none hit = let ih = position-end p g e in grind arith
 starts_in : (k : ℕ) (g : List Event) (e : Event) (rest : List Event) → starts k e ≡ true → list_any (starts k) (g ++ e ∷ rest) ≡ true
 starts_in k [] e rest hit = grind arith
 starts_in k (x ∷ g) e rest hit = let ih = starts_in k g e rest hit in grind arith
-
--- what is in hand is started
-hand_started : (h : List Event) (w k : ℕ) → hand h w ≡ Some k → started h k ≡ true
-hand_started h w k held =
-    let f = hand_has_start w k h held in
-    subst (λ (l : List Event). started l k ≡ true) f.3 (starts_in k f.0 (Start k w f.2) f.1 (eq-eqb k k refl))
 
 -- the number of a Start stays while others follow
 number-stays : (b : Kept) (e : Event) (begun : List ℕ) → AreBegun b begun → (w k : ℕ) → w < b.workers → hand b.history w ≡ Some k

@@ -25,10 +25,11 @@ use Rattle.snb_input_files.specs.Places.{Knows, opening}
 use Rattle.snb_input_files.proofs.Laws.{file_one, first_some, says_knows, says_one}
 use Rattle.snb_runlog.specs.Columns.{AreWithin, CanBeHeader, columns, count_numbers, event_numbers, header_columns, header_numbers, kind_of, version_column}
 use Rattle.snb_runlog.specs.Laws.{EventOrColumn, HeaderOrColumn, LogIsExact, WhereCountsAre}
-use Rattle.snb_runlog.specs.Lines.{AreNumbers, IsHeader, IsLogged, log_file, log_language}
+use Rattle.snb_runlog.specs.Lines.{IsHeader, IsLogged, log_file, log_language}
 use Rattle.snb_auditor_log.specs.declared.log.Log.{Log}
 use Rattle.snb_auditor_log.specs.Laws.{LogSaysOne, OneLogRefusal, RefusedOrNot}
 use Rattle.snb_auditor_log.specs.LogFiles.{HasHeard, IsAuditable, IsLogAnswer, IsLogOf, RefusesEvent, TakesEvent, log_checks, log_format}
+use Rattle.snb_runlog.proofs.Laws.{numbers_within}
 
 -- ---- the file_sink of a log
 
@@ -62,15 +63,6 @@ says_all {K} {T} g F each ((b ∷ bs) ∷ ls) (Some k) new n items h =
     subst (λ (xs : List T). All F xs) (sym h.5)
     (All-append F h.0 h.1 (subst (λ (xs : List T). All F xs) (sym h.3.1.2) (All-cons F h.3.1.0 [] (each k (n + 1) (b ∷ bs) h.3.1.0 h.3.1.1) (All-nil F))) (says_all g F each ls h.2 new (n + 1) h.1 h.4))
 
--- numbers that fields spell are within their columns
-within : (cs : List (ℕ × ℕ)) (xs : List (List ℕ)) (ns : List ℕ) → AreNumbers cs xs ns → AreWithin cs ns
-within [] [] [] h = tt
-within [] [] (n ∷ ns) h = absurd h
-within [] (x ∷ xs) ns h = absurd h
-within (c ∷ cs) [] ns h = absurd h
-within (c ∷ cs) (x ∷ xs) [] h = absurd h
-within (c ∷ cs) (x ∷ xs) (n ∷ ns) h = (h.0.1, h.0.0.small, within cs xs ns h.1)
-
 -- an event with such numbers has no moment that is too great
 timed_within : (version : ℕ) (e : Event) (o : Option ℕ) → AreWithin (columns version (kind_of e)) (event_numbers e ++ count_numbers o) → moment e ≤ MAX_AT
 timed_within version (Start op worker at) o h = h.2.2.1
@@ -79,11 +71,11 @@ timed_within version (Halt worker) o h = omega arith
 
 -- nor has one that a line tells
 timed : (version : ℕ) (line : List ℕ) (l : Logged) → IsLogged version line l → moment l.event ≤ MAX_AT
-timed version line l s = timed_within version l.event l.rows (within (columns version (kind_of l.event)) (drop 1 (fields line)) (event_numbers l.event ++ count_numbers l.rows) s.numbers)
+timed version line l s = timed_within version l.event l.rows (numbers_within (columns version (kind_of l.event)) (drop 1 (fields line)) (event_numbers l.event ++ count_numbers l.rows) s.numbers)
 
 -- a header says that there is a worker, and not too many
 few_workers : (fs : List (List ℕ)) (head : Header) → IsHeader fs head → (1 ≤ head.workers) × (head.workers ≤ MAX_WORKERS)
-few_workers fs head s = (let h : CanBeHeader head = within (version_column ∷ header_columns head.version) (drop 1 fs) (header_numbers head) s.numbers in (h.2.0, h.2.1))
+few_workers fs head s = (let h : CanBeHeader head = numbers_within (version_column ∷ header_columns head.version) (drop 1 fs) (header_numbers head) s.numbers in (h.2.0, h.2.1))
 
 known_workers : (ls : List (List ℕ)) (head : Header) → Knows None log_language.heads ls (Some head) → (1 ≤ head.workers) × (head.workers ≤ MAX_WORKERS)
 known_workers [] head e = absurd cc

@@ -1,64 +1,12 @@
 -- What other crates may cite: how numbers are spelled, facts about lists that no library states, and what calls that count faults do together.
-use Rattle.std.proofs.Common.{◌≡◌, ◌≢◌, ℕ, zero, suc, ◌+◌, ◌^◌, ◌<◌, ◌≤◌, List, [], ◌∷◌, ◌++◌, Option, length, get_or, take, drop, refl, sym, ap, ◌∙◌, ◌⊎◌, inl, inr, subst, append_assoc, append-nil, add-one, drop-cons, arith, Bool, true, false, All}
-use Rattle.std.proofs.lemmas.List.{take-append-drop}
+use Rattle.std.proofs.Common.{◌≡◌, ◌≢◌, ℕ, zero, suc, ◌+◌, ◌<◌, List, [], ◌∷◌, ◌++◌, Option, refl, sym, ◌∙◌, ◌⊎◌, inl, inr, subst, arith, Bool, true, false, All}
 use Rattle.std.proofs.lemmas.Bool.{cases_Bool, cases_lt}
 use Rattle.std.proofs.lemmas.List.Elements.{All-head, All-tail}
-use Rattle.std.proofs.lemmas.Str.Parse.{IsNumeralModel}
-use Rattle.std.specs.Fmt.{decimal}
-use Rattle.std.specs.List.{AllByRecursion, Contains}
-use Rattle.snb_base.specs.Calendar.{IsDigit}
 use Rattle.snb_base.specs.Shelf.{Counts, Files, HasCounted, IsRead}
-use Rattle.snb_base.specs.Spellings.{Num, value_after}
-use Rattle.snb_base.proofs.Digits
-
--- digits and their value are those of the library's lemmas on numerals
-pub own_digits : IsNumeralModel (AllByRecursion IsDigit) (value_after 0)
-own_digits = Digits.own
-
--- what is written of a number is its spelling
-pub number_spelled : (n most : ℕ) → n ≤ most → n < 10 ^ 19 → Num (decimal n) n most
-number_spelled = Digits.Num-decimal
-
--- an element is the first one, or stands after it
-pub contains_cases : {X : Type 0} (y : X) (ys : List X) (x : X) → Contains (y ∷ ys) x → (y ≡ x) ⊎ Contains ys x
-contains_cases y ys x h = by_place h.0 h.1 h.2
-  where
-    by_place : (k : ℕ) → k < length (y ∷ ys) → get_or (y ∷ ys) k x ≡ x → (y ≡ x) ⊎ Contains ys x
-    by_place zero l e = inl e
-    by_place (suc k) l e = inr (k, omega arith, e)
-
--- the first is an element
-pub contains_here : {X : Type 0} (y : X) (ys : List X) → Contains (y ∷ ys) y
-contains_here y ys = (0, omega arith, refl)
-
--- an element of the rest is one of the whole
-pub contains_there : {X : Type 0} (y : X) (ys : List X) (x : X) → Contains ys x → Contains (y ∷ ys) x
-contains_there y ys x h = (suc h.0, (let l = h.1 in omega arith), h.2)
-
--- what one more element at the end keeps, a list of them keeps
-pub push_all : {X : Type 0} (P : List X → Type 0) → ((h : List X) (e : X) → P h → P (h ++ e ∷ [])) → (g h : List X) → P g → P (g ++ h)
-push_all P more g [] p = subst P (sym (append-nil g)) p
-push_all P more g (e ∷ h) p = subst P (append_assoc g (e ∷ []) h) (push_all P more (g ++ e ∷ []) h (more g e p))
-
--- what holds of no element, and of one more at the end, holds of each list
-pub by_push : {X : Type 0} (P : List X → Type 0) → P [] → ((h : List X) (e : X) → P h → P (h ++ e ∷ [])) → (h : List X) → P h
-by_push P none more h = push_all P more [] h none
-
--- an element of a list with one more at its end is that one, or stands in the list
-pub push_split : {X : Type 0} (g : List X) (x : X) (rest h : List X) (e : X) → g ++ x ∷ rest ≡ h ++ e ∷ [] → ((g ≡ h) × (x ≡ e)) ⊎ ((after : List X) × (g ++ x ∷ after ≡ h))
-push_split [] x rest [] e q = inl (refl, cc)
-push_split [] x rest (y ∷ h) e q = inr (h, cc)
-push_split (y ∷ []) x rest [] e q = absurd cc
-push_split (y ∷ z ∷ g) x rest [] e q = absurd cc
-push_split (y ∷ g) x rest (z ∷ h) e q =
-    let same : y ≡ z = cc in
-    elim (push_split g x rest h e cc) [ inl p ↦ inl (cc, p.1) | inr p ↦ inr (p.0, let deeper : g ++ x ∷ p.0 ≡ h = p.1 in cc) ]
-
--- a list is what stands before a place, what stands there, and what stands after it
-pub split_here : {X : Type 0} (xs : List X) (i : ℕ) (x : X) → i < length xs → x ≡ get_or xs i x → take i xs ++ x ∷ drop (i + 1) xs ≡ xs
-split_here {X} xs i x l e =
-    ap (λ (y : X). take i xs ++ y ∷ drop (i + 1) xs) e
-    ∙ (ap (λ (ys : List X). take i xs ++ ys) (rw add-one (sym (drop-cons xs i x l))) ∙ take-append-drop i xs)
+pub use Rattle.snb_base.proofs.ListLemmas.{all_at, all_back, all_of, all_recursive, any_of, at_contains, by_push, contains_at, contains_cases, contains_here, contains_map, contains_there, each_at, each_made, first_same, from_any, get_or-set, given_by, gives, in_filter, in_flat, in_map, in_one, none_in, not_empty, one_only, pairs_append, pairs_head, pairs_none, pairs_tail, prefix-length, prefix-refl, push_all, push_split, same_list_split, shuffled, slice_get-prefix, some_got, split_at, split_here, two_swapped}
+pub use Rattle.snb_base.proofs.OutcomeLemmas.{compares_greater, compares_less, equal_from, if_ok, min_is, none_of, none_some, not_held, on_any_err, one_number, same_number, then_equal, then_last}
+pub use Rattle.snb_base.proofs.Deciding.{both, Decided, Found, is_at_most, is_digits, is_less, is_text, is_true, number_found, where_so}
+pub use Rattle.snb_base.proofs.Digits.{number_spelled, own_digits}
 
 -- a text is cut at its first c in one way
 pub one_cut : (c : ℕ) (a b x y : List ℕ) → All (λ d. d ≢ c) a → All (λ d. d ≢ c) x → a ++ c ∷ b ≡ x ++ c ∷ y → (a ≡ x) × (b ≡ y)

@@ -1,5 +1,5 @@
 -- Facts on lists of events, on beginnings of them, and on how far a history has come.
-use Rattle.std.proofs.Common.{◌≡◌, ◌≢◌, ℕ, zero, suc, ◌+◌, ◌≤◌, List, [], ◌∷◌, ◌++◌, length, get_or, ◌<◌, Bool, true, false, cond, refl, sym, ap, ◌∙◌, subst, append_assoc, append-nil, length-append, arith, Some}
+use Rattle.std.proofs.Common.{◌≡◌, ◌≢◌, ℕ, zero, suc, ◌+◌, ◌≤◌, List, [], ◌∷◌, ◌++◌, length, get_or, ◌<◌, true, false, refl, sym, ap, ◌∙◌, subst, append_assoc, append-nil, length-append, arith, Some}
 use Rattle.std.specs.Prelude.{slice_get, ℤ, pos, ◌-ℤ◌, ◌≤ℤ◌}
 use lib.IntN.{negsuc}
 use Rattle.std.proofs.lemmas.Bool.{eq-eqb, ne_eqb}
@@ -16,11 +16,11 @@ use Rattle.snb_book.specs.Kept.{IsInHand}
 use Rattle.snb_schema.specs.declared.limits.TheConstants.{MAX_TIME}
 use Rattle.snb_history.specs.Schedule.{Schedule, step_of}
 use Rattle.snb_history.specs.Completion.{completion, is_awaited, least_of}
-use Rattle.std.proofs.Math.Nat.{min-le_right}
-use Rattle.snb_history.proofs.Laws.{completion_rises}
+use Rattle.snb_history.proofs.Laws.{completion_rises, least_of-top}
 use Rattle.snb_board.specs.Boards.{events_of, time_below}
 use Rattle.snb_board.specs.Views.{author, reached}
 use Rattle.snb_board.specs.Steps.{number_after}
+use Rattle.snb_base.proofs.Laws.{slice_get-prefix}
 
 pub is_by-author : (w : ℕ) (e : Event) → author e ≡ w → is_by w e ≡ true
 is_by-author w (Start op worker at) is = eq-eqb worker w is
@@ -44,9 +44,6 @@ events_of-other w e is = let t = is_by-other w e is in rw t refl
 pub events_of-push_other : (w : ℕ) (h : List Event) (e : Event) → author e ≢ w → events_of w (h ++ e ∷ []) ≡ events_of w h
 events_of-push_other w h e is = events_of-append w h (e ∷ []) ∙ (ap (λ (l : List Event). events_of w h ++ l) (events_of-other w e is) ∙ append-nil (events_of w h))
 
-pub prefix-refl : (xs : List Event) → IsPrefix xs xs
-prefix-refl xs = ([], append-nil xs)
-
 pub prefix-push : (xs ys : List Event) (e : Event) → IsPrefix xs ys → IsPrefix xs (ys ++ e ∷ [])
 prefix-push xs ys e p = (p.0 ++ e ∷ [], sym (append_assoc (xs) (p.0) (e ∷ [])) ∙ ap (λ (l : List Event). l ++ e ∷ []) p.1)
 
@@ -68,12 +65,6 @@ last_is h xs e d x n is len found = found ∙ (ap (λ (l : List Event). get_or l
     at (y ∷ ys) zero len = absurd (let some = some_event ys e in omega arith)
     at (y ∷ ys) (suc n) len = at ys n (omega arith)
 
--- what stands in a beginning stands in the whole
-pub slice_get-prefix : (xs ys : List Event) (k : ℕ) (e : Event) → slice_get xs k ≡ Some e → slice_get (xs ++ ys) k ≡ Some e
-slice_get-prefix [] ys k e is = absurd (cc)
-slice_get-prefix (x ∷ xs) ys zero e is = is
-slice_get-prefix (x ∷ xs) ys (suc k) e is = slice_get-prefix xs ys k e is
-
 below_same : (a b : ℕ) → (pos a -ℤ pos 1) ≤ℤ (pos b -ℤ pos 1) → a ≤ b
 below_same a b le = omega (arith, ints)
 
@@ -88,13 +79,9 @@ reached-told s h n le = at_most n (reached s h) le
     at_most : (a b : ℕ) → a ≤ b → (pos a -ℤ pos 1) ≤ℤ (pos b -ℤ pos 1)
     at_most a b le = omega (arith, ints)
 
-pub least-top : (f : ℕ → ℕ) (top : ℕ) (p : ℕ → Bool) (n : ℕ) → least_of f top p n ≤ top
-least-top f top p zero = omega arith
-least-top f top p (suc n) = omega (arith, min-le_right (cond (p n) (f n) top) (least_of f top p n), least-top f top p n)
-
 -- it is at most one more than the greatest time
 pub reached-small : (s : Schedule) (h : List Event) → reached s h ≤ MAX_TIME + 1
-reached-small s h = least-top (λ k. (step_of s k).t) (MAX_TIME + 1) (is_awaited s h) (length s.steps)
+reached-small s h = least_of-top (λ k. (step_of s k).t) (MAX_TIME + 1) (is_awaited s h) (length s.steps)
 
 pub number-below : (n : ℕ) → number_after (time_below n) ≡ n
 number-below zero = refl
@@ -106,9 +93,6 @@ number-below (suc n) = ap number_after (before n)
 pub below-number : (z : ℤ) → z ≤ℤ time_below (number_after z)
 below-number (pos n) = omega (arith, ints)
 below-number (negsuc n) = omega (arith, ints)
-
-pub prefix-length : (g h : List Event) → IsPrefix g h → length g ≤ length h
-prefix-length g h p = subst (λ (l : List Event). length g ≤ length l) p.1 (let e = length-append g p.0 in let le : length g ≤ length (g ++ p.0) = omega arith in le)
 
 -- an operation whose Start stands at a number is started
 started_there : (g : List Event) (k op w at : ℕ) → slice_get g k ≡ Some (Start op w at) → started g op ≡ true

@@ -5,3 +5,4 @@ pub mod Turns
 pub mod Joins
 pub mod Calls
 pub mod Closing
+pub mod Laws

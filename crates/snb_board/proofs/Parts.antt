@@ -7,13 +7,14 @@ use Rattle.snb_history.specs.declared.event.Event.{Event}
 use mathlib.Core.List.{IsPrefix}
 use Rattle.snb_history.specs.Schedule.{Schedule}
 use Rattle.snb_book.specs.Kept.{Kept}
-use Rattle.snb_board.proofs.Events.{prefix-refl, prefix-push, events_of-push_other}
+use Rattle.snb_board.proofs.Events.{prefix-push, events_of-push_other}
 use Rattle.snb_board.specs.declared.view.Part.{Part}
 use Rattle.snb_board.specs.declared.view.View.{View}
 use Rattle.snb_board.specs.declared.view.Phase.{Phase}
 use Rattle.snb_board.specs.Boards.{events_of}
 use Rattle.snb_board.specs.Views.{author, reached, part, IsShown, seen_of, number_of, told_of, seeing, telling, posed, Each, HasWorker, Differ, PartOk, ViewOk}
 use Rattle.snb_board.specs.Steps.{IsSingle}
+use Rattle.snb_base.proofs.Laws.{prefix-refl}
 
 module _ {A : Type 0} where
   pub at_low : (l : List A) (i : ℕ) (a : A) → get_elem? l i ≡ some a → i < length l

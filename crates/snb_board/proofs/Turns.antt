@@ -18,7 +18,7 @@ use Rattle.snb_board.proofs.Parts.{single-seeing, single-posed}
 abbrev pub any_step : At
 any_step = step 0 0 0 0 none
 
-full_kept : (a b : Kept) → ◌≡◌ {A = Home} (Ok a) (Ok b) → a ≡ b
+pub full_kept : (a b : Kept) → ◌≡◌ {A = Home} (Ok a) (Ok b) → a ≡ b
 full_kept a b e = cc
 
 -- the slot that a won turn brings

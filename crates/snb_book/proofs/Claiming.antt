@@ -39,6 +39,7 @@ claim_fits s workers h worker at ticket known later claim = record { obeys = by_
 pub claim_is_blocked : ClaimIsBlocked
 claim_is_blocked s h worker at op needs time claim = claim.5
 
+-- where nobody has an operation in hand, nobody has halted and not all is started, a claim answers Go, or NotDue where no head is due
 pub claim_is_not_stuck : ClaimIsNotStuck
 claim_is_not_stuck s workers h worker at claim timely legal known later idle running k within fresh = by_claim claim
   where

@@ -12,17 +12,9 @@ use Rattle.snb_book.specs.declared.claim.Claim.{Claim}
 use Rattle.snb_book.specs.declared.claim.Claim.TheVariants.{Halted, AllStarted, Busy, NotDue, Go, Blocked}
 use Rattle.snb_book.specs.Claims.{IsPlanHead, IsDueHead, IsAdmitted, ComesFirst, IsFirst, IsUnderWay, IsClaim}
 use Rattle.snb_book.specs.ClaimLaws.{ClaimExists}
-use Rattle.snb_base.proofs.Laws.{IsLeastFailing, least_failing}
+use Rattle.snb_base.proofs.Laws.{both, Decided, IsLeastFailing, least_failing}
 use Rattle.snb_book.proofs.Blocking.{blocked_below}
 use Rattle.snb_history.proofs.Laws.{holder_holds, keeps_legal, obeys}
-
-abbrev Decided : Type 0 → Type 0
-Decided P = P ⊎ (P → ⊥)
-
-both : {P Q : Type 0} → Decided P → Decided Q → Decided (P × Q)
-both (inl p) (inl q) = inl (p, q)
-both (inl p) (inr not_q) = inr (λ x. not_q x.1)
-both (inr not_p) q = inr (λ x. not_p x.0)
 
 is_plan_head : (s : Schedule) (h : List Event) (k : ℕ) → Decided (IsPlanHead s h k)
 is_plan_head s h k =

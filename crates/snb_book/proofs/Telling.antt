@@ -3,7 +3,7 @@ use Rattle.std.proofs.Common.{◌≡◌, ℕ, zero, suc, ◌+◌, ◌*◌, ◌<�
 use Rattle.std.specs.Prelude.{◌≤ℤ◌, nat_lt, slice_index}
 use Rattle.std.proofs.lemmas.Bool.{cases_eq, eq-eqb, ne_eqb, le-ltb}
 use Rattle.std.proofs.lemmas.Bool.Decides.{nat_tests}
-use Rattle.std.proofs.lemmas.List.{get_or-set_same, get_or-set_other, get_or-replicate, length-replicate}
+use Rattle.std.proofs.lemmas.List.{get_or-replicate, length-replicate}
 use Rattle.std.proofs.Math.ListN.{length-set}
 use Rattle.snb_history.specs.declared.event.Event.{Event}
 use Rattle.snb_history.specs.declared.event.Event.TheVariants.{Start, Finish, Halt}
@@ -18,6 +18,7 @@ use Rattle.snb_book.specs.Book.{IsSoundBook, IsTold}
 use Rattle.snb_book.proofs.Places.{same_place}
 use Rattle.snb_book.proofs.Heads.{next_from_head}
 use Rattle.snb_history.proofs.Laws.{IsLegal-nil, IsLegal-push, completion_rises, finished-push, halted-push, hand-push, hand_has_start, keeps_legal, last-push, last_is_bounded, legal_is_short, started-push}
+use Rattle.snb_base.proofs.Laws.{get_or-set}
 
 -- the book with one more event
 abbrev pub with_event : Kept → Event → Kept
@@ -93,14 +94,6 @@ adding_rises worker old new adding =
     subst (λ (s : Schedule). completion old.schedule old.history ≤ℤ completion s new.history) (sym adding.schedule)
     (subst (λ (h : List Event). completion old.schedule old.history ≤ℤ completion old.schedule h) (sym adding.history)
     (completion_rises old.schedule old.history adding.more))
-
--- a value at each place, one of them new
-get_or-set : {X : Type 0} (xs : List X) (i k : ℕ) (x d : X) → i < length xs → get_or (set xs i x) k d ≡ cond (eqb i k) x (get_or xs k d)
-get_or-set {X} xs i k x d lt =
-    elim (cases_eq i k) [
-      | inl same ↦ rw (eq-eqb i k same) (ap (λ (j : ℕ). get_or (set xs i x) j d) (sym same) ∙ get_or-set_same xs i x d lt)
-      | inr other ↦ rw (ne_eqb i k other) (get_or-set_other xs i k x d (λ q. other (sym q)))
-    ]
 
 -- the step, over plain numbers: k is the one, or stands in another lane, or elsewhere in the lane
 begun_after : (one k lane_one lane_k place_one place_k head : ℕ) (begun : Bool) → (one ≡ k → (lane_one ≡ lane_k) × (place_one ≡ place_k))

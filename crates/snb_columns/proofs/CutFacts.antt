@@ -1,7 +1,7 @@
 -- A text cut at a byte, and parts joined by it.
-use Rattle.std.proofs.Common.{◌≡◌, ◌≢◌, ◌==◌, ◌++◌, ◌∷◌, ◌∙◌, ◌+◌, ◌<◌, [], ℕ, List, refl, sym, ap, subst, false, inl, inr, length, arith, append-nil, append_assoc, length-append, All, get_or}
+use Rattle.std.proofs.Common.{◌≡◌, ◌≢◌, ◌==◌, ◌++◌, ◌∷◌, ◌∙◌, ◌+◌, ◌<◌, [], ℕ, List, refl, sym, ap, subst, inl, inr, length, arith, append-nil, append_assoc, length-append, All, get_or}
 use Rattle.std.proofs.Math.Seq.{take-append_seam, drop-append-add, get_or-append_seam}
-use Rattle.std.proofs.lemmas.Bool.{cases_Bool, eqb-true, ne_eqb, eq-eqb}
+use Rattle.std.proofs.lemmas.Bool.{cases_Bool, eqb-true, eq-eqb}
 use Rattle.std.proofs.lemmas.List.Elements.{All-nil, All-cons, All-from_recursion, All-head, All-tail, All-push, All-weaker}
 use Rattle.std.proofs.lemmas.List.Splits.{slice_split_at, slice_split_none}
 use Rattle.std.proofs.lemmas.Str.{IsCharBoundary-after_ascii, IsCharBoundary-before_ascii, IsUtf8-drop, IsUtf8-take}
@@ -10,6 +10,7 @@ use Rattle.std.specs.Str.{IsUtf8}
 use Rattle.snb_base.specs.Calendar.{IsDigit}
 use Rattle.snb_schema.specs.Lines.{HasNo, HasNoEnd}
 use Rattle.snb_columns.specs.Laws.{HasPlainFields}
+use Rattle.snb_schema.proofs.Laws.{uncut}
 
 -- what holds of each digit holds of each byte of digits
 pub all_digits : (P : ℕ → Type 0) → ((b : ℕ) → IsDigit b → P b) → (t : List ℕ) → AllByRecursion IsDigit t → All P t
@@ -18,10 +19,6 @@ all_digits P of t h = All-weaker IsDigit P of t (All-from_recursion IsDigit t h)
 -- the parts of a text between the bytes c
 abbrev pub parts : ℕ → List ℕ → List (List ℕ)
 parts c text = slice_split (λ b. b == c) text
-
--- no byte passes the test of c
-uncut : (c : ℕ) (part : List ℕ) → HasNo c part → All (λ b. (b == c) ≡ false) part
-uncut c part h k d lt = ne_eqb _ c (h k d lt)
 
 -- a text without c is its one part
 one_part : (c : ℕ) (part : List ℕ) → HasNo c part → parts c part ≡ part ∷ []

@@ -9,6 +9,7 @@ pub use Rattle.snb_columns.proofs.ListFacts.{IsRead, element_text, elements_some
 pub use Rattle.snb_columns.proofs.NumberFacts.{number_some}
 pub use Rattle.snb_columns.proofs.PairFacts.{differs, no_comma, not_listed, one_year, pair_parts, two_years}
 pub use Rattle.snb_columns.proofs.SpellingFacts.{OneEach, each_itself, one_list, one_value}
+pub use Rattle.snb_columns.proofs.CutFacts.{all_digits}
 
 -- where a field can hold a text, it can hold what stands before and behind a semicolon
 around_plain : (a b : List ℕ) → IsFieldText (a ++ 59 ∷ b) → IsFieldText a × IsFieldText b

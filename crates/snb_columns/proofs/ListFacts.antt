@@ -9,6 +9,7 @@ use Rattle.std.specs.Str.{IsUtf8}
 use Rattle.snb_base.specs.Spellings.{EachSpells, Listed, SpellsWord, elements, once_after}
 use Rattle.snb_schema.specs.Lines.{HasNo}
 use Rattle.snb_columns.proofs.CutFacts.{around_ascii, joined_all, joined_parts, parts, parts_all, parts_uncut}
+use Rattle.std.proofs.Math.Bool.{or-false}
 
 -- the second of three answers may stand first
 or_turned : (x y z : Bool) → (x || (y || z)) ≡ ((y || x) || z)
@@ -17,15 +18,10 @@ or_turned true false z = refl
 or_turned false true z = refl
 or_turned false false z = refl
 
--- nothing follows
-or_nothing : (x : Bool) → (x || false) ≡ x
-or_nothing true = refl
-or_nothing false = refl
-
 -- one item more is kept where it is none of those before
 once_push : {A : Type 0} (eq : A → A → Bool) (seen all : List A) (a : A) →
     once_after eq seen (all ++ a ∷ []) ≡ once_after eq seen all ++ cond (list_any (eq a) seen || list_any (eq a) (once_after eq seen all)) [] (a ∷ [])
-once_push eq seen [] a = simp or_nothing
+once_push eq seen [] a = simp or-false
 once_push {A} eq seen (b ∷ all) a = elim (cases_Bool (list_any (eq b) seen)) [
   | inl e ↦ simp e (once_push eq seen all a)
   | inr e ↦ simp (e, or_turned) (ap (λ (more : List A). b ∷ more) (once_push eq (b ∷ seen) all a))

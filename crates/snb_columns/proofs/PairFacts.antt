@@ -1,6 +1,6 @@
 -- An id and a year with a comma between them.
-use Rattle.std.proofs.Common.{◌≡◌, ◌≢◌, ◌++◌, ◌∷◌, ◌∙◌, ◌&&◌, [], ℕ, zero, suc, List, Bool, true, false, refl, sym, subst, arith, nat_eq, not, inl, inr, All}
-use Rattle.std.proofs.lemmas.Bool.{and_from, and_parts, cases_Bool, eq-eqb, eqb-false, eqb-true, not-true, not_from_false, or_cases}
+use Rattle.std.proofs.Common.{◌≡◌, ◌≢◌, ◌++◌, ◌∷◌, ◌∙◌, ◌&&◌, [], ℕ, List, Bool, true, false, refl, sym, subst, arith, nat_eq, not, inl, inr, All}
+use Rattle.std.proofs.lemmas.Bool.{and_from, and_parts, cases_Bool, eq-eqb, eqb-false, eqb-true, not-true, not_from_false}
 use Rattle.std.proofs.lemmas.List.Elements.{All-head, All-tail}
 use Rattle.std.proofs.lemmas.List.Folds.{list_any_at}
 use Rattle.std.specs.List.{Contains, list_any}
@@ -8,6 +8,7 @@ use Rattle.snb_base.specs.Spellings.{HasOneYear, Listed, Num, PairList, SpellsPa
 use Rattle.snb_schema.specs.Lines.{HasNo}
 use Rattle.snb_columns.proofs.CutFacts.{all_digits}
 use Rattle.snb_columns.proofs.ListFacts.{one_listed}
+use Rattle.snb_base.proofs.Laws.{from_any}
 
 -- a text spells one number at most
 abbrev pub OneNumber : Type 0
@@ -52,14 +53,6 @@ one_pair one x p q (a, b, e, s, t) k =
 abbrev pub differs : ℕ × ℕ → ℕ × ℕ → Bool
 differs p q = nat_eq p.0 q.0 && not (nat_eq p.1 q.1)
 
--- a test that passes in a list passes at an element
-passes_somewhere : {A : Type 0} (test : A → Bool) (xs : List A) → list_any test xs ≡ true → (x : A) × Contains xs x × (test x ≡ true)
-passes_somewhere test [] e = absurd cc
-passes_somewhere {A} test (x ∷ xs) e = elim (or_cases (test x) (list_any test xs) e) [
-  | inl here ↦ (x, (zero, omega arith, refl), here)
-  | inr there ↦ (let (y, (k, l, at), passes) = passes_somewhere test xs there in (y, (suc k, omega (arith, l), at), passes))
-]
-
 -- where no id is there with another year, none has two years
 pub one_year : (pairs : List (ℕ × ℕ)) → All (λ p. list_any (differs p) pairs ≡ false) pairs → HasOneYear pairs
 one_year pairs none p q (k, l, at) (j, m, there) same = elim (cases_Bool (nat_eq p.1 q.1)) [
@@ -74,7 +67,7 @@ one_year pairs none p q (k, l, at) (j, m, there) same = elim (cases_Bool (nat_eq
 -- and where one is, it has
 pub two_years : (pairs : List (ℕ × ℕ)) (p : ℕ × ℕ) → Contains pairs p → list_any (differs p) pairs ≡ true → ¬ HasOneYear pairs
 two_years pairs p here found one =
-    let (q, there, passes) = passes_somewhere (differs p) pairs found in
+    let (q, there, passes) = from_any (differs p) pairs found in
     let (same, other) = and_parts (nat_eq p.0 q.0) (not (nat_eq p.1 q.1)) passes in
     let year = one p q here there (eqb-true p.0 q.0 same) in
     let no : nat_eq p.1 q.1 ≡ false = not-true (nat_eq p.1 q.1) other in

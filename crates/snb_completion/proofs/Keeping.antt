@@ -5,7 +5,7 @@ use Rattle.std.proofs.lemmas.Int.{ints}
 use Rattle.snb_schema.specs.declared.limits.TheConstants.{MAX_TIME}
 use Rattle.std.specs.BTreeMap.{is_at}
 use Rattle.std.specs.Ordering.{nat_cmp}
-use Rattle.std.proofs.lemmas.Bool.{cases_eq, cases_lt, eq-eqb, ne_eqb, eqb-true, and_parts, and_left, ltb-true, lt-ltb}
+use Rattle.std.proofs.lemmas.Bool.{cases_eq, cases_lt, ne_eqb, eqb-true, and_parts, and_left, ltb-true, lt-ltb}
 use Rattle.std.proofs.lemmas.List.{get_or-set_same, get_or-set_other, get_or-replicate, get_or_past, length-replicate}
 use Rattle.std.proofs.Math.ListN.{length-set, get_or-append}
 use Rattle.std.proofs.Math.Seq.{get_or-append_seam}
@@ -16,14 +16,7 @@ use Rattle.snb_completion.specs.Progress.{Progress, flag, nothing_started}
 use Rattle.snb_completion.specs.Waiting.{has, HasThose, is_left_in, IsLaneOf, AreTimesOf}
 use Rattle.snb_completion.proofs.Waits.{HasThose-same, HasThose-remove, least_t-none}
 use Rattle.snb_history.proofs.Laws.{least_of-same}
-
--- a value at each place, one of them new
-get_or-set : {X : Type 0} (xs : List X) (i k : ℕ) (x d : X) → i < length xs → get_or (set xs i x) k d ≡ cond (eqb i k) x (get_or xs k d)
-get_or-set {X} xs i k x d lt =
-    elim (cases_eq i k) [
-      | inl same ↦ rw (eq-eqb i k same) (ap (λ (j : ℕ). get_or (set xs i x) j d) (sym same) ∙ get_or-set_same xs i x d lt)
-      | inr other ↦ rw (ne_eqb i k other) (get_or-set_other xs i k x d (λ q. other (sym q)))
-    ]
+use Rattle.snb_base.proofs.Laws.{get_or-set}
 
 -- nothing is done at first
 flag-none : (n k : ℕ) → flag (replicate n false) k ≡ false

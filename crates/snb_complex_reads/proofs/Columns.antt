@@ -1,26 +1,19 @@
 -- How cells compare, and lists of one element.
-use Rattle.std.proofs.Common.{◌≡◌, ℕ, ◌<◌, ◌≤◌, ◌||◌, nat_le, nat_lt, Bool, true, false, List, [], ◌∷◌, refl, sym, ap, ◌∙◌, arith}
+use Rattle.std.proofs.Common.{◌≡◌, ℕ, ◌<◌, ◌≤◌, nat_le, nat_lt, Bool, true, false, List, [], ◌∷◌, refl, ap, ◌∙◌, arith}
 use Rattle.std.proofs.lemmas.Bool.Decides.{nat_tests}
 use Rattle.std.specs.Cmp.Lexicographic.{slice_cmp}
 use Rattle.std.specs.List.{list_any}
 use Rattle.std.specs.Ordering.{nat_cmp}
 use Rattle.snb_read_model.specs.declared.cell.Cell.TheVariants as cell
 use Rattle.snb_read_model.specs.Cells.{cell_cmp}
+use Rattle.std.proofs.Math.Bool.{or-false}
 
 pub words_cmp : (a b : List ℕ) → cell_cmp (cell.Words a) (cell.Words b) ≡ slice_cmp nat_cmp a b
 words_cmp a b = refl
 
--- a list has one only element
-pub one_only : {X : Type 0} (xs : List X) (x y : X) → xs ≡ x ∷ [] → xs ≡ y ∷ [] → x ≡ y
-one_only xs x y e f = let k : x ∷ [] ≡ y ∷ [] = sym e ∙ f in cc
-
-or_none : (b : Bool) → (b || false) ≡ b
-or_none true = refl
-or_none false = refl
-
 -- a test of a list's only element
 pub any_one : {X : Type 0} (test : X → Bool) (xs : List X) (x : X) → xs ≡ x ∷ [] → list_any test xs ≡ test x
-any_one test xs x is = ap (list_any test) is ∙ or_none (test x)
+any_one test xs x is = ap (list_any test) is ∙ or-false (test x)
 
 -- ---- tests of numbers
 

@@ -20,17 +20,18 @@ use Rattle.snb_schema.specs.declared.row.Row.{Row}
 use Rattle.snb_schema.specs.declared.table.Table.TheVariants as table
 use Rattle.snb_graph_integrity.specs.SoundLaws.{NumbersFit}
 use Rattle.snb_graph_model.specs.Graphs.{IsGraph}
-use Rattle.snb_read_order.proofs.Laws.{answers_from, answers_mapped, chosen, number_cmp, then_assoc, then_end, zip_with}
+use Rattle.snb_read_order.proofs.Laws.{answers_from, answers_mapped, chosen, number_cmp, then_assoc, zip_with}
 use Rattle.snb_read_model.specs.declared.cell.Cell.TheVariants as cell
 use Rattle.snb_read_model.specs.Cells.{Cell, cell_cmp, number}
 use Rattle.snb_graph_model.specs.Around.{ends, organisations, places, work}
 use Rattle.snb_read_model.specs.ComplexReads.{IsAt, IsJob, is_in}
 use Rattle.snb_read_model.specs.Order.{Answers, Falling, First, FirstOf, Rising, by}
 use Rattle.snb_short_reads.proofs.Laws.{found_person, person_at}
-use Rattle.snb_complex_reads.proofs.Columns.{any_one, one_only, words_cmp}
+use Rattle.snb_complex_reads.proofs.Columns.{any_one, words_cmp}
 use Rattle.snb_complex_reads.proofs.Moves.{joined_push}
 use Rattle.snb_complex_reads.specs.Found.{IsStayFound}
 use Rattle.snb_complex_reads.specs.Jobs.{AreJobs, AreSeen, IsJobFound, Job, job_of, jobs_by}
+use Rattle.snb_base.proofs.Laws.{one_only, then_last}
 
 -- years rising, persons rising, names falling
 abbrev pub jobs_first : Job → Job → Ordering
@@ -149,7 +150,7 @@ module _ (g : List Row) (graph : IsGraph g) (fit : NumbersFit) where
       columns m m' n n' t t' =
           ap (λ o. ordering_then o (ordering_then (cell_cmp (number n) (number n')) (ordering_then (cell_cmp (cell.Words t') (cell.Words t)) Equal))) (number_cmp m m')
           ∙ ap (λ o. ordering_then (nat_cmp m m') (ordering_then o (ordering_then (cell_cmp (cell.Words t') (cell.Words t)) Equal))) (number_cmp n n')
-          ∙ ap (λ o. ordering_then (nat_cmp m m') (ordering_then (nat_cmp n n') o)) (then_end (cell_cmp (cell.Words t') (cell.Words t)) ∙ words_cmp t' t)
+          ∙ ap (λ o. ordering_then (nat_cmp m m') (ordering_then (nat_cmp n n') o)) (then_last (cell_cmp (cell.Words t') (cell.Words t)) ∙ words_cmp t' t)
           ∙ then_assoc (nat_cmp m m') (nat_cmp n n') (slice_cmp nat_cmp t' t)
 
   -- each work row has a row

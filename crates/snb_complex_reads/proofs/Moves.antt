@@ -3,7 +3,7 @@ use Rattle.std.proofs.Common.{◌≡◌, ℕ, zero, suc, ◌+◌, ◌<◌, ◌�
 use Rattle.std.proofs.lemmas.List.{append-nil, take_all, take_more}
 use Rattle.std.proofs.lemmas.List.Edits.{swap_is}
 use Rattle.std.proofs.lemmas.List.Elements.{All-append, All-head, All-nil, All-tail}
-use Rattle.std.proofs.lemmas.List.Sorted.{IsPermutation-append, IsPermutation-append_comm, IsPermutation-append_left, IsPermutation-append_right, IsPermutation-keeps, IsPermutation-map, IsPermutation-refl, IsPermutation-sym, IsPermutation-trans}
+use Rattle.std.proofs.lemmas.List.Sorted.{IsPermutation-append, IsPermutation-append_left, IsPermutation-append_right, IsPermutation-keeps, IsPermutation-map, IsPermutation-refl, IsPermutation-sym, IsPermutation-trans}
 use Rattle.std.specs.List.{All, filter, flat_map, swap}
 use Rattle.std.specs.List.Sorted.{IsPermutation, IsSorted}
 use Rattle.std.specs.declared.cmp.Ordering.{Ordering}
@@ -11,10 +11,7 @@ use Rattle.snb_read_order.proofs.Laws.{zip_moved}
 use Rattle.snb_read_model.specs.Cells.{Cell}
 use Rattle.snb_read_model.specs.Order.{Answers, Cut, FirstOf, Way, Whole}
 use Rattle.snb_complex_reads.specs.Found.{HasAppended}
-
--- two parts before the rest change places
-shuffled : {X : Type 0} (a b rest : List X) → IsPermutation (a ++ (b ++ rest)) (b ++ (a ++ rest))
-shuffled a b rest = rw (← append_assoc a b rest, ← append_assoc b a rest) (IsPermutation-append_left rest (a ++ b) (b ++ a) (IsPermutation-append_comm a b))
+use Rattle.snb_base.proofs.Laws.{shuffled}
 
 module _ {X Y : Type 0} (f : X → List Y) where
   -- one goes in where another comes out

@@ -21,8 +21,8 @@ use Rattle.snb_graph_integrity.specs.SoundLaws.{RequiredEdgesAreThere}
 use Rattle.snb_graph_model.specs.Graphs.{HasKey, IsGraph}
 use Rattle.snb_graph_model.specs.Soundness.{Held, Sound}
 use Rattle.snb_read_order.specs.Laws.{SomeFirst}
-use Rattle.snb_read_order.proofs.Laws.{answers_from, answers_mapped, chosen, number_cmp, then_assoc, then_end, zip_push, zip_with}
-use Rattle.snb_graph_model.proofs.Laws.{end_only, end_there}
+use Rattle.snb_read_order.proofs.Laws.{answers_from, answers_mapped, chosen, number_cmp, then_assoc, zip_push, zip_with}
+use Rattle.snb_graph_model.proofs.Laws.{city_alone, end_only, end_there}
 use Rattle.snb_read_model.specs.declared.cell.Cell.TheVariants as cell
 use Rattle.snb_read_model.specs.Cells.{Cell, cell_cmp, number}
 use Rattle.snb_graph_model.specs.Around.{ends, persons, study, words, work}
@@ -30,13 +30,14 @@ use Rattle.snb_read_model.specs.ComplexReads.{AreStays, IsNamesake, IsStay, Stay
 use Rattle.snb_read_model.specs.Distance.{IsPerson, IsWithin}
 use Rattle.snb_read_model.specs.Order.{Answers, First, FirstOf, Rising, Whole, by}
 use Rattle.snb_short_reads.proofs.Laws.{any, edge_key_held}
-use Rattle.snb_short_reads.proofs.Laws as lookups
-use Rattle.snb_complex_reads.proofs.Columns.{any_one, one_only, words_cmp}
+use Rattle.snb_complex_reads.proofs.Columns.{any_one, words_cmp}
 use Rattle.snb_complex_reads.proofs.FoundLemmas.{walk_held}
 use Rattle.snb_complex_reads.proofs.Moves.{filter_push}
 use Rattle.snb_complex_reads.proofs.StayLemmas.{is_somewhere, link_at, place_at, study_found, work_found}
 use Rattle.snb_complex_reads.specs.Found.{IsStayFound}
 use Rattle.snb_complex_reads.specs.Namesakes.{AreNamesakes, IsNamesakeFound, IsNearFound, Namesake, namesake_of}
+use Rattle.snb_base.proofs.Laws.{one_only, then_last}
+use Rattle.snb_read_laws.proofs.Laws.{stay_total}
 
 -- ---- orders
 
@@ -46,9 +47,6 @@ namesakes_first = then_cmp (then_cmp (on (λ (k : Namesake). k.1) nat_cmp) (on (
 
 pub namesakes_total : IsTotalOrder namesakes_first
 namesakes_total = then_total (then_total (on_total (λ (k : Namesake). k.1) nat_cmp_total) (on_total (λ (k : Namesake). k.0.now.last_name) nat_list_cmp_total)) (on_total (λ (k : Namesake). k.0.now.id) nat_cmp_total)
-
-pub stay_total : IsTotalOrder stay_cmp
-stay_total = then_total (on_total (λ (s : Stay). s.0) nat_list_cmp_total) (then_total (on_total (λ (s : Stay). s.1) nat_cmp_total) (on_total (λ (s : Stay). s.2) nat_list_cmp_total))
 
 -- ---- the persons near
 
@@ -136,7 +134,7 @@ module _ (g : List Row) (graph : IsGraph g) (sound : Sound g) (required : Requir
   pub home : (p : ℕ) → IsPerson g p → (c : ℕ) × Contains g (row.Link table.PersonIsLocatedInPlace p c)
   home p h =
       link_at g graph table.PersonIsLocatedInPlace p refl refl
-      (edge_key_held g graph table.PersonIsLocatedInPlace p refl lookups.places (required g graph sound table.Person table.PersonIsLocatedInPlace (2, omega arith, refl) p h))
+      (edge_key_held g graph table.PersonIsLocatedInPlace p refl city_alone (required g graph sound table.Person table.PersonIsLocatedInPlace (2, omega arith, refl) p h))
 
   lives : (p : ℕ) → IsPerson g p → (c : ℕ) × (ends g table.PersonIsLocatedInPlace p ≡ c ∷ [])
   lives p h = let (c, link) = home p h in (c, end_only g table.PersonIsLocatedInPlace p c graph refl link)
@@ -158,7 +156,7 @@ module _ (g : List Row) (graph : IsGraph g) (sound : Sound g) (required : Requir
       columns m m' n n' t t' =
           ap (λ o. ordering_then o (ordering_then (cell_cmp (cell.Words t) (cell.Words t')) (ordering_then (cell_cmp (number n) (number n')) Equal))) (number_cmp m m')
           ∙ ap (λ o. ordering_then (nat_cmp m m') (ordering_then o (ordering_then (cell_cmp (number n) (number n')) Equal))) (words_cmp t t')
-          ∙ ap (λ o. ordering_then (nat_cmp m m') (ordering_then (slice_cmp nat_cmp t t') o)) (then_end (cell_cmp (number n) (number n')) ∙ number_cmp n n')
+          ∙ ap (λ o. ordering_then (nat_cmp m m') (ordering_then (slice_cmp nat_cmp t t') o)) (then_last (cell_cmp (number n) (number n')) ∙ number_cmp n n')
           ∙ then_assoc (nat_cmp m m') (slice_cmp nat_cmp t t') (nat_cmp n n')
 
   module _ (texts : SomeFirst (List ℕ)) (some : SomeFirst Stay) where

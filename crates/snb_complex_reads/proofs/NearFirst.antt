@@ -18,14 +18,13 @@ use Rattle.snb_graph_model.specs.Graphs.{IsGraph}
 use Rattle.snb_graph_model.specs.Soundness.{Sound}
 use Rattle.snb_read_order.specs.Laws.{SomeFirst}
 use Rattle.snb_read_order.proofs.Laws.{number_cmp, zip_length}
-use Rattle.snb_graph_model.proofs.Laws.{contains_none, in_filter}
-use Rattle.snb_graph_rows.proofs.Laws.{contains_cases, contains_here, contains_there}
 use Rattle.snb_read_model.specs.Cells.{Cell, cell_cmp, number}
 use Rattle.snb_read_model.specs.ComplexReads.{Ic1, IsNamesake, Stay, is_named}
 use Rattle.snb_read_model.specs.Distance.{IsWithin}
 use Rattle.snb_read_model.specs.Order.{Answers, First, FirstOf, Rising, Way, Whole, by}
 use Rattle.snb_read_laws.proofs.Laws.{by_total, near_held, one_within, some_namesake, some_within, some_zip}
 use Rattle.snb_complex_reads.proofs.Moves.{answers_moved}
+use Rattle.snb_base.proofs.Laws.{contains_cases, contains_here, contains_there, in_filter, none_in}
 
 -- ---- the first of things that come before others
 
@@ -58,7 +57,7 @@ module _ {X : Type 0} (R : X → X → Ordering) where
 
 module _ {X Y : Type 0} (R : X → Y → Type 0) where
   zip_back : (xs : List X) (ys : List Y) (y : Y) → AllZip R xs ys → Contains ys y → (x : X) × Contains xs x × R x y
-  zip_back [] [] y z c = absurd (contains_none y c)
+  zip_back [] [] y z c = absurd (none_in y c)
   zip_back [] (w ∷ ys) y z c = absurd z
   zip_back (x ∷ xs) [] y z c = absurd z
   zip_back (x ∷ xs) (w ∷ ys) y z c = elim (contains_cases w ys y c) [

@@ -1,12 +1,9 @@
 -- Rows of replies, side by side with what they show.
 use Rattle.std.proofs.Common.{◌≡◌, ℕ, List, [], ◌∷◌, get_or, refl, ap, subst, inr, arith}
-use Rattle.std.proofs.lemmas.Cmp.{back_total, nat_cmp_total, on_total, then_total}
 use Rattle.std.proofs.lemmas.List.Elements.{All-contains_itself, All-weaker}
 use Rattle.std.proofs.lemmas.List.Sorted.{IsPermutation-refl}
-use Rattle.std.specs.Cmp.{IsTotalOrder}
 use Rattle.std.specs.List.{All, AllZip, Contains, flat_map}
-use Rattle.std.specs.Ordering.{flip_args, is_lt, nat_cmp, on, then_cmp}
-use Rattle.std.specs.declared.cmp.Ordering.{Ordering}
+use Rattle.std.specs.Ordering.{is_lt}
 use Rattle.snb_schema.specs.declared.column.Value.TheVariants.{NoId}
 use Rattle.snb_schema.specs.declared.row.Row.{Row}
 use Rattle.snb_schema.specs.declared.row.Row.TheVariants as row
@@ -21,17 +18,10 @@ use Rattle.snb_read_model.specs.Cells.{Cell}
 use Rattle.snb_graph_model.specs.Around.{comment_shown, comments, replies}
 use Rattle.snb_read_model.specs.ComplexReads.{IsAnswered}
 use Rattle.snb_read_model.specs.Order.{Answers, Falling, First, FirstOf, Rising, by}
-use Rattle.snb_short_reads.proofs.Laws.{comment_at, found_person, person_at, written}
+use Rattle.snb_short_reads.proofs.Laws.{comment_at, found_person, person_at, recent_first, written}
 use Rattle.snb_short_reads.specs.Lookups.{IsCellNumber}
 use Rattle.snb_complex_reads.proofs.Moves.{All-flat_map}
 use Rattle.snb_complex_reads.specs.Found.{IsCommentFound}
-
--- dates falling, ids rising, of (comment, date)
-abbrev pub replies_first : ℕ × ℕ → ℕ × ℕ → Ordering
-replies_first = then_cmp (flip_args (on (λ (p : ℕ × ℕ). p.1) nat_cmp)) (on (λ (p : ℕ × ℕ). p.0) nat_cmp)
-
-pub replies_total : IsTotalOrder replies_first
-replies_total = then_total (back_total (on_total (λ (p : ℕ × ℕ). p.1) nat_cmp_total)) (on_total (λ (p : ℕ × ℕ). p.0) nat_cmp_total)
 
 module _ (g : List Row) (graph : IsGraph g) (fit : NumbersFit) where
   comment_found : (id date : ℕ) → HasComment g id date → IsCommentFound g (id, date)
@@ -47,7 +37,7 @@ module _ (g : List Row) (graph : IsGraph g) (fit : NumbersFit) where
       All-weaker (Contains (replies g m.0)) (IsCommentFound g) (λ r c. comment_found r.0 r.1 (replied_there g m.0 r.0 r.1 c).1) (replies g m.0) (All-contains_itself (replies g m.0))))
 
   module _ (sound : Sound g) (one : MessagesAreOfOneKind) (author : MessagesHaveOneAuthor) where
-    reply_agree : (x y : ℕ × ℕ) (a b : List Cell) → IsAnswered g x a → IsAnswered g y b → is_lt (by (Falling 4 ∷ Rising 5 ∷ []) a b) ≡ is_lt (replies_first x y)
+    reply_agree : (x y : ℕ × ℕ) (a b : List Cell) → IsAnswered g x a → IsAnswered g y b → is_lt (by (Falling 4 ∷ Rising 5 ∷ []) a b) ≡ is_lt (recent_first x y)
     reply_agree x y a b r s = rw (r.is, s.is) (ap is_lt (two_columns y.1 x.1 x.0 y.0))
 
     -- each reply has a row
@@ -68,8 +58,8 @@ module _ (g : List Row) (graph : IsGraph g) (fit : NumbersFit) where
         )
 
     -- the rows of the latest replies are the answer
-    pub reply_answers : (found first : List (ℕ × ℕ)) (answer : List (List Cell)) → All (IsCommentFound g) found → FirstOf replies_first (First 20) found first → AllZip (IsAnswered g) first answer
+    pub reply_answers : (found first : List (ℕ × ℕ)) (answer : List (List Cell)) → All (IsCommentFound g) found → FirstOf recent_first (First 20) found first → AllZip (IsAnswered g) first answer
         → Answers found (IsAnswered g) (Falling 4 ∷ Rising 5 ∷ []) (First 20) answer
     reply_answers found first answer all taken z =
-        answers_from (IsAnswered g) replies_first (Falling 4 ∷ Rising 5 ∷ []) reply_agree (First 20) found found first answer (IsPermutation-refl found) taken
+        answers_from (IsAnswered g) recent_first (Falling 4 ∷ Rising 5 ∷ []) reply_agree (First 20) found found first answer (IsPermutation-refl found) taken
         (All-weaker (IsCommentFound g) (λ r. (a : List Cell) × IsAnswered g r a) reply_any found all) z

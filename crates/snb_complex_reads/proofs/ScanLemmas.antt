@@ -17,8 +17,7 @@ use Rattle.snb_schema.specs.RowLines.{table_of}
 use Rattle.snb_schema.specs.TableOrder.{same_table}
 use Rattle.snb_graph_model.specs.Around.{friends, is_friend}
 use Rattle.snb_graph_model.specs.Graphs.{IsGraph, row_order, rows}
-use Rattle.snb_graph_model.proofs.Laws.{any_from, friend_here, friend_tells, friend_there, friend_told, from_any, in_filter, in_rows, of_each}
-use Rattle.snb_graph_rows.proofs.Laws.{contains_map, map_contains}
+use Rattle.snb_graph_model.proofs.Laws.{friend_here, friend_tells, friend_there, friend_told, in_rows, of_each}
 use Rattle.snb_read_model.specs.ComplexReads.{is_named}
 use Rattle.snb_read_model.specs.Distance.{IsDistance, IsPerson, IsWithin, Walk}
 use Rattle.snb_read_laws.proofs.Laws.{Rises, same_rising, some_within}
@@ -30,6 +29,7 @@ use Rattle.snb_complex_reads.proofs.FoundLemmas.{walk_held}
 use Rattle.snb_complex_reads.proofs.NamesakeLemmas.{near_is}
 use Rattle.snb_complex_reads.specs.Namesakes.{AreNamesakesWithin, IsNamesakeFound, IsNearFound, Namesake, namesake_of}
 use Rattle.snb_complex_reads.specs.Scan.{IsScanned, distance_by, has_second, id_of, is_two, is_wanted, or_three, placed}
+use Rattle.snb_base.proofs.Laws.{any_of, contains_map, from_any, in_filter, in_map}
 
 none_some : (o : Option ℕ) → o ≡ None → IsSome o → ⊥
 none_some None e h = cc
@@ -57,7 +57,7 @@ module _ (g : List Row) (start : ℕ) (met : ℕ → Option ℕ) (are : AreDista
   second_here : (q : ℕ) → is_friend g q p ≡ true → met q ≡ Some 2 → has_second g met p ≡ true
   second_here q knows at =
       let (d, f) = friend_told g p q (friend_turned g q p knows) in
-      any_from (λ (f : ℕ × ℕ). is_two (met f.0)) (friends g p) (q, d) (friend_here g p q d f) (ap is_two at)
+      any_of (λ (f : ℕ × ℕ). is_two (met f.0)) (friends g p) (q, d) (friend_here g p q d f) (ap is_two at)
 
   -- who comes before a person that isn't met is at distance 2
   before : met p ≡ None → (q : ℕ) → is_friend g q p ≡ true → Walk g start q 2 → IsPerson g p → (o : Option ℕ) → met q ≡ o → met q ≡ Some 2
@@ -130,7 +130,7 @@ module _ (g : List Row) (people : List Entry) (are : map as_row people ≡ rows 
 
   entry_here : (p : Person) → Contains g (row.Person p) → (e : Entry) × Contains people e × (e.1.id ≡ p.id)
   entry_here p held =
-      let (e, c, is) = map_contains as_row people (row.Person p) (subst (λ l. Contains l (row.Person p)) (sym are) ((in_rows g table.Person (row.Person p)).1 (held, refl))) in
+      let (e, c, is) = in_map as_row people (row.Person p) (subst (λ l. Contains l (row.Person p)) (sym are) ((in_rows g table.Person (row.Person p)).1 (held, refl))) in
       (e, c, ap id_of is)
 
   people_rise : IsGraph g → (met : ℕ → Option ℕ) → Rises (map (place met g) people)
@@ -196,7 +196,7 @@ module _ (g : List Row) (graph : IsGraph g) (met : ℕ → Option ℕ) (name : L
       there : (z : ℕ × ℕ) → Contains (wanted g met name people) z → Contains (filter (is_named g name) near) z
       there z c =
           let (held, passes) = (in_filter (is_wanted g name) (map (place met g) people) z).0 c in
-          let (e, here, is) = map_contains (place met g) people z held in
+          let (e, here, is) = in_map (place met g) people z held in
           let (named, above) = and_parts (is_named g name z) _ passes in
           let at : placed g met z.0 ≡ z = ap (placed g met) (sym (ap (λ (w : ℕ × ℕ). w.0) is)) ∙ is in
           let told : distance_by g met z.0 ≡ z.1 = ap (λ (w : ℕ × ℕ). w.1) at in

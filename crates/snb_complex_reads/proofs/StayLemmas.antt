@@ -1,6 +1,6 @@
 -- Organisations and places, and the stays and words of persons.
-use Rattle.std.proofs.Common.{◌≡◌, ℕ, ◌==◌, ◌≤◌, Bool, true, false, cond, nat_eq, List, [], ◌∷◌, map, Option, Some, None, refl, sym, ap, ◌∙◌, subst, arith}
-use Rattle.std.proofs.lemmas.Bool.{eq-eqb, eqb-true}
+use Rattle.std.proofs.Common.{◌≡◌, ℕ, ◌==◌, ◌≤◌, Bool, true, false, cond, nat_eq, List, [], ◌∷◌, map, Some, None, refl, sym, ap, ◌∙◌, subst, arith}
+use Rattle.std.proofs.lemmas.Bool.{eq-eqb}
 use Rattle.std.proofs.lemmas.List.Elements.{All-contains, All-contains_itself, All-head, All-tail, All-weaker}
 use Rattle.std.specs.List.{All, Contains, cons_option, filter, filter_map}
 use Rattle.snb_schema.specs.declared.layout.KeyColumns.TheVariants.{First}
@@ -21,30 +21,13 @@ use Rattle.snb_graph_tables.specs.Words.{words_of}
 use Rattle.snb_graph_integrity.specs.SoundLaws.{RequiredEdgesAreThere}
 use Rattle.snb_graph_model.specs.Graphs.{HasKey, IsGraph, rows}
 use Rattle.snb_graph_model.specs.Soundness.{Held, Sound}
-use Rattle.snb_graph_model.proofs.Laws.{end_only, in_rows, one_chosen, rows_apart, stay_there}
+use Rattle.snb_graph_model.proofs.Laws.{end_only, in_rows, one_chosen, organisation_row, place_row, rows_apart, stay_there}
 use Rattle.snb_graph_model.specs.Around.{ends, organisation_in, organisations, place_in, places, study, word_in, words, work}
 use Rattle.snb_read_model.specs.ComplexReads.{IsAt}
 use Rattle.snb_short_reads.proofs.Laws.{any, edge_key_held}
 use Rattle.snb_complex_reads.specs.Found.{IsStayFound}
 
--- a test before what is chosen
-passed : {Y : Type 0} (b : Bool) (v y : Y) → ◌≡◌ {A = Option Y} (cond b (Some v) None) (Some y) → (b ≡ true) × (v ≡ y)
-passed true v y e = (refl, cc)
-passed false v y e = absurd cc
-
 -- ---- organisations and places
-
-organisation_row : (id : ℕ) (r : Row) (o : Organisation) → organisation_in id r ≡ Some o → (r ≡ row.Organisation o) × (o.id ≡ id)
-organisation_row id (row.Organisation q) o e =
-    let (test, same) = passed (q.id == id) q o e in
-    (ap row.Organisation same, ap (λ (x : Organisation). x.id) (sym same) ∙ eqb-true q.id id test)
-organisation_row id r o e = absurd cc
-
-place_row : (id : ℕ) (r : Row) (p : Place) → place_in id r ≡ Some p → (r ≡ row.Place p) × (p.id ≡ id)
-place_row id (row.Place q) p e =
-    let (test, same) = passed (q.id == id) q p e in
-    (ap row.Place same, ap (λ (x : Place). x.id) (sym same) ∙ eqb-true q.id id test)
-place_row id r p e = absurd cc
 
 module _ (g : List Row) (graph : IsGraph g) where
   organisation_alone : (o : Organisation) → Contains g (row.Organisation o) → organisations g o.id ≡ o ∷ []

@@ -100,7 +100,7 @@ some_columns shapes.Yeared e = cc
 some_columns shapes.Word e = cc
 
 -- each row begins with a number
-number_first : (r : Row) → (n : ℕ) × (rest : List Value) × (values r ≡ Digits n ∷ rest)
+pub number_first : (r : Row) → (n : ℕ) × (rest : List Value) × (values r ≡ Digits n ∷ rest)
 number_first (row.Place p) = (_, _, refl)
 number_first (row.TagClass c) = (_, _, refl)
 number_first (row.Tag g) = (_, _, refl)

@@ -19,6 +19,7 @@ use Rattle.snb_input_fields.specs.Reading.{IsBadIn, IsBadNext, Reading, at_first
 use Rattle.snb_csv.specs.Make.{AreFriends, AreNoFriends, IsMadeOf, LeadsBack, SpellsFrom, table_by}
 use Rattle.snb_csv.proofs.CaseFacts.{from_case}
 use Rattle.snb_csv.proofs.ValueFacts.{wide_long, wide_split}
+use Rattle.snb_base.proofs.Laws.{one_number}
 
 -- the table of a row that is made by its shape
 own_table : (t : Table) → table_by (shape t) t ≡ t
@@ -98,10 +99,6 @@ bad_knows (x ∷ y ∷ fs) column w (inr b) = from_case table.PersonKnowsPerson 
 
 pub bad_friends : (t : Table) (fs : List (List ℕ)) (column : ℕ) → t ≡ table.PersonKnowsPerson → IsWide (length (columns t)) fs → AreNoFriends fs column → IsBadColumn t fs column
 bad_friends t fs column knows w b = subst (λ (u : Table). IsBadColumn u fs column) (sym knows) (bad_knows fs column (subst (λ (u : Table). IsWide (length (columns u)) fs) knows w) b)
-
--- two numbers that one text spells are one
-one_number : (x : List ℕ) (m n : ℕ) → SpellsId x m → SpellsId x n → m ≡ n
-one_number x m n a b = a.value ∙ sym b.value
 
 -- fields whose ids differ don't lead back
 pub apart : (fs : List (List ℕ)) (one other : ℕ) → SpellsId (text_at fs 0) one → SpellsId (text_at fs 1) other → one ≢ other → ¬ LeadsBack fs

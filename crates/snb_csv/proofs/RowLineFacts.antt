@@ -2,7 +2,7 @@
 use Rattle.std.proofs.Common.{◌≡◌, ◌≢◌, ◌<◌, ◌≤◌, ◌^◌, ◌∙◌, ◌∷◌, ◌++◌, [], ℕ, min, max, Bool, true, false, List, length, map, refl, sym, ap, subst, inr, arith, append-nil, All}
 use Rattle.std.proofs.Math.Seq.{take-append_seam}
 use Rattle.std.proofs.lemmas.Bool.{le-ltb}
-use Rattle.std.proofs.lemmas.List.Elements.{All-cons, All-from_recursion, All-head, All-nil, All-tail, All-take, All-weaker}
+use Rattle.std.proofs.lemmas.List.Elements.{All-cons, All-head, All-nil, All-tail, All-take}
 use Rattle.std.proofs.lemmas.Str.{IsUtf8-from_ascii}
 use Rattle.std.proofs.lemmas.Str.Ascii.{IsAscii-from_all}
 use Rattle.std.specs.Fmt.{decimal}
@@ -27,6 +27,8 @@ use Rattle.snb_schema.specs.RowLines.{Differ, IsRow, canonical, in_order, is_tur
 use Rattle.snb_csv.specs.Laws.{RowsOfFieldsFit}
 use Rattle.snb_schema.specs.TableRows.{AreWithin, HasLine, HasLowerFirst, IsFieldText, IsTableRow, IsWithin, TableRowsAreOfLines}
 use Rattle.snb_columns.specs.Laws.{HasPlainFields, OwnLineOfValues}
+use Rattle.snb_columns.proofs.Laws.{all_digits}
+use Rattle.snb_csv.proofs.OwnFacts.{number_first}
 
 -- digits spell their number, where 19 suffice
 abbrev pub OwnNumbers : Type 0
@@ -91,25 +93,6 @@ held_all : OwnNumbers → (P : List ℕ → Type 0) → ((t : List ℕ) → AllB
 held_all own P digits text [] [] o w = All-nil P
 held_all own P digits text (c ∷ cs) (v ∷ vs) o w = All-cons P (canonical_field v) (map canonical_field vs) (held own P digits text c v o.0 w.0) (held_all own P digits text cs vs o.1 w.1)
 held_all own P digits text cs vs o w = absurd w
-
--- what holds of each digit holds of each byte of digits
-all_digits : (P : ℕ → Type 0) → ((b : ℕ) → IsDigit b → P b) → (t : List ℕ) → AllByRecursion IsDigit t → All P t
-all_digits P of t h = All-weaker IsDigit P of t (All-from_recursion IsDigit t h)
-
--- each row begins with a number
-number_first : (r : Row) → (n : ℕ) × (rest : List Value) × (values r ≡ Digits n ∷ rest)
-number_first (row.Place p) = (_, _, refl)
-number_first (row.TagClass c) = (_, _, refl)
-number_first (row.Tag g) = (_, _, refl)
-number_first (row.Organisation o) = (_, _, refl)
-number_first (row.Person p) = (_, _, refl)
-number_first (row.Forum f) = (_, _, refl)
-number_first (row.Post p) = (_, _, refl)
-number_first (row.Comment c) = (_, _, refl)
-number_first (row.Link t from to) = (_, _, refl)
-number_first (row.Dated t from to date) = (_, _, refl)
-number_first (row.Yeared t from to year) = (_, _, refl)
-number_first (row.Word t person text) = (_, _, refl)
 
 -- so its table has columns
 some_columns : (cs : List Column) (n : ℕ) (vs rest : List Value) → vs ≡ Digits n ∷ rest → AreWithin cs vs → cs ≢ []

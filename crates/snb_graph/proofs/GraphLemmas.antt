@@ -1,22 +1,21 @@
 -- The rows of a graph, and the links that go with them.
-use Rattle.std.proofs.Common.{◌≡◌, ◌↔◌, ◌⊎◌, ◌++◌, ◌∷◌, [], ℕ, Bool, true, false, List, Result, Ok, Err, OnOk, OnErr, IsTrue, refl, sym, ap, ◌∙◌, subst, inl, inr, arith, length, suc, ◌<◌, ◌+◌, take, drop, get_or, add-one, drop-cons, append-nil, append_assoc, map}
+use Rattle.std.proofs.Common.{◌≡◌, ◌++◌, ◌∷◌, [], ℕ, Bool, true, false, List, refl, sym, ap, ◌∙◌, subst, inl, inr, arith, length, suc, ◌<◌, ◌+◌, take, drop, get_or, add-one, drop-cons, append-nil, append_assoc, map}
 use Rattle.std.specs.List.{AllByRecursion, Contains, IsDistinct}
 use Rattle.std.specs.List.Sorted.{IsPermutation}
 use Rattle.std.specs.Cmp.{eq_by_cmp_equiv, tied_itself}
 use Rattle.std.specs.Ordering.{eq_by_cmp, is_eq}
 use Rattle.std.proofs.lemmas.List.{map-id, take-append-drop}
-use Rattle.std.proofs.lemmas.List.Elements.{Contains-append_cases, Contains-append_left, Contains-append_right}
+use Rattle.std.proofs.lemmas.List.Elements.{Contains-append_left, Contains-append_right}
 use Rattle.std.proofs.lemmas.Map.Keys.{IsDistinct-IsPermutation, IsDistinct-from_sorted}
 use Rattle.std.proofs.lemmas.List.Sorted.{Contains-permutation, IsPermutation-append_left, IsPermutation-refl, IsPermutation-sym, IsPermutation-trans}
 use mathlib.Core.Bool.{false≢true}
-use Rattle.snb_base.proofs.Laws.{push_split}
+use Rattle.snb_base.proofs.Laws.{contains_cases, contains_here, none_in, push_split}
 use Rattle.snb_schema.specs.declared.row.Row.{Row}
-use Rattle.snb_schema.specs.RowKeys.{RowKey, row_key, slot, slot_of}
-use Rattle.snb_graph_rows.proofs.Laws.{contains_cases, contains_here}
+use Rattle.snb_schema.specs.RowKeys.{RowKey, slot, slot_of}
 use Rattle.snb_graph_rows.specs.Rows.{Stock}
 use Rattle.snb_graph_model.specs.Graphs.{HasGained, HasKey, HasSlot, IsGraph, row_order, rows}
 use Rattle.snb_graph_model.specs.Laws.{GraphsAreTheirRows}
-use Rattle.snb_graph_model.proofs.Laws.{contains_none, row_total}
+use Rattle.snb_graph_model.proofs.Laws.{row_total}
 use Rattle.snb_graph_adjacency.specs.declared.indexes.Indexes.{Indexes}
 use Rattle.snb_graph_adjacency.specs.declared.link.Link.{Link}
 use Rattle.snb_graph_adjacency.specs.declared.link.Walk.{Walk}
@@ -29,20 +28,16 @@ use Rattle.snb_graph_tables.specs.Entries.{name_key}
 use Rattle.snb_graph.specs.declared.additions.Noted.{Noted}
 use Rattle.snb_graph.specs.Additions.{AreNew, HasClash, HasTaken, HoldsAll, IsFirstAlone, IsKept, IsNoteOf, Lead}
 
-pub not_held : {H : Type 0} (test : Bool) → IsTrue test ↔ H → test ≡ false → ¬ H
-not_held true same e = absurd (false≢true (sym e))
-not_held false same e = λ h. false≢true (same.1 h)
-
 -- ---- rows added and taken out
 
 none_along : (w : Walk) (of : ℕ) (pair : ℕ × ℕ) → ¬ Contains (along [] w of) pair
-none_along Friends of pair c = contains_none pair c
-none_along Messages of pair c = contains_none pair c
-none_along Replies of pair c = contains_none pair c
-none_along PostLikes of pair c = contains_none pair c
-none_along CommentLikes of pair c = contains_none pair c
-none_along Work of pair c = contains_none pair c
-none_along Study of pair c = contains_none pair c
+none_along Friends of pair c = none_in pair c
+none_along Messages of pair c = none_in pair c
+none_along Replies of pair c = none_in pair c
+none_along PostLikes of pair c = none_in pair c
+none_along CommentLikes of pair c = none_in pair c
+none_along Work of pair c = none_in pair c
+none_along Study of pair c = none_in pair c
 
 pub none_indexed : (g : List Row) (s : Indexes) → g ≡ [] → IsGraph g → ((l : Link) → ¬ HasLink s l) → IsIndexed g s
 none_indexed g s is graph none = record {
@@ -107,10 +102,6 @@ taken_clash g more now all after r taken has splits = record {
   splits = splits;
   filled = record { it = has.it; held = Contains-permutation now (g ++ more) has.it taken.rows has.held; fills = has.fills };
 }
-
-pub none_left : {X : Type 0} (xs : List X) → length xs ≡ 0 → xs ≡ []
-none_left [] e = refl
-none_left (x ∷ xs) e = absurd (omega (arith, e))
 
 -- the next item of a list
 pub next_item : {X : Type 0} (xs all : List X) (x : X) → map (λ (y : X). y) xs ≡ take (length xs) all → (length xs < length all) × (x ≡ get_or all (length xs) x) → xs ++ x ∷ drop (length xs + 1) all ≡ all

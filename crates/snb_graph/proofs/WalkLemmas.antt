@@ -8,7 +8,7 @@ use Rattle.std.specs.Ordering.{nat_cmp, ordering_then}
 use Rattle.std.specs.declared.cmp.Ordering.{Ordering}
 use Rattle.std.specs.declared.cmp.Ordering.TheVariants.{Less}
 use Rattle.std.proofs.lemmas.List.Kept.{IsStrictlySortedBy-filter}
-use Rattle.snb_base.proofs.Laws.{contains_here, contains_there}
+use Rattle.snb_base.proofs.Laws.{all_recursive, contains_here, contains_there, given_by, then_last}
 use Rattle.snb_schema.specs.declared.row.Row.{Row}
 use Rattle.snb_schema.specs.declared.row.Row.TheVariants as row
 use Rattle.snb_schema.specs.declared.table.Kind.TheVariants as kinds
@@ -19,12 +19,12 @@ use Rattle.snb_schema.specs.References.{ref}
 use Rattle.snb_schema.specs.RowKeys.{RowKey, node_key, row_key, slot}
 use Rattle.snb_schema.specs.RowLines.{table_of}
 use Rattle.snb_schema.specs.TableOrder.{same_table}
-use Rattle.snb_graph_model.proofs.Laws.{IsApart, chosen_from, friends_apart, in_rows, liker_there, likers_apart, likes_split, messages_apart, none_of, of_each, replies_apart, same_list, stay_row, walk_moved}
+use Rattle.snb_graph_model.proofs.Laws.{IsApart, friends_apart, in_rows, liker_there, likers_apart, likes_split, messages_apart, none_of, of_each, replies_apart, same_list, stay_row, walk_moved}
 use Rattle.snb_graph_model.specs.Around.{friends, likes, likes_in, messages, replies, stay_in, study, work}
 use Rattle.snb_graph_model.specs.Graphs.{HasKey, IsGraph, key_order, part_of, row_order, rows}
 use Rattle.snb_graph_model.specs.Soundness.{Held}
 use Rattle.snb_graph_links.specs.Pairs.{ArePairsOf}
-use Rattle.snb_graph_rows.specs.KeysApart.{table_itself, then_last}
+use Rattle.snb_graph_rows.specs.KeysApart.{table_itself}
 use Rattle.snb_graph_adjacency.specs.declared.indexes.Indexes.{Indexes}
 use Rattle.snb_graph_adjacency.specs.declared.link.Walk.{Walk}
 use Rattle.snb_graph_adjacency.specs.declared.link.Walk.TheVariants.{Friends, Messages, Replies, PostLikes, CommentLikes, Work, Study}
@@ -69,11 +69,6 @@ comment_likes g m ps held none is = subst (λ l. IsWalkOver l ps) (sym alone) is
 
 -- ---- stays
 
--- what each element of a list is
-each_is : {X : Type 0} (P : X → Type 0) (xs : List X) → ((x : X) → Contains xs x → P x) → AllByRecursion P xs
-each_is P [] all = tt
-each_is P (x ∷ xs) all = (all x (contains_here x xs), each_is P xs (λ y c. all y (contains_there x xs y c)))
-
 first_rises : {Y : Type 0} (S : Y → Y → Ordering) (y : Y) (ys : List Y) → AllByRecursion (λ z. S y z ≡ Less) ys → IsStrictlySortedBy S ys → IsStrictlySortedBy S (y ∷ ys)
 unfolding IsStrictlySortedBy
 first_rises S y ys above rises = (above, rises)
@@ -90,7 +85,7 @@ chosen_rise {X} {Y} R S f (x ∷ xs) keeps rises =
     by None is rest = rest
     by (Some y) is rest =
         first_rises S y (filter_map f xs)
-        (each_is (λ w. S y w ≡ Less) (filter_map f xs) (λ w c. (let (z, there, gives) = chosen_from f xs w c in
+        (all_recursive (λ w. S y w ≡ Less) (filter_map f xs) (λ w c. (let (z, there, gives) = given_by f xs w c in
         keeps x z y w (contains_here x xs) (contains_there x xs z there) is gives (of_each (λ v. R x v ≡ Less) xs rises.0 z there))))
         rest
 

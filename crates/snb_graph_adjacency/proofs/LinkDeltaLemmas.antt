@@ -20,7 +20,6 @@ use Rattle.snb_schema.specs.References.{from_kind}
 use Rattle.snb_schema.specs.RowKeys.{edge_key, sharing, slot, slot_of}
 use Rattle.snb_schema.specs.TableOrder.{same_table}
 use Rattle.snb_schema.specs.TableRows.{IsTableRow}
-use Rattle.snb_graph_rows.proofs.Laws.{contains_here}
 use Rattle.snb_graph_tables.proofs.Laws.{contains_gained}
 use Rattle.snb_graph_model.specs.Graphs.{HasSlot, IsGraph}
 use Rattle.snb_graph_adjacency.specs.declared.link.Link.{Link}
@@ -30,7 +29,9 @@ use Rattle.snb_graph_adjacency.specs.Concerns.{concerns}
 use Rattle.snb_graph_adjacency.specs.Kept.{IsTold, SameEnds}
 use Rattle.snb_graph_adjacency.specs.Links.{IsCreatorTable, IsFriendship, IsParentTable, LeadsTo, Tells, message_of}
 use Rattle.snb_graph_adjacency.specs.LinkDelta.{IsAlone, IsDated, IsLed, IsLedNowhere, IsLinkDelta, IsLinkDeltaOf, IsUndated, TellsLink, link}
-use Rattle.snb_graph_adjacency.proofs.LinkLemmas.{same_walk, some_is}
+use Rattle.snb_graph_adjacency.proofs.LinkLemmas.{same_walk}
+use Rattle.snb_base.proofs.Laws.{contains_here, none_some}
+use Rattle.std.proofs.lemmas.Option.{same_Some}
 
 -- ---- rows old and new
 
@@ -59,8 +60,8 @@ message_concerns (row.Comment x) k id date is = refl
 message_concerns n k id date is = absurd cc
 
 pub parent_kind : (t : Table) (k : Kind) → IsParentTable t → from_kind t ≡ Some k → k ≡ kinds.Comment
-parent_kind t k (inl e) is = sym (some_is kinds.Comment k (ap from_kind (sym e) ∙ is))
-parent_kind t k (inr e) is = sym (some_is kinds.Comment k (ap from_kind (sym e) ∙ is))
+parent_kind t k (inl e) is = sym (same_Some kinds.Comment k (ap from_kind (sym e) ∙ is))
+parent_kind t k (inr e) is = sym (same_Some kinds.Comment k (ap from_kind (sym e) ∙ is))
 
 reply_concerns : (n : Row) (k : Kind) (id date : ℕ) → k ≡ kinds.Comment → message_of n ≡ Some (k, id, date) → concerns Replies n ≡ true
 reply_concerns (row.Comment x) k id date comment is = refl
@@ -138,7 +139,7 @@ creators = record { keyed = keyed; one = one }
     keyed t (inr e) = subst (λ u. key_columns u ≡ First) (sym e) refl
 
     two_kinds : (t u : Table) (k : Kind) → t ≡ table.PostHasCreatorPerson → u ≡ table.CommentHasCreatorPerson → from_kind t ≡ Some k → from_kind u ≡ Some k → ⊥
-    two_kinds t u k a b e f = let post = some_is kinds.Post k (ap from_kind (sym a) ∙ e) in let comment = some_is kinds.Comment k (ap from_kind (sym b) ∙ f) in apart (post ∙ sym comment)
+    two_kinds t u k a b e f = let post = same_Some kinds.Post k (ap from_kind (sym a) ∙ e) in let comment = same_Some kinds.Comment k (ap from_kind (sym b) ∙ f) in apart (post ∙ sym comment)
       where
         apart : kinds.Post ≡ kinds.Comment → ⊥
         apart p = absurd cc
@@ -178,7 +179,7 @@ no_link t a b k id date n e is = let none = sym (ap message_of e) ∙ is in absu
 
 -- of two messages that are one, kind, id and date are the same
 pub one_message : (n : Row) (k j : Kind) (id date id' date' : ℕ) → message_of n ≡ Some (k, id, date) → message_of n ≡ Some (j, id', date') → ◌≡◌ {A = Kind × ℕ × ℕ} (k, id, date) (j, id', date')
-one_message n k j id date id' date' a b = some_is (k, id, date) (j, id', date') (sym a ∙ b)
+one_message n k j id date id' date' a b = same_Some (k, id, date) (j, id', date') (sym a ∙ b)
 
 -- the ends of a link
 abbrev link_table : Row → Table
@@ -273,7 +274,7 @@ module _ (F : Table → Type 0) (family : IsFamily F) (g : List Row) (graph : Is
       by linked (inr e) = absurd (no_link t id p l.kind m d l.node (sym e) l.is)
       by (inl linked) (inl h) = record { edge = l.edge; among = l.among; kind = l.kind; from = l.from; node = l.node; linked = linked; held = h; is = l.is }
       by (inr e) (inl h) =
-          let its_kind : l.kind ≡ k = some_is l.kind k (sym l.from ∙ ap from_kind (sym (ap link_table e)) ∙ kt) in
+          let its_kind : l.kind ≡ k = same_Some l.kind k (sym l.from ∙ ap from_kind (sym (ap link_table e)) ∙ kt) in
           let ids : m ≡ id = sym (ap link_start e) in
           absurd (none l.node d (l.is ∙ (λ i. Some (its_kind i, ids i, d))) h)
 
@@ -299,36 +300,33 @@ along_messages = record { family = creators; leads = λ h of id date l. l; tells
 pub along_replies : IsAlong Replies IsParentTable
 along_replies = record { family = parents; leads = λ h of id date l. l; tells = λ h of id date l. l }
 
-no_some : {X : Type 0} (o : Option X) (x : X) → o ≡ None → o ≡ Some x → ⊥
-no_some o x a b = let e = sym a ∙ b in absurd cc
-
 -- one link more along a walk
 found_delta : (g : List Row) (r : Row) (w : Walk) (p id date : ℕ) (o : Option Link) → o ≡ Some (link w p id date) →
     ((new : List Row) → IsPermutation new (g ++ r ∷ []) → (of m d : ℕ) → Tells new w of m d ↔ (Tells g w of m d ⊎ ◌≡◌ {A = ℕ × ℕ × ℕ} (p, id, date) (of, m, d))) →
     (¬ HasSlot g (slot_of r) → (d : ℕ) → ¬ Tells g w p id d) → IsLinkDeltaOf g r w o
 found_delta g r w p id date o is says fresh = record {
-  own = λ k e. sym (ap (λ (x : Link). x.walk) (some_is (link w p id date) k (sym is ∙ e)));
+  own = λ k e. sym (ap (λ (x : Link). x.walk) (same_Some (link w p id date) k (sym is ∙ e)));
   says = λ new perm of m d. (
     λ x. elim ((says new perm of m d).0 x) [ inl was ↦ inl was | inr e ↦ inr (is ∙ (λ i. Some (link w (ap (λ (y : ℕ × ℕ × ℕ). y.0) e i) (ap (λ (y : ℕ × ℕ × ℕ). y.1) e i) (ap (λ (y : ℕ × ℕ × ℕ). y.2) e i)))) ],
     λ or. (says new perm of m d).1 (elim or [
       | inl was ↦ inl was
-      | inr e ↦ inr (ap (λ (x : Link). (x.of, x.id, x.date)) (some_is (link w p id date) (link w of m d) (sym is ∙ e)))
+      | inr e ↦ inr (ap (λ (x : Link). (x.of, x.id, x.date)) (same_Some (link w p id date) (link w of m d) (sym is ∙ e)))
     ]),
   );
   fresh = λ free k e d x.
-      let same = some_is (link w p id date) k (sym is ∙ e) in
+      let same = same_Some (link w p id date) k (sym is ∙ e) in
       fresh free d (subst (λ (l : Link). Tells g w l.of l.id d) (sym same) x);
 }
 
 -- no link more along a walk
 none_delta : (g : List Row) (r : Row) (w : Walk) (o : Option Link) → o ≡ None → ((new : List Row) → IsPermutation new (g ++ r ∷ []) → (of m d : ℕ) → Tells new w of m d → Tells g w of m d) → IsLinkDeltaOf g r w o
 none_delta g r w o is says = record {
-  own = λ k e. absurd (no_some o k is e);
+  own = λ k e. absurd (none_some o k is e);
   says = λ new perm of m d. (
     λ x. inl (says new perm of m d x),
-    λ or. elim or [ inl was ↦ still_tells g new r w perm of m d was | inr e ↦ absurd (no_some o (link w of m d) is e) ],
+    λ or. elim or [ inl was ↦ still_tells g new r w perm of m d was | inr e ↦ absurd (none_some o (link w of m d) is e) ],
   );
-  fresh = λ free k e. absurd (no_some o k is e);
+  fresh = λ free k e. absurd (none_some o k is e);
 }
 
 -- a walk that doesn't go along the row
@@ -416,8 +414,8 @@ friend_delta g a b d graph less = record {
       λ or. subst (λ w. Tells new w l.of l.id l.date) (sym e) (elim or [
         | inl was ↦ still_tells g new r Friends perm l.of l.id l.date (subst (λ w. Tells g w l.of l.id l.date) e was)
         | inr told ↦ elim told [
-          | inl one ↦ inl (subst (λ (k : Link). Contains new (row.Dated table.PersonKnowsPerson k.of k.id k.date)) (some_is (link Friends a b d) l one) (this_row g new r perm))
-          | inr two ↦ inr (subst (λ (k : Link). Contains new (row.Dated table.PersonKnowsPerson k.id k.of k.date)) (some_is (link Friends b a d) l two) (this_row g new r perm))
+          | inl one ↦ inl (subst (λ (k : Link). Contains new (row.Dated table.PersonKnowsPerson k.of k.id k.date)) (same_Some (link Friends a b d) l one) (this_row g new r perm))
+          | inr two ↦ inr (subst (λ (k : Link). Contains new (row.Dated table.PersonKnowsPerson k.id k.of k.date)) (same_Some (link Friends b a d) l two) (this_row g new r perm))
         ]
       ]),
     )
@@ -426,19 +424,19 @@ friend_delta g a b d graph less = record {
       λ or. elim or [
         | inl was ↦ still_tells g new r l.walk perm l.of l.id l.date was
         | inr told ↦ absurd (other (elim told [
-          | inl one ↦ sym (ap (λ (k : Link). k.walk) (some_is (link Friends a b d) l one))
-          | inr two ↦ sym (ap (λ (k : Link). k.walk) (some_is (link Friends b a d) l two))
+          | inl one ↦ sym (ap (λ (k : Link). k.walk) (same_Some (link Friends a b d) l one))
+          | inr two ↦ sym (ap (λ (k : Link). k.walk) (same_Some (link Friends b a d) l two))
         ]))
       ],
     )
   ];
   fresh = λ free k told l same x. elim told [
-    | inl one ↦ free_ends free a b k l same (some_is (link Friends a b d) k one) x (inl (refl, refl))
-    | inr two ↦ free_ends free b a k l same (some_is (link Friends b a d) k two) x (inr (refl, refl))
+    | inl one ↦ free_ends free a b k l same (same_Some (link Friends a b d) k one) x (inl (refl, refl))
+    | inr two ↦ free_ends free b a k l same (same_Some (link Friends b a d) k two) x (inr (refl, refl))
   ];
   apart = λ k l one two same.
-      let first = some_is (link Friends a b d) k one in
-      let second = some_is (link Friends b a d) l two in
+      let first = same_Some (link Friends a b d) k one in
+      let second = same_Some (link Friends b a d) l two in
       let ends : a ≡ b = ap (λ (x : Link). x.of) first ∙ same.1 ∙ sym (ap (λ (x : Link). x.of) second) in
       omega (arith, less, ends);
 }

@@ -1,6 +1,5 @@
 -- Links kept.
 use Rattle.std.proofs.Common.{◌≡◌, ◌≢◌, ◌⊎◌, ℕ, Option, Some, None, refl, sym, ap, ◌∙◌, subst, inl, inr}
-use Rattle.std.specs.Option.{unwrap_or}
 use Rattle.std.specs.List.{Contains}
 use Rattle.snb_graph_links.specs.Pairs.{HasAdded, HasDropped, HasFrozenPair, HasPair, Lists, SamePairs, pairs_at}
 use Rattle.snb_graph_adjacency.specs.declared.indexes.Indexes.{Indexes}
@@ -9,6 +8,7 @@ use Rattle.snb_graph_adjacency.specs.declared.link.LinkDelta.{LinkDelta}
 use Rattle.snb_graph_adjacency.specs.declared.link.Walk.{Walk}
 use Rattle.snb_graph_adjacency.specs.declared.link.Walk.TheVariants.{Friends, Messages, Replies, PostLikes, CommentLikes, Work, Study}
 use Rattle.snb_graph_adjacency.specs.Kept.{HasFrozenLink, HasGainedLink, HasGainedSome, HasLink, HasLostLink, HasLostLinkDelta, HasLostSome, HasLinkDelta, IsFresh, IsNewLink, IsOwnLink, SameEnds, SameFrozen, SameLinks, at}
+use Rattle.std.proofs.lemmas.Option.{same_Some}
 
 -- two walks are one, or they aren't
 pub same_walk : (u v : Walk) → (u ≡ v) ⊎ (u ≢ v)
@@ -20,9 +20,6 @@ same_walk CommentLikes CommentLikes = inl refl
 same_walk Work Work = inl refl
 same_walk Study Study = inl refl
 same_walk u v = inr (λ e. absurd cc)
-
-pub some_is : {X : Type 0} (x y : X) → Some x ≡ Some y → x ≡ y
-some_is {X} x y e = ap (λ (o : Option X). unwrap_or o x) e
 
 -- the walk whose pairs alone have changed
 pub friends_alone : (s : Indexes) (es : Lists × Lists) (v : Walk) → v ≢ Friends → at (record { friends = es; messages = s.messages; replies = s.replies; post_likes = s.post_likes; comment_likes = s.comment_likes; work = s.work; study = s.study }) v ≡ at s v
@@ -147,7 +144,7 @@ lost_at old new k w is dropped alone l =
 pub gained_some : (old new : Indexes) (k : Link) (o : Option Link) → o ≡ Some k → HasGainedLink old k new → HasGainedSome old o new
 gained_some old new k o is gained l = (
   λ has. elim ((gained l).0 has) [ inl was ↦ inl was | inr same ↦ inr (is ∙ ap Some same) ],
-  λ or. (gained l).1 (elim or [ inl was ↦ inl was | inr same ↦ inr (some_is k l (sym is ∙ same)) ]),
+  λ or. (gained l).1 (elim or [ inl was ↦ inl was | inr same ↦ inr (same_Some k l (sym is ∙ same)) ]),
 )
 
 pub gained_none : (s : Indexes) (o : Option Link) → o ≡ None → HasGainedSome s o s
@@ -155,7 +152,7 @@ gained_none s o is l = (λ has. inl has, λ or. elim or [ inl was ↦ was | inr 
 
 pub lost_some : (old new : Indexes) (k : Link) (o : Option Link) → o ≡ Some k → HasLostLink old k new → HasLostSome old o new
 lost_some old new k o is lost l = (
-  λ has. let was = (lost l).0 has in (was.0, λ j e same. was.1 (subst (λ x. SameEnds x l) (sym (some_is k j (sym is ∙ e))) same)),
+  λ has. let was = (lost l).0 has in (was.0, λ j e same. was.1 (subst (λ x. SameEnds x l) (sym (same_Some k j (sym is ∙ e))) same)),
   λ was. (lost l).1 (was.0, was.1 k is),
 )
 

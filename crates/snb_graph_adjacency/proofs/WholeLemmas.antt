@@ -1,5 +1,5 @@
 -- The links of all rows at once.
-use Rattle.std.proofs.Common.{◌≡◌, ◌↔◌, ◌⊎◌, ◌<◌, ◌++◌, ◌∷◌, [], ℕ, Bool, true, false, cond, List, Some, Result, Ok, Err, IfOk, refl, sym, ap, ◌∙◌, subst, inl, inr, arith}
+use Rattle.std.proofs.Common.{◌≡◌, ◌↔◌, ◌⊎◌, ◌<◌, ◌++◌, ◌∷◌, [], ℕ, Bool, true, false, cond, List, Some, Result, IfOk, refl, sym, ap, ◌∙◌, subst, inl, inr, arith}
 use Rattle.std.specs.List.{Contains}
 use Rattle.std.proofs.lemmas.List.Elements.{All-contains, Contains-append_left, Contains-append_right, Contains-append_cases}
 use Rattle.snb_schema.specs.declared.layout.KeyColumns.{KeyColumns}
@@ -19,7 +19,6 @@ use Rattle.snb_schema.specs.TableRows.{IsTableRow}
 use Rattle.snb_graph_links.specs.Pairs.{AreSingle, HasPair, Lists}
 use Rattle.snb_graph_model.proofs.Laws.{in_rows}
 use Rattle.snb_graph_model.specs.Graphs.{IsGraph, rows}
-use Rattle.snb_graph_rows.proofs.Laws.{contains_cases, contains_here, contains_map, contains_there, map_contains}
 use Rattle.snb_graph_rows.specs.declared.keys.EdgeKey.{EdgeKey}
 use Rattle.snb_graph_rows.specs.Edges.{edge_of, edge_row, link_of}
 use Rattle.snb_graph_rows.specs.KeysApart.{edge_name}
@@ -33,8 +32,9 @@ use Rattle.snb_graph_adjacency.specs.Links.{IsCreatorTable, IsParentTable, Leads
 use Rattle.snb_graph_adjacency.specs.LinkDelta.{IsDated, IsUndated}
 use Rattle.snb_graph_adjacency.specs.Whole.{ArePairsBy, HasAddedLinks, HasEdge, IsLedBy, IsWide}
 use Rattle.snb_graph_adjacency.proofs.LinkDeltaLemmas.{creators, one_message, one_node}
-use Rattle.snb_graph_adjacency.proofs.LinkLemmas.{some_is}
 use Rattle.snb_graph_adjacency.proofs.TellLemmas.{told_indexed}
+use Rattle.snb_base.proofs.Laws.{contains_cases, contains_here, contains_map, contains_there, if_ok, in_map}
+use Rattle.std.proofs.lemmas.Option.{same_Some}
 
 -- ---- links that are added one after another
 
@@ -132,7 +132,7 @@ module _ (g : List Row) (t : Table) (es : List Entry) (are : rows_by (entry_row 
 
   -- and a row of the table an entry's
   row_entry : (r : Row) → Contains g r → table_of r ≡ t → (e : Entry) × Contains es e × (edge_row (edge_name e.0) e.1 ≡ r)
-  row_entry r c is = map_contains (λ (x : Entry). edge_row (edge_name x.0) x.1) es r (subst (λ rs. Contains rs r) (sym are) ((in_rows g t r).1 (c, is)))
+  row_entry r c is = in_map (λ (x : Entry). edge_row (edge_name x.0) x.1) es r (subst (λ rs. Contains rs r) (sym are) ((in_rows g t r).1 (c, is)))
 
 -- the link of an edge with a date or a year
 abbrev pub link_of_entry : Bool → Entry → ℕ × (ℕ × ℕ)
@@ -269,7 +269,7 @@ led_there F g t k of id date among from x = record { edge = t; among = among; ki
 
 led_here : (F : Table → Type 0) (g : List Row) (t : Table) (k : Kind) (of id date : ℕ) → from_kind t ≡ Some k → (l : LeadsTo F g of id date) → l.edge ≡ t → IsLedBy g t k of id date
 led_here F g t k of id date from l is =
-    let kind : l.kind ≡ k = some_is l.kind k (sym l.from ∙ ap from_kind is ∙ from) in
+    let kind : l.kind ≡ k = same_Some l.kind k (sym l.from ∙ ap from_kind is ∙ from) in
     (subst (λ u. Contains g (row.Link u id of)) is l.linked, (l.node, l.held, l.is ∙ ap (λ j. Some (j, id, date)) kind))
 
 pub messages_told : (g : List Row) (of id date : ℕ) → (IsLedBy g table.PostHasCreatorPerson kinds.Post of id date ⊎ IsLedBy g table.CommentHasCreatorPerson kinds.Comment of id date) ↔ Tells g Messages of id date
@@ -320,10 +320,6 @@ whole_indexed g s graph friends messages replies post_likes comment_likes work s
     by Work of id date = work of id date
     by Study of id date = study of id date
 
-pub if_ok_more : {T E : Type 0} {P Q : T → Type 0} (r : Result T E) → ((x : T) → P x → Q x) → IfOk r P → IfOk r Q
-if_ok_more (Ok x) f p = f x p
-if_ok_more (Err e) f p = tt
-
 -- a map of links is one of what these are
 pub pairs_by : {E : Type 0} (Are : ℕ → ℕ → ℕ → Type 0) (links : List (ℕ × (ℕ × ℕ))) (r : Result (Lists × Lists) E) → ((of id date : ℕ) → Contains links (of, (id, date)) ↔ Are of id date) → IfOk r (λ all. (of id date : ℕ) → HasPair all of id date ↔ Contains links (of, (id, date))) → IfOk r (ArePairsBy Are)
-pairs_by Are links r are has = if_ok_more r (λ all h of id date. both (h of id date) (are of id date)) has
+pairs_by Are links r are has = if_ok r (λ all h of id date. both (h of id date) (are of id date)) has

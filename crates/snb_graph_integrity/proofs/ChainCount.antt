@@ -13,13 +13,13 @@ use Rattle.snb_schema.specs.declared.table.Kind.TheVariants as kinds
 use Rattle.snb_schema.specs.declared.table.Table.TheVariants as table
 use Rattle.snb_schema.specs.RowKeys.{RowKey, node_key, row_key}
 use Rattle.snb_graph_rows.specs.Keyed.{key_table}
-use Rattle.snb_graph_rows.proofs.Laws.{contains_map}
 use Rattle.snb_graph_integrity.specs.SoundLaws.{ChainsAreShort}
 use Rattle.snb_graph_integrity.proofs.RootLemmas.{chain_post, comment_held, one_end}
 use Rattle.snb_graph_integrity.proofs.RowLemmas.{among_rows}
 use Rattle.snb_graph_model.specs.Graphs.{HasKey, IsGraph, rows}
 use Rattle.snb_graph_model.specs.Messages.{EndsAt}
 use Rattle.snb_graph_model.specs.Soundness.{Sound}
+use Rattle.snb_base.proofs.Laws.{contains_map}
 
 -- ---- the ids of the comments
 

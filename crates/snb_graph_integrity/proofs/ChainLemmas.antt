@@ -17,13 +17,13 @@ use Rattle.snb_schema.specs.RowLines.{row_shape, table_of}
 use Rattle.snb_schema.specs.TableRows.{IsTableRow}
 use Rattle.snb_graph_rows.specs.Keyed.{key_table}
 use Rattle.snb_graph_rows.specs.Pairs.{HasAdded, HasPair}
-use Rattle.snb_graph_rows.proofs.Laws.{contains_cases, contains_here, contains_there}
 use Rattle.snb_graph_integrity.specs.Chains.{AreReplies, AreRooted, AreRoots, MarksRooted}
 use Rattle.snb_graph_integrity.specs.Marks.{AreReached, ReachedIn}
 use Rattle.snb_graph_integrity.proofs.MarkLemmas.{last_cases}
 use Rattle.snb_graph_integrity.proofs.RowLemmas.{IsOf, among_rows, are_of, below_rest, from_rows, not_again, rest_rises, rows_rise}
 use Rattle.snb_graph_model.specs.Graphs.{HasKey, IsGraph, key_order, part, part_of, row_order, rows}
 use Rattle.snb_graph_model.specs.Soundness.{Cycle, EndsAfter, IsRooted}
+use Rattle.snb_base.proofs.Laws.{contains_cases, contains_here, contains_there}
 
 -- ---- links
 

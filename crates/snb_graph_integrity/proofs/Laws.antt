@@ -12,15 +12,15 @@ use Rattle.snb_schema.specs.declared.row.Row.{Row}
 use Rattle.snb_schema.specs.declared.table.Table.{Table}
 use Rattle.snb_schema.specs.RowKeys.{RowKey, slot_of}
 use Rattle.snb_schema.specs.TableOrder.{same_table}
-use Rattle.snb_graph_rows.proofs.Laws.{contains_cases}
 use Rattle.snb_graph_model.proofs.Laws.{same_is}
 use Rattle.snb_graph_model.specs.Graphs.{HasSlot, fills, same_key}
+use Rattle.snb_base.proofs.Laws.{contains_cases}
 
 -- tables are one exactly where the test says so
 pub table_decides : (t u : Table) → Decides (same_table t u) (t ≡ u)
 table_decides t u = (same_is t u, true_same the_table t u)
 
-key_decides : (j k : RowKey) → Decides (same_key j k) (j ≡ k)
+pub key_decides : (j k : RowKey) → Decides (same_key j k) (j ≡ k)
 key_decides j k =
     Decides-like (same_key j k) (λ p i. (p.0.0.0 i, p.0.0.1 i, p.0.1 i, p.1 i)) (λ e. (((ap (λ x. x.0) e, ap (λ x. x.1) e), ap (λ x. x.2) e), ap (λ x. x.3) e))
     (Decides-and _ (bytes_eq j.3 k.3) (Decides-and _ _ (Decides-and (same_table j.0 k.0) _ (table_decides j.0 k.0) (Decides-eqb j.1 k.1)) (Decides-eqb j.2 k.2)) (bytes_eq-Decides j.3 k.3))

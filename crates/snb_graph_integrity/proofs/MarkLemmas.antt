@@ -1,14 +1,10 @@
 -- Marking step by step.
-use Rattle.std.proofs.Common.{◌≡◌, ◌↔◌, ℕ, zero, suc, ◌⊎◌, List, [], ◌∷◌, ◌++◌, length, refl, sym, ap, ◌∙◌, subst, inl, inr, arith, Result, Ok, Err, IfOk}
+use Rattle.std.proofs.Common.{◌≡◌, ◌↔◌, ℕ, zero, suc, ◌⊎◌, List, [], ◌∷◌, ◌++◌, length, refl, sym, ap, ◌∙◌, subst, inl, inr, arith}
 use Rattle.std.specs.List.{Contains}
 use Rattle.std.proofs.lemmas.List.Elements.{Contains-append_cases, Contains-append_left, Contains-append_right}
-use Rattle.snb_graph_rows.proofs.Laws.{contains_here, contains_there, contains_cases}
 use Rattle.snb_graph_rows.specs.Pairs.{HasPair, HasAdded, ArePairsOf}
 use Rattle.snb_graph_integrity.specs.Marks.{ReachedIn, IsReached, IsMarked, AreReached, IsMarking, HasChildren}
-
-pub if_ok : {T E : Type 0} {P Q : T → Type 0} (r : Result T E) → ((x : T) → P x → Q x) → IfOk r P → IfOk r Q
-if_ok (Ok x) f p = f x p
-if_ok (Err x) f p = tt
+use Rattle.snb_base.proofs.Laws.{contains_cases, contains_here, contains_there}
 
 -- an element of a list with one more at its end
 pub last_cases : (xs : List ℕ) (y x : ℕ) → Contains (xs ++ y ∷ []) x → Contains xs x ⊎ (y ≡ x)

@@ -18,10 +18,10 @@ use Rattle.snb_schema.specs.RowLines.{table_of, values}
 use Rattle.snb_schema.specs.TableOrder.{same_table}
 use Rattle.snb_schema.specs.TableRows.{AreWithin, IsTableRow}
 use Rattle.snb_graph_rows.specs.Rows.{GivesRow}
-use Rattle.snb_graph_rows.proofs.Laws.{in_filter}
 use Rattle.snb_graph_integrity.proofs.Laws.{table_decides}
 use Rattle.snb_graph_model.proofs.Laws.{row_total}
 use Rattle.snb_graph_model.specs.Graphs.{IsGraph, row_order, rows}
+use Rattle.snb_base.proofs.Laws.{in_filter}
 
 -- ---- the order of rows
 

@@ -17,13 +17,13 @@ use Rattle.snb_schema.specs.RowLines.{table_of}
 use Rattle.snb_schema.specs.TableOrder.{all_tables, same_table}
 use Rattle.snb_schema.specs.TableRows.{IsTableRow}
 use Rattle.snb_graph_rows.specs.Keyed.{key_table}
-use Rattle.snb_graph_rows.proofs.Laws.{contains_map, in_filter}
 use Rattle.snb_graph_integrity.specs.Edges.{needs_at}
 use Rattle.snb_graph_integrity.specs.SoundLaws.{CommentsHaveOneParent, MessagesAreOfOneKind, MessagesHaveOneAuthor, PostsHaveNoParent, RepliesAreHeld, RequiredEdgesAreThere}
 use Rattle.snb_graph_integrity.proofs.Laws.{fills_decides, in_flat_map, table_decides}
 use Rattle.snb_graph_integrity.proofs.RowLemmas.{among_rows}
 use Rattle.snb_graph_model.specs.Graphs.{HasKey, HasSlot, IsGraph, fills, rows}
 use Rattle.snb_graph_model.specs.Soundness.{Need, Sound, edges_of, needs, needs_of}
+use Rattle.snb_base.proofs.Laws.{contains_map, in_filter}
 
 -- an id is that of a post or of a comment, never of both
 pub one_kind : MessagesAreOfOneKind

@@ -9,20 +9,12 @@ use Rattle.std.proofs.lemmas.Bool.Decides.{nat_tests}
 use mathlib.Core.Bool.{false≢true}
 use Rattle.snb_graph_maps.specs.Merged.{value_at, merged, Rises}
 use Rattle.snb_graph_links.specs.Pairs.{Lists, pairs_at, pairs_of, AddsPair, TakesPair, ArePairParts, ArePairsOf, HasPair, HasFrozenPair, HasAdded, HasDropped, without}
-use Rattle.snb_graph_maps.proofs.MergedLemmas.{rises-merged}
-use Rattle.snb_graph_maps.proofs.PartLemmas.{filter-merged}
-use Rattle.snb_graph_links.proofs.PairLemmas.{filter_none}
-use Rattle.snb_graph_maps.proofs.Laws.{frozen_within}
-use Rattle.snb_graph_maps.proofs.ListLemmas.{contains-insert, in_filter, value_none}
-
-same_number : (a b : ℕ) → nat_eq a b ≡ true → a ≡ b
-same_number a b e = grind (arith, nat_tests)
+use Rattle.snb_graph_links.proofs.PairLemmas.{filter_none, not_same}
+use Rattle.snb_graph_maps.proofs.Laws.{contains-insert, filter-merged, frozen_within, rises-merged, value_none}
+use Rattle.snb_base.proofs.Laws.{in_filter, same_number}
 
 other_number : (a b : ℕ) → nat_eq a b ≡ false → a ≢ b
 other_number a b e = grind (arith, nat_tests)
-
-apart_number : (a b : ℕ) → a ≢ b → nat_eq a b ≡ false
-apart_number a b h = grind (arith, nat_tests)
 
 -- the pairs of a number rise
 pub pairs_rise : (s : Lists × Lists) → ArePairParts s.0 s.1 → (q : ℕ) → Rises nat_cmp (pairs_of s q)
@@ -85,7 +77,7 @@ has_dropped old new of id parts none frozen takes n i d = by (nat_eq n of) refl
         ∙ without_merged (pairs_at old.0 of) (pairs_at old.1 of) id (parts of).frozen_rises none in
         let iff = in_filter (λ (p : ℕ × ℕ). not (nat_eq p.0 id)) (pairs_of old of) (i, d) in (
           λ c. let r = iff.0 (subst (λ ps. Contains ps (i, d)) now c) in (subst (λ m. HasPair old m i d) (sym same) r.0, λ is. passes i r.1 is.1),
-          λ both. subst (λ ps. Contains ps (i, d)) (sym now) (iff.1 (subst (λ m. HasPair old m i d) same both.0, ap not (apart_number i id (λ is. both.1 (sym same, sym is))))),
+          λ both. subst (λ ps. Contains ps (i, d)) (sym now) (iff.1 (subst (λ m. HasPair old m i d) same both.0, ap not (not_same i id (λ is. both.1 (sym same, sym is))))),
         )
     by false e =
         let now : pairs_of new n ≡ pairs_of old n = whole ∙ ap (λ b. merged nat_cmp (pairs_at old.0 n) (cond b (without id (pairs_at old.1 of)) (pairs_at old.1 n))) e in (

@@ -5,22 +5,21 @@ use Rattle.std.specs.declared.cmp.Ordering.{Ordering}
 use Rattle.std.specs.declared.cmp.Ordering.TheVariants.{Less, Equal, Greater}
 use Rattle.std.specs.Ordering.{eq_by_cmp, is_eq, nat_cmp, ordering_then}
 use Rattle.std.specs.Cmp.{IsEquivalence, IsTotalOrder, and_equiv, both_tied, first_so, nat_cmp_total, nat_eq_equiv, on_equiv, on_total, second_so, then_total, unsigned_ties}
-use Rattle.std.specs.List.{All, AllByRecursion, Contains, dedup}
+use Rattle.std.specs.List.{AllByRecursion, Contains, dedup}
 use Rattle.std.specs.List.Sorted.{IsPermutation, IsSorted, IsStrictlySortedBy}
 use Rattle.std.specs.Map.{keys_of}
 use Rattle.std.proofs.lemmas.Bool.Decides.{nat_tests}
 use Rattle.std.proofs.lemmas.List.{append-nil, append_assoc, drop-append-le, length-append, length-drop, take_all}
-use Rattle.std.proofs.lemmas.List.Elements.{Contains-get_or}
 use Rattle.std.proofs.lemmas.List.Kept.{Contains-dedup, Contains-from_dedup, IsStrictlySortedBy-dedup}
 use Rattle.std.proofs.lemmas.List.Sorted.{Contains-permutation, IsPermutation-sym}
 use Rattle.std.proofs.Math.Seq.{drop-cons}
 use Rattle.std.proofs.Math.ListN.{drop_of_length-le}
 use Rattle.snb_graph_maps.specs.Merged.{Rises}
 use Rattle.snb_graph_links.specs.Pairs.{AreInOrder, AreRuns, AreSingle, IsSpan, by_ends, grown, of_number, pairs_at, part, runs_of}
-use Rattle.snb_graph_maps.proofs.ListLemmas.{contains_cases, contains_here, contains_there}
 use Rattle.std.proofs.lemmas.Cmp.{ranked}
-use Rattle.snb_graph_links.proofs.PairLemmas.{is_less, same_test}
+use Rattle.snb_graph_links.proofs.PairLemmas.{same_test}
 use Rattle.snb_graph_links.proofs.RunLemmas.{part_last, part_more}
+use Rattle.snb_base.proofs.Laws.{all_of, all_recursive, compares_less, contains_cases, contains_here, contains_there}
 
 abbrev pub Head : Type 0
 Head = ℕ × (ℕ × ℕ)
@@ -29,9 +28,6 @@ test_below : (a b : ℕ) → nat_cmp a b ≡ Less → a < b
 test_below a b e = ranked a b Less (sym e)
 
 -- ---- what is so of each element
-
-all_of : {X : Type 0} (P : X → Type 0) (xs : List X) → ((x : X) → Contains xs x → P x) → All P xs
-all_of P xs f = λ k d l. f (get_or xs k d) (Contains-get_or xs k d l)
 
 -- the first is below those after it, and those are in order
 sorted_tail : {X : Type 0} (c : X → X → Ordering) (x : X) (xs : List X) → IsStrictlySortedBy c (x ∷ xs) → IsStrictlySortedBy c xs
@@ -45,10 +41,6 @@ recursive P (x ∷ xs) y all c = elim (contains_cases x xs y c) [ inl e ↦ subs
 sorted_below : {X : Type 0} (c : X → X → Ordering) (x : X) (xs : List X) (y : X) → IsStrictlySortedBy c (x ∷ xs) → Contains xs y → c x y ≡ Less
 unfolding IsStrictlySortedBy
 sorted_below c x xs y s has = recursive (λ y. c x y ≡ Less) xs y s.0 has
-
-all_recursive : {X : Type 0} (P : X → Type 0) (xs : List X) → ((y : X) → Contains xs y → P y) → AllByRecursion P xs
-all_recursive P [] f = tt
-all_recursive P (x ∷ xs) f = (f x (contains_here x xs), all_recursive P xs (λ y c. f y (contains_there x xs y c)))
 
 sorted_cons : {X : Type 0} (c : X → X → Ordering) (x : X) (xs : List X) → ((y : X) → Contains xs y → c x y ≡ Less) → IsStrictlySortedBy c xs → IsStrictlySortedBy c (x ∷ xs)
 unfolding IsStrictlySortedBy
@@ -73,7 +65,7 @@ key_here {X = X} (f ∷ es) e c = elim (contains_cases f es e c) [
 ]
 
 rises_cons : {X : Type 0} (h : ℕ × X) (hs : List (ℕ × X)) → ((g : ℕ × X) → Contains hs g → h.0 < g.0) → Rises nat_cmp hs → Rises nat_cmp (h ∷ hs)
-rises_cons h hs f r = sorted_cons nat_cmp h.0 (keys_of hs) (λ k c. let g = key_there hs k c in is_less h.0 k (subst (λ n. h.0 < n) g.2 (f g.0 g.1))) r
+rises_cons h hs f r = sorted_cons nat_cmp h.0 (keys_of hs) (λ k c. let g = key_there hs k c in compares_less h.0 k (subst (λ n. h.0 < n) g.2 (f g.0 g.1))) r
 
 rises_below : {X : Type 0} (h : ℕ × X) (hs : List (ℕ × X)) (g : ℕ × X) → Rises nat_cmp (h ∷ hs) → Contains hs g → h.0 < g.0
 rises_below h hs g r c = test_below h.0 g.0 (sorted_below nat_cmp h.0 (keys_of hs) g.0 r (key_here hs g c))

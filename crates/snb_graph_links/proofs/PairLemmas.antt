@@ -24,20 +24,12 @@ use Rattle.std.proofs.lemmas.Map.Made.{lookup-map_values}
 use Rattle.std.proofs.lemmas.Bool.Decides.{nat_tests}
 use Rattle.snb_graph_maps.specs.Merged.{value_at, merged, Rises, AreParts}
 use Rattle.snb_graph_links.specs.Pairs.{Lists, lists_of, pairs_at, pairs_of, PutsPair, TakesPair, AddsPair, ArePairParts, without, runs_of, part}
-use Rattle.snb_graph_maps.proofs.MergedLemmas.{merged-insert, merged-nil, parts-insert, value_at-merged, value_at-insert, rises-insert, value_below}
-
-less_test : (a b : ℕ) → a < b → ltb a b ≡ true
-less_test a b h = grind (arith, nat_tests)
+use Rattle.snb_base.proofs.Laws.{compares_greater}
+use Rattle.std.proofs.lemmas.Bool.{lt-ltb}
+use Rattle.snb_graph_maps.proofs.Laws.{merged-insert, merged-nil, parts-insert, rises-insert, value_at-insert, value_at-merged, value_below}
 
 test_less : (a b : ℕ) → ltb a b ≡ true → a < b
 test_less a b h = grind (arith, nat_tests)
-
--- what a comparison of two numbers is
-pub is_less : (a b : ℕ) → a < b → nat_cmp a b ≡ Less
-is_less a b h = sym (nat_cmp_is a b Less h)
-
-is_greater : (a b : ℕ) → b < a → nat_cmp a b ≡ Greater
-is_greater a b h = sym (nat_cmp_is a b Greater h)
 
 is_equal : (a : ℕ) → nat_cmp a a ≡ Equal
 is_equal a = sym (nat_cmp_is a a Equal refl)
@@ -68,9 +60,9 @@ insert_at (x ∷ xs) zero k v lo hi none le = go (nat_cmp k x.0) refl
     go : (r : Ordering) → nat_cmp k x.0 ≡ r → (k, v) ∷ x ∷ xs ≡ match_ordering (nat_cmp k x.0) ((k, v) ∷ x ∷ xs) ((x.0, v) ∷ xs) (x ∷ insert_entry nat_cmp xs k v)
     go Less e = rw e refl
     go Equal e = absurd (false≢true (sym (ap is_some (sym (ap (λ r. cond (is_eq r) (Some x.1) (value_at nat_cmp xs k)) e) ∙ none))))
-    go Greater e = absurd (false≢true (sym not_less ∙ less_test x.0 k (ranked k x.0 Greater (sym e))))
+    go Greater e = absurd (false≢true (sym not_less ∙ lt-ltb x.0 k (ranked k x.0 Greater (sym e))))
 insert_at (x ∷ xs) (suc i) k v lo hi none le =
-    let above : nat_cmp k x.0 ≡ Greater = is_greater k x.0 (test_less x.0 k (lo 0 (0, 0) (omega arith) (omega arith))) in
+    let above : nat_cmp k x.0 ≡ Greater = compares_greater k x.0 (test_less x.0 k (lo 0 (0, 0) (omega arith) (omega arith))) in
     let rest = insert_at xs i k v (λ j d l h. lo (suc j) d (omega arith) (omega arith)) (λ j d l h. hi (suc j) d (omega arith) (omega arith)) (ap (λ r. cond (is_eq r) (Some x.1) (value_at nat_cmp xs k)) (sym above) ∙ none) (omega arith) in
     rw above (ap (λ ys. x ∷ ys) rest)
 
@@ -147,7 +139,7 @@ lists_from_clone C D g h (x ∷ xs) (y ∷ ys) a = λ i. (g x.0 y.0 a.0.0 i, h x
 
 -- ---- the parts joined, number by number
 
-not_same : (a b : ℕ) → a ≢ b → nat_eq a b ≡ false
+pub not_same : (a b : ℕ) → a ≢ b → nat_eq a b ≡ false
 not_same a b h = grind (arith, nat_tests)
 
 -- of the numbers with frozen pairs, some last ones are left

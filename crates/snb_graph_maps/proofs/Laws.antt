@@ -1,5 +1,5 @@
--- What other crates may cite of this one: results that are told, orders that stay, and frozen entries among all.
-use Rattle.std.proofs.Common.{List, Bool, Result, Ok, Err, OnOk, OnErr}
+-- What other crates may cite of this one: entries in order, frozen and added ones merged, searches, and walks.
+use Rattle.std.proofs.Common.{List, Bool}
 use Rattle.std.specs.declared.cmp.Ordering.{Ordering}
 use Rattle.std.specs.Cmp.{IsTotalOrder}
 use Rattle.std.specs.BTreeMap.{insert_entry}
@@ -8,18 +8,11 @@ use Rattle.std.specs.Map.{remove_entry}
 use Rattle.std.proofs.lemmas.Map.Lookups.{CmpEqualImpliesEq}
 use Rattle.snb_graph_maps.specs.Merged.{AreParts, Rises, merged}
 use Rattle.snb_graph_maps.proofs.ListLemmas.{entry_at}
-use Rattle.snb_graph_maps.proofs.MergedLemmas.{rises-insert, rises-merged}
 use Rattle.snb_graph_maps.proofs.PartLemmas.{found_frozen_first, rises-remove}
-
--- ---- results that are told
-
-pub on_ok : {T E P Q : Type 0} (r : Result T E) → (P → Q) → OnOk r P → OnOk r Q
-on_ok (Ok x) f p = f p
-on_ok (Err e) f p = tt
-
-pub on_err : {T E P Q : Type 0} (r : Result T E) → (P → Q) → OnErr r P → OnErr r Q
-on_err (Ok x) f p = tt
-on_err (Err e) f p = f p
+pub use Rattle.snb_graph_maps.proofs.ListLemmas.{contains-insert, IsPermutation-insert_entry, value_none}
+pub use Rattle.snb_graph_maps.proofs.MergedLemmas.{merged-insert, merged-nil, parts-all, parts-insert, rises-insert, rises-merged, takes_from_added, takes_from_frozen, takes_progress, value_at-insert, value_at-merged, value_below}
+pub use Rattle.snb_graph_maps.proofs.PartLemmas.{filter-merged}
+pub use Rattle.snb_graph_maps.proofs.SearchLemmas.{found_at, missed_at, searchable}
 
 -- ---- entries in order
 

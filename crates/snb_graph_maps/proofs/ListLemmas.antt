@@ -1,5 +1,5 @@
 -- What a list contains, and what its entries are under a key.
-use Rattle.std.proofs.Common.{◌≡◌, ◌↔◌, ◌<◌, ℕ, zero, suc, ◌⊎◌, inl, inr, length, get_or, Bool, true, false, cond, List, [], ◌∷◌, Option, Some, None, filter, refl, sym, ap, ◌∙◌, subst, arith, is_some}
+use Rattle.std.proofs.Common.{◌≡◌, ◌↔◌, ◌⊎◌, inl, inr, true, false, cond, List, [], ◌∷◌, Some, None, refl, sym, ap, ◌∙◌, subst, is_some}
 use mathlib.Core.Bool.{false≢true}
 use Rattle.std.specs.declared.cmp.Ordering.{Ordering}
 use Rattle.std.specs.declared.cmp.Ordering.TheVariants.{Less, Equal, Greater}
@@ -9,53 +9,12 @@ use Rattle.std.specs.BTreeMap.{insert_entry, is_at}
 use Rattle.std.specs.List.{Contains}
 use Rattle.std.specs.List.Sorted.{IsPermutation}
 use Rattle.std.specs.Map.{lookup, keys_of}
-use Rattle.std.proofs.lemmas.List.Sorted.{IsPermutation-refl, IsPermutation-cons, IsPermutation-trans, IsPermutation-append_left, IsPermutation-append_comm, IsPermutation-sym, Contains-permutation}
+use Rattle.std.proofs.lemmas.List.Sorted.{IsPermutation-refl, IsPermutation-cons, IsPermutation-trans, IsPermutation-sym, Contains-permutation}
 use Rattle.std.proofs.lemmas.Map.Keys.{IsDistinct-from_sorted}
 use Rattle.std.proofs.lemmas.Map.Lookups.{CmpEqualImpliesEq}
 use Rattle.std.proofs.lemmas.Map.Views.{Contains-from_lookup, lookup-from_Contains, tells_apart}
 use Rattle.snb_graph_maps.specs.Merged.{value_at, Rises}
-
--- an element of a list is the first one, or stands after it
-pub contains_cases : {X : Type 0} (y : X) (ys : List X) (x : X) → Contains (y ∷ ys) x → (y ≡ x) ⊎ Contains ys x
-contains_cases y ys x h = by_place h.0 h.1 h.2
-  where
-    by_place : (k : ℕ) → k < length (y ∷ ys) → get_or (y ∷ ys) k x ≡ x → (y ≡ x) ⊎ Contains ys x
-    by_place zero l e = inl e
-    by_place (suc k) l e = inr (k, omega arith, e)
-
-pub contains_here : {X : Type 0} (y : X) (ys : List X) → Contains (y ∷ ys) y
-contains_here y ys = (0, omega arith, refl)
-
-pub contains_there : {X : Type 0} (y : X) (ys : List X) (x : X) → Contains ys x → Contains (y ∷ ys) x
-contains_there y ys x h = (suc h.0, (let l = h.1 in omega arith), h.2)
-
--- a filter keeps what passes
-pub in_filter : {X : Type 0} (p : X → Bool) (xs : List X) (x : X) → Contains (filter p xs) x ↔ (Contains xs x × (p x ≡ true))
-in_filter p [] x = (λ c. absurd (omega (arith, c.1)), λ c. absurd (omega (arith, c.0.1)))
-in_filter {X} p (y ∷ ys) x = by (p y) refl (in_filter p ys x)
-  where
-    by : (b : Bool) → p y ≡ b → (Contains (filter p ys) x ↔ (Contains ys x × (p x ≡ true))) → (Contains (cond b (y ∷ filter p ys) (filter p ys)) x ↔ (Contains (y ∷ ys) x × (p x ≡ true)))
-    by true is rest = (
-      λ c. elim (contains_cases y (filter p ys) x c) [
-        | inl e ↦ (subst (λ (z : X). Contains (y ∷ ys) z) e (contains_here y ys), sym (ap p e) ∙ is)
-        | inr d ↦ let r = rest.0 d in (contains_there y ys x r.0, r.1)
-      ],
-      λ c. elim (contains_cases y ys x c.0) [
-        | inl e ↦ subst (λ (z : X). Contains (y ∷ filter p ys) z) e (contains_here y (filter p ys))
-        | inr d ↦ contains_there y (filter p ys) x (rest.1 (d, c.1))
-      ],
-    )
-    by false is rest = (
-      λ c. let r = rest.0 c in (contains_there y ys x r.0, r.1),
-      λ c. elim (contains_cases y ys x c.0) [
-        | inl e ↦ absurd (false≢true (sym is ∙ ap p e ∙ c.1))
-        | inr d ↦ rest.1 (d, c.1)
-      ],
-    )
-
--- the first two elements may change places
-two_swapped : {X : Type 0} (x y : X) (zs : List X) → IsPermutation (x ∷ y ∷ zs) (y ∷ x ∷ zs)
-two_swapped x y zs = IsPermutation-append_left zs (x ∷ y ∷ []) (y ∷ x ∷ []) (IsPermutation-append_comm (x ∷ []) (y ∷ []))
+use Rattle.snb_base.proofs.Laws.{contains_cases, contains_here, contains_there, none_of, two_swapped}
 
 -- an entry under a new key is one entry more
 pub IsPermutation-insert_entry : {K V : Type 0} (cmp : K → K → Ordering) (es : List (K × V)) (k : K) (v : V) → lookup (is_at (cmp k)) es ≡ None → IsPermutation (insert_entry cmp es k v) ((k, v) ∷ es)
@@ -66,10 +25,6 @@ IsPermutation-insert_entry cmp (e ∷ es) k v n =
       | Equal ↦ λ m. absurd cc
       | Greater ↦ λ m. IsPermutation-trans _ _ _ (IsPermutation-cons e _ _ (IsPermutation-insert_entry cmp es k v m)) (two_swapped e (k, v) es)
     ] n
-
-none_of : {X : Type 0} (o : Option X) → ((v : X) → o ≡ Some v → ⊥) → o ≡ None
-none_of None h = refl
-none_of (Some v) h = absurd (h v refl)
 
 module _ {K X : Type 0} (R : K → K → Ordering) (o : IsTotalOrder R) (exact : CmpEqualImpliesEq R) where
   -- an entry is there exactly where its key has its value

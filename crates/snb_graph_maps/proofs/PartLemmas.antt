@@ -16,6 +16,7 @@ use Rattle.std.proofs.lemmas.Map.Entries.{lookup-filter-keys}
 use Rattle.std.proofs.lemmas.Map.Keys.{IsDistinct-from_sorted}
 use Rattle.snb_graph_maps.specs.Merged.{value_at, merged, Rises, AreParts, AreStored, most_entries}
 use Rattle.snb_graph_maps.proofs.MergedLemmas.{same_rows, rises-merged, rises-insert, value_at-merged, value_at-insert, value_at_tied, length-merged, length-insert, parts-all, parts-insert, parts-remove}
+use Rattle.snb_base.proofs.Laws.{equal_from}
 
 -- a filter by the keys
 pub keys_filter : {K X : Type 0} (p : K → Bool) (es : List (K × X)) → keys_of (filter (λ e. p e.0) es) ≡ filter p (keys_of es)
@@ -41,15 +42,10 @@ filter_twice p q (x ∷ xs) = elim (p x) as (λ b. filter q (cond b (x ∷ filte
   | false ↦ filter_twice p q xs
 ]
 
-pub equal : (r : Ordering) → is_eq r ≡ true → r ≡ Equal
-equal Less e = absurd (false≢true e)
-equal Equal e = refl
-equal Greater e = absurd (false≢true e)
-
 module _ {K X : Type 0} (R : K → K → Ordering) (o : IsTotalOrder R) (exact : (x y : K) → R x y ≡ Equal → x ≡ y) where
   -- what a filter by the keys leaves under a key
   pub value_at-filter : (p : K → Bool) (es : List (K × X)) (q : K) → value_at R (filter (λ e. p e.0) es) q ≡ cond (p q) (value_at R es q) None
-  value_at-filter p es q = lookup-filter-keys (is_at (R q)) p (p q) (λ k t. ap p (sym (exact q k (equal (R q k) t)))) es
+  value_at-filter p es q = lookup-filter-keys (is_at (R q)) p (p q) (λ k t. ap p (sym (exact q k (equal_from (R q k) t)))) es
 
   pub rises-filter : (p : K → Bool) (es : List (K × X)) → Rises R es → Rises R (filter (λ e. p e.0) es)
   rises-filter p es h = subst (IsStrictlySortedBy R) (sym (keys_filter p es)) (IsStrictlySortedBy-filter R p (keys_of es) h)

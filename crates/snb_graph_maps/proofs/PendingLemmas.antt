@@ -1,5 +1,5 @@
 -- Entries that came in any order, put in order, and walks over them.
-use Rattle.std.proofs.Common.{◌≡◌, List, [], ◌∷◌, Option, Some, None, Bool, true, false, cond, not, ◌&&◌, length, filter, refl, sym, ◌∙◌, ap, subst, inl, inr, arith, is_some, unwrap_or, IsSome, IfSome, Contains, Result, Ok, Err, IfOk, OnErr}
+use Rattle.std.proofs.Common.{◌≡◌, List, [], ◌∷◌, Option, Some, None, Bool, true, false, cond, not, ◌&&◌, length, filter, refl, sym, ◌∙◌, ap, subst, inl, inr, arith, is_some, unwrap_or, IsSome, IfSome, Contains}
 use mathlib.Core.Bool.{false≢true}
 use Rattle.std.specs.declared.cmp.Ordering.{Ordering}
 use Rattle.std.specs.declared.cmp.Ordering.TheVariants.{Less, Equal, Greater}
@@ -13,10 +13,11 @@ use Rattle.std.specs.Option.{option_or}
 use Rattle.std.proofs.lemmas.List.Kept.{IsStrictlySortedBy-dedup}
 use Rattle.snb_graph_maps.specs.Ahead.{IsLeast, IsWithin, ahead, before, is_above, is_from}
 use Rattle.snb_graph_maps.specs.Merged.{Rises, merged, value_at}
-use Rattle.snb_graph_maps.proofs.ListLemmas.{contains_cases, contains_here, contains_there, entry_at}
+use Rattle.snb_graph_maps.proofs.ListLemmas.{entry_at}
 use Rattle.snb_graph_maps.proofs.LeastLemmas.{all_after, cut}
 use Rattle.snb_graph_maps.proofs.MergedLemmas.{length-insert, merged-nil, rises-insert, rises-merged, same_rows, value_at-insert, value_at-merged, value_below}
-use Rattle.snb_graph_maps.proofs.PartLemmas.{equal, filter_all, rises-remove, value_at-gone}
+use Rattle.snb_graph_maps.proofs.PartLemmas.{filter_all, rises-remove, value_at-gone}
+use Rattle.snb_base.proofs.Laws.{contains_cases, contains_here, contains_there, equal_from}
 
 or_none : {X : Type 0} (p : Option X) → option_or p None ≡ p
 or_none None = refl
@@ -59,14 +60,6 @@ distinct_alike R eq ties ks d = subst (λ e. IsDistinct e ks) (λ i x y. ties x 
 no_end : {K : Type 0} (R : K → K → Ordering) (next : Option K) → before R next None ≡ next
 no_end R None = refl
 no_end R (Some k) = refl
-
-pub if_ok : {T E : Type 0} {P Q : T → Type 0} (r : Result T E) → ((x : T) → P x → Q x) → IfOk r P → IfOk r Q
-if_ok (Ok x) f p = f x p
-if_ok (Err e) f p = tt
-
-pub on_any_err : {T E P : Type 0} (r : Result T E) → P → OnErr r P
-on_any_err (Ok x) p = tt
-on_any_err (Err e) p = p
 
 module _ {K X : Type 0} (R : K → K → Ordering) (o : IsTotalOrder R) (exact : (x y : K) → R x y ≡ Equal → x ≡ y) where
   -- what is kept under a key is what came with it
@@ -233,7 +226,7 @@ module _ {K X : Type 0} (R : K → K → Ordering) (o : IsTotalOrder R) (exact :
 
   -- the least key that isn't below one: that key, or the least above it
   pub since_found : (es : List (K × X)) (from k : K) (v : X) → is_eq (R from k) ≡ true → value_at R es from ≡ Some v → IsLeast R (λ x. is_le (R from x)) (keys_of es) (Some k)
-  since_found es from k v tied is = subst (λ q. IsLeast R (λ x. is_le (R from x)) (keys_of es) (Some q)) (exact from k (equal (R from k) tied)) (record { held = held_key es from (ap is_some is); from = λ x c. refl })
+  since_found es from k v tied is = subst (λ q. IsLeast R (λ x. is_le (R from x)) (keys_of es) (Some q)) (exact from k (equal_from (R from k) tied)) (record { held = held_key es from (ap is_some is); from = λ x c. refl })
 
   pub since_missed : (es : List (K × X)) (from : K) (next : Option K) → value_at R es from ≡ None → IsLeast R (is_above R (Some from)) (keys_of es) next → IsLeast R (λ x. is_le (R from x)) (keys_of es) next
   since_missed es from next none is = record { held = is.held; from = λ x c. is.from x c ∙ by x c (R from x) refl }

@@ -5,34 +5,22 @@ use Rattle.std.specs.declared.cmp.Ordering.TheVariants.{Less, Equal, Greater}
 use Rattle.std.specs.Cmp.{IsTotalOrder}
 use Rattle.std.specs.List.{All, Contains}
 use Rattle.std.specs.List.Sorted.{IsPermutation, IsStrictlySortedBy}
-use Rattle.std.specs.Ordering.{is_eq, nat_cmp, ordering_reverse, ordering_then}
-use Rattle.std.proofs.lemmas.Bool.{false≢true}
+use Rattle.std.specs.Ordering.{nat_cmp, ordering_reverse, ordering_then}
 use Rattle.std.proofs.lemmas.List.Elements.{All-cons, All-from_recursion, All-tail, recursion_from_All}
 use Rattle.std.proofs.lemmas.List.Sorted.{All-permutation, Contains-permutation, IsPermutation-append_left, IsPermutation-append_right, IsPermutation-append_comm, IsPermutation-refl, IsPermutation-sym, IsPermutation-to_front, IsPermutation-trans}
 use Rattle.std.proofs.lemmas.Map.Lookups.{exact_bytes, exact_unsigned}
 use Rattle.std.specs.Cmp.Lexicographic.{slice_cmp}
-use denote.Enum.Bare.{same_true}
-use Rattle.snb_base.proofs.Laws.{contains_cases, contains_here, contains_there}
-use Rattle.snb_schema.specs.contracts.table.Table.{the_type as the_table}
-use Rattle.snb_schema.specs.contracts.table.TableOrd.TheImpl.Laws.{matches_eq-law}
+use Rattle.snb_base.proofs.Laws.{contains_cases, contains_here, contains_there, then_equal}
 use Rattle.snb_schema.specs.declared.row.Row.{Row}
-use Rattle.snb_schema.specs.declared.table.Table.{Table}
 use Rattle.snb_schema.specs.RowKeys.{RowKey, row_key, slot, slot_of}
 use Rattle.snb_schema.specs.TableOrder.{table_order}
 use Rattle.snb_schema.specs.TableRows.{IsTableRow}
 use Rattle.snb_graph_model.specs.Graphs.{HasGained, HasSlot, IsGraph, key_order, part, row_order}
 use Rattle.snb_graph_model.specs.Laws.{NewRowsAreGained}
 use Rattle.snb_graph_model.proofs.Laws.{row_total}
+use Rattle.snb_schema.proofs.Laws.{table_exact}
 
 -- ---- rows that are tied fill one slot
-
-then_equal : (o p : Ordering) → ordering_then o p ≡ Equal → (o ≡ Equal) × (p ≡ Equal)
-then_equal Less p e = absurd (false≢true (ap is_eq e))
-then_equal Equal p e = (refl, e)
-then_equal Greater p e = absurd (false≢true (ap is_eq e))
-
-table_exact : (t u : Table) → table_order t u ≡ Equal → t ≡ u
-table_exact t u e = same_true the_table tt t u (matches_eq-law t u ∙ ap is_eq e)
 
 key_exact : (j k : RowKey) → key_order j k ≡ Equal → j ≡ k
 key_exact j k e =

@@ -6,22 +6,21 @@ use Rattle.std.specs.declared.cmp.Ordering.TheVariants.{Less}
 use Rattle.std.specs.Ordering.{ordering_reverse, is_lt, nat_cmp}
 use Rattle.std.specs.Cmp.{IsTotalOrder, nat_cmp_total, then_total, on_total}
 use Rattle.std.specs.Cmp.Lexicographic.{nat_list_cmp_total}
-use Rattle.std.specs.List.{Contains, AllByRecursion, cons_option, filter, filter_map, list_any}
+use Rattle.std.specs.List.{Contains, AllByRecursion, cons_option, filter, filter_map}
 use Rattle.std.specs.List.Sorted.{IsStrictlySortedBy, IsPermutation}
 use Rattle.std.specs.Result.{is_err}
 use Rattle.std.proofs.lemmas.Bool.{eq-eqb, eqb-true}
 use Rattle.std.proofs.lemmas.List.Elements.{Contains-append_cases, All-contains, Contains-append_left, Contains-append_right, filter_map-append}
-use Rattle.std.proofs.lemmas.List.Folds.{Any-from_list_any, list_any-from_Any}
 use Rattle.std.proofs.lemmas.List.Sorted.{IsPermutation-append_comm, IsPermutation-append_left, IsPermutation-cons, IsPermutation-refl, IsPermutation-sym, IsPermutation-trans}
 use Rattle.std.proofs.lemmas.Cmp.{tied_itself}
 use Rattle.std.specs.Map.{keys_of}
 use denote.Enum.Bare.{same_true, true_same}
 use mathlib.Core.Bool.{false≢true}
-use Rattle.snb_base.proofs.Laws.{contains_cases, contains_here, contains_there}
+use Rattle.snb_base.proofs.Laws.{any_of, contains_cases, contains_here, contains_there, from_any, given_by, gives, in_filter, none_in}
 use Rattle.snb_schema.specs.contracts.table.Table.{the_type as the_table}
 use Rattle.snb_schema.specs.contracts.table.TableOrd.TheImpl.Laws.{total-law}
 use Rattle.snb_schema.specs.declared.table.Table.{Table}
-use Rattle.snb_schema.specs.RowKeys.{RowKey, row_key, edge_key, node_key, slot, slot_of}
+use Rattle.snb_schema.specs.RowKeys.{edge_key, node_key, row_key, RowKey, sharing, slot, slot_of}
 use Rattle.snb_schema.specs.TableOrder.{same_table, table_order}
 use Rattle.snb_schema.specs.declared.layout.KeyColumns.TheVariants.{First}
 use Rattle.snb_schema.specs.declared.nodes.Comment.{Comment}
@@ -36,15 +35,13 @@ use Rattle.snb_schema.specs.Layouts.{key_columns}
 use Rattle.snb_schema.specs.RowLines.{table_of}
 use Rattle.snb_schema.specs.TableRows.{IsTableRow}
 use Rattle.snb_graph_model.specs.Graphs.{key_order, part, row_order, HasKey, IsGraph, rows}
-use Rattle.snb_graph_model.specs.Around.{has, Message, authors, comment_shown, comments, containers, end_in, ends, forum_in, forums, friend_in, friends, is_friend, liker_in, likes, likes_in, message_in, message_of, messages, parents, person_in, persons, post_shown, replies, reply_of, start_in, stay_in, with_id}
+use Rattle.snb_graph_model.specs.Around.{authors, comment_shown, comments, containers, end_in, ends, forum_in, forums, friend_in, friends, has, is_friend, liker_in, likes, likes_in, Message, message_in, message_of, messages, organisation_in, parents, person_in, persons, place_in, post_shown, replies, reply_of, start_in, stay_in, with_id}
 use Rattle.snb_graph_model.specs.Messages.{HasMessage, RepliesTo}
+use Rattle.std.proofs.lemmas.Option.{cond_some}
+use Rattle.snb_schema.specs.declared.nodes.Organisation.{Organisation}
+use Rattle.snb_schema.specs.declared.nodes.Place.{Place}
 
 -- ---- results that are told
-
--- what follows from what holds of a result that is Ok
-pub on_ok : {T E P Q : Type 0} (r : Result T E) → (P → Q) → OnOk r P → OnOk r Q
-on_ok (Ok x) give p = give p
-on_ok (Err x) give p = tt
 
 -- what holds of an error, where the result is one
 pub err_of : {T E P : Type 0} (r : Result T E) → true ≡ is_err r → OnErr r P → P
@@ -118,66 +115,9 @@ module _ {X : Type 0} (R : X → X → Ordering) (total : IsTotalOrder R) where
 
 -- ---- filters of lists, and lists without repeats
 
-pub contains_none : {X : Type 0} (x : X) → Contains [] x → ⊥
-contains_none x c = omega (arith, c.1)
-
--- a filter keeps what passes
-pub in_filter : {X : Type 0} (p : X → Bool) (xs : List X) (x : X) → Contains (filter p xs) x ↔ (Contains xs x × (p x ≡ true))
-in_filter p [] x = (λ c. absurd (contains_none x c), λ c. absurd (contains_none x c.0))
-in_filter {X} p (y ∷ ys) x = by (p y) refl (in_filter p ys x)
-  where
-    by : (b : Bool) → p y ≡ b → (Contains (filter p ys) x ↔ (Contains ys x × (p x ≡ true))) → (Contains (cond b (y ∷ filter p ys) (filter p ys)) x ↔ (Contains (y ∷ ys) x × (p x ≡ true)))
-    by true is rest = (
-      λ c. elim (contains_cases y (filter p ys) x c) [
-        | inl e ↦ (subst (λ (z : X). Contains (y ∷ ys) z) e (contains_here y ys), sym (ap p e) ∙ is)
-        | inr d ↦ let r = rest.0 d in (contains_there y ys x r.0, r.1)
-      ],
-      λ c. elim (contains_cases y ys x c.0) [
-        | inl e ↦ subst (λ (z : X). Contains (y ∷ filter p ys) z) e (contains_here y (filter p ys))
-        | inr d ↦ contains_there y (filter p ys) x (rest.1 (d, c.1))
-      ],
-    )
-    by false is rest = (
-      λ c. let r = rest.0 c in (contains_there y ys x r.0, r.1),
-      λ c. elim (contains_cases y ys x c.0) [
-        | inl e ↦ absurd (let f : true ≡ false = sym c.1 ∙ sym (ap p e) ∙ is in cc)
-        | inr d ↦ rest.1 (d, c.1)
-      ],
-    )
-
--- and what a choice gives is given by some element
-pub chosen_from : {X Y : Type 0} (f : X → Option Y) (xs : List X) (y : Y) → Contains (filter_map f xs) y → (x : X) × Contains xs x × (f x ≡ Some y)
-chosen_from f [] y c = absurd (contains_none y c)
-chosen_from {X} {Y} f (x ∷ xs) y c = by (f x) refl c (chosen_from f xs y)
-  where
-    by : (o : Option Y) → f x ≡ o → Contains (cons_option o (filter_map f xs)) y → (Contains (filter_map f xs) y → (z : X) × Contains xs z × (f z ≡ Some y)) → (z : X) × Contains (x ∷ xs) z × (f z ≡ Some y)
-    by None is d rest = let (z, there, gives) = rest d in (z, contains_there x xs z there, gives)
-    by (Some v) is d rest = elim (contains_cases v (filter_map f xs) y d) [
-      | inl e ↦ (x, contains_here x xs, is ∙ ap (λ (w : Y). Some w) e)
-      | inr l ↦ let (z, there, gives) = rest l in (z, contains_there x xs z there, gives)
-    ]
-
-pub in_chosen : {X Y : Type 0} (f : X → Option Y) (xs : List X) (x : X) (y : Y) → Contains xs x → f x ≡ Some y → Contains (filter_map f xs) y
-in_chosen f [] x y c e = absurd (contains_none x c)
-in_chosen {X} {Y} f (z ∷ zs) x y c e = elim (contains_cases z zs x c) [
-  | inl same ↦ (let is : f z ≡ Some y = ap f same ∙ e in rw is (contains_here y (filter_map f zs)))
-  | inr later ↦ more (f z) (in_chosen f zs x y later e)
-]
-  where
-    more : (o : Option Y) → Contains (filter_map f zs) y → Contains (cons_option o (filter_map f zs)) y
-    more None d = d
-    more (Some v) d = contains_there v (filter_map f zs) y d
-
--- a test that some element passes
-pub any_from : {X : Type 0} (test : X → Bool) (xs : List X) (x : X) → Contains xs x → test x ≡ true → list_any test xs ≡ true
-any_from test xs x c e = list_any-from_Any test xs (c.0, x, c.1, c.2, e)
-
-pub from_any : {X : Type 0} (test : X → Bool) (xs : List X) → list_any test xs ≡ true → (x : X) × Contains xs x × (test x ≡ true)
-from_any test xs e = let found = Any-from_list_any test xs e in (found.1, (found.0, found.2, found.3), found.4)
-
 -- a number is in a list exactly where the test says so
 pub has_from : (n : ℕ) (ns : List ℕ) → Contains ns n → has n ns ≡ true
-has_from n ns c = any_from (λ m. m == n) ns n c (eq-eqb n n refl)
+has_from n ns c = any_of (λ m. m == n) ns n c (eq-eqb n n refl)
 
 pub from_has : (n : ℕ) (ns : List ℕ) → has n ns ≡ true → Contains ns n
 from_has n ns e = let (m, c, is) = from_any (λ m. m == n) ns e in subst (Contains ns) (eqb-true m n is) c
@@ -203,7 +143,7 @@ apart_chosen {X} {Y} f (x ∷ xs) a one = by (f x) refl (apart_chosen f xs a.1 (
     by : (o : Option Y) → f x ≡ o → IsApart (filter_map f xs) → IsApart (cons_option o (filter_map f xs))
     by None is rest = rest
     by (Some y) is rest = (
-      λ c. (let (z, there, gives) = chosen_from f xs y c in
+      λ c. (let (z, there, gives) = given_by f xs y c in
           a.0 (subst (Contains xs) (sym (one x z y (contains_here x xs) (contains_there x xs z there) is gives)) there)),
       rest,
     )
@@ -225,7 +165,7 @@ record Without {X : Type 0} (ys : List X) (x : X) : Type 0 where
   other : (z : X) → Contains ys z → (x ≡ z) ⊎ Contains rest z
 
 without : {X : Type 0} (ys : List X) (x : X) → IsApart ys → Contains ys x → Without ys x
-without [] x a c = absurd (contains_none x c)
+without [] x a c = absurd (none_in x c)
 without {X} (y ∷ ys) x a c = elim (contains_cases y ys x c) [
   | inl e ↦ subst (λ (z : X). Without (y ∷ ys) z) e (record {
     rest = ys;
@@ -252,7 +192,7 @@ without {X} (y ∷ ys) x a c = elim (contains_cases y ys x c) [
 -- two lists of the same elements, each once, are one in another order
 pub same_moved : {X : Type 0} (xs ys : List X) → IsApart xs → IsApart ys → ((z : X) → Contains xs z ↔ Contains ys z) → IsPermutation xs ys
 same_moved [] [] a b same = IsPermutation-refl []
-same_moved [] (y ∷ ys) a b same = absurd (contains_none y ((same y).1 (contains_here y ys)))
+same_moved [] (y ∷ ys) a b same = absurd (none_in y ((same y).1 (contains_here y ys)))
 same_moved {X} (x ∷ xs) ys a b same =
     let w = without ys x b ((same x).0 (contains_here x xs)) in
     let rest = same_moved xs w.rest a.1 w.apart (λ z. (
@@ -263,7 +203,7 @@ same_moved {X} (x ∷ xs) ys a b same =
 
 -- a list of one element, and one of none
 pub only_one : {X : Type 0} (xs : List X) (x : X) → IsApart xs → Contains xs x → ((z : X) → Contains xs z → z ≡ x) → xs ≡ x ∷ []
-only_one [] x a c one = absurd (contains_none x c)
+only_one [] x a c one = absurd (none_in x c)
 only_one {X} (y ∷ []) x a c one = ap (λ (z : X). z ∷ []) (one y (contains_here y []))
 only_one (y ∷ z ∷ zs) x a c one =
     let first = one y (contains_here y (z ∷ zs)) in
@@ -303,8 +243,8 @@ rows_apart g t graph = apart_filter (λ (x : Row). same_table (table_of x) t) g 
 pub one_chosen : {Y : Type 0} (g : List Row) → IsGraph g → (f : Row → Option Y) (xs : List Row) (s : RowKey) → IsApart xs → ((r : Row) → Contains xs r → Contains g r)
     → ((r : Row) (y : Y) → Contains xs r → f r ≡ Some y → slot_of r ≡ s) → (r : Row) (y : Y) → Contains xs r → f r ≡ Some y → filter_map f xs ≡ y ∷ []
 one_chosen {Y} g graph f xs s apart held fills r y c e =
-    only_one (filter_map f xs) y (apart_chosen f xs apart (λ w z v cw cz ew ez. same w z cw cz (fills w v cw ew ∙ sym (fills z v cz ez)))) (in_chosen f xs r y c e)
-    (λ z d. (let (q, there, gives) = chosen_from f xs z d in
+    only_one (filter_map f xs) y (apart_chosen f xs apart (λ w z v cw cz ew ez. same w z cw cz (fills w v cw ew ∙ sym (fills z v cz ez)))) (gives f xs r y c e)
+    (λ z d. (let (q, there, gives) = given_by f xs z d in
     let rows_same : q ≡ r = same q r there c (fills q z there gives ∙ sym (fills r y c e)) in
     some_is z y (sym gives ∙ ap f rows_same ∙ e)))
   where
@@ -340,7 +280,7 @@ Friendship g p q d = Contains g (row.Dated table.PersonKnowsPerson p q d) ⊎ Co
 
 pub friend_there : (g : List Row) (p q d : ℕ) → Contains (friends g p) (q, d) → Friendship g p q d
 friend_there g p q d c =
-    let (r, there, gives) = chosen_from (friend_in p) (rows g table.PersonKnowsPerson) (q, d) c in
+    let (r, there, gives) = given_by (friend_in p) (rows g table.PersonKnowsPerson) (q, d) c in
     let (held, of) = (in_rows g table.PersonKnowsPerson r).0 there in
     elim (friend_row p q d r gives) [
       | inl e ↦ inl (subst (Contains g) (e ∙ ap (λ t. row.Dated t p q d) of) held)
@@ -348,8 +288,8 @@ friend_there g p q d c =
     ]
 
 pub friend_here : (g : List Row) (p q d : ℕ) → Friendship g p q d → Contains (friends g p) (q, d)
-friend_here g p q d (inl c) = in_chosen (friend_in p) (rows g table.PersonKnowsPerson) _ (q, d) ((in_rows g table.PersonKnowsPerson _).1 (c, refl)) (rw (eq-eqb p p refl) refl)
-friend_here g p q d (inr c) = in_chosen (friend_in p) (rows g table.PersonKnowsPerson) _ (q, d) ((in_rows g table.PersonKnowsPerson _).1 (c, refl)) (by (q == p) refl)
+friend_here g p q d (inl c) = gives (friend_in p) (rows g table.PersonKnowsPerson) _ (q, d) ((in_rows g table.PersonKnowsPerson _).1 (c, refl)) (rw (eq-eqb p p refl) refl)
+friend_here g p q d (inr c) = gives (friend_in p) (rows g table.PersonKnowsPerson) _ (q, d) ((in_rows g table.PersonKnowsPerson _).1 (c, refl)) (by (q == p) refl)
   where
     by : (b : Bool) → (q == p) ≡ b → ◌≡◌ {A = Option (ℕ × ℕ)} (cond b (Some (p, d)) (cond (p == p) (Some (q, d)) None)) (Some (q, d))
     by true e = (let one = eqb-true q p e in cc)
@@ -362,7 +302,7 @@ friend_told g p q e =
     (f.1, friend_there g p q f.1 (subst (λ n. Contains (friends g p) (n, f.1)) (eqb-true f.0 q is) c))
 
 pub friend_tells : (g : List Row) (p q d : ℕ) → Friendship g p q d → is_friend g p q ≡ true
-friend_tells g p q d f = any_from (λ (f : ℕ × ℕ). f.0 == q) (friends g p) (q, d) (friend_here g p q d f) (eq-eqb q q refl)
+friend_tells g p q d f = any_of (λ (f : ℕ × ℕ). f.0 == q) (friends g p) (q, d) (friend_here g p q d f) (eq-eqb q q refl)
 
 -- a friendship has the lower id first
 pub friendship_rises : (g : List Row) (a b d : ℕ) → IsGraph g → Contains g (row.Dated table.PersonKnowsPerson a b d) → a < b
@@ -397,14 +337,9 @@ friends_apart g p graph = apart_chosen (friend_in p) (rows g table.PersonKnowsPe
 
 -- ---- nodes
 
--- a test before what is chosen
-passed : {Y : Type 0} (b : Bool) (v y : Y) → ◌≡◌ {A = Option Y} (cond b (Some v) None) (Some y) → (b ≡ true) × (v ≡ y)
-passed true v y e = (refl, cc)
-passed false v y e = absurd cc
-
-person_row : (id : ℕ) (r : Row) (p : Person) → person_in id r ≡ Some p → (r ≡ row.Person p) × (p.id ≡ id)
+pub person_row : (id : ℕ) (r : Row) (p : Person) → person_in id r ≡ Some p → (r ≡ row.Person p) × (p.id ≡ id)
 person_row id (row.Person q) p e =
-    let (test, same) = passed (q.id == id) q p e in
+    let (test, same) = cond_some (q.id == id) q p e in
     (ap row.Person same, ap (λ (x : Person). x.id) (sym same) ∙ eqb-true q.id id test)
 person_row id r p e = absurd cc
 
@@ -416,18 +351,18 @@ person_only g p graph c =
 -- a person has the id under which it is
 pub person_named : (g : List Row) (id : ℕ) (p : Person) → persons g id ≡ p ∷ [] → p.id ≡ id
 person_named g id p is =
-    let (r, there, gives) = chosen_from (person_in id) (rows g table.Person) p (subst (λ ps. Contains ps p) (sym is) (0, omega arith, refl)) in
+    let (r, there, gives) = given_by (person_in id) (rows g table.Person) p (subst (λ ps. Contains ps p) (sym is) (0, omega arith, refl)) in
     (person_row id r p gives).1
 
 pub no_person : (g : List Row) (id : ℕ) → ¬ HasKey g (node_key kinds.Person id) → persons g id ≡ []
 no_person g id none = none_of (persons g id) (λ p c.
-    let (r, there, gives) = chosen_from (person_in id) (rows g table.Person) p c in
+    let (r, there, gives) = given_by (person_in id) (rows g table.Person) p c in
     let (is, same) = person_row id r p gives in
     none (record { it = r; held = ((in_rows g table.Person r).0 there).0; keyed = ap row_key is ∙ ap (node_key kinds.Person) same }))
 
 forum_row : (id : ℕ) (r : Row) (f : Forum) → forum_in id r ≡ Some f → (r ≡ row.Forum f) × (f.id ≡ id)
 forum_row id (row.Forum q) f e =
-    let (test, same) = passed (q.id == id) q f e in
+    let (test, same) = cond_some (q.id == id) q f e in
     (ap row.Forum same, ap (λ (x : Forum). x.id) (sym same) ∙ eqb-true q.id id test)
 forum_row id r f e = absurd cc
 
@@ -438,8 +373,8 @@ forum_only g f graph c =
 
 -- a row that shows a message
 message_row : (id : ℕ) (r : Row) (m : Message) → message_in id r ≡ Some m → ((q : Post) × (r ≡ row.Post q) × (q.id ≡ id)) ⊎ ((c : Comment) × (r ≡ row.Comment c) × (c.id ≡ id))
-message_row id (row.Post q) m e = inl (q, refl, eqb-true q.id id (passed (q.id == id) _ m e).0)
-message_row id (row.Comment c) m e = inr (c, refl, eqb-true c.id id (passed (c.id == id) _ m e).0)
+message_row id (row.Post q) m e = inl (q, refl, eqb-true q.id id (cond_some (q.id == id) _ m e).0)
+message_row id (row.Comment c) m e = inr (c, refl, eqb-true c.id id (cond_some (c.id == id) _ m e).0)
 message_row id r m e = absurd cc
 
 message_slot : (id : ℕ) (r : Row) (m : Message) → message_in id r ≡ Some m → slot_of r ≡ slot (node_key kinds.Post id)
@@ -475,7 +410,7 @@ comment_only g m graph c =
 
 pub no_message : (g : List Row) (id : ℕ) → ¬ HasMessage g id → with_id g id ≡ []
 no_message g id none = none_of (with_id g id) (λ m c.
-    let (r, there, gives) = chosen_from (message_in id) (Messages g) m c in
+    let (r, there, gives) = given_by (message_in id) (Messages g) m c in
     let held = messages_held g r there in
     elim (message_row id r m gives) [
       | inl (q, is, same) ↦ none (inl (record { it = r; held = held; keyed = ap row_key is ∙ ap (node_key kinds.Post) same }))
@@ -491,24 +426,24 @@ comment_alone g m graph c =
 
 end_row : (from to : ℕ) (r : Row) → end_in from r ≡ Some to → r ≡ row.Link (table_of r) from to
 end_row from to (row.Link t a b) e =
-    let (test, same) = passed (a == from) b to e in
+    let (test, same) = cond_some (a == from) b to e in
     λ i. row.Link t (eqb-true a from test i) (same i)
 end_row from to r e = absurd cc
 
 start_row : (to from : ℕ) (r : Row) → start_in to r ≡ Some from → r ≡ row.Link (table_of r) from to
 start_row to from (row.Link t a b) e =
-    let (test, same) = passed (b == to) a from e in
+    let (test, same) = cond_some (b == to) a from e in
     λ i. row.Link t (same i) (eqb-true b to test i)
 start_row to from r e = absurd cc
 
 pub end_there : (g : List Row) (t : Table) (from to : ℕ) → Contains (ends g t from) to → Contains g (row.Link t from to)
 end_there g t from to c =
-    let (r, there, gives) = chosen_from (end_in from) (rows g t) to c in
+    let (r, there, gives) = given_by (end_in from) (rows g t) to c in
     let (held, of) = (in_rows g t r).0 there in
     subst (Contains g) (end_row from to r gives ∙ ap (λ u. row.Link u from to) of) held
 
 pub end_here : (g : List Row) (t : Table) (from to : ℕ) → Contains g (row.Link t from to) → Contains (ends g t from) to
-end_here g t from to c = in_chosen (end_in from) (rows g t) _ to ((in_rows g t _).1 (c, refl)) (rw (eq-eqb from from refl) refl)
+end_here g t from to c = gives (end_in from) (rows g t) _ to ((in_rows g t _).1 (c, refl)) (rw (eq-eqb from from refl) refl)
 
 -- in a table whose key is the first id
 pub end_only : (g : List Row) (t : Table) (from to : ℕ) → IsGraph g → key_columns t ≡ First → Contains g (row.Link t from to) → ends g t from ≡ to ∷ []
@@ -557,35 +492,35 @@ pair_is a b y e = (ap (λ (x : ℕ × ℕ). x.0) e, ap (λ (x : ℕ × ℕ). x.1
 
 sent_row : (g : List Row) (p id date : ℕ) (r : Row) → Contains g r → message_of g p r ≡ Some (id, date) → Sent g p id date
 sent_row g p id date (row.Post q) c e =
-    let (test, same) = passed (has p (ends g table.PostHasCreatorPerson q.id)) (q.id, q.creation_date) (id, date) e in
+    let (test, same) = cond_some (has p (ends g table.PostHasCreatorPerson q.id)) (q.id, q.creation_date) (id, date) e in
     let (is, at) = pair_is q.id q.creation_date (id, date) same in
     inl (subst (λ n. Contains g (row.Link table.PostHasCreatorPerson n p)) is (end_there g table.PostHasCreatorPerson q.id p (from_has p _ test)), (q, c, is, at))
 sent_row g p id date (row.Comment m) c e =
-    let (test, same) = passed (has p (ends g table.CommentHasCreatorPerson m.id)) (m.id, m.creation_date) (id, date) e in
+    let (test, same) = cond_some (has p (ends g table.CommentHasCreatorPerson m.id)) (m.id, m.creation_date) (id, date) e in
     let (is, at) = pair_is m.id m.creation_date (id, date) same in
     inr (subst (λ n. Contains g (row.Link table.CommentHasCreatorPerson n p)) is (end_there g table.CommentHasCreatorPerson m.id p (from_has p _ test)), (m, c, is, at))
 sent_row g p id date r c e = absurd cc
 
 pub sent_there : (g : List Row) (p id date : ℕ) → Contains (messages g p) (id, date) → Sent g p id date
 sent_there g p id date c =
-    let (r, there, gives) = chosen_from (message_of g p) (Messages g) (id, date) c in
+    let (r, there, gives) = given_by (message_of g p) (Messages g) (id, date) c in
     sent_row g p id date r (messages_held g r there) gives
 
 pub sent_here : (g : List Row) (p id date : ℕ) → Sent g p id date → Contains (messages g p) (id, date)
 sent_here g p id date (inl (link, (q, c, is, at))) =
-    in_chosen (message_of g p) (Messages g) (row.Post q) (id, date) (Contains-append_left (rows g table.Post) (rows g table.Comment) _ ((in_rows g table.Post _).1 (c, refl)))
+    gives (message_of g p) (Messages g) (row.Post q) (id, date) (Contains-append_left (rows g table.Post) (rows g table.Comment) _ ((in_rows g table.Post _).1 (c, refl)))
     (rw (has_from p (ends g table.PostHasCreatorPerson q.id) (end_here g table.PostHasCreatorPerson q.id p (subst (λ n. Contains g (row.Link table.PostHasCreatorPerson n p)) (sym is) link))) (λ i. Some (is i, at i)))
 sent_here g p id date (inr (link, (m, c, is, at))) =
-    in_chosen (message_of g p) (Messages g) (row.Comment m) (id, date) (Contains-append_right (rows g table.Post) (rows g table.Comment) _ ((in_rows g table.Comment _).1 (c, refl)))
+    gives (message_of g p) (Messages g) (row.Comment m) (id, date) (Contains-append_right (rows g table.Post) (rows g table.Comment) _ ((in_rows g table.Comment _).1 (c, refl)))
     (rw (has_from p (ends g table.CommentHasCreatorPerson m.id) (end_here g table.CommentHasCreatorPerson m.id p (subst (λ n. Contains g (row.Link table.CommentHasCreatorPerson n p)) (sym is) link))) (λ i. Some (is i, at i)))
 
 -- messages fill slots of their own
 sent_slot : (g : List Row) (p : ℕ) (r : Row) (y : ℕ × ℕ) → message_of g p r ≡ Some y → slot_of r ≡ slot (node_key kinds.Post y.0)
 sent_slot g p (row.Post q) y e =
-    let (test, same) = passed (has p (ends g table.PostHasCreatorPerson q.id)) (q.id, q.creation_date) y e in
+    let (test, same) = cond_some (has p (ends g table.PostHasCreatorPerson q.id)) (q.id, q.creation_date) y e in
     ap (λ (x : ℕ × ℕ). slot (node_key kinds.Post x.0)) same
 sent_slot g p (row.Comment m) y e =
-    let (test, same) = passed (has p (ends g table.CommentHasCreatorPerson m.id)) (m.id, m.creation_date) y e in
+    let (test, same) = cond_some (has p (ends g table.CommentHasCreatorPerson m.id)) (m.id, m.creation_date) y e in
     ap (λ (x : ℕ × ℕ). slot (node_key kinds.Post x.0)) same
 sent_slot g p r y e = absurd cc
 
@@ -610,24 +545,24 @@ parent_here g c m (inr e) = Contains-append_right (ends g table.CommentReplyOfPo
 
 replied_row : (g : List Row) (m id date : ℕ) (r : Row) → Contains g r → reply_of g m r ≡ Some (id, date) → Replied g m id date
 replied_row g m id date (row.Comment c) held e =
-    let (test, same) = passed (has m (parents g c.id)) (c.id, c.creation_date) (id, date) e in
+    let (test, same) = cond_some (has m (parents g c.id)) (c.id, c.creation_date) (id, date) e in
     let (is, at) = pair_is c.id c.creation_date (id, date) same in
     (subst (λ n. RepliesTo g n m) is (parent_there g c.id m (from_has m _ test)), (c, held, is, at))
 replied_row g m id date r held e = absurd cc
 
 pub replied_there : (g : List Row) (m id date : ℕ) → Contains (replies g m) (id, date) → Replied g m id date
 replied_there g m id date c =
-    let (r, there, gives) = chosen_from (reply_of g m) (rows g table.Comment) (id, date) c in
+    let (r, there, gives) = given_by (reply_of g m) (rows g table.Comment) (id, date) c in
     replied_row g m id date r ((in_rows g table.Comment r).0 there).0 gives
 
 pub replied_here : (g : List Row) (m id date : ℕ) → Replied g m id date → Contains (replies g m) (id, date)
 replied_here g m id date (link, (c, held, is, at)) =
-    in_chosen (reply_of g m) (rows g table.Comment) (row.Comment c) (id, date) ((in_rows g table.Comment _).1 (held, refl))
+    gives (reply_of g m) (rows g table.Comment) (row.Comment c) (id, date) ((in_rows g table.Comment _).1 (held, refl))
     (rw (has_from m (parents g c.id) (parent_here g c.id m (subst (λ n. RepliesTo g n m) (sym is) link))) (λ i. Some (is i, at i)))
 
 replied_slot : (g : List Row) (m : ℕ) (r : Row) (y : ℕ × ℕ) → reply_of g m r ≡ Some y → slot_of r ≡ slot (node_key kinds.Post y.0)
 replied_slot g m (row.Comment c) y e =
-    let (test, same) = passed (has m (parents g c.id)) (c.id, c.creation_date) y e in
+    let (test, same) = cond_some (has m (parents g c.id)) (c.id, c.creation_date) y e in
     ap (λ (x : ℕ × ℕ). slot (node_key kinds.Post x.0)) same
 replied_slot g m r y e = absurd cc
 
@@ -644,19 +579,19 @@ Liked g m p d = Contains g (row.Dated table.PersonLikesPost p m d) ⊎ Contains 
 
 liker_row : (m : ℕ) (r : Row) (y : ℕ × ℕ) → liker_in m r ≡ Some y → r ≡ row.Dated (table_of r) y.0 m y.1
 liker_row m (row.Dated t from to date) y e =
-    let (test, same) = passed (to == m) (from, date) y e in
+    let (test, same) = cond_some (to == m) (from, date) y e in
     λ i. row.Dated t ((same i).0) (eqb-true to m test i) ((same i).1)
 liker_row m r y e = absurd cc
 
 -- a like in one table
 pub liker_there : (g : List Row) (t : Table) (m p d : ℕ) → Contains (likes_in g t m) (p, d) → Contains g (row.Dated t p m d)
 liker_there g t m p d c =
-    let (r, there, gives) = chosen_from (liker_in m) (rows g t) (p, d) c in
+    let (r, there, gives) = given_by (liker_in m) (rows g t) (p, d) c in
     let (held, of) = (in_rows g t r).0 there in
     subst (Contains g) (liker_row m r (p, d) gives ∙ ap (λ u. row.Dated u p m d) of) held
 
 pub liker_here : (g : List Row) (t : Table) (m p d : ℕ) → Contains g (row.Dated t p m d) → Contains (likes_in g t m) (p, d)
-liker_here g t m p d c = in_chosen (liker_in m) (rows g t) (row.Dated t p m d) (p, d) ((in_rows g t _).1 (c, refl)) (rw (eq-eqb m m refl) refl)
+liker_here g t m p d c = gives (liker_in m) (rows g t) (row.Dated t p m d) (p, d) ((in_rows g t _).1 (c, refl)) (rw (eq-eqb m m refl) refl)
 
 pub likers_apart : (g : List Row) (t : Table) (m : ℕ) → IsGraph g → IsApart (likes_in g t m)
 likers_apart g t m graph =
@@ -677,18 +612,18 @@ like_there g m p d c = elim (Contains-append_cases (likes_in g table.PersonLikes
 
 pub stay_row : (p : ℕ) (r : Row) (y : ℕ × ℕ) → stay_in p r ≡ Some y → r ≡ row.Yeared (table_of r) p y.0 y.1
 stay_row p (row.Yeared t from to year) y e =
-    let (test, same) = passed (from == p) (to, year) y e in
+    let (test, same) = cond_some (from == p) (to, year) y e in
     λ i. row.Yeared t (eqb-true from p test i) ((same i).0) ((same i).1)
 stay_row p r y e = absurd cc
 
 pub stay_there : (g : List Row) (t : Table) (p id year : ℕ) → Contains (filter_map (stay_in p) (rows g t)) (id, year) → Contains g (row.Yeared t p id year)
 stay_there g t p id year c =
-    let (r, there, gives) = chosen_from (stay_in p) (rows g t) (id, year) c in
+    let (r, there, gives) = given_by (stay_in p) (rows g t) (id, year) c in
     let (held, of) = (in_rows g t r).0 there in
     subst (Contains g) (stay_row p r (id, year) gives ∙ ap (λ u. row.Yeared u p id year) of) held
 
 pub stay_here : (g : List Row) (t : Table) (p id year : ℕ) → Contains g (row.Yeared t p id year) → Contains (filter_map (stay_in p) (rows g t)) (id, year)
-stay_here g t p id year c = in_chosen (stay_in p) (rows g t) (row.Yeared t p id year) (id, year) ((in_rows g t _).1 (c, refl)) (rw (eq-eqb p p refl) refl)
+stay_here g t p id year c = gives (stay_in p) (rows g t) (row.Yeared t p id year) (id, year) ((in_rows g t _).1 (c, refl)) (rw (eq-eqb p p refl) refl)
 
 -- ---- walks
 
@@ -709,3 +644,27 @@ rising_apart (x ∷ xs) s = (λ c. not_above xs s.0 c, rising_apart xs s.1)
 -- pairs by rising id of the same elements as a list without repeats are that list in another order
 pub walk_moved : (all pairs : List (ℕ × ℕ)) → IsApart all → IsStrictlySortedBy nat_cmp (keys_of pairs) → ((id date : ℕ) → Contains all (id, date) ↔ Contains pairs (id, date)) → IsPermutation all pairs
 walk_moved all pairs apart rises same = same_moved all pairs apart (rising_apart pairs rises) (λ z. same z.0 z.1)
+
+pub city_alone : (u : Table) → sharing u ≡ table.PersonIsLocatedInPlace → u ≡ table.PersonIsLocatedInPlace
+city_alone table.PersonIsLocatedInPlace e = refl
+city_alone u e = absurd cc
+
+pub container_alone : (u : Table) → sharing u ≡ table.ForumContainerOfPost → u ≡ table.ForumContainerOfPost
+container_alone table.ForumContainerOfPost e = refl
+container_alone u e = absurd cc
+
+pub moderator_alone : (u : Table) → sharing u ≡ table.ForumHasModeratorPerson → u ≡ table.ForumHasModeratorPerson
+moderator_alone table.ForumHasModeratorPerson e = refl
+moderator_alone u e = absurd cc
+
+pub organisation_row : (id : ℕ) (r : Row) (o : Organisation) → organisation_in id r ≡ Some o → (r ≡ row.Organisation o) × (o.id ≡ id)
+organisation_row id (row.Organisation q) o e =
+    let (test, same) = cond_some (q.id == id) q o e in
+    (ap row.Organisation same, ap (λ (x : Organisation). x.id) (sym same) ∙ eqb-true q.id id test)
+organisation_row id r o e = absurd cc
+
+pub place_row : (id : ℕ) (r : Row) (p : Place) → place_in id r ≡ Some p → (r ≡ row.Place p) × (p.id ≡ id)
+place_row id (row.Place q) p e =
+    let (test, same) = cond_some (q.id == id) q p e in
+    (ap row.Place same, ap (λ (x : Place). x.id) (sym same) ∙ eqb-true q.id id test)
+place_row id r p e = absurd cc

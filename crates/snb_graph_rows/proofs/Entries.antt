@@ -2,7 +2,7 @@
 use Rattle.std.proofs.Common.{◌≡◌, ◌↔◌, ℕ, Bool, filter, Some, None, Option, false, true, List, [], ◌∷◌, ◌++◌, map, refl, sym, ap, ◌∙◌, subst, cond, arith}
 use Rattle.std.specs.declared.cmp.Ordering.{Ordering}
 use Rattle.std.specs.declared.cmp.Ordering.TheVariants.{Less, Equal, Greater}
-use Rattle.std.specs.Ordering.{match_ordering, is_eq, nat_cmp, ordering_then}
+use Rattle.std.specs.Ordering.{is_eq, nat_cmp, ordering_then}
 use Rattle.std.specs.BTreeMap.{insert_entry, is_at}
 use Rattle.std.specs.Cmp.{IsTotalOrder, eq_by_cmp_equiv, tied_itself, nat_cmp_total}
 use Rattle.std.specs.Map.{lookup, keys_of, remove_entry}
@@ -13,7 +13,7 @@ use Rattle.std.proofs.lemmas.Map.Lookups.{CmpEqualImpliesEq}
 use Rattle.std.proofs.lemmas.Map.Views.{All-map-remove_entry, Contains-keys_from_lookup, IsSome-lookup_from_Contains, Contains-from_lookup, lookup-from_Contains, tells_apart}
 use Rattle.std.proofs.lemmas.Map.Keys.{IsDistinct-from_sorted}
 use Rattle.std.proofs.lemmas.List.Elements.{All-cons, All-contains, All-contains_itself, All-tail, All-weaker}
-use Rattle.std.proofs.lemmas.List.Sorted.{IsPermutation-refl, IsPermutation-cons, IsPermutation-trans, IsPermutation-sym, IsPermutation-map, IsPermutation-append_left, IsPermutation-append_comm, IsPermutation-to_front, All-permutation, Contains-permutation}
+use Rattle.std.proofs.lemmas.List.Sorted.{IsPermutation-refl, IsPermutation-cons, IsPermutation-trans, IsPermutation-sym, IsPermutation-map, IsPermutation-to_front, All-permutation, Contains-permutation}
 use mathlib.Core.Bool.{false≢true}
 use Rattle.snb_schema.specs.declared.row.Row.{Row}
 use Rattle.snb_schema.specs.Layouts.{shape}
@@ -22,13 +22,14 @@ use Rattle.snb_graph_rows.specs.Keyed.{key_table, IsPart}
 use Rattle.snb_graph_model.specs.Graphs.{part, part_of, key_order, row_order, HasKey}
 use Rattle.snb_graph_rows.specs.Rows.{entry_row, rows_by, Fits, AreKept, HasLost}
 use Rattle.snb_graph_maps.specs.Merged.{AreParts, HasAllOf, merged}
-use Rattle.snb_graph_maps.proofs.Laws.{frozen_within}
-use Rattle.snb_graph_rows.proofs.Laws.{contains_here, contains_map, map_contains, filter_map}
+use Rattle.snb_graph_maps.proofs.Laws.{frozen_within, IsPermutation-insert_entry}
+use Rattle.snb_graph_rows.proofs.Laws.{filter_map}
+use Rattle.snb_base.proofs.Laws.{contains_here, contains_map, in_map, two_swapped}
 
 -- more entries have more rows
 pub rows_more : {K V : Type 0} (f : K → V → Row) (es gs : List (K × V)) → HasAllOf es gs → (r : Row) → Contains (rows_by f es) r → Contains (rows_by f gs) r
 rows_more {K} {V} f es gs more r c =
-    let e = map_contains (λ (x : K × V). f x.0 x.1) es r c in
+    let e = in_map (λ (x : K × V). f x.0 x.1) es r c in
     subst (λ (x : Row). Contains (rows_by f gs) x) e.2 (contains_map (λ (x : K × V). f x.0 x.1) gs e.0 (more e.0 e.1))
 
 -- what a test doesn't find isn't there
@@ -45,20 +46,6 @@ none_if_new (Some x) same new = absurd (new (same.0 refl))
 pub if_found : {X : Type 0} (o : Option X) (P : X → Type 0) → ((v : X) → o ≡ Some v → P v) → IfSome o P
 if_found None P h = tt
 if_found (Some v) P h = h v refl
-
--- the first two elements may change places
-two_swapped : {X : Type 0} (x y : X) (zs : List X) → IsPermutation (x ∷ y ∷ zs) (y ∷ x ∷ zs)
-two_swapped x y zs = IsPermutation-append_left zs (x ∷ y ∷ []) (y ∷ x ∷ []) (IsPermutation-append_comm (x ∷ []) (y ∷ []))
-
--- an entry under a new key is one entry more
-pub IsPermutation-insert_entry : {K V : Type 0} (cmp : K → K → Ordering) (es : List (K × V)) (k : K) (v : V) → lookup (is_at (cmp k)) es ≡ None → IsPermutation (insert_entry cmp es k v) ((k, v) ∷ es)
-IsPermutation-insert_entry cmp [] k v n = IsPermutation-refl _
-IsPermutation-insert_entry cmp (e ∷ es) k v n =
-    elim (cmp k e.0) as (λ o. cond (is_eq o) (Some e.1) (lookup (is_at (cmp k)) es) ≡ None → IsPermutation (match_ordering o ((k, v) ∷ e ∷ es) ((e.0, v) ∷ es) (e ∷ insert_entry cmp es k v)) ((k, v) ∷ e ∷ es)) [
-      | Less ↦ λ m. IsPermutation-refl _
-      | Equal ↦ λ m. absurd cc
-      | Greater ↦ λ m. IsPermutation-trans _ _ _ (IsPermutation-cons e _ _ (IsPermutation-insert_entry cmp es k v m)) (two_swapped e (k, v) es)
-    ] n
 
 -- taking out what a look-up doesn't find leaves all entries
 pub none_removed : {K V : Type 0} (test : K → Bool) (es : List (K × V)) → lookup test es ≡ None → remove_entry test es ≡ es
@@ -118,10 +105,10 @@ module _ {K V : Type 0} (cmp : K → K → Ordering) (total : IsTotalOrder cmp) 
   pub found_iff : (es : List (K × V)) → All (λ e. fits e.0 e.1) es → (k : K) → IsSome (lookup (is_at (cmp k)) es) ↔ HasKey (rows_by f es) (key k)
   found_iff es fit k = (
     λ found.
-        let e = map_contains (λ (x : K × V). x.0) es k (Contains-keys_from_lookup (tells_apart exact) k es found) in
+        let e = in_map (λ (x : K × V). x.0) es k (Contains-keys_from_lookup (tells_apart exact) k es found) in
         record { it = f e.0.0 e.0.1; held = contains_map (λ (x : K × V). f x.0 x.1) es e.0 e.1; keyed = named e.0.0 e.0.1 (All-contains (λ (x : K × V). fits x.0 x.1) es e.0 fit e.1) ∙ ap key e.2 },
     λ has.
-        let e = map_contains (λ (x : K × V). f x.0 x.1) es has.it has.held in
+        let e = in_map (λ (x : K × V). f x.0 x.1) es has.it has.held in
         let same = one_key e.0.0 k (sym (named e.0.0 e.0.1 (All-contains (λ (x : K × V). fits x.0 x.1) es e.0 fit e.1)) ∙ ap row_key e.2 ∙ has.keyed) in
         IsSome-lookup_from_Contains (eq_by_cmp_equiv total) k es (subst (Contains (keys_of es)) same (contains_map (λ (x : K × V). x.0) es e.0 e.1)),
   )
@@ -171,7 +158,7 @@ module _ {K V : Type 0} (cmp : K → K → Ordering) (total : IsTotalOrder cmp) 
   rows_lost es kept k r held keyed =
       let found = (found_iff es kept.fit k).1 (record { it = r; held = held; keyed = keyed }) in
       let taken = IsPermutation-remove_entry cmp es k found in
-      let e = map_contains (λ (x : K × V). f x.0 x.1) es r held in
+      let e = in_map (λ (x : K × V). f x.0 x.1) es r held in
       let same_key : e.0.0 ≡ taken.0.0 = one_key e.0.0 k (sym (named e.0.0 e.0.1 (All-contains (λ (x : K × V). fits x.0 x.1) es e.0 kept.fit e.1)) ∙ ap row_key e.2 ∙ keyed) ∙ exact k taken.0.0 taken.1 in
       let there = Contains-permutation _ _ taken.0 (IsPermutation-sym _ _ taken.2) (contains_here taken.0 (remove_entry (is_at (cmp k)) es)) in
       let one_value : Some e.0.1 ≡ Some taken.0.1 = sym (lookup-from_Contains (eq_by_cmp_equiv total) e.0.0 e.0.1 es (IsDistinct-from_sorted cmp (keys_of es) kept.rises) e.1) ∙ ap (λ q. lookup (is_at (cmp q)) es) same_key ∙ lookup-from_Contains (eq_by_cmp_equiv total) taken.0.0 taken.0.1 es (IsDistinct-from_sorted cmp (keys_of es) kept.rises) there in

@@ -1,5 +1,5 @@
 -- Laws that proofs above cite: of references, of lists, and of the walk over an id's pairs.
-use Rattle.std.proofs.Common.{◌≡◌, ◌↔◌, ◌<◌, ◌≤◌, ℕ, zero, suc, length, get_or, Bool, true, false, cond, ◌⊎◌, inl, inr, List, [], ◌∷◌, Option, Some, None, map, filter, refl, sym, ap, ◌∙◌, subst, arith}
+use Rattle.std.proofs.Common.{◌≡◌, ◌≤◌, ℕ, Bool, true, false, cond, List, [], ◌∷◌, Option, Some, None, map, filter, refl, sym, ap, ◌∙◌, subst, arith}
 use Rattle.std.specs.Borrow.{Bor}
 use Rattle.std.specs.Cmp.{nat_cmp_total, tied_itself}
 use Rattle.std.specs.List.{All, AllByRecursion, Contains}
@@ -11,41 +11,12 @@ use Rattle.std.specs.declared.cmp.Ordering.TheVariants.{Less}
 use Rattle.std.proofs.lemmas.List.Elements.{All-contains_itself, All-head, All-tail, All-weaker}
 use mathlib.Core.Bool.{false≢true}
 use Rattle.snb_graph_rows.specs.Pairs.{AreEndsOf, ArePairsOf, ends_of, pair_order}
+use Rattle.snb_base.proofs.Laws.{contains_map, in_map}
 
 -- a reference is there where its value is
 pub some_copied : {X : Type 0} (o : Option (Bor X)) → is_some o ≡ is_some (option_copied o)
 some_copied None = refl
 some_copied (Some x) = refl
-
--- an element of a list is the first one, or stands after it
-pub contains_cases : {X : Type 0} (y : X) (ys : List X) (x : X) → Contains (y ∷ ys) x → (y ≡ x) ⊎ Contains ys x
-contains_cases y ys x h = by_place h.0 h.1 h.2
-  where
-    by_place : (k : ℕ) → k < length (y ∷ ys) → get_or (y ∷ ys) k x ≡ x → (y ≡ x) ⊎ Contains ys x
-    by_place zero l e = inl e
-    by_place (suc k) l e = inr (k, omega arith, e)
-
-pub contains_here : {X : Type 0} (y : X) (ys : List X) → Contains (y ∷ ys) y
-contains_here y ys = (0, omega arith, refl)
-
-pub contains_there : {X : Type 0} (y : X) (ys : List X) (x : X) → Contains ys x → Contains (y ∷ ys) x
-contains_there y ys x h = (suc h.0, (let l = h.1 in omega arith), h.2)
-
-pub contains_map : {X Y : Type 0} (f : X → Y) (xs : List X) (x : X) → Contains xs x → Contains (map f xs) (f x)
-contains_map f [] x c = absurd (omega (arith, c.1))
-contains_map {X} f (y ∷ ys) x c =
-    elim (contains_cases y ys x c) [
-      | inl e ↦ subst (λ (z : X). Contains (f y ∷ map f ys) (f z)) e (contains_here (f y) (map f ys))
-      | inr k ↦ contains_there (f y) (map f ys) (f x) (contains_map f ys x k)
-    ]
-
-pub map_contains : {X Y : Type 0} (f : X → Y) (xs : List X) (y : Y) → Contains (map f xs) y → (x : X) × Contains xs x × (f x ≡ y)
-map_contains f [] y c = absurd (omega (arith, c.1))
-map_contains f (x ∷ xs) y c =
-    elim (contains_cases (f x) (map f xs) y c) [
-      | inl e ↦ (x, contains_here x xs, e)
-      | inr k ↦ let rest = map_contains f xs y k in (rest.0, contains_there x xs rest.0 rest.1, rest.2)
-    ]
 
 -- what a filter keeps of entries is what it keeps of their rows
 pub filter_map : {X Y : Type 0} (f : X → Y) (p : X → Bool) (q : Y → Bool) (xs : List X) → All (λ x. q (f x) ≡ p x) xs → map f (filter p xs) ≡ filter q (map f xs)
@@ -63,30 +34,6 @@ low_end b = grind arith
 
 pub high_end : (most b : ℕ) → b ≤ most → is_lt (nat_cmp most b) ≡ false
 high_end most b l = grind (arith, l)
-
--- a filter keeps what passes
-pub in_filter : {X : Type 0} (p : X → Bool) (xs : List X) (x : X) → Contains (filter p xs) x ↔ (Contains xs x × (p x ≡ true))
-in_filter p [] x = (λ c. absurd (omega (arith, c.1)), λ c. absurd (omega (arith, c.0.1)))
-in_filter {X} p (y ∷ ys) x = by (p y) refl (in_filter p ys x)
-  where
-    by : (b : Bool) → p y ≡ b → (Contains (filter p ys) x ↔ (Contains ys x × (p x ≡ true))) → (Contains (cond b (y ∷ filter p ys) (filter p ys)) x ↔ (Contains (y ∷ ys) x × (p x ≡ true)))
-    by true is rest = (
-      λ c. elim (contains_cases y (filter p ys) x c) [
-        | inl e ↦ (subst (λ (z : X). Contains (y ∷ ys) z) e (contains_here y ys), sym (ap p e) ∙ is)
-        | inr d ↦ let r = rest.0 d in (contains_there y ys x r.0, r.1)
-      ],
-      λ c. elim (contains_cases y ys x c.0) [
-        | inl e ↦ subst (λ (z : X). Contains (y ∷ filter p ys) z) e (contains_here y (filter p ys))
-        | inr d ↦ contains_there y (filter p ys) x (rest.1 (d, c.1))
-      ],
-    )
-    by false is rest = (
-      λ c. let r = rest.0 c in (contains_there y ys x r.0, r.1),
-      λ c. elim (contains_cases y ys x c.0) [
-        | inl e ↦ absurd (false≢true (sym is ∙ ap p e ∙ c.1))
-        | inr d ↦ rest.1 (d, c.1)
-      ],
-    )
 
 abbrev Entry : Type 0
 Entry = (ℕ × ℕ) × ℕ
@@ -116,7 +63,7 @@ ends_walk es of ps are =
       rises = ends_rise of ps all are.rises;
       same = λ id date. (
         λ c.
-            let found = map_contains (λ (e : Entry). (e.0.1, e.1)) ps (id, date) c in
+            let found = in_map (λ (e : Entry). (e.0.1, e.1)) ps (id, date) c in
             let h = (are.same found.0).0 found.1 in
             subst (λ (e : Entry). Contains es e) (whole found.0 id date h.1 found.2) h.0,
         λ c. contains_map (λ (e : Entry). (e.0.1, e.1)) ps ((of, id), date) ((are.same ((of, id), date)).1 (c, refl)),

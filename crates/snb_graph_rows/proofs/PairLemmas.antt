@@ -17,19 +17,17 @@ use Rattle.std.proofs.lemmas.List.Elements.{All-cons, All-contains}
 use Rattle.std.proofs.lemmas.List.Sorted.{IsPermutation-sym, All-permutation, Contains-permutation}
 use Rattle.std.proofs.lemmas.List.Kept.{IsStrictlySortedBy-filter}
 use mathlib.Core.Bool.{false≢true}
-use Rattle.snb_graph_rows.proofs.Entries.{IsPermutation-insert_entry, All-remove_entry}
-use Rattle.snb_graph_rows.proofs.Laws.{contains_cases, contains_here, contains_there, filter_map, high_end, in_filter, low_end}
+use Rattle.snb_graph_rows.proofs.Entries.{All-remove_entry}
+use Rattle.snb_graph_rows.proofs.Laws.{filter_map, high_end, low_end}
 use Rattle.snb_graph_rows.specs.Pairs.{pair_order, HasPair, IsIndex, HasAdded, HasDropped, ArePairsOf}
+use Rattle.snb_base.proofs.Laws.{compares_greater, compares_less, contains_cases, contains_here, contains_there, in_filter, none_of}
+use Rattle.snb_graph_maps.proofs.Laws.{IsPermutation-insert_entry}
 
 pub pair_total : IsTotalOrder pair_order
 pair_total = then_total (on_total (λ (p : ℕ × ℕ). p.0) nat_cmp_total) (on_total (λ (p : ℕ × ℕ). p.1) nat_cmp_total)
 
 pub pair_exact : CmpEqualImpliesEq pair_order
 pair_exact = exact_pairs nat_cmp nat_cmp exact_unsigned exact_unsigned
-
-none_of : {X : Type 0} (o : Option X) → ((v : X) → o ≡ Some v → ⊥) → o ≡ None
-none_of None h = refl
-none_of (Some v) h = absurd (h v refl)
 
 pub pair_new : (es : List ((ℕ × ℕ) × ℕ)) (of id : ℕ) → ((d : ℕ) → ¬ HasPair es of id d) → lookup (is_at (pair_order (of, id))) es ≡ None
 pair_new es of id new = none_of _ (λ d is. new d (Contains-from_lookup (tells_apart pair_exact) (of, id) d es is))
@@ -99,19 +97,13 @@ is_of of most k = is_le (pair_order (of, 0) k) && not (is_lt (pair_order (of, mo
 three_ways : (n m : ℕ) → (n < m) ⊎ (n ≡ m) ⊎ (m < n)
 three_ways n m = grind arith
 
-is_less : (n m : ℕ) → n < m → nat_cmp n m ≡ Less
-is_less n m l = grind (arith, l)
-
-is_greater : (n m : ℕ) → m < n → nat_cmp n m ≡ Greater
-is_greater n m l = grind (arith, l)
-
 of_to : (of most : ℕ) (k : ℕ × ℕ) → is_of of most k ≡ true → k.0 ≡ of
 of_to of most k h =
     elim (three_ways of k.0) [
-      | inl l ↦ absurd (false≢true (sym (ap (λ o. is_le (ordering_then o (nat_cmp 0 k.1)) && not (is_lt (ordering_then o (nat_cmp most k.1)))) (is_less of k.0 l)) ∙ h))
+      | inl l ↦ absurd (false≢true (sym (ap (λ o. is_le (ordering_then o (nat_cmp 0 k.1)) && not (is_lt (ordering_then o (nat_cmp most k.1)))) (compares_less of k.0 l)) ∙ h))
       | inr r ↦ elim r [
         | inl e ↦ sym e
-        | inr l ↦ absurd (false≢true (sym (ap (λ o. is_le (ordering_then o (nat_cmp 0 k.1)) && not (is_lt (ordering_then o (nat_cmp most k.1)))) (is_greater of k.0 l)) ∙ h))
+        | inr l ↦ absurd (false≢true (sym (ap (λ o. is_le (ordering_then o (nat_cmp 0 k.1)) && not (is_lt (ordering_then o (nat_cmp most k.1)))) (compares_greater of k.0 l)) ∙ h))
       ]
     ]
 

@@ -1,34 +1,20 @@
 -- Keys that compare alike are equal.
 use Rattle.std.proofs.Common.{◌≡◌, ℕ, [], refl, ap, ◌∙◌}
 use Rattle.std.specs.declared.cmp.Ordering.{Ordering}
-use Rattle.std.specs.declared.cmp.Ordering.TheVariants.{Less, Equal, Greater}
+use Rattle.std.specs.declared.cmp.Ordering.TheVariants.{Equal}
 use Rattle.std.specs.Cmp.{tied_itself}
 use Rattle.std.specs.Cmp.Lexicographic.{slice_cmp}
-use Rattle.std.specs.Ordering.{nat_cmp, ordering_then, is_eq}
-use mathlib.Core.Bool.{false≢true}
+use Rattle.std.specs.Ordering.{nat_cmp, ordering_then}
 use Rattle.std.proofs.lemmas.Map.Lookups.{exact_unsigned, exact_bytes}
-use denote.Enum.Bare.{same_true}
-use Rattle.snb_schema.specs.contracts.table.TableOrd.TheImpl.Laws.{matches_eq-law, total-law}
-use Rattle.snb_schema.specs.contracts.table.Table.{the_type as the_table}
+use Rattle.snb_schema.specs.contracts.table.TableOrd.TheImpl.Laws.{total-law}
 use Rattle.snb_schema.specs.declared.table.Table.{Table}
 use Rattle.snb_schema.specs.RowKeys.{RowKey}
 use Rattle.snb_schema.specs.TableOrder.{table_order}
 use Rattle.snb_graph_model.specs.Graphs.{key_order}
 use Rattle.snb_graph_rows.specs.declared.keys.EdgeKey.{EdgeKey}
 use Rattle.snb_graph_rows.specs.declared.keys.WordKey.{WordKey}
-
-pub then_equal : (o p : Ordering) → ordering_then o p ≡ Equal → (o ≡ Equal) × (p ≡ Equal)
-then_equal Less p e = absurd (false≢true (ap is_eq e))
-then_equal Equal p e = (refl, e)
-then_equal Greater p e = absurd (false≢true (ap is_eq e))
-
-pub then_last : (o : Ordering) → ordering_then o Equal ≡ o
-then_last Less = refl
-then_last Equal = refl
-then_last Greater = refl
-
-pub table_exact : (t u : Table) → table_order t u ≡ Equal → t ≡ u
-table_exact t u e = same_true the_table tt t u (matches_eq-law t u ∙ ap is_eq e)
+use Rattle.snb_base.proofs.Laws.{then_equal, then_last}
+use Rattle.snb_schema.proofs.Laws.{table_exact}
 
 -- the key of an edge in a graph, and that of a word
 abbrev pub edge_name : EdgeKey → RowKey

@@ -22,9 +22,10 @@ use Rattle.snb_schema.specs.TableRows.{IsTableRow}
 use Rattle.snb_graph_rows.specs.Rows.{HasLost, Stock}
 use Rattle.snb_graph_maps.specs.declared.layer.Layer.{Layer}
 use Rattle.snb_graph_maps.specs.declared.layer.Layer.TheVariants as layers
-use Rattle.snb_graph_maps.proofs.Laws.{on_err}
 use Rattle.snb_graph_tables.specs.Parts.{joined, AreParts, IsWhole, HasGivenBack, HasPut}
 use Rattle.snb_graph_tables.proofs.Laws.{contains_gained, frozen_is, rows_is}
+use Rattle.snb_base.proofs.Laws.{compares_less}
+use Rattle.std.proofs.lemmas.Result.{on_err_weaker}
 
 -- the rows of parts, and what copies share of them
 abbrev pub stock_of : List (List Row) → List (List Row) → Stock
@@ -110,13 +111,10 @@ both_all P [] ys a b = b
 both_all P (x ∷ xs) ys a b = (a.0, both_all P xs ys a.1 b)
 
 -- a row of a part comes before those of the later parts
-below : (n m : ℕ) → n < m → nat_cmp n m ≡ Less
-below n m l = grind (arith, l)
-
 before : (n m : ℕ) (r : Row) → part r ≡ n → n < m → (s : List Row) → All (λ x. part x ≡ m) s → AllByRecursion (λ x. row_order r x ≡ Less) s
 before n m r is l [] all = tt
 before n m r is l (x ∷ xs) all =
-    (ap (λ o. ordering_then o (key_order (row_key r) (row_key x))) (ap (λ k. nat_cmp k (part x)) is ∙ ap (nat_cmp n) (all 0 x (omega arith)) ∙ below n m l), before n m r is l xs (All-tail (λ y. part y ≡ m) x xs all))
+    (ap (λ o. ordering_then o (key_order (row_key r) (row_key x))) (ap (λ k. nat_cmp k (part x)) is ∙ ap (nat_cmp n) (all 0 x (omega arith)) ∙ compares_less n m l), before n m r is l xs (All-tail (λ y. part y ≡ m) x xs all))
 
 before_all : (n m : ℕ) (r : Row) → part r ≡ n → n < m → (ss : List (List Row)) → AreParts m ss → AllByRecursion (λ x. row_order r x ≡ Less) (joined ss)
 before_all n m r is l [] are = tt
@@ -137,11 +135,6 @@ parts_rise n (s ∷ ss) are = rise_both n s ss are.0 are.1 (parts_rise (suc n) s
 
 -- ---- a row of the whole stands in its part
 
-pub in_whole : (ss : List (List Row)) (i : ℕ) (r : Row) → Contains (at ss i) r → Contains (joined ss) r
-in_whole [] i r c = absurd (omega (arith, c.1))
-in_whole (s ∷ ss) zero r c = Contains-append_left s (joined ss) r c
-in_whole (s ∷ ss) (suc i) r c = Contains-append_right s (joined ss) r (in_whole ss i r c)
-
 above : (n : ℕ) (ss : List (List Row)) (r : Row) → AreParts n ss → Contains (joined ss) r → (i : ℕ) × (part r ≡ n + i) × Contains (at ss i) r
 above n [] r are c = absurd (omega (arith, c.1))
 above n (s ∷ ss) r are c =
@@ -155,7 +148,7 @@ in_part ss r i are c is = let found = above 0 ss r are c in subst (λ j. Contain
 
 -- the rows of a part are ones that their tables can have
 pub part_fit : (ss : List (List Row)) (i : ℕ) → IsWhole ss → All IsTableRow (at ss i)
-part_fit ss i whole = All-weaker (Contains (at ss i)) IsTableRow (λ r c. All-contains IsTableRow (joined ss) r whole.graph.of_tables (in_whole ss i r c)) (at ss i) (All-contains_itself (at ss i))
+part_fit ss i whole = All-weaker (Contains (at ss i)) IsTableRow (λ r c. All-contains IsTableRow (joined ss) r whole.graph.of_tables (part_among ss i r c)) (at ss i) (All-contains_itself (at ss i))
 
 -- ---- one row more
 
@@ -183,7 +176,7 @@ whole_gained ss i new r l whole is p free shaped =
 
 -- a key that the whole lacks is in no part
 pub no_key : (ss : List (List Row)) (i : ℕ) (r : Row) → ¬ HasSlot (joined ss) (slot_of r) → ¬ HasKey (at ss i) (row_key r)
-no_key ss i r free has = free (record { it = has.it; held = in_whole ss i has.it has.held; fills = ap slot has.keyed })
+no_key ss i r free has = free (record { it = has.it; held = part_among ss i has.it has.held; fills = ap slot has.keyed })
 
 same_part : (ss : List (List Row)) (i : ℕ) (new : List Row) → i < length ss → new ≡ at ss i → with_part ss i new ≡ ss
 same_part [] i new l e = refl
@@ -203,11 +196,11 @@ pub put_into : {E : Type 0} (half : Layer) (ss fs : List (List Row)) (i : ℕ) (
     OnOk result (IsPermutation x.rows (at ss i ++ r ∷ [])) → OnErr result (x ≡ record { rows = at ss i; frozen = at fs i }) → (half ≡ layers.Added → x.frozen ≡ at fs i) → ((y : Row) → Contains (at fs i) y → Contains x.frozen y) →
     ¬ HasSlot now.rows (slot_of given) → IsTableRow given → IsWhole (with_part ss i x.rows) × HasPut half now given result (stock_of (with_part ss i x.rows) (with_part fs i x.frozen))
 put_into half ss fs i x now given r result l m view is whole part ok err frozen more free shaped =
-    let put = put_part ss i x.rows now.rows given r result l (rows_is view) is whole part ok (on_err result rows_is err) free shaped in (
+    let put = put_part ss i x.rows now.rows given r result l (rows_is view) is whole part ok (on_err_weaker result rows_is err) free shaped in (
       put.0,
       record {
         ok = put.1;
-        err = on_err result (λ e. (λ j. stock_of (same_part ss i x.rows l (rows_is e) j) (same_part fs i x.frozen m (frozen_is e) j)) ∙ view) err;
+        err = on_err_weaker result (λ e. (λ j. stock_of (same_part ss i x.rows l (rows_is e) j) (same_part fs i x.frozen m (frozen_is e) j)) ∙ view) err;
         frozen = λ added. ap joined (same_part fs i x.frozen m (frozen added)) ∙ frozen_is view;
         more = λ y c. joined_more fs i x.frozen more y (subst (λ g. Contains g y) (sym (frozen_is view)) c);
       },

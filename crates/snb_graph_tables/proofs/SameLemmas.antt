@@ -29,9 +29,6 @@ none_keyed g r keyed none = (λ yes. absurd (false≢true yes), λ has. none (re
 
 -- ---- words
 
-number_is : (a b : ℕ) → nat_eq a b ≡ true → a ≡ b
-number_is a b e = grind (arith, nat_tests)
-
 number_itself : (a : ℕ) → nat_eq a a ≡ true
 number_itself a = grind (arith, nat_tests)
 

@@ -12,7 +12,7 @@ use Rattle.snb_graph_rows.specs.Keyed.{key_table}
 use Rattle.snb_graph_tables.specs.Twins.{twin, HasTwin}
 use Rattle.snb_graph_model.specs.Graphs.{part_of, HasKey, HasSlot}
 use Rattle.snb_graph_tables.specs.Parts.{joined, IsWhole}
-use Rattle.snb_graph_tables.proofs.PartLemmas.{at, in_whole, in_part}
+use Rattle.snb_graph_tables.proofs.PartLemmas.{at, in_part, part_among}
 
 -- a table shares its keys with itself alone, or is one of two
 unshared : (t v : Table) → sharing t ≡ v → (t ≡ v) ⊎ ((t ≡ table.Comment) × (v ≡ table.Post)) ⊎ ((t ≡ table.CommentReplyOfComment) × (v ≡ table.CommentReplyOfPost))
@@ -64,7 +64,7 @@ slot_from_twin g k twins =
 -- a key is held exactly where its part has it
 pub key_in_part : (ss : List (List Row)) (i : ℕ) (now : List Row) (k : RowKey) (test : Bool) → joined ss ≡ now → IsWhole ss → part_of (shape k.0) ≡ i → (IsTrue test ↔ HasKey (at ss i) k) → (IsTrue test ↔ HasKey now k)
 key_in_part ss i now k test view whole is same = (
-  λ yes. let has = same.0 yes in record { it = has.it; held = subst (λ g. Contains g has.it) view (in_whole ss i has.it has.held); keyed = has.keyed },
+  λ yes. let has = same.0 yes in record { it = has.it; held = subst (λ g. Contains g has.it) view (part_among ss i has.it has.held); keyed = has.keyed },
   λ has.
       let stands = ap (λ t. part_of (shape t)) (sym (key_table has.it) ∙ ap (λ x. x.0) has.keyed) ∙ is in
       same.1 (record { it = has.it; held = in_part ss has.it i whole.parts (subst (λ g. Contains g has.it) (sym view) has.held) stands; keyed = has.keyed }),
@@ -91,7 +91,7 @@ holds_else now k row twins none own other = (
 -- what a shelf finds is a row of the whole
 pub found_in_part : {X : Type 0} (ss : List (List Row)) (i : ℕ) (now : List Row) (o : Option X) (f : X → Row) (A B : X → Type 0) → joined ss ≡ now → IfSome o (λ v. A v × Contains (at ss i) (f v)) → ((v : X) → A v → B v) → IfSome o (λ v. B v × Contains now (f v))
 found_in_part ss i now None f A B view found give = tt
-found_in_part ss i now (Some v) f A B view found give = (give v found.0, subst (λ g. Contains g (f v)) view (in_whole ss i (f v) found.1))
+found_in_part ss i now (Some v) f A B view found give = (give v found.0, subst (λ g. Contains g (f v)) view (part_among ss i (f v) found.1))
 
 pub if_contains : {X : Type 0} (now : List Row) (o : Option X) (f g : X → Row) (A : X → Type 0) → ((v : X) → f v ≡ g v) → IfSome o (λ v. A v × Contains now (f v)) → IfSome o (λ v. Contains now (g v))
 if_contains now None f g A same is = tt

@@ -30,7 +30,7 @@ use Rattle.snb_graph_rows.specs.Rows.{entry_row, is_before_end, is_up_to_end, ro
 use Rattle.snb_graph_model.specs.Graphs.{key_order, part, part_of, rows}
 use Rattle.snb_graph_tables.specs.Words.{is_from, texts_of}
 use Rattle.snb_graph_tables.specs.Parts.{AreParts, IsWhole, joined}
-use Rattle.snb_graph_tables.proofs.PartLemmas.{at, in_whole}
+use Rattle.snb_graph_tables.proofs.PartLemmas.{at, part_among}
 use Rattle.snb_graph_rows.proofs.Laws.{high_end, low_end}
 use Rattle.snb_graph_model.proofs.Laws.{same_is}
 
@@ -208,7 +208,7 @@ same_kept p q (r ∷ rs) all =
 
 -- what a graph's rows are like holds of the rows of a part
 of_part : (P : Row → Type 0) (ss : List (List Row)) (i : ℕ) → All P (joined ss) → All P (at ss i)
-of_part P ss i all = All-weaker (Contains (at ss i)) P (λ r c. All_of (joined ss) r all (in_whole ss i r c)) (at ss i) (All-contains_itself (at ss i))
+of_part P ss i all = All-weaker (Contains (at ss i)) P (λ r c. All_of (joined ss) r all (part_among ss i r c)) (at ss i) (All-contains_itself (at ss i))
   where
     All_of : (xs : List Row) (r : Row) → All P xs → Contains xs r → P r
     All_of xs r h c = subst P c.2 (h c.0 r c.1)

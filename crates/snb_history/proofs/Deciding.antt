@@ -13,34 +13,11 @@ use Rattle.snb_history.specs.Rules.{Rule, V1, V2, V3, V4, V5, V6, V7, V8, V9, nu
 use Rattle.snb_history.specs.Violation.{told_at}
 use Rattle.snb_history.specs.Laws.{FitsOrBreaks, BreaksOne}
 use Rattle.snb_history.proofs.Times.{is_dependency-within}
-use Rattle.snb_base.proofs.Laws.{IsLeastFailing, least_failing}
-
-abbrev Decided : Type 0 → Type 0
-Decided P = P ⊎ (P → ⊥)
-
-both : {P Q : Type 0} → Decided P → Decided Q → Decided (P × Q)
-both (inl p) (inl q) = inl (p, q)
-both (inl p) (inr not_q) = inr (λ x. not_q x.1)
-both (inr not_p) q = inr (λ x. not_p x.0)
-
-where_so : {P Q : Type 0} → Decided P → Decided Q → Decided (P → Q)
-where_so p (inl q) = inl (λ x. q)
-where_so (inl p) (inr not_q) = inr (λ f. not_q (f p))
-where_so (inr not_p) (inr not_q) = inl (λ p. absurd (not_p p))
-
-is_true : (b : Bool) → Decided (b ≡ true)
-is_true true = inl refl
-is_true false = inr (λ q. cc)
+use Rattle.snb_base.proofs.Laws.{both, Decided, is_at_most, is_less, is_true, IsLeastFailing, least_failing, where_so}
 
 is_false : (b : Bool) → Decided (b ≡ false)
 is_false true = inr (λ q. cc)
 is_false false = inl refl
-
-is_less : (a b : ℕ) → Decided (a < b)
-is_less a b = elim (cases_lt a b) [ inl less ↦ inl less | inr more ↦ inr (λ q. omega arith) ]
-
-is_at_most : (a b : ℕ) → Decided (a ≤ b)
-is_at_most a b = elim (cases_lt b a) [ inl more ↦ inr (λ q. omega arith) | inr less ↦ inl less ]
 
 is_forum : (o : Option LaneKind) → Decided (o ≡ Some Forum)
 is_forum None = inr (λ q. cc)
@@ -108,6 +85,7 @@ is_front s h op front =
       | inr not_both ↦ inr (λ f. not_both (f.of_read, f.of_insert))
     ]
 
+-- whether an event obeys a rule is decided
 pub obeys : (s : Schedule) (workers : ℕ) (h : List Event) (e : Event) (r : Rule) → Decided (Obeys s workers h e r)
 obeys s workers h (Start op worker at) V1 = both (is_less op (length s.steps)) (may_act workers h worker)
 obeys s workers h (Start op worker at) V2 = is_head s h op
@@ -138,11 +116,11 @@ obeys s workers h (Halt worker) V8 = inl tt
 obeys s workers h (Halt worker) V9 = inl tt
 
 -- the rule of a number
-rule_of : ℕ → Rule
+pub rule_of : ℕ → Rule
 rule_of n =
     cond (eqb n 1) V1 (cond (eqb n 2) V2 (cond (eqb n 3) V3 (cond (eqb n 4) V4 (cond (eqb n 5) V5 (cond (eqb n 6) V6 (cond (eqb n 7) V7 (cond (eqb n 8) V8 V9)))))))
 
-rule_of-number : (r : Rule) → rule_of (number r) ≡ r
+pub rule_of-number : (r : Rule) → rule_of (number r) ≡ r
 unfolding rule_of
 rule_of-number V1 = refl
 rule_of-number V2 = refl
@@ -154,7 +132,7 @@ rule_of-number V7 = refl
 rule_of-number V8 = refl
 rule_of-number V9 = refl
 
-number-same : (q r : Rule) → number q ≡ number r → q ≡ r
+pub number-same : (q r : Rule) → number q ≡ number r → q ≡ r
 number-same q r e = sym (rule_of-number q) ∙ ap rule_of e ∙ rule_of-number r
 
 number-bounds : (r : Rule) → (0 < number r) × (number r < 10)

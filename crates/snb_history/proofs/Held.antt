@@ -11,9 +11,11 @@ use Rattle.snb_history.proofs.Pushes.{list_any-push, find-reverse_push}
 use Rattle.snb_history.proofs.Histories.{IsLegal-front, Fits-last}
 use Rattle.snb_base.proofs.Laws.{by_push}
 
+-- one more event starts what it starts, and leaves the rest
 pub started-push : (h : List Event) (e : Event) (k : ℕ) → started (h ++ e ∷ []) k ≡ cond (starts k e) true (started h k)
 started-push h e k = list_any-push (starts k) h e
 
+-- one more event finishes what it finishes, and leaves the rest
 pub finished-push : (h : List Event) (e : Event) (k : ℕ) → finished (h ++ e ∷ []) k ≡ cond (finishes k e) true (finished h k)
 finished-push h e k = list_any-push (finishes k) h e
 
@@ -23,6 +25,7 @@ hand_after (Start op worker at) w held = cond (eqb worker w) (Some op) held
 hand_after (Finish op worker at front) w held = cond (eqb worker w) None held
 hand_after (Halt worker) w held = held
 
+-- what one more event leaves in a worker's hand
 pub hand-push : (h : List Event) (e : Event) (w : ℕ) → hand (h ++ e ∷ []) w ≡ hand_after e w (hand h w)
 hand-push h (Start op worker at) w = let e = find-reverse_push (acts w) h (Start op worker at) in grind (arith, nat_tests)
 hand-push h (Finish op worker at front) w = let e = find-reverse_push (acts w) h (Finish op worker at front) in grind (arith, nat_tests)
@@ -35,9 +38,6 @@ pub record Keeps (begun done : ℕ → Bool) (held : ℕ → Option ℕ) : Type 
   pub held_open : (w k : ℕ) → held w ≡ Some k → done k ≡ false
   pub held_once : (v w k : ℕ) → held v ≡ Some k → held w ≡ Some k → v ≡ w
   pub open_held : (k : ℕ) → begun k ≡ true → done k ≡ false → (w : ℕ) × (held w ≡ Some k)
-
-some-same : (k l : ℕ) → Some k ≡ Some l → k ≡ l
-some-same k l q = cc
 
 some-none : (k : ℕ) → Some k ≡ None → ⊥
 some-none k q = cc
@@ -103,6 +103,7 @@ Keeps-event s workers h (Halt worker) fits keeps =
     let e : Event = Halt worker in
     Keeps-same keeps (λ k. started-push h e k) (λ k. finished-push h e k) (λ w. hand-push h e w)
 
+-- how starts, finishes and hands go together in a legal history
 pub keeps_legal : (s : Schedule) (workers : ℕ) (h : List Event) → IsLegal s workers h → KeepsAt h
 keeps_legal s workers h =
     by_push (λ g. IsLegal s workers g → KeepsAt g) none

@@ -8,6 +8,7 @@ use Rattle.snb_history.specs.History.{moment}
 use Rattle.snb_history.specs.Rules.{Rule, V1, V2, V3, V4, V5, V6, V7, V8, V9, MayAct, halt_rules, fact_of, Fits, IsLegal}
 use Rattle.snb_base.proofs.Laws.{push_split}
 
+-- the events before the last are a legal history, and the last fits them
 pub IsLegal-front : (s : Schedule) (w : ℕ) (g h : List Event) → IsLegal s w (g ++ h) → IsLegal s w g
 IsLegal-front s w g h l =
     record {
@@ -21,6 +22,7 @@ IsLegal-front s w g h l =
 pub Fits-last : (s : Schedule) (w : ℕ) (h : List Event) (e : Event) → IsLegal s w (h ++ e ∷ []) → Fits s w h e
 Fits-last s w h e l = l.fits h e [] refl
 
+-- one more event that fits keeps a history legal
 pub IsLegal-push : (s : Schedule) (w : ℕ) (h : List Event) (e : Event) → IsLegal s w h → Fits s w h e → moment e ≤ MAX_AT → IsLegal s w (h ++ e ∷ [])
 IsLegal-push s w h e l f small =
     record {
@@ -34,6 +36,7 @@ IsLegal-push s w h e l f small =
       ];
     }
 
+-- the empty history is legal
 pub IsLegal-nil : (s : Schedule) (w : ℕ) → IsLegal s w []
 IsLegal-nil s w = record { bounded = λ a e rest q. absurd (nothing a e rest q); fits = λ a e rest q. absurd (nothing a e rest q) }
   where
@@ -41,6 +44,7 @@ IsLegal-nil s w = record { bounded = λ a e rest q. absurd (nothing a e rest q);
     nothing [] e rest q = cc
     nothing (x ∷ a) e rest q = cc
 
+-- a Halt fits where the worker may act
 pub Fits-halt : (s : Schedule) (w : ℕ) (h : List Event) (worker : ℕ) → MayAct w h worker → Fits s w h (Halt worker)
 Fits-halt s w h worker may = record { obeys = by_rule }
   where

@@ -10,11 +10,11 @@ use Rattle.snb_history.specs.Schedule.{Schedule}
 use Rattle.snb_history.specs.History.{starts, moves, started, hand, holder}
 use Rattle.snb_history.specs.Rules.{Fits, IsLegal, V2, V6, V7}
 use Rattle.snb_history.specs.Laws.{HandIsTheirs, HolderHolds}
-use Rattle.snb_history.proofs.Pushes.{find-reverse_push, same_list_split}
+use Rattle.snb_history.proofs.Pushes.{find-reverse_push}
 use Rattle.snb_history.proofs.Histories.{IsLegal-front, Fits-last}
 use Rattle.snb_history.proofs.Held.{KeepsAt, keeps_legal, hand-push}
 use Rattle.snb_history.proofs.Once.{hand_has_start}
-use Rattle.snb_base.proofs.Laws.{by_push}
+use Rattle.snb_base.proofs.Laws.{by_push, same_list_split}
 
 started-mid : (g : List Event) (k w at : ℕ) (r : List Event) → started (g ++ Start k w at ∷ r) k ≡ true
 started-mid g k w at r = let a = list_any-append (starts k) g (Start k w at ∷ r) in let e = eq-eqb k k refl in grind arith
@@ -90,6 +90,7 @@ from_finish op worker k w held' held held_by' held_by once a b ih q =
       ]
     ]
 
+-- the holder of an operation has it in hand
 pub holder_holds : HolderHolds
 holder_holds s workers h legal k w =
     by_push (λ g. IsLegal s workers g → (holder g k ≡ Some w) ↔ (hand g w ≡ Some k))

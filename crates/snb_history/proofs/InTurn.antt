@@ -32,6 +32,7 @@ stays s workers k P first more h =
     ]))
     h
 
+-- in a forum lane all before a started operation is finished
 pub forum_goes_in_turn : ForumGoesInTurn
 forum_goes_in_turn s workers h legal j k forum before =
     stays s workers k (λ g. finished g j ≡ true)

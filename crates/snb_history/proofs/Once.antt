@@ -68,6 +68,7 @@ HasStart-push : (g : List Event) (e : Event) (k w : ℕ) → HasStart g k w → 
 HasStart-push g e k w p =
     (p.0, p.1 ++ e ∷ [], p.2, sym (append_assoc p.0 (Start k w p.2 ∷ p.1) (e ∷ [])) ∙ ap (λ x. x ++ e ∷ []) p.3)
 
+-- what a worker has in hand it has started
 pub hand_has_start : (w k : ℕ) (h : List Event) → hand h w ≡ Some k → HasStart h k w
 hand_has_start w k h = by_push (λ g. hand g w ≡ Some k → HasStart g k w) (λ q. absurd cc) more h
   where

@@ -27,6 +27,7 @@ counts_rise p xs j (suc k) le within =
       | inr here ↦ (let e : j ≡ suc k = omega arith in rw e (omega arith))
     ]
 
+-- along a schedule's lanes places rise
 pub planned_is_placed : PlannedIsPlaced
 planned_is_placed s planned = record {
   rises = λ j k below within same.
@@ -39,7 +40,7 @@ planned_is_placed s planned = record {
       omega arith;
 }
 
-t_rises : (one other : Step) → ComesBefore one other → one.t ≤ other.t
+pub t_rises : (one other : Step) → ComesBefore one other → one.t ≤ other.t
 t_rises one other (inl less) = omega arith
 t_rises one other (inr same) = (let e = same.0 in omega arith)
 
@@ -51,6 +52,7 @@ t_rises_along s planned j k le within =
       | inr ge ↦ (let e : j ≡ k = omega arith in rw e (omega arith))
     ]
 
+-- a schedule is timely where each dependent needs only what lies before it
 pub planned_is_timely : PlannedIsTimely
 planned_is_timely s planned below = record {
   numbered = t_rises_along s planned;

@@ -44,6 +44,7 @@ count_to-more p q (suc n) i lt fresh one =
           grind arith
     ]
 
+-- one more event halts whom it halts, and leaves the rest
 pub halted-push : (h : List Event) (e : Event) (w : ℕ) → halted (h ++ e ∷ []) w ≡ cond (halts w e) true (halted h w)
 halted-push h e w = list_any-push (halts w) h e
 
@@ -87,6 +88,7 @@ counted_legal s workers h =
     (λ g e ih legal. let before = IsLegal-front s workers g (e ∷ []) legal in counted-event s workers g e before (Fits-last s workers g e legal) (ih before))
     h
 
+-- a legal history has at most two events for each operation and one for each worker
 pub legal_is_short : LegalIsShort
 unfolding IsCounted
 legal_is_short s workers h legal =
@@ -96,11 +98,13 @@ legal_is_short s workers h legal =
     let z = count_to-le (halted h) workers in
     omega arith
 
+-- the last moment after one more event
 pub last-push : (h : List Event) (e : Event) → last (h ++ e ∷ []) ≡ cond (has_moment e) (moment e) (last h)
 last-push h (Start op worker at) = let e = find-reverse_push has_moment h (Start op worker at) in grind arith
 last-push h (Finish op worker at front) = let e = find-reverse_push has_moment h (Finish op worker at front) in grind arith
 last-push h (Halt worker) = let e = find-reverse_push has_moment h (Halt worker) in grind arith
 
+-- no moment of a legal history is above the greatest
 pub last_is_bounded : LastIsBounded
 last_is_bounded s workers h =
     by_push (λ g. IsLegal s workers g → last g ≤ MAX_AT)

@@ -27,7 +27,7 @@ halted_stays : (g more : List Event) (w : ℕ) → list_any (is_by w) more ≡ f
 halted_stays g more w q = sym (hand_is_own (g ++ more) w).1 ∙ ap (λ l. halted l w) (own_same g more w q) ∙ (hand_is_own g w).1
 
 -- what is in a worker's hand is started
-hand_started : (g : List Event) (w k : ℕ) → hand g w ≡ Some k → started g k ≡ true
+pub hand_started : (g : List Event) (w k : ℕ) → hand g w ≡ Some k → started g k ≡ true
 hand_started g w k q =
     let p = hand_has_start w k g q in
     let a = list_any-append (starts k) p.0 (Start k w p.2 ∷ p.1) in

@@ -4,6 +4,7 @@ use Rattle.snb_history.specs.Schedule.{step_of, ComesBefore, IsPlanned}
 use Rattle.snb_history.specs.Worked.{tie}
 use Rattle.snb_base.proofs.Laws.{by_two}
 
+-- the schedule of a person and a friendship that waits for it is a plan's
 pub planned_tie : IsPlanned tie
 planned_tie = record {
   few_lanes = omega arith;

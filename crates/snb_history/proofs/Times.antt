@@ -13,11 +13,13 @@ use Rattle.snb_history.specs.Schedule.{Schedule, step_of, no_step, IsOperation, 
 use Rattle.snb_history.specs.History.{finishes, finished}
 use Rattle.snb_history.specs.Completion.{least_of, least_t, is_left, is_awaited, time_left, completion, local}
 use Rattle.snb_history.specs.Laws.{CompletionDecides, CompletionRises, CompletionWaits, CompletionIsReached, CompletionIsLocal, StartStays, BeforeIsByPlace}
+use Rattle.snb_base.proofs.Laws.{min_is}
 
 pub least_of-top : (f : ℕ → ℕ) (top : ℕ) (p : ℕ → Bool) (n : ℕ) → least_of f top p n ≤ top
 least_of-top f top p zero = omega arith
 least_of-top f top p (suc n) = omega (arith, min-le_right (cond (p n) (f n) top) (least_of f top p n), least_of-top f top p n)
 
+-- a least value is no greater than that of a number that passes
 pub least_of-le : (f : ℕ → ℕ) (top : ℕ) (p : ℕ → Bool) (n k : ℕ) → k < n → p k ≡ true → least_of f top p n ≤ f k
 least_of-le f top p zero k lt passes = absurd (omega arith)
 least_of-le f top p (suc n) k lt passes =
@@ -30,6 +32,7 @@ least_of-le f top p (suc n) k lt passes =
           subst (λ (i : ℕ). least_of f top p (suc n) ≤ f i) (sym e) (rw passes_n l)
     ]
 
+-- what is no greater than each value that counts is no greater than the least
 pub le-least_of : (f : ℕ → ℕ) (top : ℕ) (p : ℕ → Bool) (n x : ℕ) → x ≤ top → ((k : ℕ) → k < n → p k ≡ true → x ≤ f k) → x ≤ least_of f top p n
 le-least_of f top p zero x room each = room
 le-least_of f top p (suc n) x room each =
@@ -37,9 +40,7 @@ le-least_of f top p (suc n) x room each =
     (elim (cases_Bool (p n)) [ inl passes ↦ rw passes (each n (omega arith) passes) | inr fails ↦ rw fails room ])
     (le-least_of f top p n x room (λ k lt passes. each k (omega arith) passes))
 
-min_is : (a b : ℕ) → (min a b ≡ a) ⊎ (min a b ≡ b)
-min_is a b = elim (cases_lt a b) [ inl lt ↦ inl (omega arith) | inr ge ↦ inr (omega arith) ]
-
+-- a least value is that of a number that passes, or the top
 pub least_of-reached : (f : ℕ → ℕ) (top : ℕ) (p : ℕ → Bool) (n : ℕ) → (least_of f top p n ≡ top) ⊎ ((k : ℕ) × (k < n) × (p k ≡ true) × (least_of f top p n ≡ f k))
 least_of-reached f top p zero = inl refl
 least_of-reached f top p (suc n) =
@@ -75,11 +76,13 @@ at_most_before c l lt = omega (arith, ints)
 below_from_at_most : (c l : ℕ) → pos c ≤ℤ (pos l -ℤ pos 1) → c < l
 below_from_at_most c l le = omega (arith, ints)
 
+-- the completion time is below the t of each dependency that is not finished
 pub completion_waits : CompletionWaits
 completion_waits s h k dep open_yet =
     let l = least_of-le (λ k. (step_of s k).t) (MAX_TIME + 1) (is_awaited s h) (length s.steps) k (is_dependency-within s k dep) (is_awaited-from s h k dep open_yet) in
     omega (arith, ints, l)
 
+-- more events never lower the completion time
 pub completion_rises : CompletionRises
 completion_rises s g h =
     let l = least_of-weaker (λ k. (step_of s k).t) (MAX_TIME + 1) (is_awaited s g) (is_awaited s (g ++ h)) (length s.steps)
@@ -109,6 +112,7 @@ decides_where s done op small = (
       ],
 )
 
+-- a dependent is cleared exactly where its t_d is at most the completion time
 pub completion_decides : CompletionDecides
 completion_decides s h op small = decides_where s (finished h) op small
 

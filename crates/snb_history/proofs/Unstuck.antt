@@ -10,6 +10,7 @@ use Rattle.snb_history.proofs.Times.{is_dependency-within}
 use Rattle.snb_history.proofs.Held.{KeepsAt, keeps_legal}
 use Rattle.snb_base.proofs.Laws.{IsLeastFailing, least_failing}
 
+-- where nobody has an operation in hand, some unstarted operation may start
 pub never_stuck : NeverStuck
 never_stuck s workers h timely legal idle running k within fresh =
     elim (least_failing (started h) (length s.steps)) [

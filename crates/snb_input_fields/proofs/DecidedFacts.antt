@@ -1,13 +1,11 @@
 -- Whether a text spells a value of a column is decided.
-use Rattle.std.proofs.Common.{◌≡◌, ◌≢◌, ◌++◌, ◌∷◌, ◌∙◌, ◌+◌, ◌*◌, ◌<◌, ◌≤◌, ◌⊎◌, [], ℕ, zero, suc, List, Bool, true, false, refl, sym, ap, subst, inl, inr, length, arith, nat_eq, All}
-use Rattle.std.proofs.lemmas.Bool.{cases_Bool, cases_eq, cases_lt}
-use Rattle.std.proofs.lemmas.Bool.Decides.{not_from_Decides}
+use Rattle.std.proofs.Common.{◌≡◌, ◌≢◌, ◌++◌, ◌∷◌, ◌∙◌, ◌+◌, ◌*◌, ◌<◌, ◌≤◌, ◌⊎◌, [], ℕ, zero, suc, List, Bool, true, false, refl, sym, ap, subst, inl, inr, arith, nat_eq, All}
+use Rattle.std.proofs.lemmas.Bool.{cases_Bool, cases_eq}
 use Rattle.std.proofs.lemmas.List.Elements.{All-nil, All-cons}
-use Rattle.std.proofs.lemmas.Slice.Eq.{bytes_eq-Decides}
-use Rattle.std.specs.List.{AllByRecursion, Contains, list_any, slice_index}
+use Rattle.std.specs.List.{Contains, list_any}
 use Rattle.std.specs.Str.{bytes_eq}
-use Rattle.snb_base.specs.Calendar.{IsDigit, IsRealDay, IsRealTime, day_number, day_text, month_length, time_number, time_text}
-use Rattle.snb_base.specs.Spellings.{EachSpells, HasOneYear, IdList, Listed, Num, PairList, SpellsId, SpellsPair, SpellsWord, WordList, elements, last_id, last_time, once_after, pair_eq, value_after}
+use Rattle.snb_base.specs.Calendar.{IsRealDay, IsRealTime, day_number, day_text, month_length, time_number, time_text}
+use Rattle.snb_base.specs.Spellings.{EachSpells, HasOneYear, IdList, Listed, Num, PairList, SpellsId, SpellsPair, SpellsWord, WordList, elements, last_id, last_time, once_after, pair_eq}
 use Rattle.snb_base.specs.Spellings as spellings
 use Rattle.snb_schema.specs.declared.column.Column.{Column}
 use Rattle.snb_schema.specs.declared.column.Column.TheVariants.{Number, Small, OptionalId, Date, Day, Words, Word, TextList, IdList as Ids_, PairList as Pairs_}
@@ -18,40 +16,11 @@ use Rattle.snb_schema.specs.Lines.{HasNo}
 use Rattle.snb_input_fields.specs.Laws.{EachIsSpelled, EachLineIsRead}
 use Rattle.snb_columns.proofs.Laws.{differs, no_comma, not_listed, one_year, pair_parts, two_years}
 use Rattle.snb_input_fields.proofs.ReadingFacts.{date_of, day_of, ids_of, pairs_of, texts_of}
-
--- it holds or it doesn't
-abbrev Decided : Type 0 → Type 0
-Decided P = P ⊎ ¬ P
-
--- something has it, or nothing does
-abbrev pub Found : {A : Type 0} → (A → Type 0) → Type 0
-Found {A} P = ((a : A) × P a) ⊎ ((a : A) → ¬ P a)
-
-both : {P Q : Type 0} → Decided P → Decided Q → Decided (P × Q)
-both (inl p) (inl q) = inl (p, q)
-both (inl p) (inr never) = inr (λ h. never h.1)
-both (inr never) q = inr (λ h. never h.0)
-
-where_so : {P Q : Type 0} → Decided P → Decided Q → Decided (P → Q)
-where_so p (inl q) = inl (λ h. q)
-where_so (inl p) (inr never) = inr (λ f. never (f p))
-where_so (inr not_p) (inr never) = inl (λ p. absurd (not_p p))
+use Rattle.snb_base.proofs.Laws.{both, Decided, Found, is_at_most, is_text, number_found}
 
 like : {P Q : Type 0} → (P → Q) → (Q → P) → Decided P → Decided Q
 like there back (inl p) = inl (there p)
 like there back (inr never) = inr (λ q. never (back q))
-
-is_less : (a b : ℕ) → Decided (a < b)
-is_less a b = elim (cases_lt a b) [ inl less ↦ inl less | inr more ↦ inr (λ q. omega arith) ]
-
-is_at_most : (a b : ℕ) → Decided (a ≤ b)
-is_at_most a b = elim (cases_lt b a) [ inl more ↦ inr (λ q. omega arith) | inr less ↦ inl less ]
-
-is_text : (x y : List ℕ) → Decided (x ≡ y)
-is_text x y = elim (cases_Bool (bytes_eq x y)) [
-  | inl e ↦ inl ((bytes_eq-Decides x y).0 e)
-  | inr e ↦ inr (not_from_Decides (bytes_eq x y) (bytes_eq-Decides x y) e)
-]
 
 -- a number below n has it, or none does
 below : (P : ℕ → Type 0) → ((k : ℕ) → Decided (P k)) → (n : ℕ) → Decided ((k : ℕ) × (k < n) × P k)
@@ -97,17 +66,6 @@ real_time h i s k = like
     (λ f. record { last_hour = f.0; last_minute = f.1.0; last_second = f.1.1.0; last_milli = f.1.1.1 })
     (λ r. (r.last_hour, (r.last_minute, (r.last_second, r.last_milli))))
     (both (is_at_most h 23) (both (is_at_most i 59) (both (is_at_most s 59) (is_at_most k 999))))
-
-all_digits : (x : List ℕ) → Decided (AllByRecursion IsDigit x)
-all_digits [] = inl tt
-all_digits (b ∷ bs) = both (both (is_at_most 48 b) (is_at_most b 57)) (all_digits bs)
-
--- a text is a number of at most so much, or it isn't
-pub number_found : (x : List ℕ) (most : ℕ) → Found (λ n. Num x n most)
-number_found x most = elim (both (all_digits x) (both (is_less 0 (length x)) (both (is_at_most (length x) 19) (both (where_so (cases_eq (slice_index x 0) 48) (cases_eq (length x) 1)) (is_at_most (value_after 0 x) most))))) [
-  | inl s ↦ inl (value_after 0 x, record { digits = s.0; some = s.1.0; few = s.1.1.0; no_lead = s.1.1.1.0; value = refl; small = s.1.1.1.1 })
-  | inr never ↦ inr (λ n s. never (s.digits, (s.some, (s.few, (s.no_lead, subst (λ k. k ≤ most) s.value s.small)))))
-]
 
 -- x is this day in words
 abbrev SaysDay : List ℕ → ℕ → ℕ → ℕ → Type 0

@@ -15,8 +15,8 @@ use Rattle.snb_input_lines.specs.Records.{field_at}
 use Rattle.snb_input_fields.specs.Laws.{TakenAgain}
 use Rattle.snb_input_fields.specs.Queries.{query_by}
 use Rattle.snb_input_fields.specs.Values.{starts_twice, taken}
-use Rattle.snb_input_fields.proofs.DecidedFacts.{number_found}
 use Rattle.snb_input_fields.proofs.WideFacts.{wide_none, wide_some}
+use Rattle.snb_base.proofs.Laws.{number_found}
 
 -- what is taken first of a value that is spelled is this value
 one_taken : (c : Column) (x : List ℕ) (v : Value) (cs : List Column) (vs : List Value) → Spells c x v → taken (c ∷ cs) (v ∷ vs) ≡ v ∷ taken cs vs

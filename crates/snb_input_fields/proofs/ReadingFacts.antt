@@ -1,8 +1,7 @@
 -- Fields read by columns, one after another.
-use Rattle.std.proofs.Common.{◌≡◌, ◌∙◌, ◌<◌, ℕ, zero, suc, List, [], ◌∷◌, ◌++◌, Option, Some, None, length, take, get_or, All, sym, ap, subst, arith}
+use Rattle.std.proofs.Common.{◌≡◌, ◌<◌, ℕ, zero, suc, List, [], ◌∷◌, ◌++◌, Option, Some, None, length, take, get_or, All, sym, subst, arith}
 use Rattle.std.proofs.lemmas.List.Elements.{All-head, All-tail}
-use Rattle.std.specs.Borrow.{Bor}
-use Rattle.std.specs.Option.{MatchOption, option_map}
+use Rattle.std.specs.Option.{MatchOption}
 use Rattle.snb_input_lines.specs.Records.{field_at}
 use Rattle.snb_base.specs.Spellings.{Date, Day, IdList, PairList, WordList}
 use Rattle.snb_schema.specs.declared.column.Column.{Column}
@@ -10,13 +9,6 @@ use Rattle.snb_schema.specs.declared.column.Column.TheVariants as column
 use Rattle.snb_schema.specs.declared.column.Value.{Value}
 use Rattle.snb_schema.specs.declared.column.Value.TheVariants.{Digits, Texts, Ids, Pairs}
 use Rattle.snb_schema.specs.Columns.{Spells, SpellsAll, StopsAfter}
-
--- there is a field at each place below the length
-pub some_field : (xs : List (List ℕ)) (i : ℕ) → i < length xs → field_at xs i ≡ None → ⊥
-unfolding field_at
-some_field [] i l e = absurd (omega (arith, l))
-some_field (x ∷ xs) zero l e = cc
-some_field (x ∷ xs) (suc i) l e = some_field xs i (omega (arith, l)) e
 
 -- what holds of each field holds of the one at a place
 pub holds_at : (P : List ℕ → Type 0) (xs : List (List ℕ)) (i : ℕ) (x : List ℕ) → All P xs → field_at xs i ≡ Some x → P x
@@ -45,14 +37,6 @@ stops_here i (c ∷ cs) [] vs d x l f s h = absurd cc
 stops_here zero (c ∷ cs) (y ∷ xs) vs d x l f s h = λ v k. (let same : y ≡ x = cc in h v (subst (λ (z : List ℕ). Spells c z v) same k))
 stops_here (suc i) (c ∷ cs) (y ∷ xs) [] d x l f s h = absurd s
 stops_here (suc i) (c ∷ cs) (y ∷ xs) (w ∷ vs) d x l f s h = ((w, s.0), stops_here i cs xs vs d x (omega (arith, l)) f s.1 h)
-
--- what a look at a place finds
-pub found_there : (o : Option (Bor (List ℕ))) (x : Bor (List ℕ)) (p : Option (List ℕ)) → option_map (λ (s : Bor (List ℕ)). s.now) o ≡ p → o ≡ Some x → p ≡ Some x.now
-found_there o x p e is = sym e ∙ ap (option_map (λ (s : Bor (List ℕ)). s.now)) is
-
--- and one that finds nothing
-pub none_there : (o : Option (Bor (List ℕ))) (p : Option (List ℕ)) → option_map (λ (s : Bor (List ℕ)). s.now) o ≡ p → o ≡ None → p ≡ None
-none_there o p e is = sym e ∙ ap (option_map (λ (s : Bor (List ℕ)). s.now)) is
 
 -- a column whose values are made of what is read
 made_spell : {A : Type 0} (make : A → Value) (column : Column) (x : List ℕ) (S : A → Type 0) → ((a : A) → S a → Spells column x (make a)) → ((v : Value) → Spells column x v → (a : A) × S a) → (read : Option A) (found : Option Value)

@@ -1,5 +1,5 @@
 -- Items that were seen, beside the list of those that differ.
-use Rattle.std.proofs.Common.{All, eq-eqb, Option, Some, None, IfSome, Contains, subst, is_some, unwrap_or, ◌≡◌, ◌||◌, ◌&&◌, ℕ, List, [], ◌∷◌, ◌++◌, Bool, true, false, not, nat_eq, map, refl, sym, ◌∙◌, ap, eqb-true}
+use Rattle.std.proofs.Common.{All, eq-eqb, Option, Some, None, IfSome, Contains, subst, is_some, ◌≡◌, ◌||◌, ◌&&◌, ℕ, List, [], ◌∷◌, ◌++◌, Bool, true, false, not, nat_eq, map, refl, sym, ◌∙◌, ap, eqb-true}
 use mathlib.Core.Bool.{false≢true}
 use Rattle.std.specs.declared.cmp.Ordering.{Ordering}
 use Rattle.std.specs.declared.cmp.Ordering.TheVariants.{Less, Equal, Greater}
@@ -122,9 +122,6 @@ pub noted_key : {K : Type 0} (cmp : K → K → Ordering) → ((k x : K) → cmp
 noted_key cmp exact p ks later k is = ap (list_any p) (is ∙ sym (map_same (insert_key cmp ks k))) ∙ noted cmp (λ x. x) exact p ks k ∙ ap (λ xs. p k || list_any p xs) (map_same ks)
 
 -- ---- the years of a list
-
-pub one_some : (a b : ℕ) → Some a ≡ Some b → a ≡ b
-one_some a b e = ap (λ (o : Option ℕ). unwrap_or o a) e
 
 -- what all keys have the key of each entry has
 all_keys : (P : ℕ → Type 0) (es : List (ℕ × ℕ)) → All P (keys_of es) → (e : ℕ × ℕ) → Contains es e → P e.0

@@ -1,20 +1,15 @@
 -- How many fields a line has.
 use Rattle.std.proofs.Common.{◌≡◌, ◌∙◌, ◌+◌, ℕ, zero, suc, List, [], ◌∷◌, ◌++◌, Bool, Some, None, IsTrue, eqb, length, take, length-append, refl, sym, ap, subst, arith}
-use Rattle.std.proofs.lemmas.List.{append-nil}
+use Rattle.std.proofs.lemmas.List.{append-nil, nil_from_length}
 use Rattle.std.proofs.lemmas.Bool.Decides.{Decides-eqb}
 use Rattle.snb_input_lines.specs.Records.{field_at}
 use Rattle.snb_schema.specs.RowLines.{IsWide, NoneOrEmpty}
-
--- a list without elements
-none_left : {X : Type 0} (xs : List X) → length xs ≡ 0 → xs ≡ []
-none_left [] e = refl
-none_left (x ∷ xs) e = absurd (omega (arith, e))
 
 -- the last field, and those before it
 last_split : (fs : List (List ℕ)) (count : ℕ) (x : List ℕ) → field_at fs count ≡ Some x → length fs ≡ count + 1 → (length (take count fs) ≡ count) × (fs ≡ take count fs ++ x ∷ [])
 unfolding field_at
 last_split [] count x f e = absurd (omega (arith, e))
-last_split (y ∷ fs) zero x f e = (let none : fs ≡ [] = none_left fs (omega (arith, e)) in let same : y ≡ x = cc in (refl, rw (none, same) refl))
+last_split (y ∷ fs) zero x f e = (let none : fs ≡ [] = nil_from_length fs (omega (arith, e)) in let same : y ≡ x = cc in (refl, rw (none, same) refl))
 last_split (y ∷ fs) (suc n) x f e = (let (size, split) = last_split fs n x f (omega (arith, e)) in (ap suc size, ap (λ (ys : List (List ℕ)). y ∷ ys) split))
 
 -- the field behind these
@@ -70,7 +65,7 @@ pub tests_empty : (count found : ℕ) (fs : List (List ℕ)) (x : List ℕ) (b :
 tests_empty count found fs x b e f more same =
     let (there, back) = wide_some count fs x f in
     let decides = Decides-eqb (length x) 0 in
-    (λ t. there (sym e ∙ more) (none_left x (decides.0 (sym same ∙ t))), λ w. same ∙ decides.1 (ap length (back w).1))
+    (λ t. there (sym e ∙ more) (nil_from_length x (decides.0 (sym same ∙ t))), λ w. same ∙ decides.1 (ap length (back w).1))
 
 -- of more than one
 pub tests_longer : (count found : ℕ) (fs : List (List ℕ)) (x : List ℕ) → found ≡ length fs → field_at fs count ≡ Some x → (found ≡ count + 1 → ⊥) → ¬ IsWide count fs

@@ -20,6 +20,7 @@ use Rattle.snb_input_files.specs.Places.{FileSays, IsBare, Knows, LacksHeader, L
 use Rattle.snb_input_files.proofs.FirstLine.{opens_with}
 use Rattle.snb_input_files.proofs.Reach.{lines_split, longer_split, walked_whole, within_file, within_whole}
 use Rattle.snb_input_files.proofs.Taking.{Stands, knows_one, left, line_bad, line_good, run_heard, says_count, says_knows, says_one}
+use Rattle.snb_base.proofs.Laws.{none_some}
 
 -- a line that is too far is refused so first
 large_first : {K T : Type 0} (g : Format K T) (p : Place) (line : List ℕ) → IsBeyond p.bytes p.size p.before line → FirstOf (line_checks g p line) (TooLarge p.file)
@@ -30,9 +31,6 @@ large_first g p (b ∷ bs) h = inl (h, refl)
 runs_cut : {S T : Type 0} (takes : Takes S T) (file : FileId) (xs ys : List T) (a c : S) → Runs takes file a (xs ++ ys) c → (b : S) × Runs takes file a xs b × Runs takes file b ys c
 runs_cut takes file [] ys a c h = (a, refl, h)
 runs_cut takes file (x ∷ xs) ys a c h = let r = runs_cut takes file xs ys h.0 c h.2 in (r.0, (h.0, h.1, r.1), r.2)
-
-none_some : {A : Type 0} (o : Option A) (a : A) → o ≡ None → o ≡ Some a → ⊥
-none_some o a p q = cc
 
 module _ {P K T : Type 0} (g : Format K T) (heard : Heard P T) (takes : Takes P T) (refuses : Refuses P T) (hears : Hears takes refuses heard g.rules.own) (lawful : Lawful g)
     (file : FileId) (bytes rows : ℕ) (past : List Source) (s : RowCount P) (at : Opened g heard rows past s) where

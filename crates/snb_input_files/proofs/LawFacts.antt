@@ -17,6 +17,7 @@ use Rattle.snb_input_files.specs.Ranks.{ordinal}
 use Rattle.snb_input_files.specs.Walk.{Before, Held, IsHeldTold, Look, Role, after_look, file_at, first_role, look_beyond, look_checks, looks_from, series_looks, stage_checks, stage_looks, walk_checks}
 use Rattle.snb_input_files.specs.Walk.Role.{Needed, Further, Beyond}
 use Rattle.snb_input_files.proofs.Taking.{files_one, knows_one, says_one}
+use Rattle.std.proofs.lemmas.Bool.{lt-ltb}
 
 -- each check refuses in one way at most
 abbrev pub Ones : List {1} (Refusal → Type 0) → Type 0
@@ -30,6 +31,7 @@ first_one (A ∷ cs) ones r q (inl a) (inr b) = absurd (b.0 r a)
 first_one (A ∷ cs) ones r q (inr a) (inl b) = absurd (a.0 q b)
 first_one (A ∷ cs) ones r q (inr a) (inr b) = first_one cs ones.1 r q a.1 b.1
 
+-- where one refuses, it isn't so that none does
 pub first_some : (cs : List {1} (Refusal → Type 0)) (r : Refusal) → FirstOf cs r → NoneOf cs → ⊥
 first_some [] r a none = a
 first_some (A ∷ cs) r (inl a) none = none.0 r a
@@ -153,9 +155,6 @@ series_same : (one other : Held) (s : Series) → ((file : FileId) → file.kind
 unfolding series_looks
 series_same one other s eq = from_same one other s eq s.most 0 (first_role s.needed)
 
-below_test : (a n : ℕ) → a < n → ltb a n ≡ true
-below_test a n h = grind (arith, Decides-ltb a n)
-
 from_test : (a n : ℕ) → n ≤ a → ltb a n ≡ false
 from_test a n h = grind (arith, Decides-ltb a n)
 
@@ -184,7 +183,7 @@ stages_join contents folder first second n t u = (
     is_below : (stage : List Series) → AreBelow n stage → stage_looks (merge first second n) stage ≡ stage_looks first stage
     is_below [] h = refl
     is_below (s ∷ ss) h =
-        let one = series_same (merge first second n) first s (λ file e. ap (λ (b : Bool). cond b (first file) (second file)) (below_test (ordinal file.kind) n (subst (λ k. ordinal k < n) (sym e) h.0))) in
+        let one = series_same (merge first second n) first s (λ file e. ap (λ (b : Bool). cond b (first file) (second file)) (lt-ltb (ordinal file.kind) n (subst (λ k. ordinal k < n) (sym e) h.0))) in
         let rest = is_below ss h.1 in
         λ i. one i ++ rest i
 

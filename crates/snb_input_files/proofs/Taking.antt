@@ -17,12 +17,10 @@ use Rattle.snb_input_files.specs.Files.{IsBeyond}
 use Rattle.snb_base.specs.FirstOf.{FirstOf}
 use Rattle.snb_input_files.specs.Format.{Format, Lawful}
 use Rattle.snb_input_files.specs.Places.{FailsOwn, FilesSay, HasBadColumn, IsMarked, IsNoHeader, IsRowTooMany, KnownAt, Knows, LinesSay, Place, Source, data_of, line_checks, number, rows_in}
+use Rattle.snb_base.proofs.Laws.{none_some}
 
 not_both : (b : Bool) → b ≡ true → b ≡ false → ⊥
 not_both b p q = cc
-
-none_some : {K : Type 0} (o : Option K) (k : K) → o ≡ None → o ≡ Some k → ⊥
-none_some o k p q = cc
 
 same_some : {K : Type 0} (o : Option K) (k j : K) → o ≡ Some k → o ≡ Some j → k ≡ j
 same_some o k j p q = cc

@@ -15,7 +15,7 @@ use Rattle.snb_schema.specs.Lines.{fields}
 use Rattle.snb_input_lines.specs.Bars.{MayStand, Source, Stands, bar_config, bytes_of}
 use Rattle.snb_input_lines.specs.Ended.{AnyStands, AreUtf8, IsLeft}
 use Rattle.snb_schema.specs.Lines.{HasNoEnd}
-use Rattle.snb_input_lines.proofs.CutFacts.{all_back}
+use Rattle.snb_base.proofs.Laws.{all_back}
 
 -- bytes in front of the first piece
 abbrev onto : List ℕ → List (List ℕ) → List (List ℕ)

@@ -13,11 +13,6 @@ use Rattle.snb_schema.specs.Lines.{lines}
 use Rattle.snb_input_lines.specs.Cut.{IsCutAtEnd, all_but_last, last_lines, last_part, rest_of, whole_lines}
 use Rattle.snb_schema.specs.Lines.{HasNoEnd}
 
--- what holds of each of some elements and others holds of each of the others
-pub all_back : {X : Type 0} (P : X → Type 0) (before after : List X) → All P (before ++ after) → All P after
-all_back P [] after all = all
-all_back P (x ∷ before) after all = all_back P before after (All-tail P x (before ++ after) all)
-
 -- the test of a byte that ends no line
 unended : (line : List ℕ) → HasNoEnd line → All (λ b. (b == 10) ≡ false) line
 unended line h k d lt = ne_eqb _ 10 (h k d lt)
@@ -85,7 +80,7 @@ cut_counts text = by_cuts 10 (λ t. length (whole_lines t) + length (rest_of t) 
     (λ line rest h k. let e = first_whole line rest h in let a = ap length e.0 in let b = ap length e.1 in omega (arith, length-append line (10 ∷ rest)))
     text
 
-ended : (line rest : List ℕ) → HasNoEnd line → lines (line ++ 10 ∷ rest) ≡ line ∷ lines rest
+pub ended : (line rest : List ℕ) → HasNoEnd line → lines (line ++ 10 ∷ rest) ≡ line ∷ lines rest
 ended [] rest h = refl
 ended (b ∷ bs) rest h =
     let other = ne_eqb b 10 (All-head (λ b. b ≢ 10) b bs h) in
@@ -109,6 +104,7 @@ lines_no_end text = by_cuts 10 (λ t. All HasNoEnd (lines t))
     at_last [] h = All-nil HasNoEnd
     at_last (b ∷ bs) h = All-cons HasNoEnd (b ∷ bs) [] h (All-nil HasNoEnd)
 
+-- the lines of a file are those that are ended, and what follows the last end where it has a byte
 pub lines_whole : (text : List ℕ) → lines text ≡ whole_lines text ++ last_lines (rest_of text)
 lines_whole text = by_cuts 10 (λ t. lines t ≡ whole_lines t ++ last_lines (rest_of t))
     (λ line h. let e = none_whole line h in last_one line h ∙ sym (ap (λ (ls : List (List ℕ)). ls ++ last_lines (rest_of line)) e.0 ∙ ap last_lines e.1))
@@ -116,6 +112,7 @@ lines_whole text = by_cuts 10 (λ t. lines t ≡ whole_lines t ++ last_lines (re
     ended line rest h ∙ ap (λ (ls : List (List ℕ)). line ∷ ls) k ∙ sym (ap (λ (ls : List (List ℕ)). ls ++ last_lines (rest_of (line ++ 10 ∷ rest))) e.0 ∙ ap (λ (r : List ℕ). line ∷ (whole_lines rest ++ last_lines r)) e.1))
     text
 
+-- a text may be cut anywhere
 pub cut_any : (a b : List ℕ) → (whole_lines (a ++ b) ≡ whole_lines a ++ whole_lines (rest_of a ++ b)) × (rest_of (a ++ b) ≡ rest_of (rest_of a ++ b))
 cut_any a b = by_cuts 10 (λ t. (whole_lines (t ++ b) ≡ whole_lines t ++ whole_lines (rest_of t ++ b)) × (rest_of (t ++ b) ≡ rest_of (rest_of t ++ b)))
     (λ line h. let e = none_whole line h in

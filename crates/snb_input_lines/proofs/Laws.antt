@@ -1,63 +1,32 @@
 -- What other crates may cite of this one: facts of lines, of what they say over any language, and of a reader that is fed piece by piece.
-use Rattle.std.proofs.Common.{IsUtf8, ◌≡◌, ◌≢◌, ◌++◌, ◌∷◌, ◌∙◌, ◌+◌, [], ℕ, List, All, refl, sym, ap, subst, length, arith, length-append, append_assoc, append-nil, inl, inr, Option, Some, None, Result, zero-add, ◌≤◌}
+use Rattle.std.proofs.Common.{[], All, ap, append-nil, append_assoc, arith, inl, inr, length, length-append, List, None, Option, refl, Some, subst, suc, sym, zero, zero-add, ℕ, ◌++◌, ◌+◌, ◌<◌, ◌∙◌, ◌∷◌, ◌≡◌, ◌≢◌}
 use Rattle.std.proofs.lemmas.List.Elements.{All-cons, All-head, All-nil, All-tail}
-use Rattle.snb_schema.specs.Lines.{fields, HasNoEnd, data_lines, filled, lines}
-use Rattle.snb_schema.specs.Faults.{OnBad}
-use Rattle.snb_schema.specs.declared.fault.Fault.{Fault}
+use Rattle.snb_schema.specs.Lines.{HasNoEnd, data_lines, filled, lines}
 use Rattle.snb_schema.specs.declared.file.FileId.{FileId}
 use Rattle.snb_schema.specs.declared.refusal.Refusal.{Refusal}
 use Rattle.snb_input_lines.specs.Files.{AreEach, AreUnder}
 use Rattle.snb_input_lines.specs.Language.{IsText, Language}
-use Rattle.snb_input_lines.specs.Laws.{IsExact, Joins, ReadsOn, ReadsOnce, CutAnywhere, LinesAreWhole, LinesHaveNoEnd, TakesOnce}
+use Rattle.snb_input_lines.specs.Laws.{IsExact, Joins, ReadsOn, ReadsOnce, TakesOnce}
 use Rattle.snb_input_lines.specs.Lists.{BadColumn, RefusesLine, Stops}
 use Rattle.snb_input_lines.specs.Reading.{LineSays, ReadsLine, ReadsSome, Says, EndsBad, end_fault}
 use Rattle.snb_input_lines.specs.Sinks.{Heard, Hears, Own, Refuses, Runs, Takes}
 use Rattle.snb_input_lines.specs.Cut.{last_lines, rest_of, whole_lines}
 use Rattle.snb_input_lines.specs.Fed.{Fed}
-use Rattle.snb_input_lines.specs.Feeding.{HasRead, HasRunOut, HasStopped, HasStoppedAtEnd, OnMemory, Reader, at_begin, fed_more, left_lines, new_lines}
+use Rattle.snb_input_lines.specs.Feeding.{HasRead, HasRunOut, HasStopped, HasStoppedAtEnd, Reader, at_begin, fed_more, left_lines, new_lines}
 use Rattle.snb_input_lines.specs.Reading as run
 use Rattle.snb_input_lines.proofs.CaseFacts.{text_to_case}
 use Rattle.snb_input_lines.proofs.CutFacts
-use Rattle.snb_input_lines.proofs.FieldFacts
-use Rattle.snb_input_lines.proofs.ListFacts
 use Rattle.snb_input_lines.proofs.RunFacts
-use Rattle.snb_schema.specs.TableRows.{IsFieldText}
-
--- the lines of a file are those that are ended, and what follows the last end where it has a byte
-pub lines_whole : LinesAreWhole
-lines_whole = CutFacts.lines_whole
-
--- a text may be cut anywhere
-pub cut_any : CutAnywhere
-cut_any = CutFacts.cut_any
-
--- no line of a file has a line end
-pub lines_no_end : LinesHaveNoEnd
-lines_no_end = CutFacts.lines_no_end
-
--- a text without a line end has no line that is ended
-pub none_whole : (line : List ℕ) → HasNoEnd line → (whole_lines line ≡ []) × (rest_of line ≡ line)
-none_whole = CutFacts.none_whole
-
--- a line that is ended, and what follows it
-pub first_whole : (line rest : List ℕ) → HasNoEnd line → (whole_lines (line ++ 10 ∷ rest) ≡ line ∷ whole_lines rest) × (rest_of (line ++ 10 ∷ rest) ≡ rest_of rest)
-first_whole = CutFacts.first_whole
-
--- what follows the last line end has no line end
-pub rest_no_end : (text : List ℕ) → HasNoEnd (rest_of text)
-rest_no_end = CutFacts.rest_no_end
-
--- the lines that are ended and what follows them are no more than the bytes
-pub cut_counts : (text : List ℕ) → length (whole_lines text) + length (rest_of text) ≤ length text
-cut_counts = CutFacts.cut_counts
+pub use Rattle.snb_input_lines.proofs.CutFacts.{cut_any, cut_counts, ended, first_whole, lines_no_end, lines_whole, none_whole, rest_no_end}
+pub use Rattle.snb_input_lines.proofs.FieldFacts.{fields_plain}
+pub use Rattle.snb_input_lines.proofs.ListFacts.{on_bad_weaker, on_memory_weaker}
+use Rattle.std.specs.Borrow.{Bor}
+use Rattle.std.specs.Option.{option_map}
+use Rattle.snb_input_lines.specs.Records.{field_at}
 
 -- what holds of a text without a line end, and of a line that is ended and what follows it if of what follows, holds of each text
 pub by_lines : (P : List ℕ → Type 0) → ((line : List ℕ) → HasNoEnd line → P line) → ((line rest : List ℕ) → HasNoEnd line → P rest → P (line ++ 10 ∷ rest)) → (text : List ℕ) → P text
 by_lines = CutFacts.by_cuts 10
-
--- the fields of a line that is a text are texts of fields
-pub fields_plain : (line : List ℕ) → IsUtf8 line → HasNoEnd line → All IsFieldText (fields line)
-fields_plain = FieldFacts.fields_plain
 
 -- items that a sink takes one after the other were told to it
 pub runs_heard : {S T : Type 0} (takes : Takes S T) (refuses : Refuses S T) (heard : Heard S T) (own : Own T) → Hears takes refuses heard own → (file : FileId) (xs : List T) (old new : S) (done : List (List T)) (mine : List T)
@@ -380,14 +349,6 @@ module _ {G K S T : Type 0} (g : Language K T) (takes : Takes S T) (file : FileI
       refused = subst (λ (x : FileId). end_fault x k.now (ends mid x) ≡ Some r) f.file_is k.refused;
     }
 
--- a fact of a refusal, and what follows of it
-pub on_bad_weaker : {A : Type 0} (r : Result A Fault) (P Q : Refusal → Type 0) → ((q : Refusal) → P q → Q q) → OnBad r P → OnBad r Q
-on_bad_weaker = ListFacts.on_bad_weaker
-
--- a fact of want of memory, and what follows of it
-pub on_memory_weaker : {A : Type 0} (r : Result A Fault) (P Q : Type 0) → (P → Q) → OnMemory r P → OnMemory r Q
-on_memory_weaker = ListFacts.on_memory_weaker
-
 -- each state of a sink is seen as another by `view`, and what the sink does is seen as what those others do
 pub record Seen {S Z T : Type 0} (view : S → Z) (takes : Takes S T) (refuses : Refuses S T) (same : S → S → Type 0) (ends : S → FileId → Option Refusal)
     (takes_so : Takes Z T) (refuses_so : Refuses Z T) (same_so : Z → Z → Type 0) (ends_so : Z → FileId → Option Refusal) : Type 0 where
@@ -515,3 +476,18 @@ module _ {S K T : Type 0} (g : Language K T) (exact : IsExact g) (takes : Takes 
       let first = runs_cut takes file c.later.0 c.later.1 cut.0 has (subst (λ (xs : List T). Runs takes file cut.0 xs has) c.later.5 cut.2) in
       let refused = subst (λ (z : S). run.RefusesLine g refuses file s.now z number s.line r) there s.refused in
       line_on s.line file c.mid c.later.2 number c.later.0 cut.0 first.0 r c.later.3 first.1 (subst (λ (m : Option K). run.RefusesLine g refuses file m cut.0 number s.line r) (sym same.1) refused)
+
+-- what a look at a place finds
+pub found_there : (o : Option (Bor (List ℕ))) (x : Bor (List ℕ)) (p : Option (List ℕ)) → option_map (λ (s : Bor (List ℕ)). s.now) o ≡ p → o ≡ Some x → p ≡ Some x.now
+found_there o x p e is = sym e ∙ ap (option_map (λ (s : Bor (List ℕ)). s.now)) is
+
+-- and one that finds nothing
+pub none_there : (o : Option (Bor (List ℕ))) (p : Option (List ℕ)) → option_map (λ (s : Bor (List ℕ)). s.now) o ≡ p → o ≡ None → p ≡ None
+none_there o p e is = sym e ∙ ap (option_map (λ (s : Bor (List ℕ)). s.now)) is
+
+-- there is a field at each place below the length
+pub some_field : (xs : List (List ℕ)) (i : ℕ) → i < length xs → field_at xs i ≡ None → ⊥
+unfolding field_at
+some_field [] i l e = absurd (omega (arith, l))
+some_field (x ∷ xs) zero l e = cc
+some_field (x ∷ xs) (suc i) l e = some_field xs i (omega (arith, l)) e

@@ -13,11 +13,13 @@ use Rattle.snb_input_lines.specs.Lists as lists
 use Rattle.snb_input_lines.specs.Reading.{RefusesAs, RefusesLine, Says, Stops, end_fault}
 use Rattle.snb_input_lines.specs.Sinks.{Refuses, Runs, Takes}
 
+-- a fact of a refusal, and what follows of it
 pub on_bad_weaker : {A : Type 0} (r : Result A Fault) (P Q : Refusal → Type 0) → ((q : Refusal) → P q → Q q) → OnBad r P → OnBad r Q
 on_bad_weaker (Ok a) P Q f h = tt
 on_bad_weaker (Err (Bad q)) P Q f h = f q h
 on_bad_weaker (Err Memory) P Q f h = tt
 
+-- a fact of want of memory, and what follows of it
 pub on_memory_weaker : {A : Type 0} (r : Result A Fault) (P Q : Type 0) → (P → Q) → OnMemory r P → OnMemory r Q
 on_memory_weaker (Ok a) P Q f h = tt
 on_memory_weaker (Err (Bad q)) P Q f h = tt

@@ -1,8 +1,6 @@
 -- Facts of what lines say, and of what a sink has of them.
 use Rattle.std.proofs.Common.{◌≡◌, ◌≢◌, ◌==◌, true, false, ◌++◌, ◌∷◌, ◌∙◌, ◌+◌, ◌<◌, ◌≤◌, [], ℕ, Bool, List, refl, sym, ap, subst, length, arith, length-append, append_assoc, append-nil, Result, Ok, Err, Option, Some}
 use Rattle.std.proofs.lemmas.List.Elements.{All-append}
-use Rattle.std.specs.Result.{IsErrAnd}
-use Rattle.snb_schema.specs.Faults.{OnBad}
 use Rattle.snb_schema.specs.Lines.{HasNoEnd, fields}
 use Rattle.snb_schema.specs.declared.fault.Fault.{Fault}
 use Rattle.snb_schema.specs.declared.fault.Fault.TheVariants.{Bad, Memory}
@@ -167,12 +165,6 @@ module _ {S K T : Type 0} (g : Language K T) (takes : Takes S T) (file : FileId)
   pub bad_at_once : (ends : S → FileId → Option Refusal) (known : Option K) (ended : ℕ) (begun : List ℕ) (sink : S) (r : Refusal) → begun ≡ [] → end_fault file known (ends sink file) ≡ Some r
       → EndsBad g takes ends file known ended (last_lines begun) sink [] sink r
   bad_at_once ends known ended begun sink r e bad = record { now = known; says = none_read known ended begun e; runs = refl; refused = bad }
-
--- a fact of the refusal that a call passes on
-pub passed_on : (given : Result (Unit {0}) Fault) (fault : Fault) (P Q : Refusal → Type 0) → IsErrAnd given (λ e. e ≡ fault) → OnBad {A = Unit {0}} (Err fault) P → ((r : Refusal) → P r → Q r) → OnBad given Q
-passed_on (Ok a) fault P Q same h more = tt
-passed_on (Err Memory) fault P Q same h more = tt
-passed_on (Err (Bad r)) fault P Q same h more = more r (subst (λ (f : Fault). OnBad {A = Unit {0}} (Err f) P) (sym same) h)
 
 -- a fact that holds whatever ran out
 pub on_memory : (given : Result (Unit {0}) Fault) (P : Type 0) → P → OnMemory given P

@@ -4,9 +4,9 @@ use Rattle.std.proofs.lemmas.Bool.{false≢true, or_parts}
 use Rattle.std.proofs.lemmas.List.Elements.{All-from_recursion, Contains-append_right, Contains-get_or, recursion_from_All}
 use Rattle.std.specs.List.{AllByRecursion, Contains, list_any}
 use Rattle.snb_base.specs.Spellings.{HasOneYear, once_after}
-use Rattle.snb_graph_rows.proofs.Laws.{contains_cases, contains_here, contains_there}
 use Rattle.snb_graph_model.proofs.Laws.{of_each}
 use Rattle.snb_inserts.proofs.Lists.{each_both, each_of, each_weaker}
+use Rattle.snb_base.proofs.Laws.{contains_cases, contains_here, contains_there}
 
 -- no two elements have one image
 abbrev pub AreApart : {X Y : Type 0} → (X → Y) → List X → Type 0

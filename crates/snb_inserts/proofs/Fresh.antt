@@ -10,7 +10,6 @@ use Rattle.snb_schema.specs.declared.table.Table.{Table}
 use Rattle.snb_schema.specs.RowKeys.{RowKey, node_key, slot, slot_of}
 use Rattle.snb_schema.specs.TableOrder.{same_table}
 use Rattle.snb_graph.specs.Additions.{AreNew}
-use Rattle.snb_graph_rows.proofs.Laws.{contains_here}
 use Rattle.snb_graph_integrity.proofs.Laws.{table_decides}
 use Rattle.snb_graph_model.proofs.Laws.{of_each}
 use Rattle.snb_graph_model.specs.Graphs.{HasSlot, IsGraph}
@@ -19,6 +18,7 @@ use Rattle.snb_graph_model.specs.Soundness.{Held}
 use Rattle.snb_inserts.proofs.Apart.{AreApart, apart_before, apart_both, apart_mapped}
 use Rattle.snb_inserts.proofs.Lists.{each_both, each_given, each_weaker}
 use Rattle.snb_inserts.proofs.Owners.{none_owned, owner}
+use Rattle.snb_base.proofs.Laws.{contains_here}
 
 -- the table is one of these
 abbrev pub IsAmong : List Table → Table → Type 0

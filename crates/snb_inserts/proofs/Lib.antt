@@ -13,3 +13,4 @@ pub mod Keys
 pub mod ListRows
 pub mod Settling
 pub mod TakenLemmas
+pub mod Laws

@@ -1,8 +1,7 @@
 -- What holds of each element of lists that are put together, mapped or filtered.
-use Rattle.std.proofs.Common.{◌≡◌, List, [], ◌∷◌, ◌++◌, Bool, false, cond, map, filter, refl, ap, ◌∙◌, inl, inr, arith}
-use Rattle.std.proofs.lemmas.List.Elements.{Contains-append_cases}
-use Rattle.std.specs.List.{AllByRecursion, Contains, flat_map}
-use Rattle.snb_graph_rows.proofs.Laws.{contains_here, contains_there}
+use Rattle.std.proofs.Common.{◌≡◌, List, [], ◌∷◌, ◌++◌, Bool, false, cond, map, filter, refl, ap, ◌∙◌}
+use Rattle.std.specs.List.{AllByRecursion, Contains}
+use Rattle.snb_base.proofs.Laws.{contains_here, contains_there}
 
 -- what holds of two lists put together holds of each
 pub each_parts : {X : Type 0} (P : X → Type 0) (xs ys : List X) → AllByRecursion P (xs ++ ys) → AllByRecursion P xs × AllByRecursion P ys
@@ -38,11 +37,3 @@ each_mapped P Q f h gives (x ∷ xs) all = (gives x all.0, each_mapped P Q f h g
 pub none_kept : {X : Type 0} (p : X → Bool) (xs : List X) → ((x : X) → Contains xs x → p x ≡ false) → filter p xs ≡ []
 none_kept p [] fails = refl
 none_kept p (x ∷ xs) fails = ap (λ b. cond b (x ∷ filter p xs) (filter p xs)) (fails x (contains_here x xs)) ∙ none_kept p xs (λ y c. fails y (contains_there x xs y c))
-
--- what lists put together hold is held by one of them
-pub of_flat_map : {X A : Type 0} (f : X → List A) (xs : List X) (a : A) → Contains (flat_map f xs) a → (x : X) × Contains xs x × Contains (f x) a
-of_flat_map f [] a c = absurd (omega (arith, c.1))
-of_flat_map f (x ∷ xs) a c = elim (Contains-append_cases (f x) (flat_map f xs) a c) [
-  | inl here ↦ (x, contains_here x xs, here)
-  | inr later ↦ let rest = of_flat_map f xs a later in (rest.0, contains_there x xs rest.0 rest.1, rest.2)
-]

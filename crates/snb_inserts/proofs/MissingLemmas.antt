@@ -1,13 +1,11 @@
 -- Which node of a list of references isn't held first.
-use Rattle.std.proofs.Common.{◌≡◌, ◌↔◌, ℕ, ◌+◌, ◌<◌, ◌≤◌, Bool, true, false, IsTrue, Option, Some, None, List, [], ◌∷◌, ◌++◌, length, get_or, take, drop, map, refl, sym, ap, ◌∙◌, subst, append_assoc, All, Result, Err}
-use Rattle.std.proofs.lemmas.List.{get_or_default, map-append, map_more, take_all}
-use Rattle.std.proofs.lemmas.List.Elements.{All-append, All-cons, All-head, All-nil, All-tail}
-use Rattle.snb_base.proofs.Laws.{split_here}
+use Rattle.std.proofs.Common.{◌≡◌, ◌↔◌, ◌+◌, List, [], ◌∷◌, ◌++◌, sym, ap, ◌∙◌, subst, All, Result, Err}
+use Rattle.std.proofs.lemmas.List.Elements.{All-head, All-tail}
 use Rattle.snb_schema.specs.declared.refusal.Missing.{Missing}
 use Rattle.snb_schema.specs.declared.row.Row.{Row}
 use Rattle.snb_inserts.specs.declared.applied.Applied.{Applied}
 use Rattle.snb_inserts.specs.declared.applied.Applied.TheVariants as applied
-use Rattle.snb_inserts.specs.Applying.{FindsMissing, IsFirstMissing, IsThere}
+use Rattle.snb_inserts.specs.Applying.{IsFirstMissing, IsThere}
 
 -- what is answered to an insert
 abbrev pub Outcome : Type 0
@@ -16,11 +14,6 @@ Outcome = Result (Unit {0}) Applied
 -- the outcome says that this node is missing
 abbrev pub IsTold : Outcome → Missing → Type 0
 IsTold r m = r ≡ Err (applied.Missing m)
-
--- a test that fails says that there is no such row
-pub not_held : {H : Type 0} (test : Bool) → IsTrue test ↔ H → test ≡ false → ¬ H
-not_held true same e = absurd cc
-not_held false same e = λ h. let f : false ≡ true = same.1 h in absurd cc
 
 -- what holds of all holds of the one between others
 all_at : {X : Type 0} (P : X → Type 0) (xs ys : List X) (x : X) → All P (xs ++ x ∷ ys) → P x

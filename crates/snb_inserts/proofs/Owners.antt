@@ -18,9 +18,9 @@ use Rattle.snb_schema.specs.RowKeys.{RowKey, edge_key, node_key, row_key, sharin
 use Rattle.snb_schema.specs.RowLines.{table_of}
 use Rattle.snb_schema.specs.TableRows.{IsTableRow}
 use Rattle.snb_graph_rows.specs.Keyed.{key_table}
-use Rattle.snb_graph_rows.proofs.Laws.{contains_here}
 use Rattle.snb_graph_model.specs.Graphs.{HasKey, HasSlot, IsGraph}
 use Rattle.snb_graph_model.specs.Soundness.{Held}
+use Rattle.snb_base.proofs.Laws.{contains_here}
 
 -- ---- tables
 

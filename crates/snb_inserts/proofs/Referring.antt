@@ -23,6 +23,7 @@ use Rattle.snb_inserts.specs.Laws.{HeldIsKept}
 use Rattle.snb_inserts.proofs.Gained.{held_cases, key_kept, more_held, old_held}
 use Rattle.snb_inserts.proofs.Lists.{each_both, each_given, each_mapped, each_parts}
 use Rattle.snb_inserts.proofs.Owners.{IsHere}
+use Rattle.snb_base.proofs.Laws.{min_is}
 
 -- each node that a row refers to is held
 abbrev IsMet : List Row → Row → Type 0
@@ -48,9 +49,6 @@ parent_met g comment (parents.Post post) one other = (one, (other, tt))
 parent_met g comment (parents.Comment parent) one other = (one, (other, tt))
 
 -- ---- the rows of an insert
-
-lower_either : (one other : ℕ) → (min one other ≡ one) ⊎ (min one other ≡ other)
-lower_either one other = elim (cases_lt one other) [ inl l ↦ inl (omega (arith, l)) | inr l ↦ inr (omega (arith, l)) ]
 
 higher_either : (one other : ℕ) → (max one other ≡ one) ⊎ (max one other ≡ other)
 higher_either one other = elim (cases_lt one other) [ inl l ↦ inr (omega (arith, l)) | inr l ↦ inl (omega (arith, l)) ]
@@ -92,7 +90,7 @@ rows_met g (ops.AddComment id date ip browser content size author country parent
     let new : IsThere g (ref kinds.Comment id) = record { it = _; held = holds.0; keyed = refl } in
     (tt, ((new, (refs.0, tt)), ((new, (refs.1.0, tt)), (parent_met g id parent new refs.1.1.0, links_met g table.CommentHasTagTag id kinds.Comment refl new tags kinds.Tag refl refs.1.1.1))))
 rows_met g (ops.AddFriend one other date) refs holds =
-    ((either_there g kinds.Person one other (min one other) refs.0 refs.1.0 (lower_either one other), (either_there g kinds.Person one other (max one other) refs.0 refs.1.0 (higher_either one other), tt)), tt)
+    ((either_there g kinds.Person one other (min one other) refs.0 refs.1.0 (min_is one other), (either_there g kinds.Person one other (max one other) refs.0 refs.1.0 (higher_either one other), tt)), tt)
 
 -- a graph whose references are held keeps them so with the rows of an insert that is welcome
 pub held_kept : HeldIsKept

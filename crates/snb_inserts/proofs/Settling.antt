@@ -17,7 +17,6 @@ use Rattle.snb_schema.specs.References.{parent_ref, refs_of}
 use Rattle.snb_schema.specs.RowKeys.{RowKey, node_key, row_key, slot, slot_of}
 use Rattle.snb_schema.specs.RowLines.{table_of}
 use Rattle.snb_schema.specs.TableOrder.{all_tables, same_table}
-use Rattle.snb_graph_rows.proofs.Laws.{in_filter, map_contains}
 use Rattle.snb_graph_integrity.proofs.Laws.{fills_decides, in_flat_map}
 use Rattle.snb_graph_model.proofs.Laws.{of_each}
 use Rattle.snb_graph_model.specs.Graphs.{HasGained, HasKey, HasSlot, fills, rows}
@@ -27,8 +26,9 @@ use Rattle.snb_graph_model.specs.Soundness.{IsComplete, IsRooted, Need, Sound, e
 use Rattle.snb_inserts.specs.Applying.{IsThere, IsWelcome}
 use Rattle.snb_inserts.specs.Laws.{SoundIsKept}
 use Rattle.snb_inserts.proofs.Gained.{held_cases, more_held, old_held, root_kept, slot_kept}
-use Rattle.snb_inserts.proofs.Lists.{each_both, each_given, none_kept, of_flat_map}
+use Rattle.snb_inserts.proofs.Lists.{each_both, each_given, none_kept}
 use Rattle.snb_inserts.proofs.Referring.{held_kept}
+use Rattle.snb_base.proofs.Laws.{in_filter, in_flat, in_map}
 
 -- the edges that a row must have are there, and where it is a comment, its chain of parents ends at a post
 record IsSettled (g : List Row) (r : Row) : Type 0 where
@@ -160,14 +160,14 @@ module _ (g now : List Row) (op : Op) (sound : Sound g) (welcome : IsWelcome g o
       (in_flat_map (λ u. flat_map needs_of (rows g u)) all_tables t need among
       (in_flat_map needs_of (rows g t) r need ((in_filter (λ x. same_table (table_of x) t) g r).1 (old, of)) c))))
   row_filled t r need among of c (inr new) =
-      let edge = map_contains (λ e. ((row_key r).0, (row_key r).1, e)) (edges_of (row_key r).0) need c in
+      let edge = in_map (λ e. ((row_key r).0, (row_key r).1, e)) (edges_of (row_key r).0) need c in
       let own = of_each (IsSettled now) (rows_of op) all_settled r new in
       subst (λ (n : Need). HasSlot now (slot (n.2, n.1, 0, []))) edge.2 (of_each (λ e. HasSlot now (slot (e, (row_key r).1, 0, []))) (edges_of (row_key r).0) own.edges edge.0 edge.1)
 
   none_missing : IsComplete now
   none_missing = none_kept (λ (need : Need). not (fills now (slot (need.2, need.1, 0, [])))) (needs now) (λ need c.
-      let part = of_flat_map (λ t. flat_map needs_of (rows now t)) all_tables need c in
-      let one = of_flat_map needs_of (rows now part.0) need part.2 in
+      let part = in_flat (λ t. flat_map needs_of (rows now t)) all_tables need c in
+      let one = in_flat needs_of (rows now part.0) need part.2 in
       let held = (in_filter (λ x. same_table (table_of x) part.0) now one.0).0 one.1 in
       ap not ((fills_decides now (slot (need.2, need.1, 0, []))).1 (row_filled part.0 one.0 need part.1 held.1 one.2 (held_cases g (rows_of op) now gained one.0 held.0))))
 

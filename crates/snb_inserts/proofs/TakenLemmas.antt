@@ -12,9 +12,9 @@ use Rattle.snb_schema.specs.declared.table.Table.TheVariants as table
 use Rattle.snb_inserts.proofs.Keys.{key_of}
 use Rattle.snb_schema.specs.Inserts.{keys_of, message_keys}
 use Rattle.snb_schema.specs.RowKeys.{RowKey, named_key, row_key, sharing, slot}
-use Rattle.snb_graph_rows.proofs.Laws.{contains_cases, contains_here, contains_there}
 use Rattle.snb_graph_model.specs.Graphs.{HasKey, HasSlot, HoldsKey}
 use Rattle.snb_inserts.specs.Applying.{IsAnyHeld}
+use Rattle.snb_base.proofs.Laws.{contains_cases, contains_here, contains_there}
 
 -- ---- keys
 

@@ -1,12 +1,9 @@
 -- What is wrong with a line beside rows, by cases that exclude one another.
 use Rattle.std.proofs.Common.{◌≡◌, ◌⊎◌, ◌∷◌, [], ℕ, List, All, Bool, Decides, refl, ap, inl, inr}
 use Rattle.std.specs.List.{list_any}
-use Rattle.std.specs.Str.{bytes_eq}
 use Rattle.std.proofs.lemmas.Bool.{cases_Bool}
-use Rattle.std.proofs.lemmas.Bool.Decides.{Decides-and, Decides-eqb, Decides-like}
 use Rattle.std.proofs.lemmas.List.Elements.{All-cons, All-nil}
 use Rattle.std.proofs.lemmas.List.Folds.{Any-from_list_any, list_any-from_Any}
-use Rattle.std.proofs.lemmas.Slice.Eq.{bytes_eq-Decides}
 use Rattle.snb_schema.specs.declared.file.FileId.{FileId}
 use Rattle.snb_schema.specs.declared.refusal.Missing.{Missing}
 use Rattle.snb_schema.specs.declared.refusal.Refusal.{Refusal}
@@ -15,16 +12,10 @@ use Rattle.snb_schema.specs.declared.row.Placed.{Placed}
 use Rattle.snb_schema.specs.declared.row.Row.{Row}
 use Rattle.snb_schema.specs.References.{refs_of_row}
 use Rattle.snb_schema.specs.RowKeys.{RowKey, node_key, row_key}
-use Rattle.snb_schema.specs.TableOrder.{same_table}
-use Rattle.snb_graph_integrity.proofs.Laws.{table_decides}
+use Rattle.snb_graph_integrity.proofs.Laws.{key_decides}
 use Rattle.snb_graph_model.specs.Graphs.{HasKey, same_key}
 use Rattle.snb_loader.specs.Tables.{IsAmissBeside, IsFirstLacking, IsSecond, IsThere}
 use Rattle.snb_loader.proofs.LackingFacts.{none_first}
-
-key_decides : (j k : RowKey) → Decides (same_key j k) (j ≡ k)
-key_decides j k =
-    Decides-like (same_key j k) (λ p i. (p.0.0.0 i, p.0.0.1 i, p.0.1 i, p.1 i)) (λ e. (((ap (λ x. x.0) e, ap (λ x. x.1) e), ap (λ x. x.2) e), ap (λ x. x.3) e))
-    (Decides-and _ (bytes_eq j.3 k.3) (Decides-and _ _ (Decides-and (same_table j.0 k.0) _ (table_decides j.0 k.0) (Decides-eqb j.1 k.1)) (Decides-eqb j.2 k.2)) (bytes_eq-Decides j.3 k.3))
 
 -- one of the rows has the key, or none has
 held : List Row → RowKey → Bool

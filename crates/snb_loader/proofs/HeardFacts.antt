@@ -4,7 +4,7 @@ use Rattle.std.specs.List.{Contains, flat_map}
 use Rattle.std.proofs.lemmas.List.{flat_map_more, map-append}
 use Rattle.std.proofs.lemmas.List.Elements.{All-append, All-cons, All-head, All-nil, All-tail, All-weaker, Contains-append_cases, Contains-append_left, Contains-append_right}
 use Rattle.std.proofs.lemmas.List.Sorted.{Contains-permutation, IsPermutation-sym}
-use Rattle.snb_base.proofs.Laws.{contains_cases, contains_here}
+use Rattle.snb_base.proofs.Laws.{all_back, contains_cases, contains_here}
 use Rattle.snb_schema.specs.declared.file.FileId.{FileId}
 use Rattle.snb_schema.specs.declared.refusal.Missing.{Missing}
 use Rattle.snb_schema.specs.declared.refusal.Refusal.{Refusal}
@@ -86,14 +86,10 @@ left_of : {X : Type 0} (P : X → Type 0) (xs ys : List X) → All P (xs ++ ys) 
 left_of P [] ys all = All-nil P
 left_of P (x ∷ xs) ys all = All-cons P x xs (All-head P x (xs ++ ys) all) (left_of P xs ys (All-tail P x (xs ++ ys) all))
 
-right_of : {X : Type 0} (P : X → Type 0) (xs ys : List X) → All P (xs ++ ys) → All P ys
-right_of P [] ys all = all
-right_of P (x ∷ xs) ys all = right_of P xs ys (All-tail P x (xs ++ ys) all)
-
 edge_straight : (g : List Row) (a b : Option Kind) (from to : ℕ) → All (IsThere g) (end_ref 1 b to ++ end_ref 2 a from) → All (IsThere g) (end_ref 1 a from ++ end_ref 2 b to)
 edge_straight g a b from to all =
     All-append (IsThere g) (end_ref 1 a from) (end_ref 2 b to)
-    (other_column g 2 1 a from (right_of (IsThere g) (end_ref 1 b to) (end_ref 2 a from) all))
+    (other_column g 2 1 a from (all_back (IsThere g) (end_ref 1 b to) (end_ref 2 a from) all))
     (other_column g 1 2 b to (left_of (IsThere g) (end_ref 1 b to) (end_ref 2 a from) all))
 
 -- the nodes of a line's references are those of its row's

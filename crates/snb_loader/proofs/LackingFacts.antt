@@ -1,7 +1,6 @@
 -- The first of some references whose node isn't among rows.
-use Rattle.std.proofs.Common.{◌≡◌, ◌∙◌, ◌↔◌, ◌++◌, ◌∷◌, [], ℕ, Bool, true, false, List, All, Option, Some, None, IsTrue, refl, sym, ap, subst, append_assoc}
+use Rattle.std.proofs.Common.{◌≡◌, ◌∙◌, ◌++◌, ◌∷◌, [], ℕ, List, All, Option, Some, None, refl, sym, ap, subst, append_assoc}
 use Rattle.std.proofs.lemmas.List.Elements.{All-append, All-head, All-nil, All-tail}
-use mathlib.Core.Bool.{false≢true}
 use Rattle.snb_schema.specs.declared.refusal.Missing.{Missing}
 use Rattle.snb_schema.specs.declared.row.Row.{Row}
 use Rattle.snb_schema.specs.declared.table.Kind.{Kind}
@@ -9,11 +8,6 @@ use Rattle.snb_schema.specs.References.{ref}
 use Rattle.snb_schema.specs.RowKeys.{node_key}
 use Rattle.snb_graph_model.specs.Graphs.{HasKey}
 use Rattle.snb_loader.specs.Tables.{FindsLacking, IsFirstLacking, IsThere}
-
--- a test that fails
-pub not_held : {H : Type 0} (test : Bool) → IsTrue test ↔ H → test ≡ false → ¬ H
-not_held true same e = absurd (false≢true (sym e))
-not_held false same e = λ h. false≢true (same.1 h)
 
 -- one reference alone, whose node isn't among the rows
 pub one_lacking : (g : List Row) (column : ℕ) (k : Kind) (n : ℕ) → ¬ HasKey g (node_key k n) → IsFirstLacking g ((column, ref k n) ∷ []) column

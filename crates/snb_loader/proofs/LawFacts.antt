@@ -23,9 +23,7 @@ use Rattle.snb_loader.specs.Laws.{DatasetIsOne, DatasetRefusesOnce, LanesAreOne,
 use Rattle.snb_loader.specs.Params.{IsListSaid, params_format, params_stage}
 use Rattle.snb_loader.specs.Tables.{IsHeard, table_format}
 use Rattle.snb_loader.proofs.Laws.{once_append, once_single}
-
-first_same : {X : Type 0} (x y : X) (xs ys : List X) → x ∷ xs ≡ y ∷ ys → x ≡ y
-first_same x y xs ys e = cc
+use Rattle.snb_base.proofs.Laws.{first_same}
 
 none_first : {X : Type 0} (x : X) (xs ys : List X) → ys ≡ x ∷ xs → ys ≡ [] → ⊥
 none_first x xs ys e f = absurd cc

@@ -26,6 +26,7 @@ use Rattle.snb_schema.specs.QueryPlaces.{complex_queries}
 use Rattle.snb_loader.specs.Order.{params_series}
 use Rattle.snb_loader.specs.Params.{AreOfEach, HasHeard, IsListSaid, IsParamsAnswer, ParamLines, asked, params_format, params_stage, query_in}
 use Rattle.snb_loader.proofs.ParamListFacts.{Each, each_passing}
+use Rattle.std.proofs.lemmas.Bool.{lt-ltb}
 
 bad_one : OneBadQuery → (q : ℕ) (fs : List (List ℕ)) (a b : ℕ) → IsBadParams q fs a → IsBadParams q fs b → a ≡ b
 bad_one one q fs a b (inl p) (inl r) = p.1 ∙ sym r.1
@@ -111,12 +112,9 @@ one_of P q (inr (inr (inr (inr (inl e))))) h = subst P (sym e) h.1.1.1.1.0
 one_of P q (inr (inr (inr (inr (inr (inl e)))))) h = subst P (sym e) h.1.1.1.1.1.0
 one_of P q (inr (inr (inr (inr (inr (inr e)))))) h = subst P (sym e) h.1.1.1.1.1.1.0
 
-has_any : (n : ℕ) → 0 < n → ltb 0 n ≡ true
-has_any n l = search rules
-
 -- what holds of the queries with a frequency, one after the other, holds of each
 of_asked : (P : ℕ → Type 0) (table : FrequencyTable) → Each P (asked table) → (q : ℕ) → 0 < frequency_at table q → P q
-of_asked P table h q l = one_of (λ x. ltb 0 (frequency_at table x) ≡ true → P x) q (frequent_complex table q l) (each_passing P (λ x. ltb 0 (frequency_at table x)) complex_queries h) (has_any (frequency_at table q) l)
+of_asked P table h q l = one_of (λ x. ltb 0 (frequency_at table x) ≡ true → P x) q (frequent_complex table q l) (each_passing P (λ x. ltb 0 (frequency_at table x)) complex_queries h) (lt-ltb 0 (frequency_at table q) l)
 
 -- the answer is one of the stage of the queries with a frequency
 pub of_stage : (contents : Option Files) (folder : List ℕ) (table : FrequencyTable) (old : Used) (w : Walk ParamLines) (stage items : List Series) → stage ≡ items → items ≡ params_stage table → IsStage params_format HasHeard contents folder stage (before old) (Ok w) → IsStage params_format HasHeard contents folder (params_stage table) (before old) (Ok w)

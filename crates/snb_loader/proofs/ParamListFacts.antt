@@ -1,6 +1,6 @@
 -- Lists of parameters that are filled one after the other.
-use Rattle.std.proofs.Common.{◌≡◌, ◌≢◌, ◌∙◌, ◌<◌, Global, Vec, ◌+◌, ◌==◌, ltb, ℕ, suc, Bool, true, false, cond, List, [], ◌∷◌, ◌++◌, drop, filter, length, map, if◌then◌else◌, slice_index_or, refl, sym, ap, subst, rules, arith, inl, inr}
-use Rattle.std.proofs.lemmas.Bool.{cases_eq}
+use Rattle.std.proofs.Common.{◌≡◌, ◌≢◌, ◌∙◌, ◌<◌, Global, Vec, ◌+◌, ◌==◌, ltb, ℕ, suc, Bool, true, false, cond, List, [], ◌∷◌, ◌++◌, drop, filter, map, if◌then◌else◌, slice_index_or, refl, sym, ap, subst, rules, arith, inl, inr}
+use Rattle.std.proofs.lemmas.Bool.{cases_eq, lt-ltb}
 use Rattle.std.proofs.Math.Seq.{drop-cons}
 use Rattle.snb_schema.specs.declared.query.Query.{Query}
 use Rattle.snb_schema.specs.Frequencies.{FrequencyTable, frequency_at}
@@ -105,9 +105,6 @@ asked_filled table xss k = filled (λ q. []) (asked table) xss k (asked_apart ta
 above : (n : ℕ) → ltb 0 n ≡ true → 0 < n
 above n e = search rules
 
-not_above : (n : ℕ) → 0 < n → ltb 0 n ≡ true
-not_above n l = search rules
-
 -- the list of a query without a frequency is empty
 pub others_empty : (table : FrequencyTable) (xss : List (List Query)) (q : ℕ) → frequency_at table q ≡ 0 → gain (λ q. []) (asked table) xss q ≡ []
 others_empty table xss q e =
@@ -115,11 +112,6 @@ others_empty table xss q e =
     (each_kept (λ p. p ≢ q) (λ p. ltb 0 (frequency_at table p)) complex_queries
     (each_any (λ p. ltb 0 (frequency_at table p) ≡ true → p ≢ q) complex_queries
     (λ p t same. let l = above (frequency_at table p) t in let z = ap (λ (x : ℕ). frequency_at table x) same in omega (arith, l, z, e))))
-
--- a list without a length has no items
-pub no_items : {X : Type 0} (xs : List X) → length xs ≡ 0 → xs ≡ []
-no_items [] e = refl
-no_items (x ∷ xs) e = absurd (omega (arith, e))
 
 -- none of the seven is passed by at first, and none is left after all seven
 pub left_first : (table : FrequencyTable) → left_of table 0 ≡ asked table
@@ -142,7 +134,7 @@ falls p q qs e = ap (λ (b : Bool). cond b (q ∷ filter p qs) (filter p qs)) e
 -- a query with a frequency is the next that is left
 pub left_in : (table : FrequencyTable) (i : ℕ) → i < 7 → 0 < frequency_at table (slice_index_or complex_queries i 0) → left_of table i ≡ slice_index_or complex_queries i 0 ∷ left_of table (i + 1)
 unfolding left_of
-left_in table i l h = ap (λ (qs : List ℕ). filter (λ q. ltb 0 (frequency_at table q)) qs) (drop-cons complex_queries i 0 l ∙ ap (λ (n : ℕ). slice_index_or complex_queries i 0 ∷ drop n complex_queries) (after i)) ∙ passes (λ q. ltb 0 (frequency_at table q)) (slice_index_or complex_queries i 0) (drop (i + 1) complex_queries) (not_above _ h)
+left_in table i l h = ap (λ (qs : List ℕ). filter (λ q. ltb 0 (frequency_at table q)) qs) (drop-cons complex_queries i 0 l ∙ ap (λ (n : ℕ). slice_index_or complex_queries i 0 ∷ drop n complex_queries) (after i)) ∙ passes (λ q. ltb 0 (frequency_at table q)) (slice_index_or complex_queries i 0) (drop (i + 1) complex_queries) (lt-ltb 0 _ h)
 
 -- one without is passed by
 pub left_out : (table : FrequencyTable) (i : ℕ) → i < 7 → frequency_at table (slice_index_or complex_queries i 0) ≡ 0 → left_of table i ≡ left_of table (i + 1)

@@ -9,8 +9,7 @@ use Rattle.std.proofs.lemmas.List.Kept.{AllPairs-filter}
 use Rattle.std.proofs.lemmas.List.Sums.{length-filter}
 use Rattle.std.proofs.lemmas.Nat.{mul-le}
 use Rattle.std.proofs.Math.Seq.{get_or-append_seam}
-use Rattle.snb_base.proofs.ListLemmas.{in_filter}
-use Rattle.snb_base.proofs.Laws.{split_here}
+use Rattle.snb_base.proofs.Laws.{in_filter, split_here}
 use Rattle.snb_schema.specs.declared.limits.TheConstants.{MAX_TIME}
 use Rattle.snb_schema.specs.declared.op.Line.{Line}
 use Rattle.snb_schema.specs.Frequencies.{FrequencyTable, frequency_at}

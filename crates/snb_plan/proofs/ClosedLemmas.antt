@@ -4,12 +4,7 @@ use Rattle.std.specs.List.{All, AllPairs, Contains}
 use Rattle.std.proofs.lemmas.Bool.{cases_lt}
 use Rattle.std.proofs.lemmas.List.{take-append-drop, take_more, take_all, get_or-take, get_or_default}
 use Rattle.std.proofs.lemmas.List.Elements.{All-append, All-cons, All-nil, Contains-push, Contains-push_cases, Contains-append_left}
-use Rattle.snb_base.proofs.ListLemmas.{all_at}
-use Rattle.snb_base.proofs.Laws.{contains_here, contains_there, push_split, split_here}
-use Rattle.std.specs.Prelude.{Result, Ok, Err, IsErrAnd}
-use Rattle.snb_schema.specs.declared.fault.Fault.{Fault}
-use Rattle.snb_schema.specs.declared.fault.Fault.TheVariants.{Bad, Memory}
-use Rattle.snb_schema.specs.Faults.{OnBad}
+use Rattle.snb_base.proofs.Laws.{all_at, contains_here, contains_there, push_split, split_here}
 use Rattle.snb_schema.specs.declared.key.Key.{Key}
 use Rattle.snb_schema.specs.declared.key.Key.TheVariants.{Node}
 use Rattle.snb_schema.specs.declared.op.Op.{Op}
@@ -261,9 +256,3 @@ first_wrong holds all i u added r rises lt is s wrong = record {
             unmet.2.2,
           ),
         ))
-
--- a refusal that is handed on is the callee's
-pub passed_on : (given : Result (Unit {0}) Fault) (fault : Fault) (P Q : Refusal → Type 0) → IsErrAnd given (λ e. e ≡ fault) → OnBad {A = Unit {0}} (Err fault) P → ((r : Refusal) → P r → Q r) → OnBad given Q
-passed_on (Ok a) fault P Q same h more = tt
-passed_on (Err Memory) fault P Q same h more = tt
-passed_on (Err (Bad r)) fault P Q same h more = more r (subst (λ (f : Fault). OnBad {A = Unit {0}} (Err f) P) (sym same) h)

@@ -6,7 +6,7 @@ use Rattle.std.proofs.lemmas.Bool.{false≢true}
 use Rattle.std.proofs.lemmas.List.{get_or-map, length-map}
 use Rattle.std.proofs.lemmas.List.Elements.{Contains-get_or}
 use Rattle.std.proofs.lemmas.Option.{get_or_from_slice_get, slice_get-get_or, slice_get-map, slice_get_within}
-use Rattle.snb_base.proofs.Laws.{contains_here}
+use Rattle.snb_base.proofs.Laws.{contains_here, contains_map}
 use Rattle.snb_ratio.specs.Ratios.{due_of}
 use Rattle.snb_schema.specs.declared.op.Line.{Line}
 use Rattle.snb_schema.specs.declared.query.Query.TheVariants.{Is1}
@@ -25,9 +25,6 @@ use Rattle.snb_schema.proofs.Laws.{frequent_complex}
 use Rattle.snb_plan.proofs.Viewing.{shown}
 
 -- ---- lists that are mapped
-
-to_map : {X Y : Type 0} (f : X → Y) (xs : List X) (x : X) → Contains xs x → Contains (map f xs) (f x)
-to_map f xs x at = (at.0, (let lt = at.1 in omega (arith, lt, length-map xs f)), get_or-map f xs at.0 x (f x) at.1 ∙ ap f at.2)
 
 from_map : {X Y : Type 0} (f : X → Y) (xs : List X) (d : X) (y : Y) → Contains (map f xs) y → (x : X) × Contains xs x × (y ≡ f x)
 from_map f xs d y at =
@@ -118,7 +115,7 @@ placed_all lanes updates are = record { ordered = ordered; those = λ p. (to p, 
         } in
         let same : placed_at lanes (record { t = p.line.t; lane = p.lane; place = p.place }) ≡ p = λ i. record { lane = p.lane; place = p.place; line = is i } in
         subst (Contains (map (placed_at lanes) updates)) same
-        (to_map (placed_at lanes) updates (record { t = p.line.t; lane = p.lane; place = p.place }) ((are.those (record { t = p.line.t; lane = p.lane; place = p.place })).1 u))
+        (contains_map (placed_at lanes) updates (record { t = p.line.t; lane = p.lane; place = p.place }) ((are.those (record { t = p.line.t; lane = p.lane; place = p.place })).1 u))
 
 -- ---- operations
 
@@ -175,7 +172,7 @@ operation_is : (lanes : LineLanes) (lists : QueryLists) (fr : FrequencyTable) (r
 operation_is lanes lists fr ratio t0 updates reads positions have are o = (to, from)
   where
     of_line : (s : Position) → IsUpdatePosition lanes s → o ≡ operation_at lanes lists reads ratio t0 s → IsUpdate lanes ratio t0 (map (placed_at lanes) updates) o
-    of_line s u is = (placed_at lanes s, to_map (placed_at lanes) updates s ((are.are_updates.those s).1 u), is ∙ line_operation lanes lists reads ratio t0 s u)
+    of_line s u is = (placed_at lanes s, contains_map (placed_at lanes) updates s ((are.are_updates.those s).1 u), is ∙ line_operation lanes lists reads ratio t0 s u)
 
     of_read : (s : Position) → IsReadPosition lanes updates reads s → o ≡ operation_at lanes lists reads ratio t0 s → IsRead lanes lists ratio t0 (map (placed_at lanes) updates) reads o
     of_read s r is =
@@ -211,7 +208,7 @@ operation_is lanes lists fr ratio t0 updates reads positions have are o = (to, f
         let u : IsUpdatePosition lanes s.0 = (are.are_updates.those s.0).0 s.1 in
         subst (Contains (map (operation_at lanes lists reads ratio t0) positions))
         (line_operation lanes lists reads ratio t0 s.0 u ∙ ap (update_operation lanes ratio t0) (sym s.2) ∙ sym update.2)
-        (to_map (operation_at lanes lists reads ratio t0) positions s.0 ((are.are_all.those s.0).1 (inl u)))
+        (contains_map (operation_at lanes lists reads ratio t0) positions s.0 ((are.are_all.those s.0).1 (inl u)))
     from (inr read) =
         let within : read.place < length reads = slice_get_within reads read.place read.instance read.here in
         let one : get_or reads read.place no_instance ≡ read.instance = get_or_from_slice_get reads read.place read.instance no_instance read.here in
@@ -229,7 +226,7 @@ operation_is lanes lists fr ratio t0 updates reads positions have are o = (to, f
         (read_at_position lanes lists updates reads ratio t0 (record { t = (with_at updates (get_or reads read.place no_instance)).t; lane = read_lane lanes; place = read.place }) read.with.line.t r
         (w.1.at_t ∙ ap (λ (p : Placed). p.line.t) with)
         ∙ ap (read_operation lanes ratio t0 read.place read.with.line.t) query ∙ sym read.is)
-        (to_map (operation_at lanes lists reads ratio t0) positions (record { t = (with_at updates (get_or reads read.place no_instance)).t; lane = read_lane lanes; place = read.place })
+        (contains_map (operation_at lanes lists reads ratio t0) positions (record { t = (with_at updates (get_or reads read.place no_instance)).t; lane = read_lane lanes; place = read.place })
         ((are.are_all.those (record { t = (with_at updates (get_or reads read.place no_instance)).t; lane = read_lane lanes; place = read.place })).1 (inr r)))
 
 -- the first operation is at the t of the first position

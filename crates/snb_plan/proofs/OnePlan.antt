@@ -1,11 +1,8 @@
 -- There is one plan.
-use Rattle.std.proofs.Common.{◌≡◌, ℕ, ◌-◌, ◌≤◌, List, [], ◌∷◌, length, Some, ◌⊎◌, inl, inr, refl, sym, ap, ◌∙◌, subst, arith}
-use Rattle.std.specs.Prelude.{slice_get}
+use Rattle.std.proofs.Common.{◌≡◌, ℕ, ◌-◌, ◌≤◌, List, [], ◌∷◌, length, ◌⊎◌, inl, inr, refl, sym, ap, ◌∙◌, subst, arith}
 use Rattle.std.specs.List.{AllPairs, Contains}
-use Rattle.std.proofs.lemmas.Option.{slice_get_within, get_or_from_slice_get}
 use Rattle.std.proofs.lemmas.List.Elements.{All-contains}
-use Rattle.snb_base.proofs.ListLemmas.{none_in, pairs_head}
-use Rattle.snb_base.proofs.Laws.{contains_cases, contains_here}
+use Rattle.snb_base.proofs.Laws.{at_contains, contains_cases, contains_here, none_in, pairs_head}
 use Rattle.snb_history.specs.declared.step.Step.{Step}
 use Rattle.snb_schema.specs.LineLanes.{LineLanes}
 use Rattle.snb_schema.specs.QueryLists.{QueryLists}
@@ -14,6 +11,7 @@ use Rattle.snb_plan.specs.declared.instances.Instance.{Instance}
 use Rattle.snb_plan.specs.PlanLaws.{PlanIsOne}
 use Rattle.snb_plan.specs.Plans.{AreInOrder, AreUpdates, IsEarlier, IsInstance, IsLineOf, IsRead, IsSooner, IsUpdate, Operation, Placed, first_t, update_operation}
 use Rattle.snb_plan.proofs.Ordered.{one_order}
+use Rattle.snb_history.proofs.Laws.{t_rises}
 
 earlier_strict : (x y : Placed) → IsEarlier x y → IsEarlier y x → ⊥
 earlier_strict x y (inl a) (inl b) = omega (arith, a, b)
@@ -39,17 +37,9 @@ step_strict x y (inr (t, inl a)) (inr (u, inr (lane, b))) = omega (arith, a, lan
 step_strict x y (inr (t, inr (lane, a))) (inr (u, inl b)) = omega (arith, lane, b)
 step_strict x y (inr (t, inr (lane, a))) (inr (u, inr (same, b))) = omega (arith, a, b)
 
-t_of : (x y : Step) → ComesBefore x y → x.t ≤ y.t
-t_of x y (inl lt) = omega (arith, lt)
-t_of x y (inr (t, rest)) = omega (arith, t)
-
 placed_t : (x y : Placed) → IsEarlier x y → x.line.t ≤ y.line.t
 placed_t x y (inl lt) = omega (arith, lt)
 placed_t x y (inr (t, rest)) = omega (arith, t)
-
--- an element at a place is one of the list
-at_place : {X : Type 0} (xs : List X) (k : ℕ) (x : X) → slice_get xs k ≡ Some x → Contains xs x
-at_place xs k x e = (k, slice_get_within xs k x e, get_or_from_slice_get xs k x x e)
 
 -- the first of all is at the t of the first update
 update_t : List Placed → ℕ
@@ -75,7 +65,7 @@ first_is lanes lists ratio t0 [] reads (o ∷ ops) are all = absurd (none ((all.
   where
     none : Is lanes lists ratio t0 [] reads o → ⊥
     none (inl update) = none_in update.0 update.1
-    none (inr read) = let e = read.goes_with in none_in read.with (at_place [] (read.instance.at - 1) read.with e)
+    none (inr read) = let e = read.goes_with in none_in read.with (at_contains [] (read.instance.at - 1) read.with e)
 first_is lanes lists ratio t0 (p ∷ updates) reads (o ∷ ops) are all =
     let up = low in let down = high ((all.those o).0 (contains_here o ops)) in omega (arith, up, down)
   where
@@ -85,7 +75,7 @@ first_is lanes lists ratio t0 (p ∷ updates) reads (o ∷ ops) are all =
     low : o.step.t ≤ p.line.t
     low = elim (contains_cases o ops (update_operation lanes ratio t0 p) ((all.those (update_operation lanes ratio t0 p)).1 (inl (p, contains_here p updates, refl)))) [
       | inl e ↦ let t = ap (λ (x : Operation). x.step.t) e in omega (arith, t)
-      | inr later ↦ t_of o.step (update_operation lanes ratio t0 p).step
+      | inr later ↦ t_rises o.step (update_operation lanes ratio t0 p).step
           (All-contains (λ (x : Operation). ComesBefore o.step x.step) ops (update_operation lanes ratio t0 p)
           (pairs_head (λ (one other : Operation). ComesBefore one.step other.step) o ops all.ordered) later)
     ]
@@ -93,7 +83,7 @@ first_is lanes lists ratio t0 (p ∷ updates) reads (o ∷ ops) are all =
     high : Is lanes lists ratio t0 (p ∷ updates) reads o → p.line.t ≤ o.step.t
     high (inl (q, at, is)) = (let le = least_update p q updates are.ordered at in let t = ap (λ (x : Operation). x.step.t) is in omega (arith, le, t))
     high (inr read) = (
-        let le = least_update p read.with updates are.ordered (at_place (p ∷ updates) (read.instance.at - 1) read.with read.goes_with) in
+        let le = least_update p read.with updates are.ordered (at_contains (p ∷ updates) (read.instance.at - 1) read.with read.goes_with) in
         let t = ap (λ (x : Operation). x.step.t) read.is in
         omega (arith, le, t))
 

@@ -1,7 +1,6 @@
 -- Updates are refused in one way at most.
 use Rattle.std.proofs.Common.{◌≡◌, List, [], ◌∷◌, ◌++◌, ◌⊎◌, inl, inr, refl, sym, ap, ◌∙◌, subst}
 use Rattle.std.specs.List.{All}
-use Rattle.snb_base.proofs.ListLemmas.{all_at}
 use Rattle.snb_schema.specs.declared.key.Key.{Key}
 use Rattle.snb_schema.specs.declared.refusal.Missing.{Missing}
 use Rattle.snb_schema.specs.declared.refusal.Refusal.{Refusal}
@@ -11,6 +10,7 @@ use Rattle.snb_plan.specs.Closed.{Update, IsFirstUnmet, IsFirstWrong, IsMet, IsT
 use Rattle.snb_plan.specs.PlanLaws.{ClosedIsOne}
 use Rattle.snb_plan.proofs.CaseFacts.{IsWrongCase, to_case}
 use Rattle.snb_plan.proofs.ClosedLemmas.{not_wrong}
+use Rattle.snb_base.proofs.Laws.{all_at}
 
 -- where two elements split a list, they stand at one place, or one of them before the other
 splits_one : {X : Type 0} (xs : List X) (x : X) (rest ys : List X) (y : X) (more : List X) → xs ++ x ∷ rest ≡ ys ++ y ∷ more

@@ -4,14 +4,12 @@ use Rattle.std.specs.List.{AllPairs, Contains, swap}
 use Rattle.std.specs.List.Sorted.{IsPermutation, IsSorted}
 use Rattle.std.specs.Cmp.{IsTotalOrder, nat_cmp_total, tied_itself}
 use Rattle.std.specs.declared.cmp.Ordering.{Ordering}
-use Rattle.std.specs.declared.cmp.Ordering.TheVariants.{Less}
 use Rattle.std.specs.Ordering.{nat_cmp, ordering_then, is_lt}
 use Rattle.std.proofs.lemmas.Bool.{cases_eq, cases_lt, false≢true}
 use Rattle.std.proofs.lemmas.List.Edits.{length-swap, swapped_from_swap}
 use Rattle.std.proofs.lemmas.List.Elements.{All-contains}
 use Rattle.std.proofs.lemmas.List.Sorted.{Contains-permutation, IsPermutation-keeps, IsPermutation-sym, ranks_by, sorted_far}
-use Rattle.snb_base.proofs.ListLemmas.{none_in, pairs_head, pairs_tail}
-use Rattle.snb_base.proofs.Laws.{contains_cases, contains_here, contains_there}
+use Rattle.snb_base.proofs.Laws.{compares_less, contains_cases, contains_here, contains_there, none_in, pairs_head, pairs_tail}
 use Rattle.snb_plan.specs.Plans.{AreInOrder}
 
 -- ---- one list
@@ -136,9 +134,6 @@ same_elements xs ys moved x = (Contains-permutation ys xs x (IsPermutation-sym x
 
 -- ---- orders by three numbers
 
-less : (n m : ℕ) → n < m → nat_cmp n m ≡ Less
-less n m l = grind (arith, l)
-
 -- by the first, then by the second, then by the third
 pub by_three : (x y z u v w : ℕ) → is_lt (ordering_then (nat_cmp u x) (ordering_then (nat_cmp v y) (nat_cmp w z))) ≡ false
     → (x < u) ⊎ ((x ≡ u) × ((y < v) ⊎ ((y ≡ v) × (z ≤ w))))
@@ -146,7 +141,7 @@ by_three x y z u v w not_less =
     elim (cases_lt x u) [
       | inl lt ↦ inl lt
       | inr ge ↦ elim (cases_lt u x) [
-        | inl gt ↦ absurd (false≢true (sym not_less ∙ ap (λ o. is_lt (ordering_then o (ordering_then (nat_cmp v y) (nat_cmp w z)))) (less u x gt)))
+        | inl gt ↦ absurd (false≢true (sym not_less ∙ ap (λ o. is_lt (ordering_then o (ordering_then (nat_cmp v y) (nat_cmp w z)))) (compares_less u x gt)))
         | inr le ↦
             let first : x ≡ u = omega (arith, ge, le) in
             inr (
@@ -162,7 +157,7 @@ by_three x y z u v w not_less =
         elim (cases_lt y v) [
           | inl lt ↦ inl lt
           | inr ge ↦ elim (cases_lt v y) [
-            | inl gt ↦ absurd (false≢true (sym rest ∙ ap (λ o. is_lt (ordering_then o (nat_cmp w z))) (less v y gt)))
+            | inl gt ↦ absurd (false≢true (sym rest ∙ ap (λ o. is_lt (ordering_then o (nat_cmp w z))) (compares_less v y gt)))
             | inr le ↦
                 let same : y ≡ v = omega (arith, ge, le) in
                 inr (same, third (sym (ap (λ o. is_lt (ordering_then o (nat_cmp w z))) (ap (λ (n : ℕ). nat_cmp v n) same ∙ tied_itself nat_cmp_total v)) ∙ rest))
@@ -172,6 +167,6 @@ by_three x y z u v w not_less =
         third : is_lt (nat_cmp w z) ≡ false → z ≤ w
         third last =
             elim (cases_lt w z) [
-              | inl gt ↦ absurd (false≢true (sym last ∙ ap is_lt (less w z gt)))
+              | inl gt ↦ absurd (false≢true (sym last ∙ ap is_lt (compares_less w z gt)))
               | inr le ↦ le
             ]

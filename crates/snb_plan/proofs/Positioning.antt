@@ -7,7 +7,6 @@ use Rattle.std.proofs.lemmas.Bool.{cases_lt}
 use Rattle.std.proofs.lemmas.List.{get_or_default, take_more}
 use Rattle.std.proofs.lemmas.List.Elements.{Contains-append_cases, Contains-append_left, Contains-append_right}
 use Rattle.std.proofs.lemmas.List.Sums.{sum_by-cons}
-use Rattle.snb_base.proofs.ListLemmas.{none_in, pairs_append}
 use Rattle.snb_plan.specs.contracts.positions.PositionOrd.TheImpl.Laws.{total-law}
 use Rattle.snb_schema.specs.declared.op.Line.{Line}
 use Rattle.snb_schema.specs.LineLanes.{LineLanes}
@@ -16,6 +15,7 @@ use Rattle.snb_plan.specs.declared.positions.Position.{Position}
 use Rattle.snb_plan.specs.Plans.{numbered_lanes, read_lane}
 use Rattle.snb_plan.specs.Positions.{all_positions, lane_positions, no_instance, no_line, no_position, read_positions, AreUpdatePositions, IsReadPosition, IsPositionBefore, IsUpdatePosition}
 use Rattle.snb_plan.proofs.Ordered.{Distinct, by_three, distinct_from_pairs, distinct_permutation, pairs_from_sorted, same_elements}
+use Rattle.snb_base.proofs.Laws.{none_in, pairs_append}
 
 -- the position of a t, a lane and a place
 abbrev pub position : ℕ → ℕ → ℕ → Position

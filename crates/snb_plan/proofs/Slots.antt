@@ -8,10 +8,8 @@ use Rattle.std.specs.Cmp.{tied_itself, nat_cmp_total}
 use Rattle.std.specs.Ordering.{nat_cmp, ordering_then, is_eq}
 use Rattle.std.proofs.lemmas.Bool.{false≢true}
 use Rattle.std.proofs.lemmas.Map.Lookups.{exact_pairs, exact_unsigned}
-use denote.Enum.Bare.{same_true}
 use Rattle.snb_base.proofs.Laws.{contains_cases, contains_here, contains_there}
-use Rattle.snb_schema.specs.contracts.table.TableOrd.TheImpl.Laws.{matches_eq-law, total-law}
-use Rattle.snb_schema.specs.contracts.table.Table.{the_type as the_table}
+use Rattle.snb_schema.specs.contracts.table.TableOrd.TheImpl.Laws.{total-law}
 use Rattle.snb_schema.specs.declared.key.Key.{Key}
 use Rattle.snb_schema.specs.declared.key.Key.TheVariants.{Node, Knows, LikesPost, LikesComment, Member}
 use Rattle.snb_schema.specs.declared.table.Kind.TheVariants as kinds
@@ -22,9 +20,7 @@ use Rattle.snb_plan.specs.declared.added.Added.{Added}
 use Rattle.snb_plan.specs.declared.added.Mark.{Mark}
 use Rattle.snb_plan.specs.declared.added.Slot.{Slot}
 use Rattle.snb_plan.specs.Added.{mark_at, slot_cmp, slot_of, HasMore, HasPut}
-
-table_exact : (t u : Table) → table_order t u ≡ Equal → t ≡ u
-table_exact t u e = same_true the_table tt t u (matches_eq-law t u ∙ ap is_eq e)
+use Rattle.snb_schema.proofs.Laws.{table_exact}
 
 abbrev pair_order : ℕ × ℕ → ℕ × ℕ → Ordering
 pair_order p q = ordering_then (nat_cmp p.0 q.0) (nat_cmp p.1 q.1)

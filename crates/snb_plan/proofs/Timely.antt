@@ -1,12 +1,11 @@
--- The steps of a closed plan are timely, and so no legal history of it is stuck.
-use Rattle.std.proofs.Common.{◌≡◌, ◌∙◌, ℕ, zero, suc, ◌+◌, ◌<◌, ◌≤◌, ◌⊎◌, List, [], ◌∷◌, ◌++◌, get_or, length, take, drop, true, false, Option, Some, inl, inr, refl, sym, ap, subst, arith}
+-- The steps of a closed plan are closed_plan_is_timely, and so no legal history of it is stuck.
+use Rattle.std.proofs.Common.{◌≡◌, ◌∙◌, ℕ, ◌+◌, ◌<◌, ◌≤◌, ◌⊎◌, ◌∷◌, ◌++◌, get_or, length, take, drop, true, false, Option, Some, inl, inr, refl, sym, ap, subst, arith}
 use Rattle.std.specs.Prelude.{slice_get}
 use Rattle.std.specs.List.{cons_option, filter_map}
 use Rattle.std.proofs.lemmas.Bool.{cases_lt}
 use Rattle.std.proofs.lemmas.List.{get_or-map, get_or_past, length-map}
 use Rattle.std.proofs.lemmas.List.Elements.{filter_map-append}
 use Rattle.std.proofs.lemmas.Option.{get_or_from_slice_get, slice_get_within}
-use Rattle.snb_base.proofs.ListLemmas.{split_at}
 use Rattle.snb_ratio.specs.Ratios.{due_of}
 use Rattle.snb_schema.specs.declared.key.Key.{Key}
 use Rattle.snb_history.specs.declared.step.Step.{Step}
@@ -15,20 +14,15 @@ use Rattle.snb_schema.specs.Frequencies.{FrequencyTable}
 use Rattle.snb_schema.specs.LineLanes.{LineLanes}
 use Rattle.snb_schema.specs.QueryLists.{QueryLists}
 use Rattle.snb_history.specs.Schedule.{ComesBefore, no_step, step_of}
-use Rattle.snb_history.proofs.Laws.{never_stuck}
+use Rattle.snb_history.proofs.Laws.{never_stuck, t_rises}
 use Rattle.snb_plan.specs.Closed.{IsClosed, Update}
 use Rattle.snb_plan.specs.PlanLaws.{ClosedPlanIsNotStuck, ClosedPlanIsTimely}
 use Rattle.snb_plan.specs.Plans.{IsPlan, IsRead, IsUpdate, Operation, Placed, Plan, file_of, first_t, schedule_of, update_from, updates_in}
 use Rattle.snb_plan.proofs.Planned.{due_rises}
-
--- something stands at each place of a list
-stands_there : {X : Type 0} (xs : List X) (k : ℕ) → k < length xs → (x : X) × (slice_get xs k ≡ Some x)
-stands_there [] k lt = absurd (omega arith)
-stands_there (x ∷ xs) zero lt = (x, refl)
-stands_there (x ∷ xs) (suc k) lt = stands_there xs k (omega arith)
+use Rattle.snb_base.proofs.Laws.{some_got, split_at}
 
 -- the step of an operation
-step_here : (plan : Plan) (k : ℕ) (o : Operation) → slice_get plan.operations k ≡ Some o → step_of (schedule_of plan) k ≡ o.step
+pub step_here : (plan : Plan) (k : ℕ) (o : Operation) → slice_get plan.operations k ≡ Some o → step_of (schedule_of plan) k ≡ o.step
 step_here plan k o e =
     get_or-map (λ (x : Operation). x.step) plan.operations k o no_step (slice_get_within plan.operations k o e)
     ∙ ap (λ (x : Operation). x.step) (get_or_from_slice_get plan.operations k o o e)
@@ -46,10 +40,6 @@ splits_there : (plan : Plan) (k : ℕ) (o : Operation) (u : Update) → slice_ge
 splits_there plan k o u e q =
     ap (λ (x : Option Update). filter_map update_of (take k plan.operations) ++ cons_option x (filter_map update_of (drop (k + 1) plan.operations))) (sym q)
     ∙ (sym (filter_map-append update_of (take k plan.operations) (o ∷ drop (k + 1) plan.operations)) ∙ ap (filter_map update_of) (split_at plan.operations k o e))
-
-t_rises : (one other : Step) → ComesBefore one other → one.t ≤ other.t
-t_rises one other (inl less) = omega arith
-t_rises one other (inr same) = (let e = same.0 in omega arith)
 
 module _ {lanes : LineLanes} {lists : QueryLists} {frequencies : FrequencyTable} {ratio : ℕ} {plan : Plan} (is_plan : IsPlan lanes lists frequencies ratio plan) where
   -- an operation is an update or a read
@@ -97,8 +87,9 @@ module _ {lanes : LineLanes} {lists : QueryLists} {frequencies : FrequencyTable}
     | inr read ↦ absurd (let none : o.step.dependent ≡ false = ap (λ (x : Operation). x.step.dependent) read.is in cc)
   ]
 
-pub timely : (holds : Key → Type 0) → ClosedPlanIsTimely holds
-timely holds plan streams closed = record {
+-- the steps of a closed plan rise by t and by due time, and each dependent needs only what lies before it
+pub closed_plan_is_timely : (holds : Key → Type 0) → ClosedPlanIsTimely holds
+closed_plan_is_timely holds plan streams closed = record {
   numbered = λ j k le within. let a = at j (omega (arith, le, within)) in let b = at k within in
       let t = t_here streams.is_plan j k a.0 b.0 le a.1 b.1 in
       omega (arith, t, t_at j a.0 a.1, t_at k b.0 b.1);
@@ -110,7 +101,7 @@ timely holds plan streams closed = record {
 }
   where
     at : (k : ℕ) → k < length (schedule_of plan).steps → (o : Operation) × (slice_get plan.operations k ≡ Some o)
-    at k within = stands_there plan.operations k (let size = step_count plan in omega (arith, within, size))
+    at k within = some_got plan.operations k (let size = step_count plan in omega (arith, within, size))
 
     t_at : (k : ℕ) (o : Operation) → slice_get plan.operations k ≡ Some o → (step_of (schedule_of plan) k).t ≡ o.step.t
     t_at k o here = ap (λ (s : Step). s.t) (step_here plan k o here)
@@ -133,5 +124,5 @@ timely holds plan streams closed = record {
 
 pub not_stuck : (holds : Key → Type 0) → ClosedPlanIsNotStuck holds
 not_stuck holds plan workers h streams closed legal idle running k within fresh =
-    let next = never_stuck (schedule_of plan) workers h (timely holds plan streams closed) legal idle running k within fresh in
+    let next = never_stuck (schedule_of plan) workers h (closed_plan_is_timely holds plan streams closed) legal idle running k within fresh in
     (next.0, record { there = next.1; fresh = next.2; earliest = next.3; starts = next.4 })

@@ -1,5 +1,5 @@
 -- The instances of the queries that go with so many updates.
-use Rattle.std.proofs.Common.{◌≡◌, ℕ, zero, suc, ◌+◌, ◌-◌, ◌*◌, ◌/◌, ◌<◌, ◌≤◌, true, false, List, [], ◌∷◌, ◌++◌, length, get_or, ◌⊎◌, inl, inr, refl, sym, ap, ◌∙◌, subst, arith, length-append}
+use Rattle.std.proofs.Common.{◌≡◌, ℕ, zero, suc, ◌+◌, ◌-◌, ◌*◌, ◌/◌, ◌<◌, ◌≤◌, true, false, List, [], ◌∷◌, length, get_or, ◌⊎◌, inl, inr, refl, sym, ap, ◌∙◌, subst, arith}
 use Rattle.std.specs.Prelude.{if◌then◌else◌, ◌==◌}
 use Rattle.std.specs.List.{AllPairs, Contains, flat_map, sum_by}
 use Rattle.std.specs.List.Sorted.{IsPermutation, IsSorted}
@@ -9,7 +9,6 @@ use Rattle.std.proofs.lemmas.List.Elements.{Contains-append_cases, Contains-appe
 use Rattle.std.proofs.lemmas.List.Concat.{length-flat_map}
 use Rattle.std.proofs.lemmas.List.FromFn.{get_or-map-range_with_len, length-map-range_with_len}
 use Rattle.std.proofs.lemmas.Nat.{div-add-mod', div-mul-add, le-div, mul-le}
-use Rattle.snb_base.proofs.ListLemmas.{pairs_append}
 use Rattle.snb_plan.specs.contracts.instances.InstanceOrd.TheImpl.Laws.{total-law}
 use Rattle.snb_schema.specs.Frequencies.{FrequencyTable, frequency_at}
 use Rattle.snb_schema.specs.Queries.{IsComplex}
@@ -19,6 +18,7 @@ use Rattle.snb_plan.specs.declared.instances.Instance.{Instance}
 use Rattle.snb_plan.specs.Plans.{AreReads, IsInstance, IsSooner, read_count, share}
 use Rattle.snb_plan.specs.Positions.{all_instances, instance_of, instances_of}
 use Rattle.snb_plan.proofs.Ordered.{Distinct, by_three, distinct_from_pairs, distinct_permutation, pairs_from_sorted, same_elements}
+use Rattle.snb_base.proofs.Laws.{pairs_append}
 
 -- ---- how many
 

@@ -1,5 +1,5 @@
 -- A plan as its lanes, lists, reads and schedule show it.
-use Rattle.std.proofs.Common.{◌≡◌, ℕ, suc, ◌+◌, ◌<◌, ◌≤◌, ◌%◌, ◌-◌, Bool, true, false, cond, List, [], ◌∷◌, length, map, count_by, get_or, Option, Some, None, inl, inr, refl, sym, ap, ◌∙◌, subst, arith, mod-lt}
+use Rattle.std.proofs.Common.{◌≡◌, ℕ, suc, ◌+◌, ◌<◌, ◌%◌, ◌-◌, Bool, true, false, cond, List, [], ◌∷◌, length, map, count_by, get_or, Option, Some, None, refl, sym, ap, ◌∙◌, subst, arith, mod-lt}
 use Rattle.std.specs.Prelude.{filter_map, slice_get, option_map, if◌then◌else◌}
 use Rattle.std.specs.List.{cons_option, filter}
 use Rattle.std.proofs.lemmas.List.Sums.{length-filter}
@@ -12,12 +12,13 @@ use Rattle.snb_schema.specs.declared.file.FileId.{FileId}
 use Rattle.snb_history.specs.declared.step.Step.{Step}
 use Rattle.snb_schema.specs.LineLanes.{LineLanes}
 use Rattle.snb_schema.specs.QueryLists.{QueryLists, list_of}
-use Rattle.snb_history.specs.Schedule.{Schedule, ComesBefore, IsPlanned, no_step}
+use Rattle.snb_history.specs.Schedule.{Schedule, IsPlanned, no_step}
 use Rattle.snb_plan.specs.declared.instances.Instance.{Instance}
 use Rattle.snb_plan.specs.declared.plan.Source.{Source}
 use Rattle.snb_plan.specs.Closed.{Update}
-use Rattle.snb_plan.specs.Plans.{Ask, Insert, IsSource, Operation, Plan, file_of, lane_of, queries_in, query_from, schedule_of, update_from, updates_in}
+use Rattle.snb_plan.specs.Plans.{Ask, Insert, IsSource, Operation, Plan, file_of, lane_of, query_from, schedule_of, update_from, updates_in}
 use Rattle.snb_plan.specs.Positions.{AreKept, AreLines, IsKept, StepsRise, instance_at, line_at, no_instance, no_line, operation_of, query_at, update_at, updates_at}
+use Rattle.snb_history.proofs.Laws.{t_rises}
 
 -- the steps of the operations are the steps
 pub steps_again : (lanes : LineLanes) (lists : QueryLists) (reads : List Instance) (steps : List Step) → map (λ (o : Operation). o.step) (map (operation_of lanes lists reads) steps) ≡ steps
@@ -89,14 +90,10 @@ lines_kept lanes lists reads steps kept k lt update =
     let one : IsKept lanes lists reads (get_or steps k no_step) = kept k lt in
     record { in_lanes = one.lane update; within = one.place update; at_t = one.line_t update }
 
-t_before : (one other : Step) → ComesBefore one other → one.t ≤ other.t
-t_before one other (inl lt) = omega (arith, lt)
-t_before one other (inr (t, rest)) = omega (arith, t)
-
 -- t never falls along the steps of a schedule
 pub planned_rises : (schedule : Schedule) → IsPlanned schedule → StepsRise schedule.steps
 planned_rises schedule planned i j d below lt =
-    let le = t_before (get_or schedule.steps i no_step) (get_or schedule.steps j no_step) (planned.ordered i j below lt) in
+    let le = t_rises (get_or schedule.steps i no_step) (get_or schedule.steps j no_step) (planned.ordered i j below lt) in
     let one = ap (λ (s : Step). s.t) (get_or_default schedule.steps i d no_step (omega (arith, below, lt))) in
     let other = ap (λ (s : Step). s.t) (get_or_default schedule.steps j d no_step lt) in
     omega (arith, le, one, other)

@@ -7,8 +7,7 @@ use Rattle.std.proofs.lemmas.List.{get_or_default, take_more}
 use Rattle.std.proofs.lemmas.List.Elements.{All-cons, All-head, All-nil, All-tail, All-from_get_or}
 use Rattle.std.proofs.lemmas.List.Kept.{AllPairs-cons}
 use Rattle.std.proofs.Math.Seq.{get_or-append_seam}
-use Rattle.snb_base.proofs.ListLemmas.{pairs_head, pairs_tail}
-use Rattle.snb_base.proofs.Laws.{split_here}
+use Rattle.snb_base.proofs.Laws.{pairs_head, pairs_tail, split_here}
 use Rattle.snb_schema.specs.declared.key.Key.{Key}
 use Rattle.snb_schema.specs.declared.op.Line.{Line}
 use Rattle.snb_schema.specs.declared.refusal.Refusal.{Refusal}

@@ -10,10 +10,10 @@ use Rattle.snb_schema.specs.declared.row.Row.TheVariants as row
 use Rattle.snb_schema.specs.declared.table.Kind.TheVariants as kinds
 use Rattle.snb_schema.specs.declared.table.Table.TheVariants as table
 use Rattle.snb_graph_model.specs.Soundness.{Held}
-use Rattle.snb_graph_rows.proofs.Laws.{contains_cases, contains_there}
 use Rattle.snb_graph_model.specs.Around.{friends, is_friend}
 use Rattle.snb_read_model.specs.Distance.{IsPerson}
 use Rattle.snb_graph_model.proofs.Laws.{Friendship, friend_here, friend_tells, friend_there, friend_told}
+use Rattle.snb_base.proofs.Laws.{contains_cases, contains_there}
 
 -- the friends that a walk has still to give are friends held, and all others are met
 pub record IsLooking (g : List Row) (p : ℕ) (left : List (ℕ × ℕ)) (IsMet : ℕ → Type 0) : Type 0 where

@@ -5,4 +5,4 @@ pub use Rattle.snb_read_laws.proofs.Near.{near_held, some_within}
 pub use Rattle.snb_read_laws.proofs.OneWithin.{Rises, one_within, same_rising}
 pub use Rattle.snb_read_laws.proofs.SomeAnswers.{some_zip}
 pub use Rattle.snb_read_laws.proofs.SomeNamed.{some_namesake}
-pub use Rattle.snb_read_laws.proofs.Ties.{by_total}
+pub use Rattle.snb_read_laws.proofs.Ties.{by_total, stay_total}

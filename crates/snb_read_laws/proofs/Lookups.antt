@@ -1,6 +1,6 @@
 -- What a sound graph has: nodes by their ids, and edges that nodes must have.
-use Rattle.std.proofs.Common.{◌≡◌, ℕ, Bool, true, false, cond, List, [], ◌∷◌, ◌++◌, Option, Some, None, refl, sym, ap, ◌∙◌, subst, inl, inr, arith, ◌==◌}
-use Rattle.std.proofs.lemmas.Bool.{eq-eqb, eqb-true}
+use Rattle.std.proofs.Common.{◌≡◌, ℕ, List, [], ◌∷◌, ◌++◌, Some, refl, sym, ap, ◌∙◌, subst, inl, inr, arith, ◌==◌}
+use Rattle.std.proofs.lemmas.Bool.{eq-eqb}
 use Rattle.std.proofs.lemmas.List.Elements.{All-contains, Contains-append_cases}
 use Rattle.std.specs.List.{Contains}
 use Rattle.snb_schema.specs.declared.layout.KeyColumns.TheVariants.{First}
@@ -26,30 +26,15 @@ use Rattle.snb_graph_integrity.specs.SoundLaws.{HasOneEdge, MessagesAreOfOneKind
 use Rattle.snb_graph_model.specs.Graphs.{HasKey, IsGraph, rows}
 use Rattle.snb_graph_model.specs.Messages.{HasMessage, Wrote}
 use Rattle.snb_graph_model.specs.Soundness.{Held}
-use Rattle.snb_graph_model.proofs.Laws.{chosen_from, comment_alone, comment_author, comment_only, forum_only, in_rows, one_chosen, person_only, post_author, post_only, rows_apart}
+use Rattle.snb_graph_model.proofs.Laws.{comment_alone, comment_author, comment_only, forum_only, in_rows, one_chosen, organisation_row, person_only, place_row, post_author, post_only, rows_apart}
 use Rattle.snb_graph_model.specs.Around.{Message, authors, comment_shown, comments, forums, message_in, organisation_in, organisations, person_in, persons, place_in, places, post_shown, with_id}
 use Rattle.snb_read_model.specs.Distance.{IsPerson}
+use Rattle.snb_base.proofs.Laws.{given_by}
+use Rattle.std.proofs.lemmas.Option.{cond_some}
 
 -- any reference
 pub any : ℕ × Missing
 any = (0, record { kind = kinds.Person; id = 0 })
-
--- a test before what is chosen
-passed : {Y : Type 0} (b : Bool) (v y : Y) → ◌≡◌ {A = Option Y} (cond b (Some v) None) (Some y) → (b ≡ true) × (v ≡ y)
-passed true v y e = (refl, cc)
-passed false v y e = absurd cc
-
-organisation_row : (id : ℕ) (r : Row) (o : Organisation) → organisation_in id r ≡ Some o → (r ≡ row.Organisation o) × (o.id ≡ id)
-organisation_row id (row.Organisation q) o e =
-    let (test, same) = passed (q.id == id) q o e in
-    (ap row.Organisation same, ap (λ (x : Organisation). x.id) (sym same) ∙ eqb-true q.id id test)
-organisation_row id r o e = absurd cc
-
-place_row : (id : ℕ) (r : Row) (p : Place) → place_in id r ≡ Some p → (r ≡ row.Place p) × (p.id ≡ id)
-place_row id (row.Place q) p e =
-    let (test, same) = passed (q.id == id) q p e in
-    (ap row.Place same, ap (λ (x : Place). x.id) (sym same) ∙ eqb-true q.id id test)
-place_row id r p e = absurd cc
 
 as_person : (r : Row) → row_shape r ≡ shapes.Person → (p : Person) × (r ≡ row.Person p)
 as_person (row.Person p) e = (p, refl)
@@ -83,24 +68,24 @@ as_link r e = absurd cc
 
 pub person_held : (g : List Row) (id : ℕ) (p : Person) → Contains (persons g id) p → IsPerson g p.id
 person_held g id p c =
-    let (r, there, gives) = chosen_from (person_in id) (rows g table.Person) p c in
+    let (r, there, gives) = given_by (person_in id) (rows g table.Person) p c in
     by_row r ((in_rows g table.Person r).0 there).0 gives
   where
     by_row : (r : Row) → Contains g r → person_in id r ≡ Some p → IsPerson g p.id
-    by_row (row.Person q) held e = record { it = row.Person q; held = held; keyed = ap (λ (x : Person). node_key kinds.Person x.id) (passed (q.id == id) q p e).1 }
+    by_row (row.Person q) held e = record { it = row.Person q; held = held; keyed = ap (λ (x : Person). node_key kinds.Person x.id) (cond_some (q.id == id) q p e).1 }
     by_row r held e = absurd cc
 
 pub message_shown : (g : List Row) (id : ℕ) (m : Message) → Contains (with_id g id) m → HasMessage g m.id
 message_shown g id m c =
-    let (r, there, gives) = chosen_from (message_in id) (rows g table.Post ++ rows g table.Comment) m c in
+    let (r, there, gives) = given_by (message_in id) (rows g table.Post ++ rows g table.Comment) m c in
     elim (Contains-append_cases (rows g table.Post) (rows g table.Comment) r there) [
       | inl d ↦ by_row r ((in_rows g table.Post r).0 d).0 gives
       | inr d ↦ by_row r ((in_rows g table.Comment r).0 d).0 gives
     ]
   where
     by_row : (r : Row) → Contains g r → message_in id r ≡ Some m → HasMessage g m.id
-    by_row (row.Post q) held e = inl (record { it = row.Post q; held = held; keyed = ap (λ (x : Message). node_key kinds.Post x.id) (passed (q.id == id) (post_shown q) m e).1 })
-    by_row (row.Comment q) held e = inr (record { it = row.Comment q; held = held; keyed = ap (λ (x : Message). node_key kinds.Comment x.id) (passed (q.id == id) (comment_shown q) m e).1 })
+    by_row (row.Post q) held e = inl (record { it = row.Post q; held = held; keyed = ap (λ (x : Message). node_key kinds.Post x.id) (cond_some (q.id == id) (post_shown q) m e).1 })
+    by_row (row.Comment q) held e = inr (record { it = row.Comment q; held = held; keyed = ap (λ (x : Message). node_key kinds.Comment x.id) (cond_some (q.id == id) (comment_shown q) m e).1 })
     by_row r held e = absurd cc
 
 module _ (g : List Row) (graph : IsGraph g) where
@@ -191,18 +176,6 @@ module _ (g : List Row) (graph : IsGraph g) where
       comment_author g m a graph c (λ b d. one g graph m (held (row.Link table.PostHasCreatorPerson m b) d 0 any (omega arith)) (held (row.Link table.CommentHasCreatorPerson m a) c 0 any (omega arith)))
 
 -- ---- tables that share their keys with no other
-
-pub cities : (u : Table) → sharing u ≡ table.PersonIsLocatedInPlace → u ≡ table.PersonIsLocatedInPlace
-cities table.PersonIsLocatedInPlace e = refl
-cities u e = absurd cc
-
-pub containers_alone : (u : Table) → sharing u ≡ table.ForumContainerOfPost → u ≡ table.ForumContainerOfPost
-containers_alone table.ForumContainerOfPost e = refl
-containers_alone u e = absurd cc
-
-pub moderators : (u : Table) → sharing u ≡ table.ForumHasModeratorPerson → u ≡ table.ForumHasModeratorPerson
-moderators table.ForumHasModeratorPerson e = refl
-moderators u e = absurd cc
 
 pub sites : (u : Table) → sharing u ≡ table.OrganisationIsLocatedInPlace → u ≡ table.OrganisationIsLocatedInPlace
 sites table.OrganisationIsLocatedInPlace e = refl

@@ -5,14 +5,13 @@ use Rattle.std.proofs.lemmas.List.Elements.{Contains-get_or}
 use Rattle.std.proofs.lemmas.List.Kept.{AllPairs-cons}
 use Rattle.std.specs.List.{AllPairs, Contains}
 use Rattle.snb_schema.specs.declared.row.Row.{Row}
-use Rattle.snb_base.proofs.Laws.{contains_cases, contains_here, contains_there}
-use Rattle.snb_graph_model.proofs.Laws.{contains_none}
+use Rattle.snb_base.proofs.Laws.{contains_cases, contains_here, contains_there, Decided, none_in}
 use Rattle.snb_read_model.specs.Distance.{IsDistance, IsLength, IsPerson, IsWithin, Walk}
-use Rattle.snb_read_laws.proofs.Walks.{Decided, among_ids, distance, ids, walk_end}
+use Rattle.snb_read_laws.proofs.Walks.{among_ids, distance, ids, walk_end}
 
 -- a number above all of a list
 above : (xs : List ℕ) → (top : ℕ) × ((x : ℕ) → Contains xs x → x < top)
-above [] = (0, λ x c. absurd (contains_none x c))
+above [] = (0, λ x c. absurd (none_in x c))
 above (y ∷ ys) =
     let (top, below) = above ys in (
       suc (max y top),
@@ -50,7 +49,7 @@ module _ (g : List Row) (start steps : ℕ) where
     pub each : (p n : ℕ) → IsAway p n → from ≤ p → p < from + many → Contains near (p, n)
 
   part_near : (many from : ℕ) → (near : List (ℕ × ℕ)) × IsPartNear from many near
-  part_near zero from = ([], record { rises = λ i j d low small. absurd (omega arith); found = λ z c. absurd (contains_none z c); each = λ p n is low high. absurd (omega (arith, low, high)) })
+  part_near zero from = ([], record { rises = λ i j d low small. absurd (omega arith); found = λ z c. absurd (none_in z c); each = λ p n is low high. absurd (omega (arith, low, high)) })
   part_near (suc many) from = by (part_near many (suc from)) (away from)
     where
       by : (near : List (ℕ × ℕ)) × IsPartNear (suc from) many near → Decided ((n : ℕ) × IsAway from n) → (near : List (ℕ × ℕ)) × IsPartNear from (suc many) near

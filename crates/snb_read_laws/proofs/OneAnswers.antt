@@ -1,5 +1,5 @@
 -- There is one answer, where each thing shows one row and only equal rows compare equal.
-use Rattle.std.proofs.Common.{◌≡◌, ℕ, List, [], ◌∷◌, get_or, refl, sym, ap, ◌∙◌, subst, inl, inr}
+use Rattle.std.proofs.Common.{◌≡◌, ℕ, List, [], ◌∷◌, refl, subst, inl, inr}
 use Rattle.std.proofs.lemmas.Cmp.{nat_list_cmp_total}
 use Rattle.std.specs.Cmp.Lexicographic.{slice_cmp}
 use Rattle.std.specs.List.{AllZip, Contains}
@@ -8,14 +8,9 @@ use Rattle.std.specs.declared.cmp.Ordering.TheVariants.{Equal}
 use Rattle.snb_read_model.specs.Cells.{Cell}
 use Rattle.snb_read_model.specs.ComplexReads.{Stay, stay_cmp}
 use Rattle.snb_read_model.specs.Order.{Answers, Cut, FirstOf, Way, by}
-use Rattle.snb_base.proofs.Laws.{contains_cases, contains_here, contains_there}
-use Rattle.snb_graph_model.proofs.Laws.{contains_none}
+use Rattle.snb_base.proofs.Laws.{contains_cases, contains_here, contains_there, none_in}
 use Rattle.snb_read_order.specs.Laws.{OneFirst}
 use Rattle.snb_read_laws.proofs.Ties.{by_total, equal_stays, equal_texts, stay_total}
-
--- a list has one element in one way
-pub same_only : {X : Type 0} (xs : List X) (a b : X) → xs ≡ a ∷ [] → xs ≡ b ∷ [] → a ≡ b
-same_only {X} xs a b one other = ap (λ (l : List X). get_or l 0 a) (sym one ∙ other)
 
 module _ {X Y : Type 0} (R : X → Y → Type 0) where
   pub same_zip : ((x : X) (a b : Y) → R x a → R x b → a ≡ b) → (xs : List X) (us vs : List Y) → AllZip R xs us → AllZip R xs vs → us ≡ vs
@@ -30,7 +25,7 @@ module _ {X Y : Type 0} (R : X → Y → Type 0) where
       λ i. here i ∷ there i
 
   shown_by : (xs : List X) (us : List Y) (a : Y) → AllZip R xs us → Contains us a → (x : X) × Contains xs x × R x a
-  shown_by [] [] a z c = absurd (contains_none a c)
+  shown_by [] [] a z c = absurd (none_in a c)
   shown_by [] (u ∷ us) a z c = absurd z
   shown_by (x ∷ xs) [] a z c = absurd z
   shown_by (x ∷ xs) (u ∷ us) a z c = elim (contains_cases u us a c) [

@@ -8,16 +8,17 @@ use Rattle.snb_graph_model.specs.Around.{ends, organisations, persons, places, s
 use Rattle.snb_read_model.specs.Cells.{Cell, column, number}
 use Rattle.snb_read_model.specs.ComplexReads.{AreStays, Ic1, Ic11, IsJob, IsNamesake, IsStay, Stay, is_named, jobs, stay_cmp}
 use Rattle.snb_read_model.specs.Order.{Answers, Falling, First, FirstOf, Rising, Whole}
-use Rattle.snb_read_laws.proofs.OneAnswers.{one_answers, one_stays, one_texts, same_only, same_zip}
+use Rattle.snb_read_laws.proofs.OneAnswers.{one_answers, one_stays, one_texts, same_zip}
 use Rattle.snb_read_laws.proofs.OneWithin.{one_within}
 use Rattle.snb_read_laws.proofs.Ties.{falling_words, rising, three_ties}
+use Rattle.snb_base.proofs.Laws.{one_only}
 
 module _ (g : List Row) where
   one_stay : (s : ℕ × ℕ) (a b : Stay) → IsStay g s a → IsStay g s b → a ≡ b
   one_stay s a b r t =
-      let organisation : r.organisation ≡ t.organisation = same_only (organisations g s.0) r.organisation t.organisation r.at.organisation t.at.organisation in
-      let at : r.at.place ≡ t.at.place = same_only (ends g table.OrganisationIsLocatedInPlace s.0) r.at.place t.at.place r.at.located t.at.located in
-      let place : r.place ≡ t.place = same_only (places g t.at.place) r.place t.place (subst (λ n. places g n ≡ r.place ∷ []) at r.at.held) t.at.held in
+      let organisation : r.organisation ≡ t.organisation = one_only (organisations g s.0) r.organisation t.organisation r.at.organisation t.at.organisation in
+      let at : r.at.place ≡ t.at.place = one_only (ends g table.OrganisationIsLocatedInPlace s.0) r.at.place t.at.place r.at.located t.at.located in
+      let place : r.place ≡ t.place = one_only (places g t.at.place) r.place t.place (subst (λ n. places g n ≡ r.place ∷ []) at r.at.held) t.at.held in
       r.is ∙ (λ i. ((organisation i).name, s.1, (place i).name)) ∙ sym t.is
 
   all_stays : OneFirst Stay → (stays : List (ℕ × ℕ)) (a b : List Stay) → AreStays g stays a → AreStays g stays b → a ≡ b
@@ -29,9 +30,9 @@ module _ (first : OneFirst (List Cell)) (g : List Row) where
   module _ (texts : OneFirst (List ℕ)) (stays : OneFirst Stay) where
     one_namesake : (n : ℕ × ℕ) (a b : List Cell) → IsNamesake g n a → IsNamesake g n b → a ≡ b
     one_namesake n a b r s =
-        let person : r.person ≡ s.person = same_only (persons g n.0) r.person s.person r.held s.held in
-        let city : r.city ≡ s.city = same_only (ends g table.PersonIsLocatedInPlace n.0) r.city s.city r.lives s.lives in
-        let place : r.place ≡ s.place = same_only (places g s.city) r.place s.place (subst (λ m. places g m ≡ r.place ∷ []) city r.there) s.there in
+        let person : r.person ≡ s.person = one_only (persons g n.0) r.person s.person r.held s.held in
+        let city : r.city ≡ s.city = one_only (ends g table.PersonIsLocatedInPlace n.0) r.city s.city r.lives s.lives in
+        let place : r.place ≡ s.place = one_only (places g s.city) r.place s.place (subst (λ m. places g m ≡ r.place ∷ []) city r.there) s.there in
         let emails : r.emails ≡ s.emails = one_texts texts Whole (words g table.PersonEmailEmailAddress n.0) r.emails s.emails r.mails s.mails in
         let languages : r.languages ≡ s.languages = one_texts texts Whole (words g table.PersonSpeaksLanguage n.0) r.languages s.languages r.speaks s.speaks in
         let universities : r.universities ≡ s.universities = all_stays g stays (study g n.0) r.universities s.universities r.studied s.studied in
@@ -58,8 +59,8 @@ module _ (first : OneFirst (List Cell)) (g : List Row) where
 
   one_job : (j : ℕ × ℕ × ℕ) (a b : List Cell) → IsJob g j a → IsJob g j b → a ≡ b
   one_job j a b r s =
-      let person : r.person ≡ s.person = same_only (persons g j.0) r.person s.person r.held s.held in
-      let organisation : r.organisation ≡ s.organisation = same_only (organisations g j.1) r.organisation s.organisation r.at s.at in
+      let person : r.person ≡ s.person = one_only (persons g j.0) r.person s.person r.held s.held in
+      let organisation : r.organisation ≡ s.organisation = one_only (organisations g j.1) r.organisation s.organisation r.at s.at in
       r.is ∙ (λ i. number j.0 ∷ cell.Words ((person i).first_name) ∷ cell.Words ((person i).last_name) ∷ cell.Words ((organisation i).name) ∷ number j.2 ∷ []) ∙ sym s.is
 
   -- the year, the person's id and the organisation's name are all that a row shows, with the person's names
@@ -71,7 +72,7 @@ module _ (first : OneFirst (List Cell)) (g : List Row) where
       let year = rising 5 a b x.2 y.2 (ap (column 5) r.is) (ap (column 5) s.is) years in
       let id = rising 1 a b x.0 y.0 (ap (column 1) r.is) (ap (column 1) s.is) ids in
       let name = falling_words 4 a b r.organisation.name s.organisation.name (ap (column 4) r.is) (ap (column 4) s.is) names in
-      let person : r.person ≡ s.person = same_only (persons g y.0) r.person s.person (subst (λ n. persons g n ≡ r.person ∷ []) id r.held) s.held in
+      let person : r.person ≡ s.person = one_only (persons g y.0) r.person s.person (subst (λ n. persons g n ≡ r.person ∷ []) id r.held) s.held in
       r.is ∙ (λ i. number (id i) ∷ cell.Words ((person i).first_name) ∷ cell.Words ((person i).last_name) ∷ cell.Words (name i) ∷ number (year i) ∷ []) ∙ sym s.is))
 
   pub one_ic11 : (person : ℕ) (country : List ℕ) (year : ℕ) (a b : List (List Cell)) → Ic11 g person country year a → Ic11 g person country year b → a ≡ b

@@ -2,13 +2,11 @@
 use Rattle.std.proofs.Common.{◌≡◌, ◌∙◌, ℕ, ◌<◌, Bool, true, false, ◌||◌, List, [], ◌∷◌, ap, filter, inl, inr, map, nat_le, nat_lt, not, refl, subst, sym}
 use Rattle.std.proofs.lemmas.Bool.{both_ways, cases_order, eq-eqb, lt-ltb, not-true}
 use Rattle.std.specs.List.{Contains, flat_map, list_any}
-use Rattle.snb_base.proofs.ListLemmas.{in_flat, in_map}
 use Rattle.snb_schema.specs.declared.row.Row.{Row}
 use Rattle.snb_graph_model.specs.Graphs.{IsGraph}
 use Rattle.snb_graph_model.specs.Soundness.{Sound}
 use Rattle.snb_graph_integrity.specs.SoundLaws.{MessagesHaveOneAuthor}
 use Rattle.snb_read_order.specs.Laws.{OneFirst}
-use Rattle.snb_graph_model.proofs.Laws.{any_from, in_filter}
 use Rattle.snb_read_model.specs.declared.cell.Cell.TheVariants as cell
 use Rattle.snb_read_model.specs.declared.like.Like.{Like}
 use Rattle.snb_read_model.specs.declared.sent.Sent.{Sent}
@@ -16,10 +14,11 @@ use Rattle.snb_graph_model.specs.Around.{Message, comments, friends, is_friend, 
 use Rattle.snb_read_model.specs.Cells.{Cell, column, number}
 use Rattle.snb_read_model.specs.ComplexReads.{Ic2, Ic7, Ic8, Ic9, IsAnswered, IsLiked, IsSent, beats, best_likes, latest, liked, messages_of, minutes}
 use Rattle.snb_read_model.specs.Order.{Answers, Falling, First, Rising}
-use Rattle.snb_read_laws.proofs.OneAnswers.{one_answers, same_only}
+use Rattle.snb_read_laws.proofs.OneAnswers.{one_answers}
 use Rattle.snb_read_laws.proofs.OneWithin.{one_within}
 use Rattle.snb_read_laws.proofs.OneThings.{one_author, one_sender, sent_date}
 use Rattle.snb_read_laws.proofs.Ties.{falling, rising, two_ties}
+use Rattle.snb_base.proofs.Laws.{any_of, in_filter, in_flat, in_map, one_only}
 
 -- ---- messages of persons
 
@@ -31,8 +30,8 @@ in_messages g passes ps s c =
 
 one_sent : (g : List Row) (m : Sent) (a b : List Cell) → IsSent g m a → IsSent g m b → a ≡ b
 one_sent g m a b r s =
-    let person : r.person ≡ s.person = same_only (persons g m.person) r.person s.person r.held s.held in
-    let message : r.message ≡ s.message = same_only (with_id g m.message) r.message s.message r.sent s.sent in
+    let person : r.person ≡ s.person = one_only (persons g m.person) r.person s.person r.held s.held in
+    let message : r.message ≡ s.message = one_only (with_id g m.message) r.message s.message r.sent s.sent in
     r.is ∙ (λ i. number m.person ∷ cell.Words ((person i).first_name) ∷ cell.Words ((person i).last_name) ∷ number m.message ∷ cell.Words ((message i).content) ∷ number m.date ∷ []) ∙ sym s.is
 
 module _ (first : OneFirst (List Cell)) (authors : MessagesHaveOneAuthor) (g : List Row) (graph : IsGraph g) (sound : Sound g) where
@@ -60,7 +59,7 @@ module _ (first : OneFirst (List Cell)) (authors : MessagesHaveOneAuthor) (g : L
 one_answered : (g : List Row) (c : ℕ × ℕ) (a b : List Cell) → IsAnswered g c a → IsAnswered g c b → a ≡ b
 one_answered g c a b r s =
     let author = one_author g c.0 r.author s.author r.wrote s.wrote in
-    let comment : r.comment ≡ s.comment = same_only (comments g c.0) r.comment s.comment r.held s.held in
+    let comment : r.comment ≡ s.comment = one_only (comments g c.0) r.comment s.comment r.held s.held in
     r.is ∙ (λ i. number ((author i).id) ∷ cell.Words ((author i).first_name) ∷ cell.Words ((author i).last_name) ∷ number c.1 ∷ number c.0
     ∷ cell.Words ((comment i).content) ∷ []) ∙ sym s.is
 
@@ -87,7 +86,7 @@ best_of : (g : List Row) (person : ℕ) (k l : Like) → Contains (best_likes g 
 best_of g person k l c d e =
     let one = (in_filter (λ (z : Like). not (list_any (λ w. beats w z) (liked g person))) (liked g person) k).0 c in
     let other = (in_filter (λ (z : Like). not (list_any (λ w. beats w z) (liked g person))) (liked g person) l).0 d in
-    both_ways (list_any (λ w. beats w l) (liked g person)) (not-true (list_any (λ w. beats w l) (liked g person)) other.1) (any_from (λ w. beats w l) (liked g person) k one.0 e)
+    both_ways (list_any (λ w. beats w l) (liked g person)) (not-true (list_any (λ w. beats w l) (liked g person)) other.1) (any_of (λ w. beats w l) (liked g person) k one.0 e)
 
 -- of two likes of one person and moment that of the lower message stands first
 beats_later : (k l : Like) → k.person ≡ l.person → k.date ≡ l.date → k.message < l.message → beats k l ≡ true
@@ -109,8 +108,8 @@ same_best g person k l c d who date = elim (cases_order k.message l.message) [
 module _ (first : OneFirst (List Cell)) (g : List Row) (graph : IsGraph g) where
   one_liked : (start : ℕ) (l : Like) (a b : List Cell) → IsLiked g start l a → IsLiked g start l b → a ≡ b
   one_liked start l a b r s =
-      let person : r.person ≡ s.person = same_only (persons g l.person) r.person s.person r.held s.held in
-      let message : r.message ≡ s.message = same_only (with_id g l.message) r.message s.message r.sent s.sent in
+      let person : r.person ≡ s.person = one_only (persons g l.person) r.person s.person r.held s.held in
+      let message : r.message ≡ s.message = one_only (with_id g l.message) r.message s.message r.sent s.sent in
       r.is ∙ (λ i. number l.person ∷ cell.Words ((person i).first_name) ∷ cell.Words ((person i).last_name) ∷ number l.date ∷ number l.message
       ∷ cell.Words ((message i).content) ∷ cell.Number (minutes l.date l.sent) ∷ cell.Flag (not (is_friend g start l.person)) ∷ []) ∙ sym s.is
 
@@ -121,7 +120,7 @@ module _ (first : OneFirst (List Cell)) (g : List Row) (graph : IsGraph g) where
       let date = falling 4 a b x.date y.date (ap (column 4) r.is) (ap (column 4) s.is) dates in
       let who = rising 1 a b x.person y.person (ap (column 1) r.is) (ap (column 1) s.is) ids in
       let message = same_best g person x y c d who date in
-      let of : r.message ≡ s.message = same_only (with_id g y.message) r.message s.message (subst (λ n. with_id g n ≡ r.message ∷ []) message r.sent) s.sent in
+      let of : r.message ≡ s.message = one_only (with_id g y.message) r.message s.message (subst (λ n. with_id g n ≡ r.message ∷ []) message r.sent) s.sent in
       let sent : x.sent ≡ y.sent = sym (sent_date g graph person x.message x.sent r.message (in_liked g person x (counts x c)) r.sent) ∙ ap (λ (m : Message). m.date) of
       ∙ sent_date g graph person y.message y.sent s.message (in_liked g person y (counts y d)) s.sent in
       let same : x ≡ y = λ i. record { person = who i; date = date i; message = message i; sent = sent i } in

@@ -12,14 +12,15 @@ use Rattle.snb_graph_model.specs.Around.{Message, authors, comments, containers,
 use Rattle.snb_read_model.specs.Cells.{Cell, column, number}
 use Rattle.snb_read_model.specs.Order.{Falling, First, Rising, Whole}
 use Rattle.snb_read_model.specs.ShortReads.{Is1, Is2, Is3, Is4, Is5, Is6, Is7, IsAuthor, IsCreator, IsForum, IsFriend, IsProfile, IsRecent, IsReplyTo}
-use Rattle.snb_read_laws.proofs.OneAnswers.{one_answers, same_only}
+use Rattle.snb_read_laws.proofs.OneAnswers.{one_answers}
 use Rattle.snb_read_laws.proofs.OneThings.{one_author, one_message, one_person, one_root}
 use Rattle.snb_read_laws.proofs.Ties.{falling, rising, three_ties, two_ties}
+use Rattle.snb_base.proofs.Laws.{one_only}
 
 module _ (first : OneFirst (List Cell)) (g : List Row) (graph : IsGraph g) where
   one_profile : (p : Person) (a b : List Cell) → IsProfile g p a → IsProfile g p b → a ≡ b
   one_profile p a b r s =
-      let city : r.city ≡ s.city = same_only (ends g table.PersonIsLocatedInPlace p.id) r.city s.city r.lives s.lives in
+      let city : r.city ≡ s.city = one_only (ends g table.PersonIsLocatedInPlace p.id) r.city s.city r.lives s.lives in
       r.is ∙ (λ i. Words p.first_name ∷ Words p.last_name ∷ number p.birthday ∷ Words p.location_ip ∷ Words p.browser_used
       ∷ number (city i) ∷ Words p.gender ∷ number p.creation_date ∷ []) ∙ sym s.is
 
@@ -29,7 +30,7 @@ module _ (first : OneFirst (List Cell)) (g : List Row) (graph : IsGraph g) where
 
   one_friend : (f : ℕ × ℕ) (a b : List Cell) → IsFriend g f a → IsFriend g f b → a ≡ b
   one_friend f a b r s =
-      let friend : r.friend ≡ s.friend = same_only (persons g f.0) r.friend s.friend r.held s.held in
+      let friend : r.friend ≡ s.friend = one_only (persons g f.0) r.friend s.friend r.held s.held in
       r.is ∙ (λ i. number f.0 ∷ Words ((friend i).first_name) ∷ Words ((friend i).last_name) ∷ number f.1 ∷ []) ∙ sym s.is
 
   pub one_is3 : (person : ℕ) (a b : List (List Cell)) → Is3 g person a → Is3 g person b → a ≡ b
@@ -56,9 +57,9 @@ module _ (first : OneFirst (List Cell)) (g : List Row) (graph : IsGraph g) where
 
   one_reply_to : (message : ℕ) (c : ℕ × ℕ) (a b : List Cell) → IsReplyTo g message c a → IsReplyTo g message c b → a ≡ b
   one_reply_to message c a b r s =
-      let comment : r.comment ≡ s.comment = same_only (comments g c.0) r.comment s.comment r.held s.held in
+      let comment : r.comment ≡ s.comment = one_only (comments g c.0) r.comment s.comment r.held s.held in
       let author = one_author g c.0 r.author s.author r.wrote s.wrote in
-      let answered : r.answered ≡ s.answered = same_only (authors g message) r.answered s.answered r.created s.created in
+      let answered : r.answered ≡ s.answered = one_only (authors g message) r.answered s.answered r.created s.created in
       r.is ∙ (λ i. number c.0 ∷ Words ((comment i).content) ∷ number c.1 ∷ number ((author i).id) ∷ Words ((author i).first_name)
       ∷ Words ((author i).last_name) ∷ Flag (is_friend g (answered i) ((author i).id)) ∷ []) ∙ sym s.is
 
@@ -75,7 +76,7 @@ module _ (first : OneFirst (List Cell)) (g : List Row) (graph : IsGraph g) where
   module _ (sound : Sound g) (roots : MessagesHaveOneRoot) (held : RepliesAreHeld) where
     one_recent : (m : ℕ × ℕ) (a b : List Cell) → IsRecent g m a → IsRecent g m b → a ≡ b
     one_recent m a b r s =
-        let message : r.message ≡ s.message = same_only (with_id g m.0) r.message s.message r.held s.held in
+        let message : r.message ≡ s.message = one_only (with_id g m.0) r.message s.message r.held s.held in
         let root = one_root roots held g graph sound m.0 r.root s.root r.from s.from in
         let author = one_author g s.root r.author s.author (subst (λ n. IsAuthor g n r.author) root r.wrote) s.wrote in
         r.is ∙ (λ i. number m.0 ∷ Words ((message i).content) ∷ number m.1 ∷ number (root i) ∷ number ((author i).id) ∷ Words ((author i).first_name)
@@ -93,11 +94,11 @@ module _ (first : OneFirst (List Cell)) (g : List Row) (graph : IsGraph g) where
     one_forum : (m : ℕ) (a b : List Cell) → IsForum g m a → IsForum g m b → a ≡ b
     one_forum m a b r s =
         let root = one_root roots held g graph sound m r.root s.root r.from s.from in
-        let ids : r.forum.id ≡ s.forum.id = same_only (containers g s.root) r.forum.id s.forum.id (subst (λ n. containers g n ≡ r.forum.id ∷ []) root r.inside) s.inside in
-        let forum : r.forum ≡ s.forum = same_only (forums g s.forum.id) r.forum s.forum (subst (λ n. forums g n ≡ r.forum ∷ []) ids r.held) s.held in
-        let who : r.moderator.id ≡ s.moderator.id = same_only (ends g table.ForumHasModeratorPerson s.forum.id) r.moderator.id s.moderator.id
+        let ids : r.forum.id ≡ s.forum.id = one_only (containers g s.root) r.forum.id s.forum.id (subst (λ n. containers g n ≡ r.forum.id ∷ []) root r.inside) s.inside in
+        let forum : r.forum ≡ s.forum = one_only (forums g s.forum.id) r.forum s.forum (subst (λ n. forums g n ≡ r.forum ∷ []) ids r.held) s.held in
+        let who : r.moderator.id ≡ s.moderator.id = one_only (ends g table.ForumHasModeratorPerson s.forum.id) r.moderator.id s.moderator.id
         (subst (λ n. ends g table.ForumHasModeratorPerson n ≡ r.moderator.id ∷ []) ids r.moderates) s.moderates in
-        let moderator : r.moderator ≡ s.moderator = same_only (persons g s.moderator.id) r.moderator s.moderator (subst (λ n. persons g n ≡ r.moderator ∷ []) who r.known) s.known in
+        let moderator : r.moderator ≡ s.moderator = one_only (persons g s.moderator.id) r.moderator s.moderator (subst (λ n. persons g n ≡ r.moderator ∷ []) who r.known) s.known in
         r.is ∙ (λ i. number ((forum i).id) ∷ Words ((forum i).title) ∷ number ((moderator i).id) ∷ Words ((moderator i).first_name) ∷ Words ((moderator i).last_name) ∷ []) ∙ sym s.is
 
     pub one_is6 : (message : ℕ) (a b : List (List Cell)) → Is6 g message a → Is6 g message b → a ≡ b

@@ -1,5 +1,5 @@
 -- What there is once in a graph: a person, a message, its date, its author and its root.
-use Rattle.std.proofs.Common.{◌≡◌, ◌⊎◌, ℕ, zero, suc, ◌==◌, Bool, true, false, cond, List, [], ◌∷◌, ◌++◌, Option, Some, None, refl, sym, ap, ◌∙◌, subst, inl, inr}
+use Rattle.std.proofs.Common.{◌≡◌, ◌⊎◌, ℕ, zero, suc, ◌==◌, true, List, [], ◌∷◌, ◌++◌, Some, refl, sym, ap, ◌∙◌, subst, inl, inr}
 use Rattle.std.proofs.lemmas.Bool.{eqb-true}
 use Rattle.std.proofs.lemmas.List.Elements.{Contains-append_cases}
 use Rattle.std.specs.List.{Contains}
@@ -15,33 +15,18 @@ use Rattle.snb_graph_model.specs.Graphs.{IsGraph, rows}
 use Rattle.snb_graph_model.specs.Messages.{HasMessage, IsRoot, Wrote}
 use Rattle.snb_graph_model.specs.Soundness.{Sound}
 use Rattle.snb_graph_integrity.specs.SoundLaws.{MessagesHaveOneAuthor, MessagesHaveOneRoot, RepliesAreHeld}
-use Rattle.snb_graph_model.proofs.Laws.{chosen_from, comment_only, contains_none, in_rows, person_only, post_only, sent_there}
-use Rattle.snb_base.proofs.Laws.{contains_cases}
+use Rattle.snb_graph_model.proofs.Laws.{comment_only, in_rows, person_only, person_row, post_only, sent_there}
+use Rattle.snb_base.proofs.Laws.{given_by, in_one, one_only}
 use Rattle.snb_graph_model.specs.Around.{Message, authors, comment_shown, message_in, messages, person_in, persons, post_shown, with_id}
 use Rattle.snb_read_model.specs.ShortReads.{IsAuthor}
-use Rattle.snb_read_laws.proofs.OneAnswers.{same_only}
-
--- what a list of one element holds is that element
-in_one : {X : Type 0} (x y : X) → Contains (x ∷ []) y → x ≡ y
-in_one x y c = elim (contains_cases x [] y c) [ inl e ↦ e | inr d ↦ absurd (contains_none y d) ]
+use Rattle.std.proofs.lemmas.Option.{cond_some}
 
 -- ---- a person
 
--- a test before what is chosen
-passed : {Y : Type 0} (b : Bool) (v y : Y) → ◌≡◌ {A = Option Y} (cond b (Some v) None) (Some y) → (b ≡ true) × (v ≡ y)
-passed true v y e = (refl, cc)
-passed false v y e = absurd cc
-
-person_at : (id : ℕ) (r : Row) (p : Person) → person_in id r ≡ Some p → (r ≡ row.Person p) × (p.id ≡ id)
-person_at id (row.Person q) p e =
-    let (test, same) = passed (q.id == id) q p e in
-    (ap row.Person same, ap (λ (x : Person). x.id) (sym same) ∙ eqb-true q.id id test)
-person_at id r p e = absurd cc
-
 pub one_person : (g : List Row) → IsGraph g → (id : ℕ) (p q : Person) → Contains (persons g id) p → Contains (persons g id) q → p ≡ q
 one_person g graph id p q c d =
-    let (r, there, gives) = chosen_from (person_in id) (rows g table.Person) p c in
-    let (is, same) = person_at id r p gives in
+    let (r, there, gives) = given_by (person_in id) (rows g table.Person) p c in
+    let (is, same) = person_row id r p gives in
     let held = subst (Contains g) is ((in_rows g table.Person r).0 there).0 in
     let only : persons g id ≡ p ∷ [] = subst (λ n. persons g n ≡ p ∷ []) same (person_only g p graph held) in
     in_one p q (subst (λ (l : List Person). Contains l q) only d)
@@ -52,10 +37,10 @@ one_person g graph id p q c d =
 message_at : (id : ℕ) (r : Row) (m : Message) → message_in id r ≡ Some m
     → ((q : Post) × (r ≡ row.Post q) × (q.id ≡ id) × (post_shown q ≡ m)) ⊎ ((c : Comment) × (r ≡ row.Comment c) × (c.id ≡ id) × (comment_shown c ≡ m))
 message_at id (row.Post q) m e =
-    let (test, same) = passed (q.id == id) (post_shown q) m e in
+    let (test, same) = cond_some (q.id == id) (post_shown q) m e in
     inl (q, refl, eqb-true q.id id test, same)
 message_at id (row.Comment c) m e =
-    let (test, same) = passed (c.id == id) (comment_shown c) m e in
+    let (test, same) = cond_some (c.id == id) (comment_shown c) m e in
     inr (c, refl, eqb-true c.id id test, same)
 message_at id r m e = absurd cc
 
@@ -67,7 +52,7 @@ messages_held g r c = elim (Contains-append_cases (rows g table.Post) (rows g ta
 
 message_only : (g : List Row) → IsGraph g → (id : ℕ) (m : Message) → Contains (with_id g id) m → with_id g id ≡ m ∷ []
 message_only g graph id m c =
-    let (r, there, gives) = chosen_from (message_in id) (rows g table.Post ++ rows g table.Comment) m c in
+    let (r, there, gives) = given_by (message_in id) (rows g table.Post ++ rows g table.Comment) m c in
     let held = messages_held g r there in
     elim (message_at id r m gives) [
       | inl (q, is, same, shown) ↦ subst (λ n. with_id g n ≡ m ∷ []) same (post_only g q graph (subst (Contains g) is held) ∙ ap (λ (x : Message). x ∷ []) shown)
@@ -80,8 +65,8 @@ one_message g graph id m n c d = in_one m n (subst (λ (l : List Message). Conta
 -- a person's message has the date of the message of that id
 pub sent_date : (g : List Row) → IsGraph g → (p id date : ℕ) (m : Message) → Contains (messages g p) (id, date) → with_id g id ≡ m ∷ [] → m.date ≡ date
 sent_date g graph p id date m c is = elim (sent_there g p id date c) [
-  | inl (link, (q, held, same, at)) ↦ ap (λ (x : Message). x.date) (same_only (with_id g id) m (post_shown q) is (subst (λ n. with_id g n ≡ post_shown q ∷ []) same (post_only g q graph held))) ∙ at
-  | inr (link, (q, held, same, at)) ↦ ap (λ (x : Message). x.date) (same_only (with_id g id) m (comment_shown q) is (subst (λ n. with_id g n ≡ comment_shown q ∷ []) same (comment_only g q graph held))) ∙ at
+  | inl (link, (q, held, same, at)) ↦ ap (λ (x : Message). x.date) (one_only (with_id g id) m (post_shown q) is (subst (λ n. with_id g n ≡ post_shown q ∷ []) same (post_only g q graph held))) ∙ at
+  | inr (link, (q, held, same, at)) ↦ ap (λ (x : Message). x.date) (one_only (with_id g id) m (comment_shown q) is (subst (λ n. with_id g n ≡ comment_shown q ∷ []) same (comment_only g q graph held))) ∙ at
 ]
 
 -- the person wrote the message that is theirs, and it is held
@@ -103,8 +88,8 @@ one_sender law g graph sound p q id date time c d =
 
 pub one_author : (g : List Row) (m : ℕ) (p q : Person) → IsAuthor g m p → IsAuthor g m q → p ≡ q
 one_author g m p q a b =
-    let ids : a.id ≡ b.id = same_only (authors g m) a.id b.id a.created b.created in
-    same_only (persons g b.id) p q (subst (λ n. persons g n ≡ p ∷ []) ids a.held) b.held
+    let ids : a.id ≡ b.id = one_only (authors g m) a.id b.id a.created b.created in
+    one_only (persons g b.id) p q (subst (λ n. persons g n ≡ p ∷ []) ids a.held) b.held
 
 root_held : RepliesAreHeld → (g : List Row) → Sound g → (m post : ℕ) → IsRoot g m post → HasMessage g m
 root_held law g sound m post (inl (key, same)) = inl key

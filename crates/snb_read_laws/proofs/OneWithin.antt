@@ -2,8 +2,7 @@
 use Rattle.std.proofs.Common.{◌≡◌, ◌∙◌, ◌↔◌, ℕ, suc, ◌<◌, List, [], ◌∷◌, ap, arith, inl, inr, refl, subst, sym}
 use Rattle.std.specs.List.{AllPairs, Contains}
 use Rattle.snb_schema.specs.declared.row.Row.{Row}
-use Rattle.snb_base.proofs.Laws.{contains_cases, contains_here, contains_there}
-use Rattle.snb_graph_model.proofs.Laws.{contains_none}
+use Rattle.snb_base.proofs.Laws.{contains_cases, contains_here, contains_there, none_in}
 use Rattle.snb_read_model.specs.Distance.{IsWithin}
 
 -- pairs by rising id
@@ -28,8 +27,8 @@ after x xs y ys z rises same c d = elim (contains_cases y ys z d) [
 -- two lists by rising id with the same pairs are one
 pub same_rising : (xs ys : List (ℕ × ℕ)) → Rises xs → Rises ys → ((z : ℕ × ℕ) → Contains xs z ↔ Contains ys z) → xs ≡ ys
 same_rising [] [] r s same = refl
-same_rising [] (y ∷ ys) r s same = absurd (contains_none y ((same y).1 (contains_here y ys)))
-same_rising (x ∷ xs) [] r s same = absurd (contains_none x ((same x).0 (contains_here x xs)))
+same_rising [] (y ∷ ys) r s same = absurd (none_in y ((same y).1 (contains_here y ys)))
+same_rising (x ∷ xs) [] r s same = absurd (none_in x ((same x).0 (contains_here x xs)))
 same_rising (x ∷ xs) (y ∷ ys) r s same =
     let heads : x ≡ y = elim (contains_cases y ys x ((same x).0 (contains_here x xs))) [
       | inl e ↦ sym e

@@ -1,11 +1,9 @@
 -- The complex reads of those near have an answer: IC1, IC9 and IC11.
-use Rattle.std.proofs.Common.{◌≡◌, ◌==◌, ℕ, ◌&&◌, nat_lt, Bool, true, false, cond, List, [], ◌∷◌, Option, Some, None, filter, map, refl, ap, ◌∙◌, subst, arith}
-use Rattle.std.proofs.lemmas.Bool.{eqb-true}
+use Rattle.std.proofs.Common.{◌≡◌, ℕ, ◌&&◌, nat_lt, List, [], ◌∷◌, filter, map, refl, ap, ◌∙◌, subst, arith}
 use Rattle.std.proofs.lemmas.Cmp.{nat_list_cmp_total}
 use Rattle.std.specs.Cmp.Lexicographic.{slice_cmp}
 use Rattle.std.specs.List.{Contains, filter_map}
 use Rattle.std.specs.Ordering.{nat_cmp}
-use Rattle.snb_base.proofs.ListLemmas.{in_flat, in_map}
 use Rattle.snb_schema.specs.declared.nodes.Place.{Place}
 use Rattle.snb_schema.specs.declared.row.Row.{Row}
 use Rattle.snb_schema.specs.declared.row.Row.TheVariants as row
@@ -13,12 +11,11 @@ use Rattle.snb_schema.specs.declared.table.Kind.TheVariants as kinds
 use Rattle.snb_schema.specs.declared.table.Table.{Table}
 use Rattle.snb_schema.specs.declared.table.Table.TheVariants as table
 use Rattle.snb_schema.specs.RowKeys.{node_key}
-use Rattle.snb_schema.specs.RowLines.{table_of}
 use Rattle.snb_graph_integrity.specs.SoundLaws.{RequiredEdgesAreThere}
 use Rattle.snb_graph_model.specs.Graphs.{HasKey, IsGraph, rows}
 use Rattle.snb_graph_model.specs.Soundness.{Sound}
 use Rattle.snb_read_order.specs.Laws.{SomeFirst}
-use Rattle.snb_graph_model.proofs.Laws.{chosen_from, end_only, in_filter, in_rows}
+use Rattle.snb_graph_model.proofs.Laws.{end_only, in_rows, stay_row}
 use Rattle.snb_read_model.specs.Cells.{Cell}
 use Rattle.snb_graph_model.specs.Around.{ends, places, stay_in, study, words, work}
 use Rattle.snb_read_model.specs.ComplexReads.{AreStays, Ic1, Ic11, Ic9, IsJob, IsNamesake, IsStay, Stay, is_in, is_named, jobs, stay_cmp}
@@ -30,22 +27,12 @@ use Rattle.snb_read_laws.proofs.SomeAnswers.{some_answers, some_zip}
 use Rattle.snb_read_laws.proofs.Ties.{stay_total}
 use Rattle.snb_read_laws.proofs.SomeSent.{some_latest}
 use Rattle.snb_read_laws.proofs.SomeShort.{city_only, lives}
-
--- the row of a stay
-stay_row : (p : ℕ) (r : Row) (y : ℕ × ℕ) → stay_in p r ≡ Some y → r ≡ row.Yeared (table_of r) p y.0 y.1
-stay_row p (row.Yeared t from to year) y e = by (from == p) refl e
-  where
-    by : (b : Bool) → (from == p) ≡ b → ◌≡◌ {A = Option (ℕ × ℕ)} (cond b (Some (to, year)) None) (Some y) → row.Yeared t from to year ≡ row.Yeared t p y.0 y.1
-    by true is h =
-        let same : ◌≡◌ {A = ℕ × ℕ} (to, year) y = cc in
-        λ i. row.Yeared t (eqb-true from p is i) ((same i).0) ((same i).1)
-    by false is h = absurd cc
-stay_row p r y e = absurd cc
+use Rattle.snb_base.proofs.Laws.{given_by, in_filter, in_flat, in_map}
 
 module _ (g : List Row) (graph : IsGraph g) (sound : Sound g) where
   stay_there : (t : Table) (p : ℕ) (s : ℕ × ℕ) → Contains (filter_map (stay_in p) (rows g t)) s → Contains g (row.Yeared t p s.0 s.1)
   stay_there t p s c =
-      let (r, there, gives) = chosen_from (stay_in p) (rows g t) s c in
+      let (r, there, gives) = given_by (stay_in p) (rows g t) s c in
       let (held, of) = (in_rows g t r).0 there in
       subst (Contains g) (stay_row p r s gives ∙ ap (λ u. row.Yeared u p s.0 s.1) of) held
 

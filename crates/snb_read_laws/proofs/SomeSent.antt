@@ -1,7 +1,6 @@
 -- The complex reads of messages and likes have an answer: IC2, IC7, IC8 and, with those near, IC9.
-use Rattle.std.proofs.Common.{ℕ, Bool, cond, List, [], ◌∷◌, refl, subst, filter, inl, inr, map, nat_le, not, arith}
+use Rattle.std.proofs.Common.{ℕ, Bool, List, [], ◌∷◌, refl, subst, filter, inl, inr, map, nat_le, not, arith}
 use Rattle.std.specs.List.{Contains, flat_map, list_any}
-use Rattle.snb_base.proofs.ListLemmas.{in_flat, in_map}
 use Rattle.snb_schema.specs.declared.row.Row.{Row}
 use Rattle.snb_schema.specs.declared.row.Row.TheVariants as row
 use Rattle.snb_schema.specs.declared.table.Table.TheVariants as table
@@ -10,7 +9,7 @@ use Rattle.snb_graph_model.specs.Graphs.{IsGraph}
 use Rattle.snb_graph_model.specs.Messages.{HasMessage}
 use Rattle.snb_graph_model.specs.Soundness.{Sound}
 use Rattle.snb_read_order.specs.Laws.{SomeFirst}
-use Rattle.snb_graph_model.proofs.Laws.{in_filter, like_there}
+use Rattle.snb_graph_model.proofs.Laws.{like_there}
 use Rattle.snb_read_model.specs.Cells.{Cell}
 use Rattle.snb_read_model.specs.declared.like.Like.{Like}
 use Rattle.snb_read_model.specs.declared.sent.Sent.{Sent}
@@ -21,6 +20,7 @@ use Rattle.snb_read_model.specs.Order.{Answers, Falling, First, Rising}
 use Rattle.snb_read_laws.proofs.Lookups.{any, comment_at, message_at, person_at}
 use Rattle.snb_read_laws.proofs.SomeAnswers.{some_answers}
 use Rattle.snb_read_laws.proofs.SomeShort.{friend_held, reply_held, sent_held, some_author}
+use Rattle.snb_base.proofs.Laws.{in_filter, in_flat, in_map}
 
 module _ (g : List Row) (graph : IsGraph g) (sound : Sound g) where
   -- who likes a message is held

@@ -13,13 +13,13 @@ use Rattle.snb_graph_model.specs.Graphs.{HasKey, IsGraph}
 use Rattle.snb_graph_model.specs.Messages.{HasMessage, IsRoot}
 use Rattle.snb_graph_model.specs.Soundness.{Sound}
 use Rattle.snb_read_order.specs.Laws.{SomeFirst}
-use Rattle.snb_graph_model.proofs.Laws.{container_only, end_only, friend_there, replied_there, sent_there}
+use Rattle.snb_graph_model.proofs.Laws.{city_alone, container_alone, container_only, end_only, friend_there, moderator_alone, replied_there, sent_there}
 use Rattle.snb_read_model.specs.Cells.{Cell}
 use Rattle.snb_graph_model.specs.Around.{containers, ends, forums, friends, messages, persons, replies, with_id}
 use Rattle.snb_read_model.specs.Distance.{IsPerson}
 use Rattle.snb_read_model.specs.Order.{Falling, First, Rising, Whole}
 use Rattle.snb_read_model.specs.ShortReads.{Is1, Is2, Is3, Is4, Is5, Is6, Is7, IsAuthor, IsCreator, IsForum, IsFriend, IsProfile, IsRecent, IsReplyTo}
-use Rattle.snb_read_laws.proofs.Lookups.{any, cities, comment_at, containers_alone, forum_at, link_at, link_of, message_at, message_shown, moderators, person_at, person_held, written}
+use Rattle.snb_read_laws.proofs.Lookups.{any, comment_at, forum_at, link_at, link_of, message_at, message_shown, person_at, person_held, written}
 use Rattle.snb_read_laws.proofs.SomeAnswers.{some_answers}
 
 module _ (g : List Row) (graph : IsGraph g) (sound : Sound g) where
@@ -54,7 +54,7 @@ module _ (g : List Row) (graph : IsGraph g) (sound : Sound g) where
 
   pub lives : RequiredEdgesAreThere → (p : ℕ) → IsPerson g p → (c : ℕ) × Contains g (row.Link table.PersonIsLocatedInPlace p c)
   lives required p h =
-      link_at g graph table.PersonIsLocatedInPlace p refl cities refl refl (required g graph sound table.Person table.PersonIsLocatedInPlace (2, omega arith, refl) p h)
+      link_at g graph table.PersonIsLocatedInPlace p refl city_alone refl refl (required g graph sound table.Person table.PersonIsLocatedInPlace (2, omega arith, refl) p h)
 
   pub city_only : (p c : ℕ) → Contains g (row.Link table.PersonIsLocatedInPlace p c) → ends g table.PersonIsLocatedInPlace p ≡ c ∷ []
   city_only p c link = end_only g table.PersonIsLocatedInPlace p c graph refl link
@@ -70,7 +70,7 @@ module _ (g : List Row) (graph : IsGraph g) (sound : Sound g) where
   container_of : RequiredEdgesAreThere → (post : ℕ) → HasKey g (node_key kinds.Post post) → (from : ℕ) × Contains g (row.Link table.ForumContainerOfPost from post)
   container_of required post h =
       let edge = required g graph sound table.Post table.ForumContainerOfPost (4, omega arith, refl) post h in
-      let (from, to, link, same) = link_of g graph table.ForumContainerOfPost post edge.it edge.held refl containers_alone refl edge.fills in
+      let (from, to, link, same) = link_of g graph table.ForumContainerOfPost post edge.it edge.held refl container_alone refl edge.fills in
       (from, subst (λ n. Contains g (row.Link table.ForumContainerOfPost from n)) same link)
 
   abbrev Inside : ℕ → Forum → Type 0
@@ -88,7 +88,7 @@ module _ (g : List Row) (graph : IsGraph g) (sound : Sound g) where
   -- and the forum's moderator
   moderator_of : RequiredEdgesAreThere → (forum : ℕ) → HasKey g (node_key kinds.Forum forum) → (to : ℕ) × Contains g (row.Link table.ForumHasModeratorPerson forum to)
   moderator_of required forum h =
-      link_at g graph table.ForumHasModeratorPerson forum refl moderators refl refl (required g graph sound table.Forum table.ForumHasModeratorPerson (3, omega arith, refl) forum h)
+      link_at g graph table.ForumHasModeratorPerson forum refl moderator_alone refl refl (required g graph sound table.Forum table.ForumHasModeratorPerson (3, omega arith, refl) forum h)
 
   abbrev Moderates : ℕ → Person → Type 0
   Moderates forum p = (ends g table.ForumHasModeratorPerson forum ≡ p.id ∷ []) × (persons g p.id ≡ p ∷ [])

@@ -4,13 +4,13 @@ use Rattle.std.proofs.lemmas.Cmp.{back_total, by_ranked, int_cmp_total, nat_cmp_
 use Rattle.std.specs.Cmp.{IsTotalOrder}
 use Rattle.std.specs.Cmp.Lexicographic.{slice_cmp}
 use Rattle.std.specs.Ordering.{int_cmp, nat_cmp, ordering_then}
-use Rattle.std.specs.declared.cmp.Ordering.{Ordering}
-use Rattle.std.specs.declared.cmp.Ordering.TheVariants.{Less, Equal, Greater}
+use Rattle.std.specs.declared.cmp.Ordering.TheVariants.{Equal}
 use Rattle.snb_read_order.proofs.Laws.{int_nat}
 use Rattle.snb_read_model.specs.declared.cell.Cell.TheVariants.{Words}
 use Rattle.snb_read_model.specs.Cells.{Cell, cell_cmp, column, number, number_in, text_in}
 use Rattle.snb_read_model.specs.ComplexReads.{Stay, stay_cmp}
 use Rattle.snb_read_model.specs.Order.{Falling, Rising, Way, by, way_cmp}
+use Rattle.snb_base.proofs.Laws.{then_equal}
 
 -- ---- the orders are total
 
@@ -31,11 +31,6 @@ stay_total = then_total (on_total (λ (s : Stay). s.0) nat_list_cmp_total) (then
 
 -- ---- ties
 
-pub both_equal : (p q : Ordering) → ordering_then p q ≡ Equal → (p ≡ Equal) × (q ≡ Equal)
-both_equal Less q e = cc
-both_equal Equal q e = (refl, e)
-both_equal Greater q e = cc
-
 equal_numbers : (x y : ℕ) → nat_cmp x y ≡ Equal → x ≡ y
 equal_numbers x y e = by_ranked (x < y) (x ≡ y) (y < x) (nat_cmp x y) (ranked x y (nat_cmp x y) refl) (λ o l. cc) (λ o l. l) (λ o l. cc)
 
@@ -44,25 +39,25 @@ equal_texts [] [] e = refl
 equal_texts [] (y ∷ t) e = cc
 equal_texts (x ∷ s) [] e = cc
 equal_texts (x ∷ s) (y ∷ t) e =
-    let (first, later) = both_equal (nat_cmp x y) (slice_cmp nat_cmp s t) e in
+    let (first, later) = then_equal (nat_cmp x y) (slice_cmp nat_cmp s t) e in
     let here = equal_numbers x y first in
     let there = equal_texts s t later in
     λ i. here i ∷ there i
 
 pub equal_stays : (s t : Stay) → stay_cmp s t ≡ Equal → s ≡ t
 equal_stays s t e =
-    let (names, rest) = both_equal (slice_cmp nat_cmp s.0 t.0) (ordering_then (nat_cmp s.1 t.1) (slice_cmp nat_cmp s.2 t.2)) e in
-    let (years, places) = both_equal (nat_cmp s.1 t.1) (slice_cmp nat_cmp s.2 t.2) rest in
+    let (names, rest) = then_equal (slice_cmp nat_cmp s.0 t.0) (ordering_then (nat_cmp s.1 t.1) (slice_cmp nat_cmp s.2 t.2)) e in
+    let (years, places) = then_equal (nat_cmp s.1 t.1) (slice_cmp nat_cmp s.2 t.2) rest in
     let name = equal_texts s.0 t.0 names in
     let year = equal_numbers s.1 t.1 years in
     let place = equal_texts s.2 t.2 places in
     λ i. (name i, year i, place i)
 
 number_tie : (m n : ℕ) → cell_cmp (number m) (number n) ≡ Equal → m ≡ n
-number_tie m n e = equal_numbers m n (sym (int_nat m n) ∙ (both_equal (int_cmp (pos m) (pos n)) Equal e).0)
+number_tie m n e = equal_numbers m n (sym (int_nat m n) ∙ (then_equal (int_cmp (pos m) (pos n)) Equal e).0)
 
 text_tie : (s t : List ℕ) → cell_cmp (Words s) (Words t) ≡ Equal → s ≡ t
-text_tie s t e = equal_texts s t (both_equal (int_cmp (pos 0) (pos 0)) (slice_cmp nat_cmp s t) e).1
+text_tie s t e = equal_texts s t (then_equal (int_cmp (pos 0) (pos 0)) (slice_cmp nat_cmp s t) e).1
 
 -- ---- columns that compare equal
 
@@ -79,12 +74,12 @@ falling_words k a b s t left right e = sym (text_tie t s ((λ i. cell_cmp (sym r
 -- two columns of an order, and three
 pub two_ties : (v w : Way) (a b : List Cell) → by (v ∷ w ∷ []) a b ≡ Equal → (way_cmp v a b ≡ Equal) × (way_cmp w a b ≡ Equal)
 two_ties v w a b e =
-    let (first, rest) = both_equal (way_cmp v a b) (by (w ∷ []) a b) e in
-    let (second, none) = both_equal (way_cmp w a b) Equal rest in
+    let (first, rest) = then_equal (way_cmp v a b) (by (w ∷ []) a b) e in
+    let (second, none) = then_equal (way_cmp w a b) Equal rest in
     (first, second)
 
 pub three_ties : (u v w : Way) (a b : List Cell) → by (u ∷ v ∷ w ∷ []) a b ≡ Equal → (way_cmp u a b ≡ Equal) × (way_cmp v a b ≡ Equal) × (way_cmp w a b ≡ Equal)
 three_ties u v w a b e =
-    let (first, rest) = both_equal (way_cmp u a b) (by (v ∷ w ∷ []) a b) e in
+    let (first, rest) = then_equal (way_cmp u a b) (by (v ∷ w ∷ []) a b) e in
     let (second, third) = two_ties v w a b rest in
     (first, second, third)

@@ -15,27 +15,14 @@ use Rattle.snb_schema.specs.declared.table.Table.TheVariants as table
 use Rattle.snb_schema.specs.RowKeys.{RowKey, node_key, row_key, sharing, slot}
 use Rattle.snb_graph_integrity.proofs.Laws.{fills_decides}
 use Rattle.snb_graph_model.specs.Graphs.{HasSlot, fills}
-use Rattle.snb_base.proofs.Laws.{contains_cases, contains_here, contains_there}
-use Rattle.snb_graph_model.proofs.Laws.{contains_none}
+use Rattle.snb_base.proofs.Laws.{both, contains_cases, contains_here, contains_there, Decided, is_true, none_in}
 use Rattle.snb_graph_model.specs.Around.{is_friend}
 use Rattle.snb_read_model.specs.Distance.{IsDistance, IsPerson, Walk}
 
 -- ---- decisions
 
-abbrev pub Decided : Type 0 → Type 0
-Decided P = P ⊎ (¬ P)
-
-test : (b : Bool) → Decided (b ≡ true)
-test true = inl refl
-test false = inr (λ e. absurd cc)
-
-both : {P Q : Type 0} → Decided P → Decided Q → Decided (P × Q)
-both (inl p) (inl q) = inl (p, q)
-both (inl p) (inr q) = inr (λ a. q a.1)
-both (inr p) q = inr (λ a. p a.0)
-
 some_of : {X : Type 0} (P : X → Type 0) (xs : List X) → ((x : X) → Decided (P x)) → Decided ((x : X) × Contains xs x × P x)
-some_of P [] each = inr (λ a. contains_none a.0 a.1)
+some_of P [] each = inr (λ a. none_in a.0 a.1)
 some_of {X} P (x ∷ xs) each = by (each x) (some_of P xs each)
   where
     by : Decided (P x) → Decided ((y : X) × Contains xs y × P y) → Decided ((y : X) × Contains (x ∷ xs) y × P y)
@@ -51,7 +38,7 @@ module _ (g : List Row) where
   ids = map (λ r. (row_key r).1) g
 
   mapped : (f : Row → ℕ) (xs : List Row) (r : Row) → Contains xs r → Contains (map f xs) (f r)
-  mapped f [] r c = absurd (contains_none r c)
+  mapped f [] r c = absurd (none_in r c)
   mapped f (x ∷ xs) r c = elim (contains_cases x xs r c) [
     | inl e ↦ subst (λ (z : Row). Contains (f x ∷ map f xs) (f z)) e (contains_here (f x) (map f xs))
     | inr d ↦ contains_there (f x) (map f xs) (f r) (mapped f xs r d)
@@ -99,7 +86,7 @@ module _ (g : List Row) where
         by true e (inl is) = inl (subst (λ r. Walk g start r zero) (eqb-true start q e) (Walk.stay start is))
         by true e (inr none) = inr (λ w. none (subst (IsPerson g) (sym (eqb-true start q e)) (walk_end q zero w)))
         by false e is = inr (λ w. (let same = no_step q zero w refl in let other = eqb-false start q e in absurd (omega (arith, same, other))))
-    walk_decided (suc n) q = by (both (some_of (Leads n q) ids (λ b. both (walk_decided n b) (test (is_friend g b q)))) (person_decided q))
+    walk_decided (suc n) q = by (both (some_of (Leads n q) ids (λ b. both (walk_decided n b) (is_true (is_friend g b q)))) (person_decided q))
       where
         by : Decided (((b : ℕ) × Contains ids b × Leads n q b) × IsPerson g q) → Decided (Walk g start q (suc n))
         by (inl ((b, c, (w, f)), is)) = inl (Walk.step start b q n w f is)

@@ -1,5 +1,5 @@
 -- The years that answers show are years that a table can have.
-use Rattle.std.proofs.Common.{◌≡◌, ◌≤◌, get_or, ℕ, Bool, true, false, ◌&&◌, cond, List, [], ◌∷◌, Option, Some, None, refl, sym, subst, arith}
+use Rattle.std.proofs.Common.{◌≡◌, ◌≤◌, get_or, ℕ, Bool, true, false, ◌&&◌, cond, List, [], ◌∷◌, Some, None, refl, sym, subst, arith}
 use Rattle.std.specs.Prelude.{◌==◌}
 use Rattle.std.specs.List.{All, AllByRecursion, AllZip, filter_map}
 use Rattle.std.proofs.lemmas.List.Elements.{All-contains, All-contains_itself, All-from_recursion, recursion_from_All}
@@ -20,11 +20,12 @@ use Rattle.snb_graph_model.specs.Around.{stay_in}
 use Rattle.snb_read_model.specs.ComplexReads.{AreStays, IsNamesake, IsStay, Stay, stay_cmp}
 use Rattle.snb_read_model.specs.Order.{Whole}
 use Rattle.snb_read_model.specs.Replies.{IsAnswer}
-use Rattle.snb_graph_model.proofs.Laws.{chosen_from, in_rows}
+use Rattle.snb_graph_model.proofs.Laws.{in_rows}
 use Rattle.snb_read_order.proofs.Laws.{chosen}
-use Rattle.snb_read_model.specs.Columns.{Column, Stays, HasColumns, IsOfColumn, columns_of}
+use Rattle.snb_read_model.specs.Columns.{Column, Stays, IsOfColumn, columns_of}
 use Rattle.snb_read_laws.specs.Laws.{AnswersHaveYears, HasYears}
 use Rattle.snb_read_laws.proofs.ColumnFacts.{columns_of_answer, rows_have}
+use Rattle.snb_base.proofs.Laws.{given_by}
 
 -- ---- rows without stays
 
@@ -69,7 +70,7 @@ IsYear stay = stay.1 ≤ MAX_YEAR
 
 of_rows : (g : List Row) (p : ℕ) (t : Table) → IsGraph g → All IsBounded (filter_map (stay_in p) (rows g t))
 of_rows g p t graph k d lt =
-    let w = chosen_from (stay_in p) (rows g t) _ (All-contains_itself (filter_map (stay_in p) (rows g t)) k d lt) in
+    let w = given_by (stay_in p) (rows g t) _ (All-contains_itself (filter_map (stay_in p) (rows g t)) k d lt) in
     of_row p w.0 _ (All-contains IsTableRow g w.0 graph.of_tables ((in_rows g t w.0).0 w.1).0) w.2
 
 named : (g : List Row) (stays : List (ℕ × ℕ)) (shown : List Stay) → AllZip (IsStay g) stays shown → AllByRecursion IsBounded stays → AllByRecursion IsYear shown

@@ -16,6 +16,7 @@ use denote.Ref.{Bor}
 use Rattle.snb_read_model.specs.Cells.{Cell, cell_cmp, number}
 use Rattle.snb_read_order.specs.TopK.{IsTopK, Kept, not_after}
 use Rattle.snb_read_model.specs.Order.{Answers, Cut, Whole, First, FirstOf, Way, by, cut_at}
+use Rattle.snb_base.proofs.Laws.{then_last}
 
 -- ---- keys and cells
 
@@ -27,19 +28,14 @@ compares g f by h = always_returns_same g (λ a r. is_lt r ≡ is_lt (by a.0.now
 pub int_nat : (a b : ℕ) → int_cmp (pos a) (pos b) ≡ nat_cmp a b
 int_nat a b = grind (arith, nat_tests)
 
-pub then_end : (o : Ordering) → ordering_then o Equal ≡ o
-then_end Less = refl
-then_end Equal = refl
-then_end Greater = refl
-
 pub number_cmp : (a b : ℕ) → cell_cmp (number a) (number b) ≡ nat_cmp a b
-number_cmp a b = then_end (int_cmp (pos a) (pos b)) ∙ int_nat a b
+number_cmp a b = then_last (int_cmp (pos a) (pos b)) ∙ int_nat a b
 
 -- by two columns of numbers
 pub two_columns : (x x' y y' : ℕ) → ordering_then (cell_cmp (number x) (number x')) (ordering_then (cell_cmp (number y) (number y')) Equal) ≡ ordering_then (nat_cmp x x') (nat_cmp y y')
 two_columns x x' y y' =
     ap (λ o. ordering_then o (ordering_then (cell_cmp (number y) (number y')) Equal)) (number_cmp x x')
-    ∙ ap (λ o. ordering_then (nat_cmp x x') o) (then_end (cell_cmp (number y) (number y')) ∙ number_cmp y y')
+    ∙ ap (λ o. ordering_then (nat_cmp x x') o) (then_last (cell_cmp (number y) (number y')) ∙ number_cmp y y')
 
 -- by three
 pub three_columns : (x x' y y' z z' : ℕ) → ordering_then (cell_cmp (number x) (number x')) (ordering_then (cell_cmp (number y) (number y')) (ordering_then (cell_cmp (number z) (number z')) Equal))

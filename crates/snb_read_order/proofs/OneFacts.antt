@@ -11,6 +11,7 @@ use Rattle.std.specs.Ordering.{is_eq, is_lt, ordering_reverse}
 use Rattle.std.specs.declared.cmp.Ordering.{Ordering}
 use Rattle.std.specs.declared.cmp.Ordering.TheVariants.{Less, Equal, Greater}
 use Rattle.snb_read_model.specs.Order.{Cut, FirstOf, cut_at}
+use Rattle.snb_base.proofs.Laws.{equal_from}
 
 -- how many elements compare equal to x
 abbrev ties : {X : Type 0} → (X → X → Ordering) → X → List X → ℕ
@@ -20,11 +21,6 @@ ties R x (y ∷ ys) = cond (is_eq (R x y)) 1 0 + ties R x ys
 ties_are : {X : Type 0} (R : X → X → Ordering) (x : X) (ys : List X) → ties R x ys ≡ sum_by (λ y. cond (is_eq (R x y)) 1 0) ys
 ties_are R x [] = refl
 ties_are R x (y ∷ ys) = ap (λ n. cond (is_eq (R x y)) 1 0 + n) (ties_are R x ys) ∙ sym (sum_by-cons (λ z. cond (is_eq (R x z)) 1 0) y ys)
-
-equal_from : (r : Ordering) → is_eq r ≡ true → r ≡ Equal
-equal_from Less e = cc
-equal_from Equal e = refl
-equal_from Greater e = cc
 
 -- neither is below the other
 level : (r s : Ordering) → r ≡ ordering_reverse s → is_lt r ≡ false → is_lt s ≡ false → r ≡ Equal

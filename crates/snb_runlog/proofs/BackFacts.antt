@@ -8,11 +8,10 @@ use Rattle.snb_history.specs.declared.event.Event.TheVariants.{Start, Finish, Ha
 use Rattle.snb_history.specs.declared.logged.Header.{Header}
 use Rattle.snb_history.specs.declared.logged.Logged.{Logged}
 use Rattle.snb_history.specs.RunTexts.{first_header, first_log_text, header_of, logged_line, text_of_log, without_count}
-use Rattle.snb_schema.specs.Lines.{HasNoEnd, lines}
-use Rattle.snb_input_lines.specs.Cut.{last_lines}
+use Rattle.snb_schema.specs.Lines.{lines}
 use Rattle.snb_input_lines.specs.Language.{IsText}
 use Rattle.snb_input_lines.specs.Reading.{LineSays, ReadsLine, Says}
-use Rattle.snb_input_lines.proofs.Laws.{first_whole, lines_whole, one_reading}
+use Rattle.snb_input_lines.proofs.Laws.{ended, one_reading}
 use Rattle.snb_runlog.specs.declared.columns.EventKind.TheVariants as kinds
 use Rattle.snb_runlog.specs.declared.columns.TheConstants.{LAST_VERSION, MAX_NUMBER}
 use Rattle.snb_runlog.specs.Columns.{AreWithin, CanBeHeader, CanBeLogged, HasCount, columns, count_columns, count_numbers, event_numbers, header_columns, header_numbers, kind_of, numbers_of, version_column}
@@ -24,12 +23,6 @@ use Rattle.snb_runlog.proofs.LineFacts.{numbers_within}
 use Rattle.snb_runlog.proofs.OwnFacts.{OwnNumbers, own_header, own_line}
 
 -- ---- what is written is read
-
--- a line that is ended is the first line
-lines_first : (line rest : List ℕ) → HasNoEnd line → lines (line ++ 10 ∷ rest) ≡ line ∷ lines rest
-lines_first line rest h =
-    let cut = first_whole line rest h in
-    lines_whole (line ++ 10 ∷ rest) ∙ (λ i. cut.0 i ++ last_lines (cut.1 i)) ∙ ap (λ (ls : List (List ℕ)). line ∷ ls) (sym (lines_whole rest))
 
 -- a line with a byte is read as what it says
 reads_line : (known : Option Header) (number : ℕ) (line : List ℕ) (items : List Logged) (new : Option Header) → line ≢ [] → IsText line → LineSays log_language known number line items new → ReadsLine log_language known number line items new
@@ -48,7 +41,7 @@ events_say own head n (e ∷ h) w =
     let line = own_line own head.version e (All-head (CanBeLogged head.version) e h w) in
     let rest = flat_map logged_line h in
     let split : lines (logged_line e ++ rest) ≡ line_of e ∷ lines rest =
-    ap (λ (t : List ℕ). lines (t ++ rest)) line.written ∙ ap lines (append_assoc (line_of e) (codes "\n") rest) ∙ lines_first (line_of e) rest line.one_line in
+    ap (λ (t : List ℕ). lines (t ++ rest)) line.written ∙ ap lines (append_assoc (line_of e) (codes "\n") rest) ∙ ended (line_of e) rest line.one_line in
     let first = reads_line known (n + 1) (line_of e) (e ∷ []) known (line_some e) line.text (e, line.again, refl, refl) in
     let later = events_say own head (n + 1) h (All-tail (CanBeLogged head.version) e h w) in
     subst (λ (ls : List (List ℕ)). Says log_language known n ls (e ∷ h) known) (sym split) (e ∷ [], h, known, first, later, refl)
@@ -59,7 +52,7 @@ log_says own head h can w =
     let line = own_header own head can in
     let rest = flat_map logged_line h in
     let cut : text_of_log head h ≡ header_text head ++ 10 ∷ rest = ap (λ (t : List ℕ). t ++ rest) line.written ∙ append_assoc (header_text head) (codes "\n") rest in
-    let split : lines (text_of_log head h) ≡ header_text head ∷ lines rest = ap lines cut ∙ lines_first (header_text head) rest line.one_line in
+    let split : lines (text_of_log head h) ≡ header_text head ∷ lines rest = ap lines cut ∙ ended (header_text head) rest line.one_line in
     let first = reads_line None 1 (header_text head) [] (Some head) (λ q. cc) line.text (head, line.again, refl, refl) in
     subst (λ (ls : List (List ℕ)). Says log_language None 0 ls h (Some head)) (sym split) ([], h, Some head, first, events_say own head 1 h w, refl)
 

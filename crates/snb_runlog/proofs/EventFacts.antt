@@ -13,7 +13,7 @@ use Rattle.snb_runlog.specs.Columns.{AreWithin, columns, count_columns, count_nu
 use Rattle.snb_runlog.specs.Laws.{EventOrColumn, OneEvent}
 use Rattle.snb_runlog.specs.Lines.{AreNumbers, HasLetter, IsEvent, IsNoEvent, IsWide, StopsAfter, event_checks}
 use Rattle.snb_runlog.proofs.LineFacts.{all_long, no_stop, numbers_long, numbers_or_stop, numbers_within, one_list, one_stop, others_long}
-use Rattle.snb_runlog.proofs.NumberFacts.{Found, is_text}
+use Rattle.snb_base.proofs.Laws.{Found, is_text}
 
 -- ---- the first of some checks
 

@@ -11,7 +11,8 @@ use Rattle.snb_runlog.specs.Laws.{HeaderOrColumn, OneHeader}
 use Rattle.snb_runlog.specs.Lines.{AreNumbers, IsHeader, IsNoHeader, IsNumber, IsWide, MayHead, StopsAfter, header_checks, log_language}
 use Rattle.snb_runlog.proofs.EventFacts.{count_made, event_right, few_counts, first_none, first_one, one_count, one_event}
 use Rattle.snb_runlog.proofs.LineFacts.{after_two_long, all_long, from_second, no_stop, numbers_long, numbers_or_stop, numbers_within, one_list, one_stop, second_number}
-use Rattle.snb_runlog.proofs.NumberFacts.{both, column_found, is_at_most, is_text, one_number}
+use Rattle.snb_runlog.proofs.NumberFacts.{column_found, one_number}
+use Rattle.snb_base.proofs.Laws.{both, is_at_most, is_text}
 
 -- as many fields as some version has
 may_head : (k n : ℕ) → k ≤ 1 → n ≡ suc (suc k) + 1 → (3 ≤ n) × (n ≤ 4)

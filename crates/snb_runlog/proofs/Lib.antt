@@ -7,3 +7,4 @@ mod LogLemmas
 mod BackFacts
 mod WriteFacts
 mod ReaderFacts
+pub mod Laws

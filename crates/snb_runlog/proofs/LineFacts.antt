@@ -1,7 +1,5 @@
 -- Fields that spell the numbers of columns.
-use Rattle.std.proofs.Common.{◌≡◌, ◌∙◌, ◌+◌, ◌<◌, ◌≤◌, ◌⊎◌, ℕ, zero, suc, List, [], ◌∷◌, ◌++◌, Option, Some, None, length, take, drop, get_or, refl, sym, ap, subst, inl, inr, arith}
-use Rattle.std.specs.Borrow.{Bor}
-use Rattle.std.specs.Option.{option_map}
+use Rattle.std.proofs.Common.{◌≡◌, ◌∙◌, ◌+◌, ◌<◌, ◌≤◌, ◌⊎◌, ℕ, zero, suc, List, [], ◌∷◌, ◌++◌, Some, None, length, take, drop, get_or, refl, sym, ap, subst, inl, inr, arith}
 use Rattle.snb_schema.specs.UpdateLines.{field}
 use Rattle.snb_input_lines.specs.Records.{field_at}
 use Rattle.snb_runlog.specs.Columns.{AreWithin}
@@ -22,27 +20,12 @@ is_none_at [] i e = cc
 is_none_at (y ∷ xs) zero e = cc
 is_none_at (y ∷ xs) (suc i) e = is_none_at xs i e
 
--- there is a field at each place below the length
-pub some_field : (xs : List (List ℕ)) (i : ℕ) → i < length xs → field_at xs i ≡ None → ⊥
-unfolding field_at
-some_field [] i l e = absurd (omega (arith, l))
-some_field (x ∷ xs) zero l e = cc
-some_field (x ∷ xs) (suc i) l e = some_field xs i (omega (arith, l)) e
-
 -- the fields after the first so many, by their places
 pub after_some : (xs : List (List ℕ)) (k i : ℕ) → field_at xs (k + i) ≡ field_at (drop k xs) i
 unfolding field_at
 after_some xs zero i = (let none : 0 + i ≡ i = omega arith in ap (field_at xs) none)
 after_some [] (suc k) i = refl
 after_some (x ∷ xs) (suc k) i = (let one : suc k + i ≡ suc (k + i) = omega arith in ap (field_at (x ∷ xs)) one ∙ after_some xs k i)
-
--- what a look at a place finds
-pub found_there : (o : Option (Bor (List ℕ))) (x : Bor (List ℕ)) (p : Option (List ℕ)) → option_map (λ (s : Bor (List ℕ)). s.now) o ≡ p → o ≡ Some x → p ≡ Some x.now
-found_there o x p e is = sym e ∙ ap (option_map (λ (s : Bor (List ℕ)). s.now)) is
-
--- and one that finds nothing
-pub none_there : (o : Option (Bor (List ℕ))) (p : Option (List ℕ)) → option_map (λ (s : Bor (List ℕ)). s.now) o ≡ p → o ≡ None → p ≡ None
-none_there o p e is = sym e ∙ ap (option_map (λ (s : Bor (List ℕ)). s.now)) is
 
 -- so many fields are one and the others
 pub others_long : (fs : List (List ℕ)) (k : ℕ) → length fs ≡ k + 1 → length (drop 1 fs) ≡ k

@@ -42,7 +42,7 @@ one_pair x before after q f pair h n m s =
     let parts = parts_spell x before after pair h s in
     (n.value ∙ sym parts.0.value, m.value ∙ sym parts.1.value)
 
-uncut : (c : ℕ) (x : List ℕ) → HasNo c x → All (λ b. (b == c) ≡ false) x
+pub uncut : (c : ℕ) (x : List ℕ) → HasNo c x → All (λ b. (b == c) ≡ false) x
 uncut c x h k d lt = ne_eqb _ c (h k d lt)
 
 -- a text without a comma is one piece

@@ -4,3 +4,4 @@ pub mod PlaceFacts
 pub mod Walks
 mod Appended
 pub mod LayoutFacts
+pub mod Apart

@@ -32,6 +32,10 @@ use Rattle.snb_short_reads.specs.Lookups.{IsCellNumber, IsOnlyAuthor, IsOnlyCity
 use Rattle.std.proofs.lemmas.List.{append-nil, map_push}
 use Rattle.std.specs.List.Sorted.{IsPermutation}
 use Rattle.snb_short_reads.specs.Found.{AreReplies, IsFriendFound, IsMessageFound, IsReplyFound, without_author}
+use Rattle.std.specs.Ordering.{flip_args, nat_cmp, on, then_cmp}
+use Rattle.std.proofs.lemmas.Cmp.{back_total, nat_cmp_total, on_total, then_total}
+use Rattle.std.specs.Cmp.{IsTotalOrder}
+use Rattle.std.specs.declared.cmp.Ordering.{Ordering}
 
 -- any reference
 pub any : ℕ × Missing
@@ -201,19 +205,6 @@ same_test true b f h = sym (f refl)
 same_test false true f h = h refl
 same_test false false f h = refl
 
--- tables that share their keys with no other
-pub places : (u : Table) → sharing u ≡ table.PersonIsLocatedInPlace → u ≡ table.PersonIsLocatedInPlace
-places table.PersonIsLocatedInPlace e = refl
-places u e = absurd cc
-
-pub container_table : (u : Table) → sharing u ≡ table.ForumContainerOfPost → u ≡ table.ForumContainerOfPost
-container_table table.ForumContainerOfPost e = refl
-container_table u e = absurd cc
-
-pub moderators : (u : Table) → sharing u ≡ table.ForumHasModeratorPerson → u ≡ table.ForumHasModeratorPerson
-moderators table.ForumHasModeratorPerson e = refl
-moderators u e = absurd cc
-
 -- ---- what walks find
 
 -- a message that is sent is held, and its numbers fit cells
@@ -287,3 +278,10 @@ friend_found g graph fit held p id date (inl c) =
 friend_found g graph fit held p id date (inr c) =
     let all = fit g graph (row.Dated table.PersonKnowsPerson id p date) c in
     record { held = held (row.Dated table.PersonKnowsPerson id p date) c 0 any (omega arith); id_fits = all 0 NoId (omega arith); date_fits = all 2 NoId (omega arith) }
+
+-- dates falling, ids rising
+abbrev pub recent_first : ℕ × ℕ → ℕ × ℕ → Ordering
+recent_first = then_cmp (flip_args (on (λ (p : ℕ × ℕ). p.1) nat_cmp)) (on (λ (p : ℕ × ℕ). p.0) nat_cmp)
+
+pub recent_total : IsTotalOrder recent_first
+recent_total = then_total (back_total (on_total (λ (p : ℕ × ℕ). p.1) nat_cmp_total)) (on_total (λ (p : ℕ × ℕ). p.0) nat_cmp_total)

@@ -1,5 +1,5 @@
 -- The rows of the short reads, side by side with what they show.
-use Rattle.std.proofs.Common.{◌≡◌, ℕ, List, [], ◌∷◌, refl, sym, ap, ◌∙◌, inl}
+use Rattle.std.proofs.Common.{◌≡◌, ℕ, List, [], ◌∷◌, refl, ap, ◌∙◌, inl}
 use Rattle.std.proofs.lemmas.Cmp.{back_total, nat_cmp_total, on_total, then_total}
 use Rattle.std.proofs.lemmas.List.Elements.{All-weaker}
 use Rattle.std.proofs.lemmas.List.Sorted.{IsPermutation-refl}
@@ -18,8 +18,9 @@ use Rattle.snb_read_model.specs.Cells.{Cell}
 use Rattle.snb_graph_model.specs.Around.{authors, friends, messages, replies}
 use Rattle.snb_read_model.specs.Order.{Falling, First, FirstOf, Rising, Whole, by}
 use Rattle.snb_read_model.specs.ShortReads.{Is2, Is3, Is7, IsFriend, IsRecent, IsReplyTo}
-use Rattle.snb_short_reads.proofs.Laws.{found_person, person_at, shows, written}
+use Rattle.snb_short_reads.proofs.Laws.{found_person, person_at, recent_first, shows, written}
 use Rattle.snb_short_reads.specs.Found.{AreReplies, IsMessageFound, IsReplyFound, without_author}
+use Rattle.snb_base.proofs.Laws.{one_only}
 
 -- ---- orders of keys
 
@@ -30,13 +31,6 @@ latest_first = then_cmp (flip_args (on (λ (p : ℕ × ℕ). p.1) nat_cmp)) (fli
 pub latest_total : IsTotalOrder latest_first
 latest_total = then_total (back_total (on_total (λ (p : ℕ × ℕ). p.1) nat_cmp_total)) (back_total (on_total (λ (p : ℕ × ℕ). p.0) nat_cmp_total))
 
--- dates falling, ids rising
-abbrev pub friends_first : ℕ × ℕ → ℕ × ℕ → Ordering
-friends_first = then_cmp (flip_args (on (λ (p : ℕ × ℕ). p.1) nat_cmp)) (on (λ (p : ℕ × ℕ). p.0) nat_cmp)
-
-pub friends_total : IsTotalOrder friends_first
-friends_total = then_total (back_total (on_total (λ (p : ℕ × ℕ). p.1) nat_cmp_total)) (on_total (λ (p : ℕ × ℕ). p.0) nat_cmp_total)
-
 -- dates falling, authors rising, ids rising, of (id, date, author)
 abbrev pub replies_first : ℕ × ℕ × ℕ → ℕ × ℕ × ℕ → Ordering
 replies_first = then_cmp (then_cmp (flip_args (on (λ (p : ℕ × ℕ × ℕ). p.1) nat_cmp)) (on (λ (p : ℕ × ℕ × ℕ). p.2) nat_cmp)) (on (λ (p : ℕ × ℕ × ℕ). p.0) nat_cmp)
@@ -44,9 +38,6 @@ replies_first = then_cmp (then_cmp (flip_args (on (λ (p : ℕ × ℕ × ℕ). p
 pub replies_total : IsTotalOrder replies_first
 replies_total =
     then_total (then_total (back_total (on_total (λ (p : ℕ × ℕ × ℕ). p.1) nat_cmp_total)) (on_total (λ (p : ℕ × ℕ × ℕ). p.2) nat_cmp_total)) (on_total (λ (p : ℕ × ℕ × ℕ). p.0) nat_cmp_total)
-
-same_only : {X : Type 0} (xs : List X) (x y : X) → xs ≡ x ∷ [] → xs ≡ y ∷ [] → x ≡ y
-same_only xs x y e f = let k : x ∷ [] ≡ y ∷ [] = sym e ∙ f in cc
 
 module _ (g : List Row) where
   -- ---- IS2
@@ -73,13 +64,13 @@ module _ (g : List Row) where
 
   -- ---- IS3
 
-  friend_agree : (x y : ℕ × ℕ) (a b : List Cell) → IsFriend g x a → IsFriend g y b → is_lt (by (Falling 4 ∷ Rising 1 ∷ []) a b) ≡ is_lt (friends_first x y)
+  friend_agree : (x y : ℕ × ℕ) (a b : List Cell) → IsFriend g x a → IsFriend g y b → is_lt (by (Falling 4 ∷ Rising 1 ∷ []) a b) ≡ is_lt (recent_first x y)
   friend_agree x y a b r s = rw (r.is, s.is) (ap is_lt (two_columns y.1 x.1 x.0 y.0))
 
-  pub is3_answers : (p : ℕ) (walk found first : List (ℕ × ℕ)) (answer : List (List Cell)) → IsPermutation (friends g p) walk → found ≡ walk → FirstOf friends_first Whole found first
+  pub is3_answers : (p : ℕ) (walk found first : List (ℕ × ℕ)) (answer : List (List Cell)) → IsPermutation (friends g p) walk → found ≡ walk → FirstOf recent_first Whole found first
       → AllZip (IsFriend g) first answer → Is3 g p answer
   is3_answers p walk found first answer moves same taken z =
-      answers_whole (IsFriend g) friends_first (Falling 4 ∷ Rising 1 ∷ []) friend_agree (friends g p) found first answer (rw same moves) taken z
+      answers_whole (IsFriend g) recent_first (Falling 4 ∷ Rising 1 ∷ []) friend_agree (friends g p) found first answer (rw same moves) taken z
 
   -- ---- IS7
 
@@ -88,7 +79,7 @@ module _ (g : List Row) where
     Shown z a = IsReplyTo g m (without_author z) a × IsReplyFound g m z
 
     author_is : (z : ℕ × ℕ × ℕ) (a : List Cell) (s : Shown z a) → s.0.author.id ≡ z.2
-    author_is z a (r, f) = person_named g r.wrote.id r.author r.wrote.held ∙ same_only (authors g z.0) r.wrote.id z.2 r.wrote.created f.made
+    author_is z a (r, f) = person_named g r.wrote.id r.author r.wrote.held ∙ one_only (authors g z.0) r.wrote.id z.2 r.wrote.created f.made
 
     reply_agree : (x y : ℕ × ℕ × ℕ) (a b : List Cell) → Shown x a → Shown y b → is_lt (by (Falling 3 ∷ Rising 4 ∷ Rising 1 ∷ []) a b) ≡ is_lt (replies_first x y)
     reply_agree x y a b r s =

@@ -18,6 +18,7 @@ use Rattle.snb_columns.proofs.Laws.{number_some}
 use Rattle.snb_input_fields.proofs.Laws.{starts_alone}
 use Rattle.snb_streams.specs.Make.{are_no_parent, clash_at, parent_by}
 use Rattle.snb_streams.proofs.PlaceFacts.{no_values, none_first, none_second, prefix_from, stop_from}
+use Rattle.snb_base.proofs.Laws.{one_number}
 
 -- what is told of a test is so where it passes
 told : (b : Bool) (k column : ℕ) → cond b (Some k) None ≡ Some column → (b ≡ true) × (column ≡ k)
@@ -37,10 +38,6 @@ OneId x y = (id : ℕ) × SpellsId x id × SpellsId y id
 abbrev NoneOrBoth : List ℕ → List ℕ → Type 0
 NoneOrBoth x y = ((x ≡ no_id) × (y ≡ no_id)) ⊎ ((post : ℕ) × (comment : ℕ) × SpellsId x post × SpellsId y comment)
 
--- a text spells one id at most
-one_id : (x : List ℕ) (a b : ℕ) → SpellsId x a → SpellsId x b → a ≡ b
-one_id x a b s t = s.value ∙ sym t.value
-
 -- two ids that are one
 pub twice_there : (cs : List Column) (m : ℕ) (fs : List (List ℕ)) (vs : List Value) → SpellsAll (take m (id_column ∷ id_column ∷ cs)) (take m fs) vs → starts_twice vs ≡ true → (2 ≤ m) × OneId (get_or fs 0 []) (get_or fs 1 [])
 twice_there cs (suc (suc m)) (x ∷ y ∷ fs) (Digits a ∷ Digits b ∷ vs) s e = (let same : b ≡ a = sym (eqb-true a b e) in (omega arith, (a, s.0, subst (SpellsId y) same s.1.0)))
@@ -53,7 +50,7 @@ twice_there cs m fs vs s e = absurd assumption
 
 -- and two that are not
 pub twice_not : (cs : List Column) (m : ℕ) (fs : List (List ℕ)) (vs : List Value) → SpellsAll (take (suc (suc m)) (id_column ∷ id_column ∷ cs)) (take (suc (suc m)) fs) vs → starts_twice vs ≡ false → ¬ OneId (get_or fs 0 []) (get_or fs 1 [])
-twice_not cs m (x ∷ y ∷ fs) (Digits a ∷ Digits b ∷ vs) s e o = (let same : a ≡ b = one_id x a o.0 s.0 o.1 ∙ one_id y o.0 b o.2 s.1.0 in let yes : starts_twice (Digits a ∷ Digits b ∷ vs) ≡ true = eq-eqb a b same in cc (yes, e))
+twice_not cs m (x ∷ y ∷ fs) (Digits a ∷ Digits b ∷ vs) s e o = (let same : a ≡ b = one_number x a o.0 s.0 o.1 ∙ one_number y o.0 b o.2 s.1.0 in let yes : starts_twice (Digits a ∷ Digits b ∷ vs) ≡ true = eq-eqb a b same in cc (yes, e))
 twice_not cs m [] vs s e o = none_first id_column (id_column ∷ take m cs) vs s
 twice_not cs m (x ∷ []) vs s e o = none_second id_column id_column (take m cs) x vs s
 twice_not cs m fs vs s e o = assumption

@@ -79,11 +79,6 @@ pub tested_empty : (line : List ℕ) (empty : Bool) → empty ≡ length line ==
 tested_empty [] empty is e = refl
 tested_empty (b ∷ bs) empty is e = (let none = eqb-true (length (b ∷ bs)) 0 (sym is ∙ e) in absurd (omega arith))
 
--- and one whose length isn't nothing
-pub tested_filled : (line : List ℕ) (empty : Bool) → empty ≡ length line == 0 → empty ≡ false → line ≢ []
-tested_filled [] empty is e same = cc
-tested_filled (b ∷ bs) empty is e same = cc
-
 -- a text with a line end has one
 ends_in : (front rest : List ℕ) → ¬ HasNoEnd (front ++ 10 ∷ rest)
 ends_in [] rest h = All-head (λ b. b ≢ 10) 10 rest h refl

@@ -36,6 +36,7 @@ use Rattle.snb_tool.specs.Laws.{AnswersHaveStatus, AuditInShort, IsAuditInShort,
 use Rattle.snb_tool.specs.Outcome.{Asked, IsAnswer, IsAsked, ShowsSummary, TellsLatencies, TellsVerdict, IsDone, IsDoneAnswer, IsJudged, IsRefused, IsRun, IsValidated}
 use Rattle.snb_tool.specs.Output.{HasBegun, HasWritten, Wrote, on_screen}
 use Rattle.snb_tool.specs.Outside.{Ends, IsReadOnly, OutOfMemory, Outside, ReadFault, Whole, WriteFault}
+use Rattle.snb_tool.proofs.OutcomeLemmas.{ends_weaker}
 
 -- ---- statuses
 
@@ -155,15 +156,6 @@ module _ (status : AnswersHaveStatus) (asked : Asked) (old new : Outside) (resul
 
 -- ---- completeness
 
--- the texts that belong to an end belong to another thing as well
-ends_as : (P Q : Option Files → Option ℕ → ℕ → Written → Type 0) (old new : Outside) (result : ℕ) → ((s : ℕ) (texts : Written) → P old.contents old.fixed s texts → Q old.contents old.fixed s texts)
-    → Ends P old new result → Ends Q old new result
-ends_as P Q old new result each (Whole h) = Whole (h.0, each result h.0 h.1, h.2)
-ends_as P Q old new result each (ReadFault e r n) = ReadFault e r n
-ends_as P Q old new result each (WriteFault s e r h) =
-    WriteFault s e r (record { texts = h.texts; part = h.part; are = each s h.texts h.are; front = h.front; wrote = h.wrote; unsure = h.unsure })
-ends_as P Q old new result each (OutOfMemory e n) = OutOfMemory e n
-
 module _ (one : WordsAreOne) (asked : Asked) (old new : Outside) (result : ℕ) (command : Command) (line : IsAsked asked command) where
   -- the command of words that were answered is this one
   module _ (c : Command) (l : IsAsked asked c) where
@@ -187,10 +179,10 @@ module _ (one : WordsAreOne) (asked : Asked) (old new : Outside) (result : ℕ) 
       subst (λ (q : Refusal). IsRefused q s texts) (once c found bad.0 r bad.1 (as_that c l (λ (d : Command). IsWrong old.contents asked.given d r) wrong found told)) bad.2
 
   pub complete : RefusedOrNot → Ends (IsAnswer asked) old new result → IsFine old.contents asked.given command → Ends (IsDoneAnswer asked.given command) old new result
-  complete law ends fine = ends_as (IsAnswer asked) (IsDoneAnswer asked.given command) old new result (done_as law fine) ends
+  complete law ends fine = ends_weaker (IsAnswer asked) (IsDoneAnswer asked.given command) old new result (done_as law fine) ends
 
   pub refuses : RefusalIsOne → RefusedOrNot → Ends (IsAnswer asked) old new result → (r : Refusal) → IsWrong old.contents asked.given command r → Ends (λ contents fixed. IsRefused r) old new result
-  refuses once law ends r wrong = ends_as (IsAnswer asked) (λ contents fixed. IsRefused r) old new result (refused_as once law r wrong) ends
+  refuses once law ends r wrong = ends_weaker (IsAnswer asked) (λ contents fixed. IsRefused r) old new result (refused_as once law r wrong) ends
 
 -- ---- a run in short
 

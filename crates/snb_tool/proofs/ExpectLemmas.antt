@@ -19,7 +19,6 @@ use Rattle.snb_streams.specs.FileLaws.{ParamsFiles}
 use Rattle.snb_input_files.specs.Walk.{Before, Held}
 use Rattle.snb_loader.specs.Params.{AreParams}
 use Rattle.snb_plan.specs.Plans.{IsOfStreams, IsRead, IsUpdate, Operation, Plan, first_t, queries_in, query_from}
-use Rattle.snb_graph_model.proofs.Laws.{chosen_from}
 use Rattle.snb_tool_words.specs.declared.command.Command.TheVariants.{Expect}
 use Rattle.snb_validation_expect.specs.CaseTexts.{count_text}
 use Rattle.snb_validation_expect.specs.Expected.{HasExpected, HasWords, HaveWords}
@@ -27,6 +26,7 @@ use Rattle.snb_tool.specs.declared.input.Input.{Input}
 use Rattle.snb_tool.specs.Endings.{AreCasesOf, IsDoneWith, IsInputAnswer}
 use Rattle.snb_tool.specs.Inputs.{ArePlanned, Given, after_streams}
 use Rattle.snb_walk.specs.declared.target.Pick.TheVariants.{Modulo}
+use Rattle.snb_base.proofs.Laws.{given_by}
 
 -- ---- a parameter file
 
@@ -77,7 +77,7 @@ module _ (files : ParamsFiles) where
     -- words spell the parameters of its queries
     pub planned_words : HaveWords (queries_in plan)
     planned_words k d lt =
-        let o = chosen_from (λ (x : Operation). query_from x.work) plan.operations _ (All-contains_itself (queries_in plan) k d lt) in
+        let o = given_by (λ (x : Operation). query_from x.work) plan.operations _ (All-contains_itself (queries_in plan) k d lt) in
         one_asked o.0 _ o.2 ((p.is_plan.numbered.those o.0).0 o.1)
 
 -- ---- the texts

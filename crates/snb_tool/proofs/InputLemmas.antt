@@ -8,7 +8,7 @@ use Rattle.snb_input_files.specs.declared.load.Load.TheVariants.{Refused, ReadFa
 use Rattle.snb_input_files.specs.declared.load.Used.{Used}
 use Rattle.snb_base.specs.FirstOf.{FirstOf, NoneOf}
 use Rattle.snb_input_files.specs.Laws.{StagesJoin}
-use Rattle.snb_input_files.specs.Loading.{IsTold, is_read_fault}
+use Rattle.snb_input_files.specs.Loading.{is_read_fault}
 use Rattle.snb_input_files.specs.Stages.{before}
 use Rattle.snb_input_files.specs.Walk.{Before, Held, IsHeldTold}
 use Rattle.snb_input_files.proofs.Laws.{first_anyway, first_later, none_append}
@@ -50,6 +50,7 @@ use Rattle.snb_tool.specs.Endings.{IsTallyAnswer, IsInputAnswer, IsJudgedAnswer,
 use Rattle.snb_tool.specs.Inputs.{AreBadCases, ArePlanned, AreTooMany, Found, IsNotClosed, IsUnregistered, after_dataset, after_streams, at_first, checks_of, plan_checks, read_checks, table_checks}
 use Rattle.snb_tool_words.specs.Commands.{needs_table}
 use Rattle.snb_schema.specs.declared.read_kind.ReadKind.{ReadKind}
+use Rattle.snb_tool.proofs.OutcomeLemmas.{any_told}
 
 -- what is so of a fault is so of the answer that passes it on
 pub passed : {A : Type 0} (P : Result A Load → Type 0) (answer : Result A Load) (load : Load) → IsErrAnd answer (λ e. e ≡ load) → P (Err load) → P answer
@@ -398,15 +399,10 @@ module _ (contents : Option Files) (folder : List ℕ) (query : Query) where
 
 -- ---- of `audit`
 
--- there is something that the shelf tells of a name
-told_of : (contents : Option Files) (name : List ℕ) → (held : Option (List ℕ)) × IsTold contents name held
-told_of None name = (None, tt)
-told_of (Some files) name = (files name, refl)
-
 module _ (contents : Option Files) (folder log : List ℕ) (ratio : ℕ) (table : FrequencyTable) where
   pub judged_no_input : (load : Load) → IsInputAnswer contents folder ratio table (Err load) → IsJudgedAnswer contents folder log ratio table (Err load)
   judged_no_input (Refused r) h =
-      let b = told_of contents log in
+      let b = any_told contents log in
       (h.0, b.0, h.1, b.1, first_anyway (plan_checks ratio table h.0) (log_checks b.0) r h.2)
   judged_no_input ReadFault h = tt
   judged_no_input Memory h = tt
@@ -441,7 +437,7 @@ not_bad one law held beside graph dataset clean r a =
 module _ (contents : Option Files) (folder cases : List ℕ) (used : Used) where
   pub tally_no_dataset : (load : Load) → IsDatasetAnswer contents folder nothing_used used (Err load) → IsTallyAnswer contents folder cases (Err load)
   tally_no_dataset (Refused r) h =
-      let b = told_of contents cases in
+      let b = any_told contents cases in
       (h.0, b.0, h.1, b.1, first_anyway (dataset_checks at_first h.0) (AreBadCases h.0 b.0 ∷ []) r h.2)
   tally_no_dataset ReadFault h = tt
   tally_no_dataset Memory h = tt

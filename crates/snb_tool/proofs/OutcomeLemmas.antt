@@ -204,7 +204,7 @@ held_told : (contents : Option Files) (folder : List ℕ) → (held : Held) × I
 held_told None folder = (λ file. None, tt)
 held_told (Some files) folder = (held_in folder files, λ file. refl)
 
-any_told : (contents : Option Files) (name : List ℕ) → (beside : Option (List ℕ)) × IsTold contents name beside
+pub any_told : (contents : Option Files) (name : List ℕ) → (beside : Option (List ℕ)) × IsTold contents name beside
 any_told None name = (None, tt)
 any_told (Some files) name = (files name, refl)
 

@@ -1,5 +1,5 @@
 -- Facts on the lines of commands.
-use Rattle.std.proofs.Common.{◌≡◌, ℕ, List, ◌∷◌, Result, Ok, Err, IfOk, OnErr, sym, subst, ap, ◌∙◌, rules, codes}
+use Rattle.std.proofs.Common.{◌≡◌, ℕ, List, ◌∷◌, Result, Ok, Err, IfOk, sym, subst, ap, ◌∙◌, rules, codes}
 use Rattle.snb_base.specs.Spellings.{value_after}
 use Rattle.snb_ratio.specs.Ratios.{OneRatio, SpellsRatio}
 use Rattle.snb_ratio.specs.Chances.{Falling, OneChance, SpellsChance}
@@ -18,11 +18,6 @@ use Rattle.snb_tool_words.specs.Words.{IsLine}
 use Rattle.snb_tool_words.proofs.LineLemmas.{line_one}
 use Rattle.snb_tool_words.proofs.ReadLemmas.{one_read}
 use Rattle.snb_tool_words.proofs.OptionLemmas.{bounded, frequencies_one, must_one, says_one, via_one, words_one, workers_one}
-
--- what holds anyway holds where there is an error
-pub on_err : {A E P : Type 0} (r : Result A E) → P → OnErr r P
-on_err (Ok a) p = tt
-on_err (Err e) p = p
 
 -- what follows from what holds of a value holds of it
 pub ok_then : {A E : Type 0} (P Q : A → Type 0) (r : Result A E) → ((a : A) → P a → Q a) → IfOk r P → IfOk r Q

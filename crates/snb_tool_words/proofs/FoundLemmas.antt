@@ -14,7 +14,7 @@ use Rattle.snb_tool_words.specs.Commands.{IsReadOf}
 use Rattle.snb_tool_words.specs.Options.{MustSay, Says}
 use Rattle.snb_tool_words.specs.Taken.{AreFoundOf, AreValuesFound, IsFoundBy, IsReadFound, plain_in, words_before}
 use Rattle.snb_tool_words.proofs.CommandLemmas.{at_audit, at_check, at_expect, at_latency, at_read, at_run, at_trial, at_validate, at_walk}
-use Rattle.snb_tool_words.proofs.TakenLemmas.{same_word}
+use Rattle.std.proofs.lemmas.Option.{same_Some}
 
 -- ---- words by their places
 
@@ -37,7 +37,7 @@ module _ (f : List ℕ → Option (List ℕ)) (x : List ℕ) (xs : List (List �
   after_first = (first_is (f (codes "first")) _ x xs plain).1
 
   pub with_first : (y : List ℕ) → f (codes "first") ≡ Some y → plain_in f ≡ y ∷ xs
-  with_first y e = plain ∙ ap (λ (w : List ℕ). w ∷ xs) (same_word x y (sym at_first ∙ e))
+  with_first y e = plain ∙ ap (λ (w : List ℕ). w ∷ xs) (same_Some x y (sym at_first ∙ e))
 
 -- and the second
 module _ (f : List ℕ → Option (List ℕ)) (x y : List ℕ) (ys : List (List ℕ)) (plain : plain_in f ≡ x ∷ y ∷ ys) where
@@ -51,7 +51,7 @@ module _ (f : List ℕ → Option (List ℕ)) (x y : List ℕ) (ys : List (List 
   after_second = (first_is (f (codes "second")) _ y ys (after_first f x (y ∷ ys) plain)).1
 
   pub with_both : (v w : List ℕ) → f (codes "first") ≡ Some v → f (codes "second") ≡ Some w → plain_in f ≡ v ∷ w ∷ ys
-  with_both v w a b = with_first f x (y ∷ ys) plain v a ∙ ap (λ (t : List ℕ). v ∷ t ∷ ys) (same_word y w (sym at_second ∙ b))
+  with_both v w a b = with_first f x (y ∷ ys) plain v a ∙ ap (λ (t : List ℕ). v ∷ t ∷ ys) (same_Some y w (sym at_second ∙ b))
 
 -- ---- what a word says
 

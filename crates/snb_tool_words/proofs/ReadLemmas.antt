@@ -16,6 +16,7 @@ use Rattle.snb_schema.specs.declared.read_kind.ReadKind.{ReadKind}
 use Rattle.snb_schema.specs.Columns.{Spells, SpellsAll}
 use Rattle.snb_schema.specs.ReadKinds.{kind_of, parameter_columns, parameter_values, read_word}
 use Rattle.snb_tool_words.specs.Commands.{IsReadOf}
+use Rattle.snb_schema.proofs.Laws.{one_kind}
 
 -- a read has one to three parameters
 pub few_columns : (kind : ReadKind) → (1 ≤ length (parameter_columns kind)) × (length (parameter_columns kind) < 4)
@@ -67,10 +68,6 @@ module _ (c : Column) (cs all : List Column) (x : List ℕ) (xs words : List (Li
   first_spells e iff = rw (columns, are) (λ t. absurd cc, λ s. iff.1 (spelled_parts c cs x xs s.0 s.1).0)
 
 -- ---- a read by its kind and its values
-
--- a word names one kind
-pub one_kind : (a b : ReadKind) → read_word a ≡ read_word b → a ≡ b
-one_kind a b e = search rules
 
 -- words name one read
 pub one_read : OneList → (kind : List ℕ) (parameters : List (List ℕ)) (a b : Query) → IsReadOf kind parameters a → IsReadOf kind parameters b → a ≡ b

@@ -83,9 +83,6 @@ value_other n m v (p ∷ ps) apart = elim (cases_Bool (bytes_eq p.0 n)) [
   | inr other ↦ rw other (value_other n m v ps apart)
 ]
 
-pub same_word : {X : Type 0} (x y : X) → Some x ≡ Some y → x ≡ y
-same_word x y e = cc
-
 -- what is held by the names of options is what is given
 abbrev pub Hold : Pairs → Given → Type 0
 Hold pairs given = (o : OptionName) → value_of (option_name o) pairs ≡ given o

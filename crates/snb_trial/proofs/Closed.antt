@@ -5,8 +5,7 @@ use Rattle.std.specs.List.{All, AllPairs, Contains}
 use Rattle.std.proofs.lemmas.Bool.{cases_Bool, eq-eqb, eqb-true}
 use Rattle.std.proofs.lemmas.List.Elements.{All-contains, All-from_recursion, Contains-append_cases, Contains-append_left, Contains-append_right}
 use Rattle.std.proofs.lemmas.Option.{get_or_from_slice_get, same_Some, slice_get_within}
-use Rattle.snb_base.proofs.ListLemmas.{at_contains, contains_at, given_by, gives, none_in}
-use Rattle.snb_base.proofs.Laws.{contains_cases, contains_here}
+use Rattle.snb_base.proofs.Laws.{at_contains, contains_at, contains_cases, contains_here, given_by, gives, none_in}
 use Rattle.snb_schema.specs.declared.key.Key.{Key}
 use Rattle.snb_schema.specs.declared.key.Key.TheVariants.{Node, Knows, LikesPost, LikesComment, Member}
 use Rattle.snb_schema.specs.declared.op.Line.{Line}

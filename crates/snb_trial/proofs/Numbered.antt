@@ -3,8 +3,7 @@ use Rattle.std.proofs.Common.{◌≡◌, ◌∷◌, ◌++◌, ◌∙◌, ℕ, su
 use Rattle.std.specs.List.{AllPairs, Contains, enumerate_from, flat_map, range_with_len}
 use Rattle.std.proofs.lemmas.List.{get_or-map, length-map}
 use Rattle.std.proofs.lemmas.List.FromFn.{get_or-enumerate_from, length-enumerate_from}
-use Rattle.snb_base.proofs.ListLemmas.{none_in}
-use Rattle.snb_base.proofs.Laws.{contains_cases, contains_here, contains_there}
+use Rattle.snb_base.proofs.Laws.{contains_cases, contains_here, contains_there, none_in}
 use Rattle.snb_schema.specs.declared.op.Line.{Line}
 use Rattle.snb_trial.specs.Trial.{Entry, lane, line_of, lines_from}
 use Rattle.snb_trial.proofs.Elements.{range_in_order}

@@ -5,8 +5,7 @@ use Rattle.std.specs.List.{AllPairs, Contains, flat_map, range_with_len}
 use Rattle.std.proofs.lemmas.Bool.{cases_Bool, cases_eq, eq-eqb, eqb-true, false≢true}
 use Rattle.std.proofs.lemmas.List.Elements.{All-from_recursion}
 use Rattle.std.proofs.lemmas.List.Kept.{AllPairs-cons}
-use Rattle.snb_base.proofs.ListLemmas.{none_in, pairs_none}
-use Rattle.snb_base.proofs.Laws.{contains_cases, contains_here}
+use Rattle.snb_base.proofs.Laws.{contains_cases, contains_here, none_in, pairs_none}
 use Rattle.snb_schema.specs.declared.op.Line.{Line}
 use Rattle.snb_trial.specs.Trial.{Entry, comment, forum, forum_lane, friendship, lane, lanes, like, line_of, membership, person, person_lane, post}
 use Rattle.snb_trial.proofs.Numbered.{AreTimed, Rises, Sooner, entry_line, lane_rises, line_entry}

@@ -2,15 +2,13 @@
 use Rattle.std.proofs.Common.{◌≡◌, ◌≢◌, ◌∷◌, ℕ, ◌*◌, ◌^◌, ◌<◌, ◌≤◌, List, [], inr, refl, sym, subst, arith, map, All}
 use Rattle.std.specs.Prelude.{codes}
 use Rattle.std.specs.Fmt.{decimal}
-use Rattle.std.specs.List.{AllByRecursion, Contains}
+use Rattle.std.specs.List.{Contains}
 use Rattle.std.specs.Str.{IsUtf8}
 use Rattle.std.proofs.lemmas.List.Elements.{All-cons, All-from_recursion, All-nil, All-weaker}
 use Rattle.std.proofs.lemmas.Str.{IsUtf8-from_ascii, IsUtf8-nil}
 use Rattle.std.proofs.lemmas.Str.Ascii.{IsAscii-from_all}
-use Rattle.snb_base.proofs.ListLemmas.{all_of, none_in}
-use Rattle.snb_base.specs.Calendar.{IsDigit}
 use Rattle.snb_base.specs.Spellings.{last_id, last_time}
-use Rattle.snb_base.proofs.Laws.{number_spelled}
+use Rattle.snb_base.proofs.Laws.{all_of, none_in, number_spelled}
 use Rattle.snb_schema.specs.declared.column.Column.{Column}
 use Rattle.snb_schema.specs.declared.column.Column.TheVariants.{Number, Small, OptionalId, Date, Day, Words, TextList, IdList, PairList}
 use Rattle.snb_schema.specs.declared.column.Value.{Value}
@@ -26,6 +24,7 @@ use Rattle.snb_schema.specs.UpdateLines.{IsOfTwo, canonical_line, forum_inserts,
 use Rattle.snb_columns.specs.Laws.{OwnLineOfValues}
 use Rattle.snb_trial.specs.Trial.{half, lane, lanes, line_of}
 use Rattle.snb_trial.proofs.Seven.{Comment, Forum, Friendship, IsLineIn, Like, Membership, Person, Post, Seven, entry_of, in_order, lane_number, line_in, of_lane}
+use Rattle.snb_columns.proofs.Laws.{all_digits}
 
 -- ---- values that have a spelling
 
@@ -71,9 +70,6 @@ none_plain = record { utf8 = IsUtf8-nil; no_bar = All-nil _; one_line = All-nil 
 
 no_id_plain : IsFieldText no_id
 no_id_plain = record { utf8 = IsUtf8-from_ascii no_id (grind arith); no_bar = grind arith; one_line = grind arith }
-
-all_digits : (P : ℕ → Type 0) → ((b : ℕ) → IsDigit b → P b) → (t : List ℕ) → AllByRecursion IsDigit t → All P t
-all_digits P of t h = All-weaker IsDigit P of t (All-from_recursion IsDigit t h)
 
 digits_plain : (n most : ℕ) → n ≤ most → n < 10 ^ 19 → IsFieldText (decimal n)
 digits_plain n most le few =

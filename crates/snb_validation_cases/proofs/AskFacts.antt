@@ -9,8 +9,9 @@ use Rattle.snb_validation_cases.specs.Cases.{IsAskOf}
 use Rattle.snb_validation_cases.specs.Parameters.{AreOfKind, AreParameters}
 use Rattle.snb_validation_cases.specs.Replies.{IsReplyTo}
 use Rattle.snb_validation_cases.specs.Values.{IsArray, IsText}
-use Rattle.snb_validation_cases.proofs.KindFacts.{one_kind, query_one}
+use Rattle.snb_validation_cases.proofs.KindFacts.{query_one}
 use Rattle.snb_validation_cases.proofs.OneFacts.{text_one}
+use Rattle.snb_schema.proofs.Laws.{one_kind}
 
 of_kind : (kind : ReadKind) (params : Data) (query : Query) → kind ≡ kind_of query → IsArray AreParameters params query → IsArray (AreOfKind kind) params query
 of_kind kind params query same (ds, is, all) = (ds, is, (same, all))

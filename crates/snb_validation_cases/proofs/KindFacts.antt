@@ -55,9 +55,6 @@ kind_back kinds.Ic9 = refl
 kind_back kinds.Ic11 = refl
 kind_back kinds.Ic13 = refl
 
-pub one_kind : (a b : ReadKind) → read_word a ≡ read_word b → a ≡ b
-one_kind a b e = sym (kind_back a) ∙ ap (λ (w : List ℕ). kind_by (number w)) e ∙ kind_back b
-
 -- ---- a query by its kind and its values
 
 -- what is taken first of a parameter is this parameter

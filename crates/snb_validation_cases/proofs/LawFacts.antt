@@ -16,8 +16,9 @@ use Rattle.snb_validation_cases.specs.Laws.{OneCase}
 use Rattle.snb_validation_cases.specs.Cases.{IsAsk, IsAskOf, IsCase, IsInsert, IsInsertLine, SpellsCase}
 use Rattle.snb_validation_cases.specs.Replies.{IsReplyTo}
 use Rattle.snb_validation_cases.proofs.CaseFacts.{one_ask, one_insert}
-use Rattle.snb_validation_cases.proofs.KindFacts.{one_kind, query_one}
+use Rattle.snb_validation_cases.proofs.KindFacts.{query_one}
 use Rattle.snb_validation_cases.proofs.OneFacts.{reply_one, text_one}
+use Rattle.snb_schema.proofs.Laws.{one_kind}
 
 -- lines with the same fields are one
 same_line : (a b : Line) → a.t ≡ b.t → a.t_d ≡ b.t_d → a.op ≡ b.op → a.number ≡ b.number → a ≡ b

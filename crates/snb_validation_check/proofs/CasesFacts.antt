@@ -1,9 +1,9 @@
 -- What is found over cases, and over one case more.
-use Rattle.std.proofs.Common.{◌≡◌, ◌≢◌, ◌∷◌, ◌++◌, ◌∙◌, ◌⊎◌, ℕ, List, [], Option, Some, None, refl, sym, ap, subst, inl, inr, append_assoc}
+use Rattle.std.proofs.Common.{◌≡◌, ◌≢◌, ◌∷◌, ◌++◌, ◌∙◌, ℕ, List, [], Option, Some, None, refl, sym, ap, subst, inl, inr, append_assoc}
 use Rattle.snb_schema.specs.declared.op.Line.{Line}
 use Rattle.snb_schema.specs.declared.query.Query.{Query}
 use Rattle.snb_schema.specs.declared.row.Row.{Row}
-use Rattle.snb_base.proofs.Laws.{push_split}
+use Rattle.snb_base.proofs.Laws.{not_empty, push_split, same_list_split}
 use Rattle.snb_graph_model.specs.Laws.{GraphsAreTheirRows}
 use Rattle.snb_graph_model.specs.Soundness.{Sound}
 use Rattle.snb_read_model.specs.Cells.{Cell}
@@ -20,30 +20,9 @@ use Rattle.snb_validation_check.proofs.Inserting.{one_after}
 abbrev pub Answers : Type 0
 Answers = List (List (List Cell))
 
--- a list with an element isn't empty
-not_empty : {X : Type 0} (xs : List X) (x : X) (rest : List X) → xs ++ x ∷ rest ≡ [] → ⊥
-not_empty [] x rest e = cc
-not_empty (y ∷ xs) x rest e = cc
-
 -- nothing is wrong with no cases
 pub right_none : (base : List Row) → AreRight base []
 right_none base = λ before rest line query reply graph e after. absurd (not_empty before (ask_at line query reply) rest e)
-
--- of two elements of a list one stands before the other, or they are the same
-pub compared : {X : Type 0} (xs : List X) (x : X) (cs ys : List X) (y : X) (ds : List X) → xs ++ x ∷ cs ≡ ys ++ y ∷ ds
-    → ((xs ≡ ys) × (x ≡ y)) ⊎ (((more : List X) × (xs ++ x ∷ more ≡ ys)) ⊎ ((more : List X) × (ys ++ y ∷ more ≡ xs)))
-compared [] x cs [] y ds e = inl (refl, cc)
-compared {X} [] x cs (z ∷ ys) y ds e = inr (inl (ys, (let h : x ≡ z = cc in ap (λ (w : X). w ∷ ys) h)))
-compared {X} (w ∷ xs) x cs [] y ds e = inr (inr (xs, (let h : y ≡ w = cc in ap (λ (z : X). z ∷ xs) h)))
-compared (w ∷ xs) x cs (z ∷ ys) y ds e =
-    let h : w ≡ z = cc in
-    elim (compared xs x cs ys y ds cc) [
-      | inl p ↦ inl ((λ i. h i ∷ p.0 i), p.1)
-      | inr q ↦ elim q [
-        | inl p ↦ inr (inl (p.0, λ i. h i ∷ p.1 i))
-        | inr p ↦ inr (inr (p.0, λ i. (sym h) i ∷ p.1 i))
-      ]
-    ]
 
 -- cases that ask the same
 ask_line : (n m : ℕ) (p q : Query) (r s : Answers) → ask_at n p r ≡ ask_at m q s → n ≡ m
@@ -128,7 +107,7 @@ module _ (rows : GraphsAreTheirRows) (one_reply : OneReply) (base : List Row) wh
 
     -- there is one first difference
     one_wrong : d ≡ e
-    one_wrong = elim (compared w.before (ask_at d.line w.query d.expected) w.rest v.before (ask_at e.line v.query e.expected) v.rest (w.splits ∙ sym v.splits)) [
+    one_wrong = elim (same_list_split w.before (ask_at d.line w.query d.expected) w.rest v.before (ask_at e.line v.query e.expected) v.rest (w.splits ∙ sym v.splits)) [
       | inl p ↦ one_case p.0 p.1
       | inr q ↦ elim q [
         | inl p ↦ absurd (right_or_wrong v.before d w.before p.0 w.query w.graph v.right p.1 w.after w.sound w.given w.differs)

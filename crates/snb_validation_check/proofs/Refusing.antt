@@ -17,8 +17,8 @@ use Rattle.snb_validation_cases.specs.declared.case.CaseAt.{CaseAt}
 use Rattle.snb_validation_check.specs.CasesFile.{IsRefused, IsRefusedAfter}
 use Rattle.snb_validation_check.specs.Checks.{IsAfter}
 use Rattle.snb_validation_check.specs.Steps.{IsTaken, IsUnmet}
-use Rattle.snb_validation_check.proofs.CasesFacts.{compared}
 use Rattle.snb_validation_check.proofs.Inserting.{one_after}
+use Rattle.snb_inserts.proofs.Laws.{one_first}
 
 -- where all that is referred to is held, nothing is missing
 none_missing : (g : List Row) (refs : List Missing) (node : Missing) → All (IsThere g) refs → IsFirstMissing g refs node → ⊥
@@ -26,18 +26,8 @@ none_missing g refs node all first =
     first.lacking (All-contains (IsThere g) refs node all
     (subst (λ (rs : List Missing). Contains rs node) first.splits (Contains-append_right first.before (node ∷ first.after) node (contains_here node first.after))))
 
--- one node is missing first
-missing_one : (g : List Row) (refs : List Missing) (m n : Missing) → IsFirstMissing g refs m → IsFirstMissing g refs n → m ≡ n
-missing_one g refs m n a b = elim (compared a.before m a.after b.before n b.after (a.splits ∙ sym b.splits)) [
-  | inl p ↦ p.1
-  | inr q ↦ elim q [
-    | inl p ↦ absurd (none_missing g b.before m b.there (record { before = a.before; after = p.0; splits = p.1; there = a.there; lacking = a.lacking }))
-    | inr p ↦ absurd (none_missing g a.before n a.there (record { before = b.before; after = p.0; splits = p.1; there = b.there; lacking = b.lacking }))
-  ]
-]
-
 unmet_one : (g : List Row) (c : Case) (m n : Missing) → IsUnmet g c m → IsUnmet g c n → m ≡ n
-unmet_one g (Insert line) m n a b = missing_one g (refs_of line.op) m n a b
+unmet_one g (Insert line) m n a b = one_first g (refs_of line.op) m n a b
 unmet_one g (Ask query reply) m n a b = absurd a
 
 -- what lacks a node isn't a duplicate

@@ -17,6 +17,7 @@ use Rattle.snb_validation_cases.specs.declared.case.CaseAt.{CaseAt}
 use Rattle.snb_validation_check.specs.Checks.{count_reads, inserted, rows_of_case}
 use Rattle.snb_validation_expect.specs.Expected.{AreExpected, IsCaseOf, insert_case}
 use Rattle.snb_validation_expect.proofs.OwnLines.{placed}
+use Rattle.snb_base.proofs.Laws.{not_empty}
 
 -- the case is of what an operation does, on whatever graph
 abbrev pub IsOfWork : Work → Case → Type 0
@@ -78,11 +79,6 @@ reads_of (o ∷ operations) (c ∷ cases) n all = read_of_one o.work n c cases o
 
 pub as_many_reads : (base : List Row) (plan : Plan) (cases : List Case) → AreExpected base plan cases → length (queries_in plan) ≡ count_reads (placed 2 cases)
 as_many_reads base plan cases e = sym (reads_of plan.operations cases 2 (all_of base plan cases e))
-
--- a list with an element isn't empty
-not_empty : {X : Type 0} (xs : List X) (x : X) (rest : List X) → xs ++ x ∷ rest ≡ [] → ⊥
-not_empty [] x rest e = absurd cc
-not_empty (y ∷ xs) x rest e = absurd cc
 
 -- a case stands at the place that tells how many come before it
 pub case_at : (cases : List Case) (n : ℕ) (before rest : List CaseAt) (x : CaseAt) → before ++ x ∷ rest ≡ placed n cases → slice_get cases (length before) ≡ Some x.case

@@ -1,41 +1,33 @@
 -- The lines of a file of cases: the header, and the text of each case, by which they say the cases.
-use Rattle.std.proofs.Common.{◌≡◌, ◌∷◌, ◌++◌, ◌∙◌, ◌+◌, ℕ, List, [], All, map, false, None, Some, refl, sym, ap, ap₂, append_assoc}
+use Rattle.std.proofs.Common.{◌≡◌, ◌∷◌, ◌∙◌, ◌+◌, ℕ, List, [], All, map, false, None, Some, refl, ap, append_assoc}
 use Rattle.std.proofs.lemmas.List.Elements.{All-head, All-tail}
 use Rattle.std.specs.List.{flat_map}
 use Rattle.serde_json.specs.Data.{Data, array, boolean, null, number, object, string}
 use Rattle.serde_json.specs.Written.{compact_text, members_text}
 use Rattle.snb_schema.specs.Lines.{begins_with_mark, lines}
-use Rattle.snb_input_lines.specs.Cut.{last_lines}
 use Rattle.snb_input_lines.specs.Reading.{ReadsLine, Says}
-use Rattle.snb_input_lines.proofs.Laws.{first_whole, lines_whole}
+use Rattle.snb_input_lines.proofs.Laws.{ended}
 use Rattle.snb_validation_cases.specs.declared.case.Case.{Case}
 use Rattle.snb_validation_cases.specs.declared.case.Case.TheVariants.{Insert, Ask}
 use Rattle.snb_validation_cases.specs.declared.case.CaseAt.{CaseAt}
 use Rattle.snb_validation_cases.specs.CaseFile.{case_language}
 use Rattle.snb_validation_cases.specs.Cases.{SpellsCase}
 use Rattle.snb_validation_expect.specs.CaseTexts.{case_data, case_line, case_text, cases_text}
-use Rattle.snb_schema.specs.Lines.{HasNoEnd}
 use Rattle.snb_validation_expect.proofs.Header.{header, header_one_line, header_read, header_utf8}
 use Rattle.snb_validation_expect.proofs.OneLine.{text_one_line}
 
 -- ---- cutting
-
--- a line that is ended, and the lines that follow it
-line_first : (line rest : List ℕ) → HasNoEnd line → lines (line ++ 10 ∷ rest) ≡ line ∷ lines rest
-line_first line rest none =
-    let cut = first_whole line rest none in
-    lines_whole (line ++ 10 ∷ rest) ∙ (ap₂ (λ (a : List (List ℕ)) (b : List ℕ). a ++ last_lines b) cut.0 cut.1 ∙ ap (λ (ls : List (List ℕ)). line ∷ ls) (sym (lines_whole rest)))
 
 -- the lines of cases
 case_lines : (cases : List Case) → lines (flat_map case_line cases) ≡ map case_text cases
 case_lines [] = refl
 case_lines (c ∷ cases) =
     ap lines (append_assoc (case_text c) (10 ∷ []) (flat_map case_line cases))
-    ∙ (line_first (case_text c) (flat_map case_line cases) (text_one_line (case_data c)) ∙ ap (λ (ls : List (List ℕ)). case_text c ∷ ls) (case_lines cases))
+    ∙ (ended (case_text c) (flat_map case_line cases) (text_one_line (case_data c)) ∙ ap (λ (ls : List (List ℕ)). case_text c ∷ ls) (case_lines cases))
 
 -- the lines of the file of the cases
 pub lines_are : (cases : List Case) → lines (cases_text cases) ≡ header ∷ map case_text cases
-lines_are cases = line_first header (flat_map case_line cases) header_one_line ∙ ap (λ (ls : List (List ℕ)). header ∷ ls) (case_lines cases)
+lines_are cases = ended header (flat_map case_line cases) header_one_line ∙ ap (λ (ls : List (List ℕ)). header ∷ ls) (case_lines cases)
 
 -- ---- saying
 

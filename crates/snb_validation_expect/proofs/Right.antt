@@ -1,12 +1,8 @@
 -- On the graph before it, the insert of each case is welcome, and the reply of each is its query's.
 use Rattle.std.proofs.Common.{◌≡◌, ◌∷◌, ◌++◌, ℕ, List, length, Option, Some, ap, subst, inl, inr}
-use Rattle.std.specs.Prelude.{All, Contains, slice_get}
-use Rattle.std.proofs.lemmas.List.Elements.{All-contains, Contains-append_right}
-use Rattle.std.proofs.lemmas.List.Sorted.{Contains-permutation, IsPermutation-sym, IsPermutation-trans}
-use Rattle.snb_base.proofs.Laws.{contains_here}
+use Rattle.std.specs.Prelude.{slice_get}
 use Rattle.snb_schema.specs.declared.file.FileId.{FileId}
 use Rattle.snb_schema.specs.declared.query.Query.{Query}
-use Rattle.snb_schema.specs.declared.refusal.Missing.{Missing}
 use Rattle.snb_schema.specs.declared.refusal.Refusal.{Refusal}
 use Rattle.snb_schema.specs.declared.row.Row.{Row}
 use Rattle.snb_history.specs.declared.step.Step.{Step}
@@ -16,7 +12,7 @@ use Rattle.snb_graph_model.specs.Laws.{GraphsAreTheirRows}
 use Rattle.snb_plan.specs.declared.plan.Source.{Source}
 use Rattle.snb_plan.specs.Plans.{Plan, Work}
 use Rattle.snb_plan.specs.Plans as plans
-use Rattle.snb_inserts.specs.Applying.{IsFirstMissing, IsThere, IsWelcome}
+use Rattle.snb_inserts.specs.Applying.{IsWelcome}
 use Rattle.snb_read_model.specs.Cells.{Cell}
 use Rattle.snb_read_model.specs.Replies.{IsReply}
 use Rattle.snb_workers_replay.specs.Laws.{IsReplayed, WelcomeInOrder}
@@ -29,31 +25,21 @@ use Rattle.snb_validation_check.specs.Checks.{AreRight, IsAfter, ask_at}
 use Rattle.snb_validation_expect.specs.Expected.{AreExpected, IsCaseOf, IsExpectedAt}
 use Rattle.snb_validation_expect.proofs.InTurn.{IsOfWork, case_at, inserted_before, of_work, operation}
 use Rattle.snb_validation_expect.proofs.OwnLines.{placed}
+use Rattle.snb_workers_replay.proofs.Laws.{same_gain}
+use Rattle.snb_inserts.proofs.Laws.{none_first}
 
 -- the insert of an operation is welcome
 abbrev IsWelcomeWork : List Row → Work → Type 0
 IsWelcomeWork graph (plans.Insert line) = IsWelcome graph line.op
 IsWelcomeWork graph (plans.Ask query) = Unit {0}
 
--- two graphs that have gained the same rows are one
-same_gain : GraphsAreTheirRows → (base more g h : List Row) → HasGained base more g → HasGained base more h → g ≡ h
-same_gain rows base more g h a b =
-    rows g h a.graph b.graph
-    (λ r. (λ c. Contains-permutation g h r (IsPermutation-trans g (base ++ more) h a.rows (IsPermutation-sym h (base ++ more) b.rows)) c, λ c. Contains-permutation h g r (IsPermutation-trans h (base ++ more) g b.rows (IsPermutation-sym g (base ++ more) a.rows)) c))
-
 -- ---- inserts
-
--- of references that are all held none is lacking
-none_missing : (graph : List Row) (refs : List Missing) (missing : Missing) → All (IsThere graph) refs → ¬ IsFirstMissing graph refs missing
-none_missing graph refs missing all first =
-    let held : Contains refs missing = subst (λ (ms : List Missing). Contains ms missing) first.splits (Contains-append_right first.before (missing ∷ first.after) missing (contains_here missing first.after)) in
-    first.lacking (All-contains (IsThere graph) refs missing all held)
 
 -- a case is refused for nothing, where an insert is welcome
 fine : (graph : List Row) (file : FileId) (n : ℕ) (w : Work) (c : Case) (r : Refusal) → IsOfWork w c → IsWelcomeWork graph w → ¬ IsRefused graph file (record { line = n; case = c }) r
 fine graph file n (plans.Insert line) c r is welcome bad =
     elim (subst (λ (d : Case). IsRefused graph file (record { line = n; case = d }) r) is bad) [
-      | inl unmet ↦ none_missing graph (refs_of line.op) unmet.0 welcome.0 unmet.1
+      | inl unmet ↦ none_first graph (refs_of line.op) unmet.0 welcome.0 unmet.1
       | inr taken ↦ welcome.1 taken.0.1
     ]
 fine graph file n (plans.Ask query) c r is welcome bad =

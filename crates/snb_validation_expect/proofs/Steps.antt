@@ -1,6 +1,6 @@
 -- One case more.
 use Rattle.std.proofs.Common.{◌≡◌, ◌+◌, ◌∷◌, ◌++◌, ◌∙◌, ℕ, List, [], length, Some, inl, inr, refl, sym, ap, subst, arith, append_assoc, append-nil, codes, length-append, Result, Ok, Err}
-use Rattle.std.specs.Prelude.{OnErr, OnOk, slice_get}
+use Rattle.std.specs.Prelude.{OnOk, slice_get}
 use Rattle.std.specs.declared.alloc.AllocError.{AllocError}
 use Rattle.std.proofs.lemmas.Result.{on_ok_weaker}
 use Rattle.std.specs.List.{flat_map}
@@ -24,16 +24,12 @@ use Rattle.snb_workers_replay.proofs.Laws.{before_none, before_some, read_insert
 use Rattle.snb_validation_cases.specs.Cases.{SpellsCase}
 use Rattle.snb_validation_cases.specs.declared.case.Case.{Case}
 use Rattle.snb_validation_cases.specs.declared.case.Case.TheVariants as cases
-use Rattle.snb_graph_model.proofs.Laws.{in_chosen}
 use Rattle.snb_validation_expect.specs.CaseTexts.{case_line, case_text}
 use Rattle.snb_validation_expect.specs.Expected.{HasExpected, HasWords, HaveWords, IsExpectedAt, insert_case}
 use Rattle.snb_validation_expect.specs.Writing.{HasPut, HasPutAsk, HasPutInsert, HavePut, IsAt}
+use Rattle.snb_base.proofs.Laws.{gives}
 
 -- ---- where memory doesn't suffice
-
-pub always_err : {T E P : Type 0} (r : Result T E) → P → OnErr r P
-always_err (Ok x) p = tt
-always_err (Err e) p = p
 
 pub no_front : (old new : List ℕ) → new ≡ old → (front : List ℕ) × (new ≡ old ++ front)
 no_front old new same = ([], same ∙ sym (append-nil old))
@@ -76,7 +72,7 @@ module _ (base : List Row) (plan : Plan) (k : ℕ) (o : Operation) (old new : Li
   asked : (query : Query) → o.work ≡ Ask query → HaveWords (queries_in plan) → HasWords query
   asked query does words =
       All-contains HasWords (queries_in plan) query words
-      (in_chosen (λ (x : Operation). query_from x.work) plan.operations o query (k, slice_get_within plan.operations k o here, get_or_from_slice_get plan.operations k o o here) (ap query_from does))
+      (gives (λ (x : Operation). query_from x.work) plan.operations o query (k, slice_get_within plan.operations k o here, get_or_from_slice_get plan.operations k o o here) (ap query_from does))
 
   pub put_ask : (query : Query) → o.work ≡ Ask query → HasPutAsk graph query old new → HasPut base plan k old new graph
   put_ask query does put = record {

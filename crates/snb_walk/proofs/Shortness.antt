@@ -1,8 +1,6 @@
 -- Where the targets of a walk stood, and how many steps it has at most.
-use Rattle.std.proofs.Common.{◌≡◌, ℕ, ◌+◌, ◌-◌, ◌*◌, ◌/◌, ◌<◌, ◌≤◌, List, [], ◌∷◌, length, Some, arith}
+use Rattle.std.proofs.Common.{ℕ, ◌+◌, ◌-◌, ◌*◌, ◌/◌, ◌<◌, ◌≤◌, List, [], ◌∷◌, length, arith}
 use Rattle.std.proofs.lemmas.Nat.{le-div}
-use Rattle.std.proofs.lemmas.Option.{slice_get_within, get_or_from_slice_get}
-use Rattle.std.specs.List.{Contains, slice_get}
 use Rattle.snb_schema.specs.declared.row.Row.{Row}
 use Rattle.snb_ratio.specs.Chances.{Falling}
 use Rattle.snb_walk.specs.declared.target.Target.{Target}
@@ -10,15 +8,12 @@ use Rattle.snb_walk.specs.declared.target.Pick.{Pick}
 use Rattle.snb_walk.specs.declared.target.Stop.{Stop}
 use Rattle.snb_walk.specs.Targets.{Step, reads_of, targets_in, targets_of}
 use Rattle.snb_walk.specs.Walks.{GoesOn, StoodBefore, TargetsStood, WalksAreShort}
-
--- what is got at an index is there
-contains_got : {X : Type 0} (xs : List X) (k : ℕ) (x : X) → slice_get xs k ≡ Some x → Contains xs x
-contains_got xs k x e = (k, slice_get_within xs k x e, get_or_from_slice_get xs k x x e)
+use Rattle.snb_base.proofs.Laws.{at_contains}
 
 module _ (g : List Row) (pick : Pick) (chance : Falling) (words : List ℕ) where
   stood_from : (steps : List Step) (i : ℕ) (targets : List Target) (stop : Stop) → GoesOn g pick chance words i targets steps stop → StoodBefore targets steps
   stood_from [] i targets stop h = tt
-  stood_from (x ∷ xs) i targets stop h = (contains_got targets _ x.0 h.0.picked, stood_from xs (i + 1) (targets_in (reads_of x.0) x.1) stop h.1)
+  stood_from (x ∷ xs) i targets stop h = (at_contains targets _ x.0 h.0.picked, stood_from xs (i + 1) (targets_in (reads_of x.0) x.1) stop h.1)
 
   -- something was left of the chance before the last step
   last_step : (steps : List Step) (x : Step) (i : ℕ) (targets : List Target) (stop : Stop)

@@ -1,7 +1,6 @@
 -- There is a walk.
-use Rattle.std.proofs.Common.{◌≡◌, ℕ, zero, suc, ◌+◌, ◌*◌, ◌<◌, ◌≤◌, ◌⊎◌, List, [], ◌∷◌, length, slice_index, Some, inl, inr, arith, refl}
+use Rattle.std.proofs.Common.{ℕ, zero, suc, ◌+◌, ◌*◌, ◌≤◌, ◌⊎◌, List, [], ◌∷◌, length, slice_index, inl, inr, arith}
 use Rattle.std.proofs.lemmas.Bool.{cases_lt}
-use Rattle.std.specs.List.{slice_get}
 use Rattle.snb_schema.specs.declared.query.Query.{Query}
 use Rattle.snb_schema.specs.declared.row.Row.{Row}
 use Rattle.snb_ratio.specs.Chances.{Falling}
@@ -18,6 +17,7 @@ use Rattle.snb_walk.specs.Picks.{index_of}
 use Rattle.snb_walk.specs.Targets.{Rows, Step, reads_of, targets_in, targets_of}
 use Rattle.snb_walk.specs.Walks.{GoesOn, IsStep, MayGo, SomeWalk, Stops, drawn, left_before}
 use Rattle.snb_walk.proofs.Going.{index_of-below}
+use Rattle.snb_base.proofs.Laws.{some_got}
 
 -- a step may be taken, or the walk stops
 decide : (left : ℕ) (words : List ℕ) (i n : ℕ) → MayGo left words i n ⊎ ((stop : Stop) × Stops left words i n stop)
@@ -34,12 +34,6 @@ decide left words i n = elim (cases_lt 0 left) [
     ]
   ]
 ]
-
--- something is got at each index
-some_got : {X : Type 0} (xs : List X) (k : ℕ) → k < length xs → (x : X) × (slice_get xs k ≡ Some x)
-some_got [] k below = absurd (omega arith)
-some_got (x ∷ xs) zero below = (x, refl)
-some_got (x ∷ xs) (suc k) below = some_got xs k (omega arith)
 
 module _ (some : SomeReply) (g : List Row) (graph : IsGraph g) (sound : Sound g) (pick : Pick) (chance : Falling) (words : List ℕ) where
   some_answer : (query : Query) → (answer : Rows) × IsAnswer g query answer

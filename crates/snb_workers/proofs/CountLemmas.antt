@@ -1,15 +1,14 @@
 -- Facts on the counts that a log tells.
-use Rattle.std.proofs.Common.{◌≡◌, ◌≢◌, ◌∙◌, ◌++◌, ℕ, zero, suc, ◌+◌, ◌<◌, ◌≤◌, ◌⊎◌, List, [], ◌∷◌, length, map, take, drop, Bool, true, cond, Some, inl, inr, refl, sym, ap, subst, arith}
+use Rattle.std.proofs.Common.{◌≡◌, ◌≢◌, ◌∙◌, ℕ, ◌+◌, ◌<◌, ◌≤◌, ◌⊎◌, List, [], ◌∷◌, length, map, take, drop, Bool, true, cond, Some, inl, inr, refl, sym, ap, subst, arith}
 use Rattle.std.specs.Prelude.{◌==◌, Contains, slice_get}
 use Rattle.std.specs.List.{count_by}
 use Rattle.std.proofs.lemmas.Bool.{cases_Bool, eq-eqb, eqb-true}
 use Rattle.std.proofs.lemmas.List.{length-map, take-append-drop}
 use Rattle.std.proofs.lemmas.List.Elements.{All-contains, All-contains_itself, All-map}
-use Rattle.std.proofs.lemmas.List.Sorted.{Contains-permutation, IsPermutation-sym, IsPermutation-trans}
 use Rattle.std.proofs.lemmas.List.Sums.{sum_by-cons}
 use Rattle.std.proofs.lemmas.Option.{same_Some}
 use Rattle.serde_json.specs.Written.{compact_text}
-use Rattle.snb_base.proofs.Laws.{contains_cases, contains_here, contains_there, split_here}
+use Rattle.snb_base.proofs.Laws.{contains_cases, contains_here, contains_there, some_got, split_here}
 use Rattle.snb_history.specs.declared.event.Event.{Event}
 use Rattle.snb_history.specs.declared.event.Event.TheVariants.{Start, Finish, Halt}
 use Rattle.snb_history.specs.declared.logged.Logged.{Logged}
@@ -18,7 +17,7 @@ use Rattle.snb_history.specs.History.{finishes}
 use Rattle.snb_history.specs.Laws.{OnceEach}
 use Rattle.snb_history.specs.Rules.{IsLegal, V1}
 use Rattle.snb_history.specs.Schedule.{IsOperation}
-use Rattle.snb_graph_model.specs.Graphs.{HasGained, IsGraph}
+use Rattle.snb_graph_model.specs.Graphs.{IsGraph}
 use Rattle.snb_graph_model.specs.Laws.{GraphsAreTheirRows}
 use Rattle.snb_graph_model.specs.Soundness.{Sound}
 use Rattle.snb_plan.specs.Plans.{Ask, Insert, Operation, Plan, Work, schedule_of}
@@ -31,6 +30,7 @@ use Rattle.snb_workers.specs.declared.done.Answered.{Answered}
 use Rattle.snb_workers.specs.Counts.{HasRightCount, IsCount, IsCountOf, TellsCounts, first_rows, logged_by, logged_of, rows_by}
 use Rattle.snb_workers.specs.Laws.{CountsOfARun, FinishesAreOfOperations, OneCount, OneEntry}
 use Rattle.snb_workers.specs.Runs.{AreReplies, Asks, IsAnswered}
+use Rattle.snb_workers_replay.proofs.Laws.{same_gain}
 
 -- ---- what passes once
 
@@ -98,12 +98,6 @@ found_by (a ∷ replies) op = elim (cases_Bool (a.op == op)) [
 
 -- ---- the counts of a run
 
--- within a list something stands
-got : {X : Type 0} (xs : List X) (i : ℕ) → i < length xs → (x : X) × (slice_get xs i ≡ Some x)
-got [] i lt = absurd (omega (arith, lt))
-got (x ∷ xs) zero lt = (x, refl)
-got (x ∷ xs) (suc i) lt = got xs i (omega (arith, lt))
-
 -- what is told of an event is told of that event
 told_of : (replies : List Answered) (e : Event) → (logged_by replies e).event ≡ e
 told_of replies (Start op worker at) = refl
@@ -154,7 +148,7 @@ module _ (base : List Row) (plan : Plan) (workers : ℕ) (h : List Event) (repli
   right_at (Start op worker at) c = refl
   right_at (Halt worker) c = refl
   right_at (Finish op worker at front) c =
-      let there = got plan.operations op (finish_within plan workers h op worker at front legal c) in
+      let there = some_got plan.operations op (finish_within plan workers h op worker at front legal c) in
       let o : Operation = there.0 in (
         rows_by replies op,
         refl,
@@ -184,12 +178,6 @@ pub one_entry : OneReply → OneEntry
 one_entry one g query rows text reply is_graph sound replied is =
     let same : replied.0 ≡ reply = one g query replied.0 reply is_graph sound replied.1 is in
     (replied.2 ∙ ap first_rows same, replied.3 ∙ ap (λ (r : _). compact_text (reply_data r)) same)
-
--- two graphs that have gained the same rows are one
-same_gain : GraphsAreTheirRows → (base more g h : List Row) → HasGained base more g → HasGained base more h → g ≡ h
-same_gain rows base more g h a b =
-    rows g h a.graph b.graph
-    (λ r. (λ c. Contains-permutation g h r (IsPermutation-trans g (base ++ more) h a.rows (IsPermutation-sym h (base ++ more) b.rows)) c, λ c. Contains-permutation h g r (IsPermutation-trans h (base ++ more) g b.rows (IsPermutation-sym g (base ++ more) a.rows)) c))
 
 -- two counts of what one operation did are one
 module _ (one : OneReply) (rows : GraphsAreTheirRows) (sound_after : PrefixesAreSound) (base : List Row) (plan : Plan) (workers : ℕ) (h : List Event) (is_graph : IsGraph base) (sound : Sound base) (replayed : IsReplayed base plan)

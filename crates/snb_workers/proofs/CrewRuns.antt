@@ -34,11 +34,10 @@ use Rattle.snb_workers.specs.Runs.{AreAt, AreReplies, HasRun, IsAnswered}
 use Rattle.snb_workers.specs.Turns.{IsBehind}
 use Rattle.snb_workers.specs.Works.{AreTimely, HasWorked, IsFollowing, IsFree}
 use Rattle.snb_workers.proofs.CrewEvents.{all_at, any_prefix, none_of, seen_there}
-use Rattle.snb_base.proofs.Laws.{contains_cases, contains_here}
+use Rattle.snb_base.proofs.Laws.{contains_cases, contains_here, in_filter}
 use Rattle.snb_workers.proofs.Gathered.{all_from, of_all}
 use Rattle.snb_workers.proofs.TurnEvents.{all_done, front_within, of_more}
 use Rattle.snb_workers.proofs.WorkEvents.{prefix-trans}
-use Rattle.snb_graph_model.proofs.Laws.{in_filter}
 
 -- a worker's seat at first
 abbrev fresh : Site → ℕ → Sitting

@@ -1,7 +1,5 @@
 -- What a replica stands for when it takes the next event of a history.
-use Rattle.std.proofs.Common.{◌≡◌, ◌∷◌, ◌++◌, ◌∙◌, ℕ, ◌+◌, ◌<◌, List, [], length, take, drop, get_or, Some, None, Result, Ok, Err, refl, sym, ap, subst, arith, append_assoc, length-append}
-use Rattle.std.specs.Prelude.{slice_get}
-use Rattle.std.specs.Result.{OnErr}
+use Rattle.std.proofs.Common.{◌≡◌, ◌∷◌, ◌++◌, ◌∙◌, ℕ, ◌+◌, ◌<◌, List, [], length, take, drop, get_or, Some, None, refl, sym, ap, subst, arith, append_assoc, length-append}
 use Rattle.std.proofs.lemmas.List.{get_or_default, length-map, take-append-drop, take_more}
 use Rattle.snb_history.specs.declared.event.Event.{Event}
 use Rattle.snb_history.specs.declared.event.Event.TheVariants.{Start, Finish, Halt}
@@ -16,7 +14,7 @@ use Rattle.snb_graph_model.specs.Graphs.{HasGained}
 use Rattle.snb_plan.specs.Plans.{Insert, IsOfStreams, Operation, Plan, Work, schedule_of}
 use Rattle.snb_inserts.specs.Applying.{IsWelcome}
 use Rattle.snb_workers_replay.specs.Laws.{WelcomeInTurn}
-use Rattle.snb_workers_replay.specs.Replay.{finished_insert, insert_at, insert_in}
+use Rattle.snb_workers_replay.specs.Replay.{finished_insert, insert_in}
 use Rattle.snb_workers_replay.proofs.Laws.{after_none, after_some}
 use Rattle.snb_workers.specs.Replicas.{HasTaken, HasTakenSome, IfFinish, MayTake, StandsFor, Taken}
 
@@ -25,9 +23,6 @@ use Rattle.snb_workers.specs.Replicas.{HasTaken, HasTakenSome, IfFinish, MayTake
 -- an operation that inserts a line has its insert
 line_inserts : (o : Operation) (line : Line) → o.work ≡ Insert line → insert_in (Some o) ≡ Some line.op
 line_inserts o line is = ap (λ (w : Work). insert_in (Some (record { step = o.step; work = w; source = o.source }))) is
-
-pub inserts_line : (plan : Plan) (k : ℕ) (o : Operation) (line : Line) → slice_get plan.operations k ≡ Some o → o.work ≡ Insert line → insert_at plan k ≡ Some line.op
-inserts_line plan k o line here is = ap insert_in here ∙ line_inserts o line is
 
 -- the operation of a Finish is in the plan
 pub finish_within : (plan : Plan) (workers : ℕ) (g : List Event) (e : Event) → IsLegal (schedule_of plan) workers (g ++ e ∷ []) → IfFinish e (λ op. op < length plan.operations)
@@ -64,11 +59,6 @@ module _ {base : List Row} {plan : Plan} {g : List Event} (e : Event) {r : Taken
       welcome base plan may.workers g e op r.graph (record { of_streams = of; closed = may.closed }) may.legal some may.stands.after
 
 -- ---- the events of a history
-
--- what holds anyway holds on an `Err`
-pub on_err : {T E P : Type 0} (r : Result T E) → P → OnErr r P
-on_err (Ok t) p = tt
-on_err (Err e) p = p
 
 module _ {plan : Plan} {events : List Event} {old now : Taken} (i : ℕ) (d : Event) (taken : (base : List Row) (g : List Event) → MayTake plan events old base g → StandsFor base plan (g ++ take i events) now) where
   -- where the first events are taken, the next may be taken

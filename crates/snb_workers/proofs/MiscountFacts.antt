@@ -5,7 +5,7 @@ use Rattle.std.specs.List.Sorted.{IsNonDecreasingBy, IsPermutation}
 use Rattle.std.proofs.lemmas.Bool.{cases_eq}
 use Rattle.std.proofs.lemmas.List.{drop-map, drop-take, get_or_default, take-append-drop, take-map, take-take}
 use Rattle.std.proofs.lemmas.List.Elements.{Contains-push_cases}
-use Rattle.std.proofs.lemmas.List.Sorted.{Contains-permutation, IsPermutation-refl, IsPermutation-sym, IsPermutation-trans}
+use Rattle.std.proofs.lemmas.List.Sorted.{IsPermutation-refl}
 use Rattle.std.proofs.lemmas.Option.{same_Some}
 use Rattle.snb_read_model.specs.Replies.{IsReply}
 use Rattle.snb_history.specs.declared.event.Event.{Event}
@@ -15,7 +15,7 @@ use Rattle.snb_schema.specs.declared.limits.TheConstants.{MAX_WORKERS}
 use Rattle.snb_schema.specs.declared.row.Row.{Row}
 use Rattle.snb_history.specs.Laws.{PrefixIsLegal}
 use Rattle.snb_history.specs.Rules.{IsLegal}
-use Rattle.snb_graph_model.specs.Graphs.{HasGained, HoldsKey, IsGraph}
+use Rattle.snb_graph_model.specs.Graphs.{HoldsKey, IsGraph}
 use Rattle.snb_graph_model.specs.Laws.{GraphsAreTheirRows}
 use Rattle.snb_graph_model.specs.Soundness.{Sound}
 use Rattle.snb_plan.specs.Closed.{IsClosed}
@@ -29,17 +29,9 @@ use Rattle.snb_workers.specs.Counts.{IsCount, IsCountOf, first_rows}
 use Rattle.snb_workers.specs.Miscounts.{IsFirstMiscount, IsMiscount, events_of}
 use Rattle.snb_workers.specs.Replicas.{HasTaken, IfFinish, MayTake, StandsFor, Taken}
 use Rattle.snb_workers.specs.Tallies.{CountsRows, HasRows, HasTallies, HasTally, IsAlong, IsEarlier, IsInsert, IsLeastAmong, IsTally, IsWeighed, miscount_of}
+use Rattle.snb_workers_replay.proofs.Laws.{same_gain}
 
 -- ---- one count
-
--- two graphs that have gained the same rows are one
-same_gain : GraphsAreTheirRows → (base more g h : List Row) → HasGained base more g → HasGained base more h → g ≡ h
-same_gain rows base more g h a b =
-    rows g h a.graph b.graph
-    (λ r. (
-      λ c. Contains-permutation g h r (IsPermutation-trans g (base ++ more) h a.rows (IsPermutation-sym h (base ++ more) b.rows)) c,
-      λ c. Contains-permutation h g r (IsPermutation-trans h (base ++ more) g b.rows (IsPermutation-sym g (base ++ more) a.rows)) c,
-    ))
 
 -- what the laws say of the graphs of a history
 pub record HasLaws (base : List Row) (plan : Plan) (h : List Event) : Type 0 where

@@ -1,7 +1,6 @@
 -- Facts on the steps of a plan: a read's is that of a query, and an insert's isn't.
 use Rattle.std.proofs.Common.{◌≡◌, ◌∙◌, ℕ, ◌⊎◌, true, false, Some, inl, inr, ap}
 use Rattle.std.specs.Prelude.{slice_get}
-use Rattle.std.proofs.lemmas.List.{get_or-map}
 use Rattle.std.proofs.lemmas.Option.{get_or_from_slice_get, slice_get_within}
 use Rattle.snb_schema.specs.declared.op.Line.{Line}
 use Rattle.snb_schema.specs.declared.query.Query.{Query}
@@ -9,14 +8,9 @@ use Rattle.snb_history.specs.declared.step.Step.{Step}
 use Rattle.snb_schema.specs.Frequencies.{FrequencyTable}
 use Rattle.snb_schema.specs.LineLanes.{LineLanes}
 use Rattle.snb_schema.specs.QueryLists.{QueryLists}
-use Rattle.snb_history.specs.Schedule.{no_step, step_of}
+use Rattle.snb_history.specs.Schedule.{step_of}
 use Rattle.snb_plan.specs.Plans.{Ask, Insert, IsOfStreams, IsPlan, IsRead, IsUpdate, Operation, Plan, first_t, schedule_of}
-
--- the step of an operation
-step_here : (plan : Plan) (k : ℕ) (o : Operation) → slice_get plan.operations k ≡ Some o → step_of (schedule_of plan) k ≡ o.step
-step_here plan k o e =
-    get_or-map (λ (x : Operation). x.step) plan.operations k o no_step (slice_get_within plan.operations k o e)
-    ∙ ap (λ (x : Operation). x.step) (get_or_from_slice_get plan.operations k o o e)
+use Rattle.snb_plan.proofs.Laws.{step_here}
 
 module _ {lanes : LineLanes} {lists : QueryLists} {frequencies : FrequencyTable} {ratio : ℕ} {plan : Plan} (is_plan : IsPlan lanes lists frequencies ratio plan) where
   -- an operation is an update or a read

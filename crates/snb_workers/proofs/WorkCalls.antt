@@ -18,7 +18,9 @@ use Rattle.snb_workers.specs.Runs.{AreReplies}
 use Rattle.snb_workers.specs.Works.{AreTimely, IsFollowing, IsLater, added}
 use Rattle.snb_workers.specs.WorkTurns.{HasCome, HasReplied}
 use Rattle.snb_workers.proofs.TurnReplies.{AreWithin, answered_more}
-use Rattle.snb_workers.proofs.WorkEvents.{events_of-append, events_of-own, none_own, prefix-length, prefix-refl, prefix-trans, split_cases}
+use Rattle.snb_workers.proofs.WorkEvents.{events_of-own, none_own, prefix-trans, split_cases}
+use Rattle.snb_base.proofs.Laws.{prefix-length, prefix-refl}
+use Rattle.snb_board.proofs.Laws.{events_of-append}
 
 -- at most one event is added, of this worker; if it is a Start or a Finish it is at the next moment
 abbrev pub AddsOne : ℕ → ℕ → List Event → List Event → Type 0

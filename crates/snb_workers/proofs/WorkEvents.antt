@@ -1,9 +1,9 @@
 -- Facts on beginnings of histories, and on the events of one worker.
-use Rattle.std.proofs.Common.{◌≡◌, ◌∙◌, ℕ, zero, suc, ◌+◌, ◌<◌, ◌≤◌, ◌⊎◌, List, [], ◌∷◌, ◌++◌, length, drop, Bool, true, false, cond, not, Some, inl, inr, refl, sym, ap, subst, arith, append_assoc, append-nil, length-append}
+use Rattle.std.proofs.Common.{◌≡◌, ◌∙◌, ℕ, zero, suc, ◌+◌, ◌<◌, ◌⊎◌, List, [], ◌∷◌, ◌++◌, length, drop, Bool, true, false, cond, not, Some, inl, inr, refl, sym, ap, arith, append_assoc}
 use Rattle.std.specs.Prelude.{Contains, slice_get}
 use Rattle.std.specs.List.{position_or_len}
 use Rattle.std.proofs.lemmas.Bool.{eq-eqb}
-use Rattle.std.proofs.lemmas.List.Elements.{All-contains, All-contains_itself, All-drop, All-filter, filter-append}
+use Rattle.std.proofs.lemmas.List.Elements.{All-contains, All-contains_itself, All-drop, All-filter}
 use mathlib.Core.List.{IsPrefix}
 use Rattle.snb_history.specs.declared.event.Event.{Event}
 use Rattle.snb_history.specs.declared.event.Event.TheVariants.{Start}
@@ -12,20 +12,8 @@ use Rattle.snb_board.specs.Boards.{events_of}
 
 -- ---- beginnings
 
-pub prefix-refl : (xs : List Event) → IsPrefix xs xs
-prefix-refl xs = ([], append-nil xs)
-
 pub prefix-trans : (xs ys zs : List Event) → IsPrefix xs ys → IsPrefix ys zs → IsPrefix xs zs
 prefix-trans xs ys zs p q = (p.0 ++ q.0, sym (append_assoc xs p.0 q.0) ∙ (ap (λ (l : List Event). l ++ q.0) p.1 ∙ q.1))
-
-pub prefix-length : (xs ys : List Event) → IsPrefix xs ys → length xs ≤ length ys
-prefix-length xs ys p = subst (λ (l : List Event). length xs ≤ length l) p.1 (let e = length-append xs p.0 in let le : length xs ≤ length (xs ++ p.0) = omega arith in le)
-
--- what stands in a beginning stands in the whole
-pub slice_get-prefix : (xs ys : List Event) (k : ℕ) (e : Event) → slice_get xs k ≡ Some e → slice_get (xs ++ ys) k ≡ Some e
-slice_get-prefix [] ys k e is = absurd (cc)
-slice_get-prefix (x ∷ xs) ys zero e is = is
-slice_get-prefix (x ∷ xs) ys (suc k) e is = slice_get-prefix xs ys k e is
 
 -- an event of a history that goes on is one of its beginning, or of the rest
 pub split_cases : (g : List Event) (e : Event) (rest h more : List Event) → g ++ e ∷ rest ≡ h ++ more →
@@ -57,9 +45,6 @@ starts_there (x ∷ h) (suc k) op w at is = past (starts op x) (starts_there h k
     past false lt = omega arith
 
 -- ---- the events of one worker
-
-pub events_of-append : (w : ℕ) (xs ys : List Event) → events_of w (xs ++ ys) ≡ events_of w xs ++ events_of w ys
-events_of-append w xs ys = filter-append (is_by w) xs ys
 
 -- an event of the worker is kept
 pub events_of-own : (w : ℕ) (e : Event) → is_by w e ≡ true → events_of w (e ∷ []) ≡ e ∷ []

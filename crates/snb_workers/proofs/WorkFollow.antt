@@ -14,7 +14,8 @@ use Rattle.snb_workers.specs.Replicas.{HasTaken, HasTakenSome, MayTake, StandsFo
 use Rattle.snb_workers.specs.Works.{IsFollowing}
 use Rattle.snb_workers.specs.WorkTurns.{HasFollowed, IsAbreast}
 use Rattle.snb_workers.proofs.WorkCalls.{following_later, later}
-use Rattle.snb_workers.proofs.WorkEvents.{prefix-length, prefix-refl, prefix-trans}
+use Rattle.snb_workers.proofs.WorkEvents.{prefix-trans}
+use Rattle.snb_base.proofs.Laws.{prefix-length, prefix-refl}
 
 -- a beginning and what stands past it are the whole
 rest_of : (taken h : List Event) (front : ℕ) → IsPrefix taken h → front ≡ length taken → taken ++ drop front h ≡ h

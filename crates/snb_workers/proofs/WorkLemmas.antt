@@ -3,7 +3,7 @@ use Rattle.std.proofs.Common.{◌≡◌, ◌∙◌, ℕ, ◌<◌, List, [], ◌�
 use Rattle.std.specs.Prelude.{AllPairs, Contains, IfSome, ℤ, slice_get}
 use Rattle.std.proofs.lemmas.Bool.{eq-eqb}
 use Rattle.std.proofs.lemmas.List.Elements.{Contains-append_left}
-use Rattle.snb_base.proofs.Laws.{contains_cases}
+use Rattle.snb_base.proofs.Laws.{contains_cases, slice_get-prefix}
 use Rattle.snb_history.specs.declared.event.Event.{Event}
 use Rattle.snb_history.specs.declared.event.Event.TheVariants.{Start, Finish, Halt}
 use Rattle.snb_schema.specs.declared.query.Query.{Query}
@@ -26,7 +26,7 @@ use Rattle.snb_workers.specs.Works.{AreTimely, HasStopped, HasWorked, IsFollowin
 use Rattle.snb_workers.specs.WorkTurns.{HasCome, HasFollowed, HasReplied, IsAtWork, IsHolding}
 use Rattle.snb_workers.proofs.TurnReplies.{answered_at_finish, front_is, fronts_served, none_replied}
 use Rattle.snb_workers.proofs.WorkCalls.{added_called, come_called, following_later, later, later-trans, replied_called, replies_within, runs_on, timely_fixed, whole}
-use Rattle.snb_workers.proofs.WorkEvents.{own_contained, slice_get-prefix, starts_there}
+use Rattle.snb_workers.proofs.WorkEvents.{own_contained, starts_there}
 use Rattle.snb_workers.proofs.WorkFollow.{followed_by_none}
 
 -- ---- a seat that has perhaps looked

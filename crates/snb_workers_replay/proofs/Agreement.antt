@@ -6,7 +6,7 @@ use Rattle.snb_graph_model.specs.Graphs.{HasGained}
 use Rattle.snb_graph_model.specs.Laws.{GraphsAreTheirRows}
 use Rattle.snb_workers_replay.specs.Laws.{CompleteIsFinal, HistoriesAgree}
 
-same_gain : GraphsAreTheirRows → (base more g h : List Row) → HasGained base more g → HasGained base more h → g ≡ h
+pub same_gain : GraphsAreTheirRows → (base more g h : List Row) → HasGained base more g → HasGained base more h → g ≡ h
 same_gain rows base more g h a b =
     rows g h a.graph b.graph
     (λ r. (λ c. Contains-permutation g h r (IsPermutation-trans g (base ++ more) h a.rows (IsPermutation-sym h (base ++ more) b.rows)) c, λ c. Contains-permutation h g r (IsPermutation-trans h (base ++ more) g b.rows (IsPermutation-sym g (base ++ more) a.rows)) c))

@@ -7,7 +7,6 @@ use Rattle.std.proofs.lemmas.Bool.{cases_Bool, cases_lt, eqb-true}
 use Rattle.std.proofs.lemmas.List.{length-map}
 use Rattle.std.proofs.lemmas.List.Sums.{sum_by-cons}
 use Rattle.std.proofs.lemmas.List.Sorted.{IsPermutation-append_right, IsPermutation-trans}
-use Rattle.snb_base.proofs.ListLemmas.{contains_at, split_at}
 use Rattle.snb_history.specs.declared.event.Event.{Event}
 use Rattle.snb_history.specs.declared.event.Event.TheVariants.{Start, Finish, Halt}
 use Rattle.snb_schema.specs.declared.op.Op.{Op}
@@ -20,8 +19,8 @@ use Rattle.snb_history.specs.Schedule.{IsOperation, Schedule}
 use Rattle.snb_plan.specs.Plans.{Operation, Plan, schedule_of}
 use Rattle.snb_workers_replay.specs.Laws.{CompleteIsFinal}
 use Rattle.snb_workers_replay.specs.Replay.{all_rows, insert_at, insert_in, inserts_in, rows_in}
-use Rattle.snb_workers_replay.proofs.Lists.{of_any}
 use Rattle.snb_workers_replay.proofs.Times.{above_none, from, moved, times, within_once}
+use Rattle.snb_base.proofs.Laws.{contains_at, from_any, split_at}
 
 -- ---- rows by the numbers of operations
 
@@ -101,7 +100,7 @@ times-none k (Halt worker ∷ h) left = times-none k h left
 -- what is finished is an operation
 finished_within : (s : Schedule) (workers : ℕ) (h : List Event) (k : ℕ) → IsLegal s workers h → finished h k ≡ true → IsOperation s k
 finished_within s workers h k legal done =
-    let w = of_any (finishes k) h done in
+    let w = from_any (finishes k) h done in
     let place = contains_at h w.0 w.1 in
     by_event w.0 place.0 place.1 w.2
   where

@@ -6,7 +6,6 @@ use Rattle.std.proofs.lemmas.Bool.{eq-eqb, eqb-true}
 use Rattle.std.proofs.lemmas.List.Elements.{Contains-append_cases, Contains-append_left, Contains-append_right}
 use Rattle.std.proofs.lemmas.List.Sorted.{Contains-permutation, IsPermutation-sym}
 use Rattle.std.specs.List.Sorted.{IsPermutation}
-use Rattle.snb_base.proofs.ListLemmas.{given_by, gives, none_in}
 use Rattle.snb_history.specs.declared.event.Event.{Event}
 use Rattle.snb_history.specs.declared.event.Event.TheVariants.{Start, Finish, Halt}
 use Rattle.snb_schema.specs.declared.op.Op.{Op}
@@ -16,9 +15,8 @@ use Rattle.snb_schema.specs.Inserts.{rows_of}
 use Rattle.snb_schema.specs.RowKeys.{RowKey}
 use Rattle.snb_graph_model.specs.Graphs.{HasKey}
 use Rattle.snb_plan.specs.Plans.{Plan}
-use Rattle.snb_base.proofs.Laws.{contains_cases, contains_here, contains_there}
+use Rattle.snb_base.proofs.Laws.{any_of, contains_cases, contains_here, contains_there, from_any, given_by, gives, none_in}
 use Rattle.snb_workers_replay.specs.Replay.{IsAfter, finished_insert, insert_at, inserts_in, rows_in}
-use Rattle.snb_workers_replay.proofs.Lists.{any_of, of_any}
 
 -- ---- inserts
 
@@ -32,7 +30,7 @@ insert_finished plan h op c = let w = given_by (finished_insert plan) h op c in 
     by_event (Halt worker) d q = absurd cc
 
 pub finished_inserts : (plan : Plan) (h : List Event) (op : Op) (k : ℕ) → finished h k ≡ true → insert_at plan k ≡ Some op → Contains (inserts_in plan h) op
-finished_inserts plan h op k f q = let w = of_any (finishes k) h f in by_event w.0 w.1 w.2
+finished_inserts plan h op k f q = let w = from_any (finishes k) h f in by_event w.0 w.1 w.2
   where
     by_event : (e : Event) → Contains h e → finishes k e ≡ true → Contains (inserts_in plan h) op
     by_event (Start j worker at) d hit = absurd cc

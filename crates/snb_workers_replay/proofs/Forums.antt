@@ -5,7 +5,6 @@ use Rattle.std.proofs.lemmas.Bool.{cases_lt}
 use Rattle.std.proofs.lemmas.List.{get_or_append_left}
 use Rattle.std.proofs.lemmas.List.Elements.{All-contains}
 use Rattle.std.proofs.lemmas.Option.{same_Some}
-use Rattle.snb_base.proofs.ListLemmas.{at_contains, none_in}
 use Rattle.snb_schema.specs.declared.op.Line.{Line}
 use Rattle.snb_schema.specs.declared.op.Op.{Op}
 use Rattle.snb_schema.specs.declared.op.Op.TheVariants as ops
@@ -21,7 +20,7 @@ use Rattle.snb_schema.specs.StreamLines.{AreOfStream, AreOfStreams}
 use Rattle.snb_schema.specs.UpdateLines.{kind_of, person_inserts}
 use Rattle.snb_plan.specs.Closed.{is_in_lane}
 use Rattle.snb_plan.specs.Plans.{kinds_of, lane_of, numbered_lanes}
-use Rattle.snb_base.proofs.Laws.{contains_cases}
+use Rattle.snb_base.proofs.Laws.{at_contains, contains_cases, none_in}
 
 -- ---- what an insert adds
 

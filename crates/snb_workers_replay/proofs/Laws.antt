@@ -7,7 +7,6 @@ use Rattle.std.specs.List.Sorted.{IsPermutation}
 use Rattle.std.proofs.lemmas.List.Concat.{flat_map-append}
 use Rattle.std.proofs.lemmas.List.Elements.{All-append, All-contains, filter_map-append}
 use Rattle.std.proofs.lemmas.List.Sorted.{IsPermutation-append_left, IsPermutation-trans}
-use Rattle.snb_base.proofs.ListLemmas.{at_contains}
 use Rattle.snb_history.specs.declared.event.Event.{Event}
 use Rattle.snb_history.specs.declared.event.Event.TheVariants.{Finish}
 use Rattle.snb_schema.specs.declared.op.Line.{Line}
@@ -21,6 +20,8 @@ use Rattle.snb_plan.specs.Plans.{Ask, Insert, IsLineOf, IsOfStreams, IsRead, IsU
 use Rattle.snb_inserts.specs.Applying.{HasLine}
 use Rattle.snb_workers_replay.specs.Replay.{IsAfter, IsBefore, finished_insert, insert_at, insert_in, inserts_before, inserts_in, rows_before, rows_in}
 use Rattle.snb_workers_replay.proofs.Updates.{step_at, update_at}
+pub use Rattle.snb_workers_replay.proofs.Agreement.{same_gain}
+use Rattle.snb_base.proofs.Laws.{at_contains}
 
 -- what an operation of a plan inserts has a line
 pub insert_has_line : (plan : Plan) (k : ℕ) (op : Op) → IsOfStreams plan → insert_at plan k ≡ Some op → HasLine op

@@ -1,13 +1,11 @@
 -- Facts about lists: where elements stand, and what is taken out of a list.
-use Rattle.std.proofs.Common.{◌≡◌, ◌∷◌, ◌++◌, ◌∙◌, ℕ, ◌+◌, ◌<◌, List, [], take, drop, Bool, true, Option, Some, inl, inr, sym, ap, arith, length-take}
+use Rattle.std.proofs.Common.{◌≡◌, ◌∷◌, ◌++◌, ◌∙◌, ℕ, ◌+◌, ◌<◌, List, take, drop, Option, Some, sym, ap, arith, length-take}
 use Rattle.std.specs.Prelude.{Contains, slice_get}
-use Rattle.std.specs.List.{cons_option, filter_map, list_any}
-use Rattle.std.proofs.lemmas.Bool.{cases_Bool}
+use Rattle.std.specs.List.{cons_option, filter_map}
 use Rattle.std.proofs.lemmas.List.{get_or-take}
 use Rattle.std.proofs.lemmas.List.Elements.{filter_map-append}
 use Rattle.std.proofs.lemmas.Option.{get_or_from_slice_get, slice_get-get_or, slice_get_within}
-use Rattle.snb_base.proofs.ListLemmas.{gives, none_in, split_at}
-use Rattle.snb_base.proofs.Laws.{contains_cases, contains_here, contains_there}
+use Rattle.snb_base.proofs.Laws.{gives, split_at}
 
 -- ---- places
 
@@ -34,20 +32,3 @@ given_split {X} {Y} f xs k x y e q =
     ∙ (sym (filter_map-append f (take k xs) (x ∷ drop (k + 1) xs)) ∙ ap (filter_map f) (split_at xs k x e))
 
 -- ---- tests
-
--- a test passes somewhere in a list where an element passes it, and the other way round
-pub any_of : {X : Type 0} (p : X → Bool) (xs : List X) (x : X) → Contains xs x → p x ≡ true → list_any p xs ≡ true
-any_of p [] x c q = absurd (none_in x c)
-any_of p (z ∷ xs) x c q =
-    elim (contains_cases z xs x c) [
-      | inl here ↦ let a : p z ≡ true = ap p here ∙ q in grind arith
-      | inr rest ↦ let a = any_of p xs x rest q in grind arith
-    ]
-
-pub of_any : {X : Type 0} (p : X → Bool) (xs : List X) → list_any p xs ≡ true → (x : X) × Contains xs x × (p x ≡ true)
-of_any p [] q = absurd cc
-of_any p (z ∷ xs) q =
-    elim (cases_Bool (p z)) [
-      | inl hit ↦ (z, contains_here z xs, hit)
-      | inr miss ↦ let w = of_any p xs (grind arith) in (w.0, contains_there z xs w.0 w.1, w.2)
-    ]

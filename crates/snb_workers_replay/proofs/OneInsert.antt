@@ -5,9 +5,8 @@ use Rattle.std.specs.List.Sorted.{IsStrictlySortedBy}
 use Rattle.std.proofs.lemmas.List.Elements.{All-cons, All-nil}
 use Rattle.std.proofs.lemmas.Option.{same_Some}
 use Rattle.std.proofs.lemmas.Str.{IsUtf8-from_ascii, IsUtf8-nil}
-use Rattle.snb_base.proofs.ListLemmas.{none_in}
 use Rattle.snb_base.specs.Spellings.{Num}
-use Rattle.snb_base.proofs.Laws.{contains_cases, contains_here}
+use Rattle.snb_base.proofs.Laws.{contains_here, in_one, none_in}
 use Rattle.snb_history.specs.declared.event.Event.TheVariants.{Start, Finish}
 use Rattle.snb_schema.proofs.Laws.{each_same}
 use Rattle.snb_schema.specs.QueryPlaces.{place_of, values_of}
@@ -35,10 +34,6 @@ use Rattle.snb_plan.specs.Plans.{IsLineOf, IsPlan, IsRead, IsUpdate, Operation, 
 use Rattle.snb_workers_replay.specs.Laws.{IsReplayed}
 use Rattle.snb_workers_replay.specs.Worked.{city, newcomer, one_insert, one_lane, one_turn, only}
 
--- an element of a list of one is that one
-single : {X : Type 0} (x y : X) → Contains (x ∷ []) y → x ≡ y
-single x y c = elim (contains_cases x [] y c) [ inl e ↦ e | inr more ↦ absurd (none_in y more) ]
-
 -- ---- the graph
 
 name_fits : IsFieldText (codes "Townville")
@@ -61,17 +56,17 @@ pub graph : IsGraph (city ∷ [])
 unfolding IsStrictlySortedBy
 graph = record {
   rises = (tt, tt);
-  apart = λ r s cr cs same. sym (single city r cr) ∙ single city s cs;
+  apart = λ r s cr cs same. sym (in_one city r cr) ∙ in_one city s cs;
   of_tables = All-cons IsTableRow city [] city_fits (All-nil IsTableRow);
 }
 
 -- the city is no person and no comment
 no_other : (k : RowKey) → HasKey (city ∷ []) k → table.Place ≡ k.0
-no_other k h = ap (λ (r : Row). (row_key r).0) (single city h.it h.held) ∙ ap (λ (x : RowKey). x.0) h.keyed
+no_other k h = ap (λ (r : Row). (row_key r).0) (in_one city h.it h.held) ∙ ap (λ (x : RowKey). x.0) h.keyed
 
 pub sound : Sound (city ∷ [])
 sound = record {
-  held = λ r c. subst (λ (x : Row). All (λ ref. HasKey (city ∷ []) (node_key ref.1.kind ref.1.id)) (refs_of_row x false)) (single city r c) (All-nil _);
+  held = λ r c. subst (λ (x : Row). All (λ ref. HasKey (city ∷ []) (node_key ref.1.kind ref.1.id)) (refs_of_row x false)) (in_one city r c) (All-nil _);
   complete = refl;
   rooted = λ comment h. absurd (let e = no_other (table.Comment, comment, 0, []) h in cc);
 }
@@ -125,7 +120,7 @@ is_plan = record {
   are_updates = record {
     ordered = λ i j d below lt. absurd (omega arith);
     those = λ p. (
-      λ c. subst (IsLineOf one_lane) (single only p c) (record { in_lanes = omega arith; here = refl }),
+      λ c. subst (IsLineOf one_lane) (in_one only p c) (record { in_lanes = omega arith; here = refl }),
       λ is. subst (Contains (only ∷ [])) (these p.lane p.place p.line is.in_lanes is.here) (contains_here only []),
     );
   };
@@ -136,13 +131,13 @@ is_plan = record {
   lane_kinds = refl;
   numbered = record {
     ordered = λ i j d below lt. absurd (omega arith);
-    those = λ o. (λ c. inl (only, contains_here only [], sym (single _ o c)), to o);
+    those = λ o. (λ c. inl (only, contains_here only [], sym (in_one _ o c)), to o);
   };
 }
   where
     to : (o : Operation) → IsUpdate one_lane 1000000 2 (only ∷ []) o ⊎ IsRead one_lane no_lists 1000000 2 (only ∷ []) [] o → Contains one_insert.operations o
     to o (inl (p, c, same)) =
-        subst (Contains one_insert.operations) (sym (same ∙ ap (update_operation one_lane 1000000 2) (sym (single only p c)))) (contains_here (update_operation one_lane 1000000 2 only) [])
+        subst (Contains one_insert.operations) (sym (same ∙ ap (update_operation one_lane 1000000 2) (sym (in_one only p c)))) (contains_here (update_operation one_lane 1000000 2 only) [])
     to o (inr r) = absurd (let e = r.here in cc)
 
 abbrev update : Update
@@ -152,7 +147,7 @@ closed_at : IsClosedAt (HoldsKey (city ∷ [])) (update ∷ []) [] update
 closed_at = record {
   timely = λ waits. absurd cc;
   new = λ taken. elim taken.2 [
-    | inl held ↦ absurd (let e = no_other (named_key taken.0) held in let key = single (Node kinds.Person 5) taken.0 taken.1 in let p : table.Person ≡ (named_key taken.0).0 = ap (λ (k : Key). (named_key k).0) key in cc)
+    | inl held ↦ absurd (let e = no_other (named_key taken.0) held in let key = in_one (Node kinds.Person 5) taken.0 taken.1 in let p : table.Person ≡ (named_key taken.0).0 = ap (λ (k : Key). (named_key k).0) key in cc)
     | inr before ↦ absurd (none_in before.0 before.1)
   ];
   met = All-cons (IsMet (HoldsKey (city ∷ [])) (update ∷ []) [] update) (ref kinds.Place 0) [] (inl there) (All-nil _);

@@ -1,12 +1,13 @@
 -- How often numbers stand in a list. Where two lists of numbers have the same ones, each as often, what these give is the same in another order.
-use Rattle.std.proofs.Common.{◌≡◌, ◌∷◌, ◌++◌, ◌∙◌, ℕ, zero, suc, ◌+◌, ◌<◌, ◌≤◌, List, [], cond, Bool, true, false, inl, inr, refl, sym, ap, subst, append_assoc, arith}
+use Rattle.std.proofs.Common.{◌≡◌, ◌∷◌, ◌++◌, ◌∙◌, ℕ, zero, suc, ◌+◌, ◌<◌, ◌≤◌, List, [], cond, Bool, true, false, inl, inr, refl, sym, ap, subst, arith}
 use Rattle.std.specs.Prelude.{◌==◌}
 use Rattle.std.specs.List.{flat_map}
 use Rattle.std.specs.List.Sorted.{IsPermutation}
 use Rattle.std.proofs.lemmas.Bool.{cases_eq, cases_lt}
 use Rattle.std.proofs.lemmas.Bool.Decides.{nat_tests}
 use Rattle.std.proofs.lemmas.List.Concat.{flat_map-append}
-use Rattle.std.proofs.lemmas.List.Sorted.{IsPermutation-append_comm, IsPermutation-append_left, IsPermutation-append_right, IsPermutation-refl, IsPermutation-trans}
+use Rattle.std.proofs.lemmas.List.Sorted.{IsPermutation-append_right, IsPermutation-refl, IsPermutation-trans}
+use Rattle.snb_base.proofs.Laws.{shuffled}
 
 -- how often a number stands in a list
 abbrev pub times : ℕ → List ℕ → ℕ
@@ -32,13 +33,6 @@ stands k (x ∷ xs) lt = elim (cases_eq x k) [
   | inr differ ↦ (let w = stands k xs (grind (arith, nat_tests)) in (x ∷ w.0, w.1, ap (λ (l : List ℕ). x ∷ l) w.2))
 ]
 
--- the first of three lists goes behind the second
-second_first : {X : Type 0} (p q r : List X) → IsPermutation (p ++ (q ++ r)) (q ++ (p ++ r))
-second_first {X} p q r =
-    subst (λ (l : List X). IsPermutation l (q ++ (p ++ r))) (append_assoc p q r)
-    (subst (λ (l : List X). IsPermutation ((p ++ q) ++ r) l) (append_assoc q p r)
-    (IsPermutation-append_left r (p ++ q) (q ++ p) (IsPermutation-append_comm p q)))
-
 same_less : (p : Bool) (m n : ℕ) → cond p (suc m) m ≡ cond p (suc n) n → m ≡ n
 same_less true m n e = omega (arith, e)
 same_less false m n e = e
@@ -61,7 +55,7 @@ moved {X} f (x ∷ xs) ys same =
     subst (λ (l : List X). IsPermutation (f x ++ flat_map f xs) l) (sym (flat_map-append f w.0 (x ∷ w.1)) ∙ ap (flat_map f) w.2)
     (IsPermutation-trans (f x ++ flat_map f xs) (f x ++ (flat_map f w.0 ++ flat_map f w.1)) (flat_map f w.0 ++ (f x ++ flat_map f w.1))
     (IsPermutation-append_right (f x) (flat_map f xs) (flat_map f w.0 ++ flat_map f w.1) inner)
-    (second_first (f x) (flat_map f w.0) (flat_map f w.1)))
+    (shuffled (f x) (flat_map f w.0) (flat_map f w.1)))
 
 -- ---- numbers in turn
 

@@ -2,9 +2,8 @@
 use Rattle.std.proofs.Common.{◌≡◌, ◌∙◌, ℕ, ◌+◌, ◌<◌, ◌⊎◌, List, length, take, drop, Option, Some, None, inl, inr, refl, sym, ap, subst, arith}
 use Rattle.std.specs.Prelude.{Contains, slice_get}
 use Rattle.std.specs.List.{filter_map}
-use Rattle.std.proofs.lemmas.List.{get_or-map, length-map}
-use Rattle.std.proofs.lemmas.Option.{get_or_from_slice_get, same_Some, slice_get_within}
-use Rattle.snb_base.proofs.ListLemmas.{at_contains, contains_at, given_by, gives}
+use Rattle.std.proofs.lemmas.List.{length-map}
+use Rattle.std.proofs.lemmas.Option.{same_Some, slice_get_within}
 use Rattle.snb_schema.specs.declared.key.Key.{Key}
 use Rattle.snb_schema.specs.declared.op.Op.{Op}
 use Rattle.snb_history.specs.declared.step.Step.{Step}
@@ -12,12 +11,14 @@ use Rattle.snb_schema.specs.Awaiting.{adds_awaited, waits}
 use Rattle.snb_schema.specs.Frequencies.{FrequencyTable}
 use Rattle.snb_schema.specs.LineLanes.{LineLanes}
 use Rattle.snb_schema.specs.QueryLists.{QueryLists}
-use Rattle.snb_history.specs.Schedule.{IsOperation, is_dependency, no_step, step_of}
+use Rattle.snb_history.specs.Schedule.{IsOperation, is_dependency, step_of}
 use Rattle.snb_plan.specs.declared.plan.Source.{Source}
 use Rattle.snb_plan.specs.Closed.{IsClosed, IsClosedAt, Update}
 use Rattle.snb_plan.specs.Plans.{Ask, Insert, IsPlan, IsLineOf, IsRead, IsUpdate, Operation, Placed, Plan, Work, file_of, first_t, lane_of, numbered_lanes, schedule_of, update_from, update_operation, updates_in}
 use Rattle.snb_workers_replay.specs.Replay.{insert_at, insert_in}
 use Rattle.snb_workers_replay.proofs.Lists.{from_front, given_split, in_front}
+use Rattle.snb_plan.proofs.Laws.{step_here}
+use Rattle.snb_base.proofs.Laws.{at_contains, contains_at, given_by, gives}
 
 -- the update that an operation is, if it is one
 abbrev pub update_of : Operation → Option Update
@@ -81,11 +82,6 @@ pub record IsStepAt (lanes : LineLanes) (plan : Plan) (k : ℕ) (u : Update) : T
   pub in_lanes : u.lane < length (numbered_lanes lanes)
   pub place : ℕ
   pub line : slice_get (lane_of lanes u.lane) place ≡ Some u.line
-
-step_here : (plan : Plan) (k : ℕ) (o : Operation) → slice_get plan.operations k ≡ Some o → step_of (schedule_of plan) k ≡ o.step
-step_here plan k o e =
-    get_or-map (λ (x : Operation). x.step) plan.operations k o no_step (slice_get_within plan.operations k o e)
-    ∙ ap (λ (x : Operation). x.step) (get_or_from_slice_get plan.operations k o o e)
 
 module _ {lanes : LineLanes} {lists : QueryLists} {frequencies : FrequencyTable} {ratio : ℕ} {plan : Plan} (is_plan : IsPlan lanes lists frequencies ratio plan) where
   -- the operation is one of the plan's updates, or one of its reads

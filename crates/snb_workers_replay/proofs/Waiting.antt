@@ -1,18 +1,17 @@
 -- A legal history of a plan waits as the lines of its streams say.
-use Rattle.std.proofs.Common.{◌≡◌, ◌∷◌, ◌++◌, ◌∙◌, ℕ, ◌⊎◌, List, true, inl, inr, sym, ap, subst, arith}
+use Rattle.std.proofs.Common.{◌≡◌, ◌∙◌, ℕ, ◌⊎◌, inl, inr, sym, ap, subst, arith}
 use Rattle.std.specs.Prelude.{◌<ℤ◌, pos}
-use Rattle.snb_base.proofs.ListLemmas.{at_contains}
-use Rattle.snb_history.specs.declared.event.Event.{Event}
 use Rattle.snb_history.specs.declared.event.Event.TheVariants.{Start}
 use Rattle.snb_schema.specs.declared.op.Line.{Line}
 use Rattle.snb_schema.specs.Awaiting.{adds_awaited, waits}
 use Rattle.snb_history.specs.Completion.{completion}
 use Rattle.snb_history.specs.Laws.{CompletionWaits}
-use Rattle.snb_history.specs.Rules.{Fits, IsLegal, V5}
+use Rattle.snb_history.specs.Rules.{Fits, V5}
 use Rattle.snb_history.specs.Schedule.{is_dependency, step_of}
 use Rattle.snb_plan.specs.Plans.{Insert, IsOfStreams, IsRead, IsUpdate, Operation, Plan, first_t, schedule_of}
 use Rattle.snb_workers_replay.specs.Waiting.{IsInsertOf, RunsWait, StaysBelow, WaitsForAll}
 use Rattle.snb_workers_replay.proofs.Updates.{step_planned}
+use Rattle.snb_base.proofs.Laws.{at_contains}
 
 -- what the scheduler sees of an insert is what its line says
 record IsSeen (plan : Plan) (k : ℕ) (line : Line) : Type 0 where

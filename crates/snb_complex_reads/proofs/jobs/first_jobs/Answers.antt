@@ -1,13 +1,13 @@
 use Rattle.std.proofs.Common.{rules, refl}
 use Rattle.std.proofs.lemmas.List.Sorted.{IsPermutation-refl}
 use Rattle.std.proofs.lemmas.Result.{IfOk-weaker}
-use Rattle.snb_base.proofs.ListLemmas.{each_at, each_made}
 use Rattle.snb_read_order.proofs.Laws.{compares, walked}
 use Rattle.snb_read_model.specs.Order.{First}
 use Rattle.snb_complex_reads.proofs.JobLemmas.{job_answers, jobs_first, jobs_total}
 use Rattle.snb_complex_reads.specs.Jobs.{IsJobFound, job_of}
 use Rattle.snb_read_model.specs.ComplexReads.{IsJob}
 use Rattle.snb_complex_reads.proofs.jobs.first_jobs.Goals as goal
+use Rattle.snb_base.proofs.Laws.{each_at, each_made}
 
 pub list_of-requires : goal.list_of-requires
 list_of-requires c =

@@ -1,13 +1,13 @@
 use Rattle.std.proofs.Common.{rules, refl}
 use Rattle.std.proofs.lemmas.List.Sorted.{IsPermutation-refl}
 use Rattle.std.proofs.lemmas.Result.{IfOk-weaker}
-use Rattle.snb_base.proofs.ListLemmas.{each_at, each_made}
 use Rattle.snb_read_order.proofs.Laws.{compares, walked}
 use Rattle.snb_read_model.specs.Order.{First}
 use Rattle.snb_complex_reads.proofs.LikeLemmas.{like_answers, likes_first, likes_total}
 use Rattle.snb_complex_reads.specs.Found.{IsLikeFound}
 use Rattle.snb_read_model.specs.ComplexReads.{IsLiked}
 use Rattle.snb_complex_reads.proofs.liked.latest_likes.Goals as goal
+use Rattle.snb_base.proofs.Laws.{each_at, each_made}
 
 pub list_of-requires : goal.list_of-requires
 list_of-requires c =

@@ -1,13 +1,13 @@
 use Rattle.std.proofs.Common.{rules, refl}
 use Rattle.std.proofs.lemmas.List.Sorted.{IsPermutation-refl}
 use Rattle.std.proofs.lemmas.Result.{IfOk-weaker}
-use Rattle.snb_base.proofs.ListLemmas.{each_at, each_made}
 use Rattle.snb_read_order.proofs.Laws.{compares, walked}
 use Rattle.snb_read_model.specs.Order.{First}
 use Rattle.snb_complex_reads.proofs.NamesakeLemmas.{namesake_answers, namesakes_first, namesakes_total}
 use Rattle.snb_complex_reads.specs.Namesakes.{IsNamesakeFound, namesake_of}
 use Rattle.snb_read_model.specs.ComplexReads.{IsNamesake}
 use Rattle.snb_complex_reads.proofs.namesakes.first_namesakes.Goals as goal
+use Rattle.snb_base.proofs.Laws.{each_at, each_made}
 
 pub list_of-requires : goal.list_of-requires
 list_of-requires c =

@@ -2,8 +2,9 @@ use Rattle.std.proofs.Common.{rules, sym, subst, ap}
 use Rattle.snb_graph_links.specs.Pairs.{rest}
 use Rattle.snb_read_order.proofs.Laws.{compares}
 use Rattle.snb_read_model.specs.ComplexReads.{AreStays, stay_cmp}
-use Rattle.snb_complex_reads.proofs.NamesakeLemmas.{naming_begins, naming_done, naming_head, naming_next, stay_total}
+use Rattle.snb_complex_reads.proofs.NamesakeLemmas.{naming_begins, naming_done, naming_head, naming_next}
 use Rattle.snb_complex_reads.proofs.namesakes.stays.Goals as goal
+use Rattle.snb_read_laws.proofs.Laws.{stay_total}
 
 pub loop-one-init : goal.loop-one-init
 loop-one-init c = naming_begins c.args.graph.now (rest c.args.found) _ _ (ap rest c.into_iter-one-iterator.ensures.into_iter_gives) c.new-named.ensures.items c.requires.found

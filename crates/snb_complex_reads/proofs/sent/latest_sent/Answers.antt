@@ -1,13 +1,13 @@
 use Rattle.std.proofs.Common.{rules, refl, subst}
 use Rattle.std.proofs.lemmas.List.Sorted.{IsPermutation-refl}
 use Rattle.std.proofs.lemmas.Result.{IfOk-weaker}
-use Rattle.snb_base.proofs.ListLemmas.{each_at, each_made}
 use Rattle.snb_read_order.proofs.Laws.{compares, walked}
 use Rattle.snb_read_model.specs.ComplexReads.{IsSent}
 use Rattle.snb_read_model.specs.Order.{First, FirstOf}
 use Rattle.snb_complex_reads.proofs.SentLemmas.{sent_answers, sent_total}
 use Rattle.snb_complex_reads.specs.Found.{IsSentFound, sent_first}
 use Rattle.snb_complex_reads.proofs.sent.latest_sent.Goals as goal
+use Rattle.snb_base.proofs.Laws.{each_at, each_made}
 
 pub list_of-requires : goal.list_of-requires
 list_of-requires c =

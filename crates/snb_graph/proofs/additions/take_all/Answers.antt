@@ -1,7 +1,8 @@
 use Rattle.std.proofs.Common.{rules, sym, subst}
 use Rattle.snb_graph.specs.Additions.{HoldsAll, Lead}
-use Rattle.snb_graph.proofs.GraphLemmas.{lead_graph, lead_holds, lead_last, none_left}
+use Rattle.snb_graph.proofs.GraphLemmas.{lead_graph, lead_holds, lead_last}
 use Rattle.snb_graph.proofs.additions.take_all.Goals as goal
+use Rattle.std.proofs.lemmas.List.{nil_from_length}
 
 pub take_last-requires-clause-some : goal.take_last-requires-clause-some
 take_last-requires-clause-some c =
@@ -30,4 +31,4 @@ loop-noted-preserved c =
 
 pub returns-clause-back : goal.returns-clause-back
 returns-clause-back c old graph lead =
-    subst (λ l. Lead old l c.loop-noted.tables.rows) (none_left c.loop-noted.left.items (let e = c.in_default.ensures.cases.0 in search (rules, e))) (c.loop-noted.invariant.all old graph lead)
+    subst (λ l. Lead old l c.loop-noted.tables.rows) (nil_from_length c.loop-noted.left.items (let e = c.in_default.ensures.cases.0 in search (rules, e))) (c.loop-noted.invariant.all old graph lead)

@@ -1,7 +1,7 @@
 use Rattle.std.proofs.Common.{rules, sym}
 use Rattle.std.proofs.lemmas.Fn.{always_returns_same}
-use Rattle.snb_graph_maps.proofs.SearchLemmas.{found_at, missed_at, searchable}
 use Rattle.snb_graph_links.proofs.search.find.Goals as goal
+use Rattle.snb_graph_maps.proofs.Laws.{found_at, missed_at, searchable}
 
 -- the key is at its place
 pub returns-in-Ok : goal.returns-in-Ok

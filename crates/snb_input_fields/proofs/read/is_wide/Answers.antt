@@ -1,8 +1,8 @@
 use Rattle.std.proofs.Common.{◌+◌}
 use Rattle.std.proofs.lemmas.Bool.Decides.{Decides-eqb}
-use Rattle.snb_input_fields.proofs.ReadingFacts.{found_there, none_there}
 use Rattle.snb_input_fields.proofs.WideFacts.{tests_empty, tests_longer, tests_none}
 use Rattle.snb_input_fields.proofs.read.is_wide.Goals as goal
+use Rattle.snb_input_lines.proofs.Laws.{found_there, none_there}
 
 pub returns-in-None : goal.returns-in-None
 returns-in-None c = tests_none c.args.count c.len-found.result c.args.fields.now c.len-found.ensures (none_there c.get.result _ c.get.ensures.value c.in-None.is)

@@ -1,7 +1,8 @@
 use Rattle.std.proofs.Common.{refl, add-one, arith}
 use Rattle.std.specs.Str.{IsUtf8}
-use Rattle.snb_input_fields.proofs.ReadingFacts.{found_there, holds_at, none_spelled, none_there, some_field, some_spelled, spells_push, stops_here}
+use Rattle.snb_input_fields.proofs.ReadingFacts.{holds_at, none_spelled, some_spelled, spells_push, stops_here}
 use Rattle.snb_input_fields.proofs.read.read_values.Goals as goal
+use Rattle.snb_input_lines.proofs.Laws.{found_there, none_there, some_field}
 
 pub unreachable-requires : goal.unreachable-requires
 unreachable-requires c =

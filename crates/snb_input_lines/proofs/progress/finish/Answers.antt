@@ -1,8 +1,9 @@
 use Rattle.std.proofs.Common.{sym, ap, ◌≡◌, ◌≢◌, ◌∙◌, [], inl, inr, subst, Some}
 use Rattle.snb_input_lines.specs.Reading.{end_fault}
-use Rattle.snb_input_lines.proofs.RunFacts.{bad_at_once, empty_vec, filled_vec, last_stops, last_then_bad, passed_on}
+use Rattle.snb_input_lines.proofs.RunFacts.{bad_at_once, empty_vec, filled_vec, last_stops, last_then_bad}
 use Rattle.snb_input_lines.proofs.progress.finish.Goals as goal
 use Rattle.snb_input_lines.proofs.progress.finish.Goals.{then-not-is_empty+in_ok-take_last, else-not-is_empty}
+use Rattle.snb_schema.proofs.Laws.{passed_on}
 
 pub returns-in_err-take_last-clause-bad : goal.returns-in_err-take_last-clause-bad
 returns-in_err-take_last-clause-bad g c =

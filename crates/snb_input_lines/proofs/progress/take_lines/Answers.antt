@@ -2,8 +2,9 @@ use Rattle.std.proofs.Common.{subst, sym, ap, ◌++◌, ◌∙◌, ℕ, Bool, Li
 use Rattle.snb_schema.specs.declared.limits.TheConstants.{MAX_BYTES}
 use Rattle.snb_schema.specs.Lines.{HasNoEnd}
 use Rattle.snb_input_lines.specs.Language.{FieldsAs}
-use Rattle.snb_input_lines.proofs.RunFacts.{Coming, coming_at_once, coming_some, coming_step, coming_stops, coming_whole, on_memory, passed_on, room_step}
+use Rattle.snb_input_lines.proofs.RunFacts.{Coming, coming_at_once, coming_some, coming_step, coming_stops, coming_whole, on_memory, room_step}
 use Rattle.snb_input_lines.proofs.progress.take_lines.Goals as goal
+use Rattle.snb_schema.proofs.Laws.{passed_on}
 
 pub returns-in_err-take_line-clause-bad : goal.returns-in_err-take_line-clause-bad
 returns-in_err-take_line-clause-bad g c =

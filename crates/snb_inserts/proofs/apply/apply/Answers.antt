@@ -5,8 +5,9 @@ use Rattle.snb_graph.specs.Additions.{HasClash}
 use Rattle.snb_graph_model.specs.Graphs.{HasGained}
 use Rattle.snb_inserts.specs.Applying.{IsWelcome}
 use Rattle.snb_inserts.specs.declared.applied.Applied.TheVariants as applied
-use Rattle.snb_inserts.proofs.MissingLemmas.{none_first, not_held, told_missing, told_none}
+use Rattle.snb_inserts.proofs.MissingLemmas.{none_first, told_missing, told_none}
 use Rattle.snb_inserts.proofs.apply.apply.Goals as goal
+use Rattle.snb_base.proofs.Laws.{not_held}
 
 pub returns-in-Some-clause-missing : goal.returns-in-Some-clause-missing
 returns-in-Some-clause-missing c = told_missing c.args.graph.now (refs_of c.args.op.now) c.in-Some.missing c.in-Some.ensures

@@ -1,11 +1,10 @@
 use Rattle.std.proofs.Common.{◌≡◌, ◌↔◌, List, [], ◌∷◌, Option, refl, sym, ap, subst, ◌∙◌}
 use Rattle.std.specs.Option.{option_to_list}
 use Rattle.snb_schema.specs.declared.key.Key.{Key}
-use Rattle.snb_base.proofs.Laws.{contains_here}
+use Rattle.snb_base.proofs.Laws.{contains_here, not_held}
 use Rattle.snb_schema.specs.Inserts.{keys_of}
 use Rattle.snb_graph_model.specs.Graphs.{HoldsKey}
 use Rattle.snb_inserts.specs.Applying.{IsAnyHeld}
-use Rattle.snb_inserts.proofs.MissingLemmas.{not_held}
 use Rattle.snb_inserts.proofs.TakenLemmas.{other_held}
 use Rattle.snb_inserts.proofs.taken.is_taken.Goals as goal
 

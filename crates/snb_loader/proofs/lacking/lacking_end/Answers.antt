@@ -2,8 +2,9 @@ use Rattle.std.proofs.Common.{Option, sym, subst}
 use Rattle.snb_schema.specs.declared.table.Kind.{Kind}
 use Rattle.snb_schema.specs.References.{end_ref}
 use Rattle.snb_loader.specs.Tables.{IsFirstLacking}
-use Rattle.snb_loader.proofs.LackingFacts.{not_held, one_lacking}
+use Rattle.snb_loader.proofs.LackingFacts.{one_lacking}
 use Rattle.snb_loader.proofs.lacking.lacking_end.Goals as goal
+use Rattle.snb_base.proofs.Laws.{not_held}
 
 pub returns-else-has : goal.returns-else-has
 returns-else-has c =

@@ -2,9 +2,10 @@ use Rattle.std.proofs.Common.{rules, arith, ◌≡◌, ◌∙◌, ◌<◌, ℕ, 
 use Rattle.snb_schema.specs.declared.query.Query.{Query}
 use Rattle.snb_schema.specs.QueryLists.{list_of}
 use Rattle.snb_loader.specs.Params.{asked}
-use Rattle.snb_loader.proofs.ParamListFacts.{AreSoFar, asked_filled, held_in, held_out, list_left, next_kind, no_items, others_empty, so_far_first, so_far_last}
+use Rattle.snb_loader.proofs.ParamListFacts.{AreSoFar, asked_filled, held_in, held_out, list_left, next_kind, others_empty, so_far_first, so_far_last}
 use Rattle.snb_loader.proofs.params.lists_of.Goals.{then-of-gt0+in-Some+in_ok-add_list-in-Some, else-of-gt0}
 use Rattle.snb_loader.proofs.params.lists_of.Goals as goal
+use Rattle.std.proofs.lemmas.List.{nil_from_length}
 
 pub loop-query-init : goal.loop-query-init
 loop-query-init c = subst (λ (xss : List (List Query)). AreSoFar c.args.frequencies.now c.args.file_sink.done 0 (λ q. list_of c.new-lists.result q) xss) (search rules) (so_far_first c.args.frequencies.now c.args.file_sink.done (λ q. list_of c.new-lists.result q) c.new-lists.ensures c.requires.kinds)
@@ -16,7 +17,7 @@ add_list-requires-clause-kind c =
 
 pub unreachable-requires : goal.unreachable-requires
 unreachable-requires c =
-    let none : c.loop-query.left.rest.items ≡ [] = no_items c.loop-query.left.rest.items (search rules) in
+    let none : c.loop-query.left.rest.items ≡ [] = nil_from_length c.loop-query.left.rest.items (search rules) in
     list_left c.args.frequencies.now c.args.file_sink.done c.loop-query.query-index c.loop-query-test.true (subst (λ (n : ℕ). 0 < n) c.of.ensures.value c.if-of-gt0.true) (λ q. list_of c.loop-query.lists q) (map (λ v. v.items) c.loop-query.left.rest.items) c.loop-query.invariant
     (ap (λ (vs : List (Vec Query Global)). map (λ v. v.items) vs) none)
 

@@ -6,10 +6,11 @@ use Rattle.snb_history.specs.declared.step.Step.{Step}
 use Rattle.snb_plan.specs.Added.{update_of}
 use Rattle.snb_plan.specs.Closed.{Update}
 use Rattle.snb_plan.specs.Positions.{updates_at}
-use Rattle.snb_plan.proofs.ClosedLemmas.{Stands, passed_on, stands_none}
+use Rattle.snb_plan.proofs.ClosedLemmas.{Stands, stands_none}
 use Rattle.snb_plan.proofs.Walking.{Follows, closed_end, follows_at, more_read, more_update, stands_more, tried, updates_rise, wrong_next}
 use Rattle.snb_plan.proofs.plan.check_steps.Goals.{then-not-step+in_ok-check_update, else-not-step}
 use Rattle.snb_plan.proofs.plan.check_steps.Goals as goal
+use Rattle.snb_schema.proofs.Laws.{passed_on}
 
 pub loop-step-init : goal.loop-step-init
 loop-step-init g c = stands_none (g.H.Held.holds c.args.held.now) (updates_at c.args.lanes.now c.args.steps.now) c.new-added.result c.new-added.ensures

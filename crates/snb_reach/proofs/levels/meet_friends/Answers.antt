@@ -3,10 +3,10 @@ use Rattle.std.specs.HashMap.{get}
 use Rattle.std.specs.List.Sorted.{IsPermutation}
 use Rattle.snb_graph_model.specs.Around.{friends}
 use Rattle.snb_graph_links.specs.Pairs.{rest}
-use Rattle.snb_graph_rows.proofs.Laws.{contains_here}
 use Rattle.snb_reach.proofs.LevelLemmas.{growing_met, met_stays}
 use Rattle.snb_reach.proofs.LookLemmas.{all_looked, looked, looks}
 use Rattle.snb_reach.proofs.levels.meet_friends.Goals as goal
+use Rattle.snb_base.proofs.Laws.{contains_here}
 
 pub loop-friend-init : goal.loop-friend-init
 loop-friend-init c = record {

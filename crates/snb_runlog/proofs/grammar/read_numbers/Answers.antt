@@ -2,9 +2,10 @@ use Rattle.std.proofs.Common.{◌≡◌, ◌+◌, ◌∙◌, Some, take, drop, s
 use Rattle.std.proofs.lemmas.List.{take_more_set}
 use Rattle.snb_input_lines.specs.Records.{field_at}
 use Rattle.snb_runlog.specs.Lines.{AreNumbers, IsNumber}
-use Rattle.snb_runlog.proofs.LineFacts.{after_some, found_there, none_there, numbers_push, some_field, stops_here}
+use Rattle.snb_runlog.proofs.LineFacts.{after_some, numbers_push, stops_here}
 use Rattle.snb_runlog.proofs.NumberFacts.{none_spelled, some_spelled}
 use Rattle.snb_runlog.proofs.grammar.read_numbers.Goals as goal
+use Rattle.snb_input_lines.proofs.Laws.{found_there, none_there, some_field}
 
 pub unreachable-requires : goal.unreachable-requires
 unreachable-requires c =

@@ -1,13 +1,14 @@
 use Rattle.std.proofs.Common.{refl, arith}
 use Rattle.snb_schema.specs.declared.table.Table.TheVariants as table
-use Rattle.snb_short_reads.proofs.Laws.{container_table, edge_key_held, found_container}
+use Rattle.snb_short_reads.proofs.Laws.{edge_key_held, found_container}
 use Rattle.snb_short_reads.proofs.lookups.forum_id.Goals as goal
+use Rattle.snb_graph_model.proofs.Laws.{container_alone}
 
 pub unreachable-requires : goal.unreachable-requires
 unreachable-requires c =
     let g = c.args.graph.now in
     let one = c.sound_graphs.ensures.required g c.known.ensures c.requires.sound table.Post table.ForumContainerOfPost (4, omega arith, refl) c.args.post c.requires.held in
-    let e = c.in-None.ensures.held.1 (edge_key_held g c.known.ensures table.ForumContainerOfPost c.args.post refl container_table one) in
+    let e = c.in-None.ensures.held.1 (edge_key_held g c.known.ensures table.ForumContainerOfPost c.args.post refl container_alone one) in
     cc
 
 pub returns-clause-inside : goal.returns-clause-inside

@@ -1,13 +1,13 @@
 use Rattle.std.proofs.Common.{rules, refl}
 use Rattle.std.proofs.lemmas.List.Sorted.{IsPermutation-refl}
 use Rattle.std.proofs.lemmas.Result.{IfOk-weaker}
-use Rattle.snb_base.proofs.ListLemmas.{each_at, each_made}
 use Rattle.snb_read_order.proofs.Laws.{compares, walked}
 use Rattle.snb_read_model.specs.Order.{Whole}
 use Rattle.snb_short_reads.proofs.RowLemmas.{is7_answers, replies_first, replies_total}
 use Rattle.snb_short_reads.specs.Found.{IsReplyFound, without_author}
 use Rattle.snb_read_model.specs.ShortReads.{IsReplyTo}
 use Rattle.snb_short_reads.proofs.messages.is7.Goals as goal
+use Rattle.snb_base.proofs.Laws.{each_at, each_made}
 
 pub list_of-requires : goal.list_of-requires
 list_of-requires c =

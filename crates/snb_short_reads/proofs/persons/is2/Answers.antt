@@ -2,7 +2,6 @@ use Rattle.std.proofs.Common.{rules}
 use Rattle.std.proofs.lemmas.List.Elements.{All-contains_itself, All-weaker}
 use Rattle.std.proofs.lemmas.Result.{IfOk-weaker}
 use Rattle.std.specs.List.{All, Contains}
-use Rattle.snb_base.proofs.ListLemmas.{each_at, each_made}
 use Rattle.snb_read_order.proofs.Laws.{compares, walked}
 use Rattle.snb_graph_model.proofs.Laws.{sent_there}
 use Rattle.snb_graph_model.specs.Around.{messages}
@@ -12,6 +11,7 @@ use Rattle.snb_short_reads.proofs.RowLemmas.{is2_answers, latest_first, latest_t
 use Rattle.snb_short_reads.specs.Found.{IsMessageFound}
 use Rattle.snb_read_model.specs.ShortReads.{IsRecent}
 use Rattle.snb_short_reads.proofs.persons.is2.Goals as goal
+use Rattle.snb_base.proofs.Laws.{each_at, each_made}
 
 pub list_of-requires : goal.list_of-requires
 list_of-requires c =

@@ -1,8 +1,9 @@
 use Rattle.std.proofs.Common.{refl}
 use Rattle.std.proofs.lemmas.Result.{on_err_weaker}
 use Rattle.snb_validation_expect.proofs.ReadBack.{asked_back}
-use Rattle.snb_validation_expect.proofs.Steps.{always_err, no_front}
+use Rattle.snb_validation_expect.proofs.Steps.{no_front}
 use Rattle.snb_validation_expect.proofs.expect.expect_ask.Goals as goal
+use Rattle.snb_base.proofs.Laws.{on_any_err}
 
 pub returns-clause-put : goal.returns-clause-put
 returns-clause-put c =
@@ -14,4 +15,4 @@ pub returns-clause-err : goal.returns-clause-err
 returns-clause-err c = on_err_weaker c.put_ask.result (no_front c.args.to.now.items c.put_ask.new.to.items) c.put_ask.ensures.err
 
 pub returns-in_err-reply-clause-err : goal.returns-in_err-reply-clause-err
-returns-in_err-reply-clause-err c = always_err c.from_residual.result (no_front c.args.to.now.items c.args.to.now.items refl)
+returns-in_err-reply-clause-err c = on_any_err c.from_residual.result (no_front c.args.to.now.items c.args.to.now.items refl)

@@ -5,12 +5,9 @@ use Rattle.snb_history.specs.Rules.{IsLegal}
 use Rattle.snb_book.specs.Kept.{Kept}
 use Rattle.snb_board.specs.Boards.{IsPartOf}
 use Rattle.std.specs.Prelude.{Ok}
-use Rattle.snb_board.specs.Views.{Home}
 use Rattle.snb_board.proofs.Closing.{board_closes, made_by}
 use Rattle.snb_board.proofs.board.Board.close.Goals as goal
-
-full_kept : (a b : Kept) → ◌≡◌ {A = Home} (Ok a) (Ok b) → a ≡ b
-full_kept a b e = cc
+use Rattle.snb_board.proofs.Turns.{full_kept}
 
 pub unreachable-requires-in_default-take : goal.unreachable-requires-in_default-take
 unreachable-requires-in_default-take c =

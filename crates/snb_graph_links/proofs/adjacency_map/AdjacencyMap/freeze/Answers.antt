@@ -4,9 +4,9 @@ use Rattle.std.specs.Cmp.{nat_cmp_total}
 use Rattle.std.proofs.lemmas.Map.Lookups.{exact_unsigned}
 use Rattle.snb_graph_links.specs.Pairs.{Lists, frozen_lists, lists_of, pairs_at, pairs_of}
 use Rattle.snb_graph_links.proofs.HasLemmas.{pairs_rise}
-use Rattle.snb_graph_maps.proofs.MergedLemmas.{merged-nil, parts-all}
 use Rattle.snb_graph_links.proofs.adjacency_map.AdjacencyMap.freeze.Goals as goal
 use Rattle.snb_graph_links.proofs.adjacency_map.AdjacencyMap.freeze.Goals.{in-Some+in_ok-whole-in-Some+in_ok-runs-in-Some, in-None+in_ok-runs-in-None}
+use Rattle.snb_graph_maps.proofs.Laws.{merged-nil, parts-all}
 
 -- the runs have all pairs
 whole : (c : goal.After-drop-self-inside-2) (q : ℕ) → pairs_at c.match-self.runs q ≡ pairs_of (frozen_lists c.self.inside.frozen, lists_of c.self.inside.added.entries) q

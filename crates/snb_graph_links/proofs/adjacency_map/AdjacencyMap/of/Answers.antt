@@ -3,8 +3,8 @@ use Rattle.std.specs.Cmp.{nat_cmp_total}
 use Rattle.std.proofs.lemmas.List.Filters.{dedup_is}
 use Rattle.std.proofs.lemmas.Map.Lookups.{exact_unsigned}
 use Rattle.snb_graph_links.proofs.LinkRunLemmas.{in_order, kept_links, of_number_has, of_number_rises, same_link}
-use Rattle.snb_graph_maps.proofs.MergedLemmas.{parts-all}
 use Rattle.snb_graph_links.proofs.adjacency_map.AdjacencyMap.of.Goals as goal
+use Rattle.snb_graph_maps.proofs.Laws.{parts-all}
 
 pub of_links-requires : goal.of_links-requires
 of_links-requires c = rw c.as_slice.ensures.value (in_order c.args.links.items c.sort.new.self.items c.dedup.new.self.items c.requires c.in_ok-sort.ensures.permutation c.in_ok-sort.ensures.sorted (dedup_is same_link _ _ c.dedup.ensures.filtered))

@@ -1,8 +1,8 @@
 use Rattle.std.proofs.Common.{ℕ}
 use Rattle.std.specs.Ordering.{nat_cmp}
 use Rattle.std.specs.Cmp.{nat_cmp_total}
-use Rattle.snb_graph_maps.proofs.MergedLemmas.{takes_from_frozen, takes_from_added, takes_progress}
 use Rattle.snb_graph_links.proofs.links.LinksIterator.next.Goals as goal
+use Rattle.snb_graph_maps.proofs.Laws.{takes_from_added, takes_from_frozen, takes_progress}
 
 pub invariant_of-self : goal.invariant_of-self
 invariant_of-self c = (takes_from_frozen nat_cmp nat_cmp_total _ _ _ (λ (x : ℕ × ℕ). x) c.split-first.result.0 c.self.invariant c.if-takes_frozen.ensures c.split-first.ensures).1

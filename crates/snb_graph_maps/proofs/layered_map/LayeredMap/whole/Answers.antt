@@ -2,8 +2,9 @@ use Rattle.std.proofs.Common.{◌≡◌, Option, Some, None, List, [], false, is
 use mathlib.Core.Bool.{false≢true}
 use Rattle.std.specs.declared.sync.Arc.{Arc}
 use Rattle.snb_graph_maps.specs.Merged.{entries_of}
-use Rattle.snb_graph_maps.proofs.PendingLemmas.{all_added, if_ok}
+use Rattle.snb_graph_maps.proofs.PendingLemmas.{all_added}
 use Rattle.snb_graph_maps.proofs.layered_map.LayeredMap.whole.Goals as goal
+use Rattle.snb_base.proofs.Laws.{if_ok}
 
 nothing : {K X Z : Type 0} (frozen : Option (Arc (List (K × X)) Z)) → is_some frozen ≡ false → entries_of frozen ≡ []
 nothing None e = refl

@@ -1,9 +1,10 @@
 use Rattle.std.proofs.Common.{◌≡◌, ◌<◌, arith, length, subst, sym}
 use Rattle.std.specs.Str.{IsUtf8}
 use Rattle.snb_input_fields.specs.Reading.{Reading, text_at}
-use Rattle.snb_input_fields.proofs.ReadingFacts.{found_there, holds_at, none_there, some_field}
+use Rattle.snb_input_fields.proofs.ReadingFacts.{holds_at}
 use Rattle.snb_input_fields.proofs.ReaderFacts.{found_text, next_below}
 use Rattle.snb_input_fields.proofs.field_reader.FieldReader.next_field.Goals as goal
+use Rattle.snb_input_lines.proofs.Laws.{found_there, none_there, some_field}
 
 pub unreachable-requires : goal.unreachable-requires
 unreachable-requires c =

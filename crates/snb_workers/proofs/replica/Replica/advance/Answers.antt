@@ -3,8 +3,9 @@ use Rattle.std.proofs.lemmas.List.{take_all}
 use Rattle.snb_history.specs.declared.event.Event.{Event as AnyEvent}
 use Rattle.snb_history.specs.declared.event.Event.TheVariants.{Start}
 use Rattle.snb_workers.specs.Replicas.{HasTakenSome, StandsFor}
-use Rattle.snb_workers.proofs.Following.{may_next, on_err, taken_more, taken_some}
+use Rattle.snb_workers.proofs.Following.{may_next, taken_more, taken_some}
 use Rattle.snb_workers.proofs.replica.Replica.advance.Goals as goal
+use Rattle.snb_base.proofs.Laws.{on_any_err}
 
 pub take-requires-clause-may : goal.take-requires-clause-may
 take-requires-clause-may c =
@@ -13,7 +14,7 @@ take-requires-clause-may c =
 
 pub returns-in_err-take-clause-err : goal.returns-in_err-take-clause-err
 returns-in_err-take-clause-err c =
-    on_err c.from_residual.result
+    on_any_err c.from_residual.result
     (subst (HasTakenSome c.args.plan.now c.args.events.now c.args.self.now) (sym c.in_err-take.ensures.err) (taken_some c.loop-event.event-index (Start 0 0 0) c.loop-event.invariant))
 
 pub loop-event-preserved : goal.loop-event-preserved

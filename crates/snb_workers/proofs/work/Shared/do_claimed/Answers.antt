@@ -1,17 +1,17 @@
 use Rattle.std.proofs.Common.{◌∙◌, ap, sym}
 use Rattle.snb_board.specs.Boards.{Site}
-use Rattle.snb_workers.proofs.Following.{on_err}
 use Rattle.snb_workers.proofs.WorkLemmas.{at_work_again, come_followed, front_held, holding_followed}
 use Rattle.snb_workers.proofs.work.Shared.do_claimed.Goals as goal
+use Rattle.snb_base.proofs.Laws.{on_any_err}
 
 pub returns-in_err-make_ready-clause-err : goal.returns-in_err-make_ready-clause-err
 returns-in_err-make_ready-clause-err g c =
-    on_err c.from_residual.result
+    on_any_err c.from_residual.result
     (λ first old h. come_followed c.args.self.now.plan.now (g.C.Clock.fixed c.args.self.now.clock.now) first old c.args.seat.now c.make_ready.new.seat c.args.replica.now c.make_ready.new.replica c.make_ready.ensures.followed h.come)
 
 pub returns-in_err-front-clause-err : goal.returns-in_err-front-clause-err
 returns-in_err-front-clause-err g c =
-    on_err c.from_residual-in_err-front.result
+    on_any_err c.from_residual-in_err-front.result
     (λ first old h. come_followed c.args.self.now.plan.now (g.C.Clock.fixed c.args.self.now.clock.now) first old c.args.seat.now c.make_ready.new.seat c.args.replica.now c.make_ready.new.replica c.make_ready.ensures.followed h.come)
 
 pub finish-requires-clause-held : goal.finish-requires-clause-held

@@ -1,7 +1,7 @@
 use Rattle.std.proofs.Common.{◌∙◌}
-use Rattle.snb_workers.proofs.Following.{on_err}
 use Rattle.snb_workers.proofs.WorkLemmas.{at_work_still, at_work_told, holds_now, over_halted, over_started}
 use Rattle.snb_workers.proofs.work.Shared.take_turn.Goals as goal
+use Rattle.snb_base.proofs.Laws.{on_any_err}
 
 pub do_claimed-requires-clause-holding : goal.do_claimed-requires-clause-holding
 do_claimed-requires-clause-holding g c = (
@@ -13,7 +13,7 @@ do_claimed-requires-clause-holding g c = (
 
 pub returns-in_err-do_claimed-in-Go-clause-err : goal.returns-in_err-do_claimed-in-Go-clause-err
 returns-in_err-do_claimed-in-Go-clause-err g c =
-    on_err c.from_residual.result
+    on_any_err c.from_residual.result
     (λ first old work.
     c.in_err-do_claimed-in-Go.ensures.err first old
     (holds_now c.args.self.now.plan.now (g.C.Clock.fixed c.args.self.now.clock.now) first old c.args.seat.now c.claim.new.seat c.args.replica.now c.args.replies.now work c.prefix_is_legal.ensures c.now-now.result c.in-Go.ticket
