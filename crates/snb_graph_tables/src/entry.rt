@@ -104,6 +104,7 @@ impl Entry {
     }
 
     /// The name of the row. That of a word takes memory.
+    /// The condition: the entry is that of a row that its table can have, as `Entry::of` makes it.
     pub fn name(&self) -> Result<RowName, AllocError>
         requires { IsEntry self.now }
         ensures named { IfOk result (λ name. name_key name ≡ row_key (row_of self.now)) }

@@ -56,6 +56,7 @@ impl Tables {
     }
 
     /// Whether a row of the entry's slot is held. Takes no memory.
+    /// The condition: the entry is that of a row that its table can have, as `Entry::of` makes it.
     pub fn holds(&self, entry: &Entry) -> bool
         requires { IsEntry entry.now }
         ensures { IsTrue result ↔ HasSlot self.now.rows (slot_of (row_of entry.now)) }
@@ -80,8 +81,10 @@ impl Tables {
         }
     }
 
-    /// Adds a row whose slot is free; it is frozen only if it goes into that half. It searches for the row's place
-    /// alone. Want of memory leaves all as it was.
+    /// Adds a row; it is frozen only if it goes into that half. It searches for the row's place alone. Want of memory
+    /// leaves all as it was.
+    /// The conditions: the entry is that of a row that its table can have, as `Entry::of` makes it, and the row's slot
+    /// is free.
     pub fn put(&mut self, entry: Entry, half: Layer) -> Result<(), AllocError>
         requires fits { IsEntry entry }
         requires free { ¬ HasSlot self.old.rows (slot_of (row_of entry)) }
