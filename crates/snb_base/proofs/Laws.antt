@@ -2,7 +2,7 @@
 use Rattle.std.proofs.Common.{◌≡◌, ◌≢◌, ℕ, zero, suc, ◌+◌, ◌<◌, List, [], ◌∷◌, ◌++◌, Option, refl, sym, ◌∙◌, ◌⊎◌, inl, inr, subst, arith, Bool, true, false, All}
 use Rattle.std.proofs.lemmas.Bool.{cases_Bool, cases_lt}
 use Rattle.std.proofs.lemmas.List.Elements.{All-head, All-tail}
-use Rattle.snb_base.specs.Shelf.{Counts, Files, HasCounted, IsRead}
+use Rattle.snb_base.specs.Shelf.{Counts, Files, HasCounted, HasRead, Names}
 pub use Rattle.snb_base.proofs.ListLemmas.{all_at, all_back, all_of, all_recursive, any_of, at_contains, by_push, contains_at, contains_cases, contains_here, contains_map, contains_there, each_at, each_made, first_same, from_any, get_or-set, given_by, gives, in_filter, in_flat, in_map, in_one, none_in, not_empty, one_only, pairs_append, pairs_head, pairs_none, pairs_tail, prefix-length, prefix-refl, push_all, push_split, same_list_split, shuffled, slice_get-prefix, some_got, split_at, split_here, two_swapped}
 pub use Rattle.snb_base.proofs.OutcomeLemmas.{compares_greater, compares_less, equal_from, if_ok, min_is, none_of, none_some, not_held, on_any_err, one_number, same_number, then_equal, then_last}
 pub use Rattle.snb_base.proofs.Deciding.{both, Decided, Found, is_at_most, is_digits, is_less, is_text, is_true, number_found, where_so}
@@ -52,14 +52,16 @@ counted_after {failed} {first} {mid} {last} a b = record {
 }
 
 -- two calls that read, of which the first didn't fail, do to a shelf what one call does
-pub read_after : {failed : Bool} {files : Option Files} {first : ℕ} {between : Option Files} {mid : ℕ} {after : Option Files} {last : ℕ}
-    → IsRead false files first between mid → IsRead failed between mid after last → IsRead failed files first after last
-read_after {failed} {files} {first} {between} {mid} {after} {last} a b = record {
+pub read_after : {failed : Bool} {files : Option Files} {may : Names} {first : ℕ} {between : Option Files} {might : Names} {mid : ℕ} {after : Option Files} {names : Names} {last : ℕ}
+    → HasRead false files may first between might mid → HasRead failed between might mid after names last → HasRead failed files may first after names last
+read_after {failed} {files} {may} {first} {between} {might} {mid} {after} {names} {last} a b = record {
   same = b.same ∙ a.same;
+  names = b.names ∙ a.names;
   later = (let p = a.later in let q = b.later in omega (arith, p, q));
   told = subst (λ n. Counts failed n last) a.told b.told;
 }
 
 -- what reads without a fault, and then fails in no way of the shelf's
-pub read_well : {failed : Bool} {files : Option Files} {first : ℕ} {after : Option Files} {last : ℕ} → failed ≡ false → IsRead false files first after last → IsRead failed files first after last
-read_well {failed} {files} {first} {after} {last} well a = subst (λ b. IsRead b files first after last) (sym well) a
+pub read_well : {failed : Bool} {files : Option Files} {may : Names} {first : ℕ} {after : Option Files} {names : Names} {last : ℕ} → failed ≡ false
+    → HasRead false files may first after names last → HasRead failed files may first after names last
+read_well {failed} {files} {may} {first} {after} {names} {last} well a = subst (λ b. HasRead b files may first after names last) (sym well) a

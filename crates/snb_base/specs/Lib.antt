@@ -1,7 +1,9 @@
 pub mod Calendar
 pub mod MemoryOutbox
 pub mod MemoryShelf
+pub mod Moments
 pub mod FirstOf
 pub mod Outbox
+pub mod Reads
 pub mod Shelf
 pub mod Spellings

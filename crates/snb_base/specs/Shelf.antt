@@ -21,10 +21,19 @@ pub record HasCounted (failed : Bool) (faults faults_after : ℕ) : Type 0 where
   pub later : faults ≤ faults_after
   pub told : Counts failed faults faults_after
 
--- what a call that reads does to a shelf, by its contents and its count of faults before and after it: it changes nothing that is held, counts a
--- fault where it says that the outside failed, and forgets none
-pub record IsRead (failed : Bool) (files : Option Files) (faults : ℕ) (files_after : Option Files) (faults_after : ℕ) : Type 0 where
+-- the names that a shelf may be asked for
+abbrev pub Names : Type 0
+Names = List ℕ → Bool
+
+-- each name may be asked for
+abbrev pub any_name : Names
+any_name name = true
+
+-- what a call that reads does to a shelf, by its contents, its names and its count of faults before and after it: it changes nothing that is
+-- held nor which names it may be asked for, counts a fault where it says that the outside failed, and forgets none
+pub record HasRead (failed : Bool) (files : Option Files) (may : Names) (faults : ℕ) (files_after : Option Files) (may_after : Names) (faults_after : ℕ) : Type 0 where
   pub same : files_after ≡ files
+  pub names : may_after ≡ may
   pub later : faults ≤ faults_after
   pub told : Counts failed faults faults_after
 

@@ -1,20 +1,28 @@
 //! Moments.
 
-ghost use Rattle.std.specs.Prelude.{◌≡◌, ℕ, IfSome, None, Option, Some};
+ghost use Rattle.std.specs.Prelude.{◌≡◌, true};
+ghost use Rattle.snb_base.specs.Moments.{Moments, any_moment, only};
 
 use std::sync::Wait;
 use std::sync::atomic::{AtomicU64, Ordering};
 
 /// A clock whose unit is a millisecond, counted from a start of its own.
 ///
-/// Its meaning is a fixed moment, where it tells one; nothing else is claimed of its answers.
+/// Its meaning is which moments it can answer, and which it can answer once the bytes of a reply are there.
+/// Code that is generic over the clock learns of the second ones only by handing over these bytes. Nothing is
+/// claimed of the order of its answers.
 pub trait Clock {
-    /// The moment of each answer, where it is fixed and told.
-    ghost fixed: { Self → Option ℕ };
+    /// The moments that it can answer.
+    ghost moments: { Self → Moments };
 
     /// The moment, in milliseconds since the clock's start.
     fn now(&self) -> u64
-        ensures { IfSome (fixed self.now) (λ moment. result ≡ moment) };
+        ensures { (moments self.now).tells result ≡ true };
+
+    /// The moment, in milliseconds since the clock's start, now that the bytes of this reply are there.
+    fn after(&self, reply: &[u8]) -> u64
+        ensures told { (moments self.now).tells result ≡ true }
+        ensures there { (moments self.now).tells_after reply.now result ≡ true };
 
     /// Rests until the moment `until`, or a while, or not at all.
     fn rest<R: Wait>(&self, rt: &R, until: u64);
@@ -29,16 +37,20 @@ pub struct FarClock {
 impl FarClock {
     /// Shows the moment `at`, in milliseconds.
     pub fn new(at: u64) -> FarClock
-        ensures { ⟦<FarClock as Clock>⟧.fixed result ≡ Some at }
+        ensures { ⟦<FarClock as Clock>⟧.moments result ≡ only at }
     {
         FarClock { at }
     }
 }
 
 impl Clock for FarClock {
-    ghost fixed = { λ c. Some c.at };
+    ghost moments = { λ c. only c.at };
 
     fn now(&self) -> u64 {
+        self.at
+    }
+
+    fn after(&self, _reply: &[u8]) -> u64 {
         self.at
     }
 
@@ -46,7 +58,7 @@ impl Clock for FarClock {
 }
 
 /// A clock that counts how often it is asked: it answers 0, 1, 2 and so on, and 0 again after the greatest
-/// number. A rest moves it up to the moment that is waited for, where it isn't there yet. It tells no fixed
+/// number. A rest moves it up to the moment that is waited for, where it isn't there yet. It can answer any
 /// moment. Threads may share it: each of its answers is given once, up to the greatest number.
 pub struct StepClock {
     next: AtomicU64,
@@ -61,7 +73,7 @@ impl Drop for StepClock {
 impl StepClock {
     /// A clock whose first answer is 0.
     pub fn new() -> StepClock
-        ensures { ⟦<StepClock as Clock>⟧.fixed result ≡ None }
+        ensures { ⟦<StepClock as Clock>⟧.moments result ≡ any_moment }
     {
         StepClock {
             next: AtomicU64::new(0),
@@ -70,10 +82,14 @@ impl StepClock {
 }
 
 impl Clock for StepClock {
-    ghost fixed = { λ c. None };
+    ghost moments = { λ _. any_moment };
 
     fn now(&self) -> u64 {
         self.next.fetch_add(1, Ordering::SeqCst)
+    }
+
+    fn after(&self, _reply: &[u8]) -> u64 {
+        self.now()
     }
 
     fn rest<R: Wait>(&self, _rt: &R, until: u64) {

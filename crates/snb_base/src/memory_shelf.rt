@@ -2,7 +2,7 @@
 
 ghost use Rattle.std.specs.Prelude.{◌≡◌, ◌≢◌, ◌-◌, ◌^◌, ◌<◌, ◌≤◌, ◌↔◌, ◌∷◌, ◌++◌, [], length, take, drop, map, min, MatchOption, Some, None, IsTrue, OnOk, OnErr};
 ghost use Rattle.snb_base.specs.MemoryShelf.{file_of, is_listed, is_failing, after_read, IsFullReading};
-ghost use Rattle.snb_base.specs.Shelf.{FitsBuffer, IsRead, IsReading, is_failed};
+ghost use Rattle.snb_base.specs.Shelf.{FitsBuffer, HasRead, IsReading, any_name, is_failed};
 
 use crate::calls::is_on;
 use crate::shelf::{Got, Shelf};
@@ -115,12 +115,14 @@ impl Shelf for MemoryShelf {
 
     ghost faults = { λ s. s.faults };
 
+    ghost may = { λ _. any_name };
+
     /// Reads as many bytes as there are and as the buffer takes.
     fn read(&mut self, name: &str, at: u64, into: &mut [u8]) -> Got
         requires { 0 < length into.old }
         ensures room { FitsBuffer (length into.old) result }
         ensures told { IsReading (file_of self.old.files) name.now at into.new result }
-        ensures read { IsRead (is_failed result) (Some (file_of self.old.files)) self.old.faults (Some (file_of self.new.files)) self.new.faults }
+        ensures read { HasRead (is_failed result) (Some (file_of self.old.files)) any_name self.old.faults (Some (file_of self.new.files)) any_name self.new.faults }
 
         // It fails at the listed calls alone, and else reads all that it can.
         ensures listed { self.old.calls < 2 ^ 64 - 1 →

@@ -1,7 +1,7 @@
 //! Where the bytes of files come from.
 
-ghost use Rattle.std.specs.Prelude.{ℕ, ◌<◌, length, IfSome, Option};
-ghost use Rattle.snb_base.specs.Shelf.{Files, FitsBuffer, IsRead, IsReading, is_failed};
+ghost use Rattle.std.specs.Prelude.{◌≡◌, ℕ, ◌<◌, length, IfSome, Option, true};
+ghost use Rattle.snb_base.specs.Shelf.{Files, FitsBuffer, HasRead, IsReading, Names, is_failed};
 
 /// What a call of [`Shelf::read`] answers.
 #[derive(Clone, Copy, Debug, PartialEq, Eq)]
@@ -19,8 +19,8 @@ pub enum Got {
 
 /// A store of files that are read in pieces, each under a name.
 ///
-/// Its meanings are the contents, where it tells them, and a count of faults that never falls. A
-/// shelf over real files tells no contents.
+/// Its meanings are the contents, where it tells them, a count of faults that never falls, and the names that
+/// it may be asked for. A shelf over real files tells no contents, and may be asked for each name.
 pub trait Shelf {
     /// What is held, where it is told.
     ghost contents: { Self → Option Files };
@@ -28,12 +28,17 @@ pub trait Shelf {
     /// How many faults there have been.
     ghost faults: { Self → ℕ };
 
+    /// The names that it may be asked for.
+    ghost may: { Self → Names };
+
     /// Reads bytes of the file `name` from the byte `at` on into the front of `into`, as many as the
-    /// shelf likes. The buffer has room for one byte at least. The contents stay as they are, and the count
+    /// shelf likes. The buffer has room for one byte at least (`room`), and the name is one that may be asked
+    /// for (`allowed`). The contents stay as they are, and so do the names that may be asked for, and the count
     /// of faults too where the answer isn't `Failed`.
     fn read(&mut self, name: &str, at: u64, into: &mut [u8]) -> Got
-        requires { 0 < length into.old }
+        requires room { 0 < length into.old }
+        requires allowed { may self.old name.now ≡ true }
         ensures room { FitsBuffer (length into.old) result }
         ensures told { IfSome (contents self.old) (λ files. IsReading files name.now at into.new result) }
-        ensures read { IsRead (is_failed result) (contents self.old) (faults self.old) (contents self.new) (faults self.new) };
+        ensures read { HasRead (is_failed result) (contents self.old) (may self.old) (faults self.old) (contents self.new) (may self.new) (faults self.new) };
 }

@@ -2,7 +2,7 @@
 
 ghost use Rattle.std.specs.Prelude.{◌≡◌, ◌≢◌, ◌<◌, length, Some};
 ghost use Rattle.snb_base.specs.MemoryShelf.{file_of, IsFullReading};
-ghost use Rattle.snb_base.specs.Shelf.{FitsBuffer, IsRead, IsReading, is_failed};
+ghost use Rattle.snb_base.specs.Shelf.{FitsBuffer, HasRead, IsReading, any_name, is_failed};
 
 use crate::memory_shelf::MemoryShelf;
 use crate::shelf::{Got, Shelf};
@@ -43,12 +43,14 @@ impl Shelf for SteadyShelf {
 
     ghost faults = { λ _. 0 };
 
+    ghost may = { λ _. any_name };
+
     /// Reads as many bytes as there are and as the buffer takes.
     fn read(&mut self, name: &str, at: u64, into: &mut [u8]) -> Got
         requires { 0 < length into.old }
         ensures room { FitsBuffer (length into.old) result }
         ensures told { IsReading (file_of self.old) name.now at into.new result }
-        ensures read { IsRead (is_failed result) (Some (file_of self.old)) 0 (Some (file_of self.new)) 0 }
+        ensures read { HasRead (is_failed result) (Some (file_of self.old)) any_name 0 (Some (file_of self.new)) any_name 0 }
         ensures steady { result ≢ Got.Failed }
         ensures full { IsFullReading (file_of self.old) name.now at (length into.old) result }
         ensures after { self.new ≡ self.old }
