@@ -5,6 +5,7 @@ ghost use Rattle.std.specs.List.{AllZip};
 ghost use Rattle.std.specs.Prelude.{◌≡◌, ◌∷◌, ◌++◌, [], Contains, IfOk, Ok, OnOk, OnErr};
 
 use crate::text::Text;
+use crate::try_copy::TryCopy;
 use std::alloc::{AllocError, Global};
 use std::marker::Model;
 
@@ -19,9 +20,6 @@ pub type Texts = OwnedList<Text>;
 
 /// Numbers in order.
 pub type Numbers = OwnedList<u64>;
-
-/// Pairs of an id and a year, in order.
-pub type Pairs = OwnedList<(u64, u32)>;
 
 // Written out, so that letting one go is one call wherever it happens.
 impl<T: Drop> Drop for OwnedList<T> {
@@ -107,6 +105,21 @@ impl<T: Drop> OwnedList<T> {
             made.push(make(item)?)?;
         }
         Ok(OwnedList { alloc, items: made })
+    }
+}
+
+impl<T: TryCopy> OwnedList<T> {
+    /// An equal list of one's own.
+    pub fn try_copy(&self) -> Result<OwnedList<T>, AllocError>
+        ensures { IfOk result (λ copy. copy ≡ self.now) }
+    {
+        self.try_map(|item| item.try_copy())
+    }
+}
+
+impl<T: TryCopy> TryCopy for OwnedList<T> {
+    fn try_copy(&self) -> Result<OwnedList<T>, AllocError> {
+        self.try_copy()
     }
 }
 
