@@ -1,7 +1,7 @@
 //! The reading of a log.
 
 ghost use Rattle.std.specs.Prelude.{IfOk};
-ghost use Rattle.snb_base.specs.Shelf.{IsRead};
+ghost use Rattle.snb_base.specs.Reads.{IsRead};
 ghost use Rattle.snb_input_files.specs.Loading.{is_read_fault};
 ghost use Rattle.snb_auditor_log.specs.LogFiles.{IsAuditable, IsLogAnswer};
 
@@ -46,7 +46,7 @@ impl Drop for Log {
 pub fn load_log<S: Shelf>(alloc: Global, shelf: &mut S, path: &str) -> Result<Log, Load>
     ensures answer { IsLogAnswer (S.contents shelf.old) path.now result }
     ensures auditable { IfOk result IsAuditable }
-    ensures read { IsRead (is_read_fault result) (S.contents shelf.old) (S.faults shelf.old) (S.contents shelf.new) (S.faults shelf.new) }
+    ensures read { IsRead (is_read_fault result) S.Shelf shelf.old shelf.new }
 {
     log_is_lawful();
     counts_are_in_version_2();

@@ -1,6 +1,7 @@
 //! A shelf over real files.
 
 ghost use Rattle.std.specs.Prelude.{◌≡◌, ◌≤◌, length, None, IfOk};
+ghost use Rattle.snb_base.specs.Shelf.{any_name};
 
 use snb_base::{Got, Shelf};
 use std::fs::File;
@@ -8,7 +9,7 @@ use std::io;
 use std::io::{ErrorKind, Read, Seek, SeekFrom};
 use std::rt::Files;
 
-/// The files of the system, each under its path. It tells no contents.
+/// The files of the system, each under its path. It tells no contents, and may be asked for each name.
 #[derive(Drop)]
 pub struct FolderShelf<R> {
     rt: R,
@@ -18,7 +19,8 @@ pub struct FolderShelf<R> {
 impl<R: Files> FolderShelf<R> {
     /// The files that the runtime reaches. Reads nothing yet.
     pub fn new(rt: R) -> FolderShelf<R>
-        ensures { ⟦<FolderShelf<R> as Shelf>⟧.faults result ≡ 0 }
+        ensures faults { ⟦<FolderShelf<R> as Shelf>⟧.faults result ≡ 0 }
+        ensures names { ⟦<FolderShelf<R> as Shelf>⟧.may result ≡ any_name }
     {
         FolderShelf { rt, faults: 0 }
     }
@@ -28,6 +30,8 @@ impl<R: Files> Shelf for FolderShelf<R> {
     ghost contents = { λ _. None };
 
     ghost faults = { λ s. s.faults };
+
+    ghost may = { λ _. any_name };
 
     fn read(&mut self, name: &str, at: u64, into: &mut [u8]) -> Got {
         let opened = File::open(&self.rt, name);

@@ -1,6 +1,7 @@
 //! The clock of the system.
 
-ghost use Rattle.std.specs.Prelude.{◌≡◌, None};
+ghost use Rattle.std.specs.Prelude.{◌≡◌};
+ghost use Rattle.snb_base.specs.Moments.{any_moment};
 
 use snb_base::Clock;
 use std::rt::Clock as SystemClock;
@@ -9,7 +10,7 @@ use std::thread;
 use std::time::{Duration, Instant};
 
 /// Milliseconds since it was first asked, by the system's clock that never goes back. To ask it is to
-/// call `now`, or `rest`. Where that clock can't be read it answers 0. It tells no moment.
+/// call `now`, `after` or `rest`. Where that clock can't be read it answers 0. It can answer any moment.
 #[derive(Drop)]
 pub struct HostClock<R> {
     rt: R,
@@ -19,7 +20,7 @@ pub struct HostClock<R> {
 impl<R: SystemClock> HostClock<R> {
     /// A clock that nobody has asked yet.
     pub fn new(rt: R) -> HostClock<R>
-        ensures { ⟦<HostClock<R> as Clock>⟧.fixed result ≡ None }
+        ensures { ⟦<HostClock<R> as Clock>⟧.moments result ≡ any_moment }
     {
         HostClock {
             rt,
@@ -46,10 +47,14 @@ impl<R: SystemClock> HostClock<R> {
 }
 
 impl<R: SystemClock> Clock for HostClock<R> {
-    ghost fixed = { λ _. None };
+    ghost moments = { λ _. any_moment };
 
     fn now(&self) -> u64 {
         self.elapsed().unwrap_or(0)
+    }
+
+    fn after(&self, _reply: &[u8]) -> u64 {
+        self.now()
     }
 
     fn rest<W: Wait>(&self, _rt: &W, until: u64) {

@@ -171,7 +171,7 @@ pub fn read_pairs(alloc: Global, field: &[u8]) -> Result<Option<Pairs>, AllocErr
         };
         let new = note_pair(&mut seen, pair)?;
         if new {
-            pairs.push(pair)?;
+            pairs.push(pair.0, pair.1)?;
         }
     }
     let one = has_one_year(alloc, pairs.as_slice())?;

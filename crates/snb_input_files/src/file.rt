@@ -1,7 +1,7 @@
 //! The loading of one file.
 
 ghost use Rattle.std.specs.Prelude.{◌≡◌, ◌+◌, ◌≤◌, ◌<◌, ℕ, [], List, IfOk, vec_len, None, false};
-ghost use Rattle.snb_base.specs.Shelf.{IsRead};
+ghost use Rattle.snb_base.specs.Reads.{IsRead};
 ghost use Rattle.snb_schema.specs.declared.limits.TheConstants.{MAX_BYTES};
 ghost use Rattle.snb_input_lines.specs.Counts.{IsUnder};
 ghost use Rattle.snb_input_lines.specs.declared.counted.RowCount.{RowCount as Row};
@@ -100,7 +100,7 @@ pub fn load_file<S: Shelf, G: Grammar + Drop, P: FileSink<G> + Drop>(
     ensures answer { (begun : P) (past : List Source) (done : List (List G.Item)) → FilesSay (format_in G.language P.stage begun) past done → P.stage.heard begun file_sink done []
         → IsAnswer (format_in G.language P.stage begun) (P.stage.heard begun) (S.contents shelf.old) path.now file used past file_sink result }
     ensures within { IfOk result (IsWithin P.stage.limit) }
-    ensures read { IsRead (is_read_fault result) (S.contents shelf.old) (S.faults shelf.old) (S.contents shelf.new) (S.faults shelf.new) }
+    ensures read { IsRead (is_read_fault result) S.Shelf shelf.old shelf.new }
 {
     let mut reader = LineReader::of_file(alloc, file, file_sink.grammar(file));
     load_known(alloc, shelf, path, file, used, &mut reader, file_sink)
@@ -125,7 +125,7 @@ pub fn load_known<S: Shelf, G: Grammar + Drop, P: FileSink<G> + Drop>(
     ensures answer { (begun : P) (past : List Source) (done : List (List G.Item)) → FilesSay (format_in G.language P.stage begun) past done → P.stage.heard begun file_sink done []
         → IsKnownAnswer (format_in G.language P.stage begun) (P.stage.heard begun) (S.contents shelf.old) path.now file used past file_sink reader.new.known result }
     ensures within { IfOk result (IsWithin P.stage.limit) }
-    ensures read { IsRead (is_read_fault result) (S.contents shelf.old) (S.faults shelf.old) (S.contents shelf.new) (S.faults shelf.new) }
+    ensures read { IsRead (is_read_fault result) S.Shelf shelf.old shelf.new }
 {
     let most = MAX_BYTES - used.bytes;
     let mut buffer = piece_buffer(alloc)?;

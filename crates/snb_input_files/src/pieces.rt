@@ -1,7 +1,7 @@
 //! The pieces of a file, fed to its reader as they come.
 
 ghost use Rattle.std.specs.Prelude.{◌≡◌, ◌+◌, ◌<◌, ◌≤◌, IfOk, OnOk, length, None, false};
-ghost use Rattle.snb_base.specs.Shelf.{IsRead};
+ghost use Rattle.snb_base.specs.Reads.{IsRead};
 ghost use Rattle.snb_schema.specs.declared.limits.TheConstants.{MAX_BYTES};
 ghost use Rattle.snb_input_files.specs.Format.{AreTakers, format_in};
 ghost use Rattle.snb_input_files.specs.Loading.{is_read_fault};
@@ -99,7 +99,7 @@ pub fn read_piece<S: Shelf, G: Grammar + Drop, P: FileSink<G> + Drop>(
     ensures good { OnOk result (reader.new.fault ≡ None) }
     ensures of_file { reader.new.file ≡ file }
     ensures by_grammar { reader.new.grammar ≡ P.stage.grammar_of file }
-    ensures read { IsRead (is_read_fault result) (S.contents shelf.old) (S.faults shelf.old) (S.contents shelf.new) (S.faults shelf.new) }
+    ensures read { IsRead (is_read_fault result) S.Shelf shelf.old shelf.new }
 {
     match shelf.read(name, reader.fed(), buffer) {
         Got::Failed => Err(Load::ReadFault),

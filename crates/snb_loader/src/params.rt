@@ -1,7 +1,7 @@
 //! The parameter files of a folder, read into lists.
 
 ghost use Rattle.std.specs.Prelude.{◌≡◌, ◌≢◌, ◌≤◌, ◌++◌, ℕ, [], IfOk, OnErr, OnOk, map};
-ghost use Rattle.snb_base.specs.Shelf.{IsRead};
+ghost use Rattle.snb_base.specs.Reads.{IsRead};
 ghost use Rattle.snb_schema.specs.declared.limits.TheConstants.{MAX_BYTES, MAX_ROWS};
 ghost use Rattle.snb_schema.specs.Frequencies.{frequency_at};
 ghost use Rattle.snb_schema.specs.Queries.{IsComplex};
@@ -200,7 +200,7 @@ pub fn load_params<S: Shelf>(
     ensures full { IfOk result (λ lists. HaveParameters lists frequencies.now) }
     ensures within { OnOk result ((used.new.bytes ≤ MAX_BYTES) × (used.new.rows ≤ MAX_ROWS)) }
     ensures err { OnErr result (used.new ≡ used.old) }
-    ensures read { IsRead (is_read_fault result) (S.contents shelf.old) (S.faults shelf.old) (S.contents shelf.new) (S.faults shelf.new) }
+    ensures read { IsRead (is_read_fault result) S.Shelf shelf.old shelf.new }
 {
     params_are_lawful();
     let stage = stage_of(alloc, frequencies)?;

@@ -81,11 +81,15 @@ impl<'a> Given<'a> {
 }
 
 impl Clock for Given<'_> {
-    ghost use Rattle.std.specs.Prelude.{None};
+    ghost use Rattle.snb_base.specs.Moments.{any_moment};
 
-    ghost fixed = { λ _. None };
+    ghost moments = { λ _. any_moment };
 
     fn now(&self) -> u64 {
+        self.next_moment()
+    }
+
+    fn after(&self, _reply: &[u8]) -> u64 {
         self.next_moment()
     }
 

@@ -1,6 +1,7 @@
 //! The shelf of a case.
 
 ghost use Rattle.std.specs.Prelude.{None};
+ghost use Rattle.snb_base.specs.Shelf.{any_name};
 ghost use Rattle.snb_test_whole.specs.Kept.{faults_of};
 
 use snb_base::{Got, MemoryShelf, Shelf, SteadyShelf};
@@ -67,6 +68,8 @@ impl Shelf for CaseShelf {
     ghost contents = { λ _. None };
 
     ghost faults = { λ s. faults_of s.kept };
+
+    ghost may = { λ _. any_name };
 
     fn read(&mut self, name: &str, at: u64, into: &mut [u8]) -> Got {
         self.reads = self.reads.saturating_add(1);

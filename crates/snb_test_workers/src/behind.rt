@@ -59,12 +59,16 @@ impl Behind<'_> {
 }
 
 impl Clock for Behind<'_> {
-    ghost use Rattle.std.specs.Prelude.{None};
+    ghost use Rattle.snb_base.specs.Moments.{any_moment};
 
-    ghost fixed = { λ _. None };
+    ghost moments = { λ _. any_moment };
 
     fn now(&self) -> u64 {
         self.given.now()
+    }
+
+    fn after(&self, reply: &[u8]) -> u64 {
+        self.given.after(reply)
     }
 
     fn rest<R: Wait>(&self, rt: &R, until: u64) {

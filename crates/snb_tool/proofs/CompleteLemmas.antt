@@ -1,9 +1,10 @@
 -- Facts on what a call answers, by its words and by what its command finds.
 use Rattle.std.specs.Prelude.{◌↔◌, MatchBool}
+use Rattle.snb_base.specs.Moments.{Moments}
 use Rattle.std.proofs.Common.{arith, ◌≡◌, ◌≢◌, ℕ, ◌≤◌, ◌⊎◌, ◌++◌, Bool, true, false, nat_eq, List, Option, Some, None, refl, sym, subst, ap, ◌∙◌, inl, inr}
 use Rattle.std.proofs.lemmas.Bool.{eq-eqb, eqb-true}
 use Rattle.snb_base.specs.Outbox.{Written, joined}
-use Rattle.snb_base.specs.Shelf.{Counts, Files, HasCounted, IsRead, Rose}
+use Rattle.snb_base.specs.Shelf.{Counts, Files, HasCounted, HasRead, Rose}
 use Rattle.snb_input_files.specs.Files.{held_in}
 use Rattle.snb_input_files.specs.Walk.{Held, IsHeldTold}
 use Rattle.snb_schema.specs.declared.refusal.Refusal.{Refusal}
@@ -35,7 +36,7 @@ use Rattle.snb_schema.specs.declared.row.Row.{Row}
 use Rattle.snb_tool.specs.Laws.{AnswersHaveStatus, AuditInShort, IsAuditInShort, IsLatencyInShort, IsRunInShort, IsValidateInShort, LatencyInShort, RefusalIsOne, RefusedOrNot, RunInShort, ValidateInShort}
 use Rattle.snb_tool.specs.Outcome.{Asked, IsAnswer, IsAsked, ShowsSummary, TellsLatencies, TellsVerdict, IsDone, IsDoneAnswer, IsJudged, IsRefused, IsRun, IsValidated}
 use Rattle.snb_tool.specs.Output.{HasBegun, HasWritten, Wrote, on_screen}
-use Rattle.snb_tool.specs.Outside.{Ends, IsReadOnly, OutOfMemory, Outside, ReadFault, Whole, WriteFault}
+use Rattle.snb_tool.specs.Outside.{Ends, GivenUp, Outside, ReadFault, Whole, WriteFault}
 use Rattle.snb_tool.proofs.OutcomeLemmas.{ends_weaker}
 
 -- ---- statuses
@@ -71,22 +72,22 @@ told_low A B true status told = inl told.0
 told_low A B false status told = inr (inl told.0)
 
 -- a command that is done has the status 0, or 1
-done_low : (command : Command) (found : Found) (fixed : Option ℕ) (status : ℕ) (texts : Written) → IsDone command found fixed status texts
+done_low : (command : Command) (found : Found) (moments : Moments) (status : ℕ) (texts : Written) → IsDone command found moments status texts
     → (status ≡ 0) ⊎ (status ≡ 1) ⊎ (status ≡ 2) ⊎ (status ≡ 3)
-done_low (Check folder table) found fixed status texts d = inl d.0
-done_low (Run folder workers ratio table) found fixed status texts d = inl d.0
-done_low (Audit folder log ratio table) found fixed status texts d = low_by status (audit_status d.verdict) d.status_is (audit_low d.verdict)
-done_low (Latency folder log ratio table) found fixed status texts d = told_low (ShowsSummary d.plan (events_of d.logged) texts) (texts ≡ on_screen (audit_text d.verdict)) (is_whole d.verdict) status d.told
-done_low (Expect folder table) found fixed status texts d = inl d.0
-done_low (Validate folder cases via) found fixed status texts d = low_by status (tally_status d.tally) d.status_is (outcome_low d.tally.first)
-done_low (Read folder query) found fixed status texts d = inl d.0
-done_low (Walk folder query chance words) found fixed status texts d = inl d.0
-done_low (Trial size workers) found fixed status texts d = inl d.0
+done_low (Check folder table) found moments status texts d = inl d.0
+done_low (Run folder workers ratio table) found moments status texts d = inl d.0
+done_low (Audit folder log ratio table) found moments status texts d = low_by status (audit_status d.verdict) d.status_is (audit_low d.verdict)
+done_low (Latency folder log ratio table) found moments status texts d = told_low (ShowsSummary d.plan (events_of d.logged) texts) (texts ≡ on_screen (audit_text d.verdict)) (is_whole d.verdict) status d.told
+done_low (Expect folder table) found moments status texts d = inl d.0
+done_low (Validate folder cases via) found moments status texts d = low_by status (tally_status d.tally) d.status_is (outcome_low d.tally.first)
+done_low (Read folder query) found moments status texts d = inl d.0
+done_low (Walk folder query chance words) found moments status texts d = inl d.0
+done_low (Trial size workers) found moments status texts d = inl d.0
 
 pub answers_have_status : AnswersHaveStatus
-answers_have_status asked contents fixed status texts (inl usage) = inr (inr (inl usage.0))
-answers_have_status asked contents fixed status texts (inr (c, l, (found, told, inl done))) = done_low c found fixed status texts done.1
-answers_have_status asked contents fixed status texts (inr (c, l, (found, told, inr bad))) = inr (inr (inr bad.2.0))
+answers_have_status asked contents moments status texts (inl usage) = inr (inr (inl usage.0))
+answers_have_status asked contents moments status texts (inr (c, l, (found, told, inl done))) = done_low c found moments status texts done.1
+answers_have_status asked contents moments status texts (inr (c, l, (found, told, inr bad))) = inr (inr (inr bad.2.0))
 
 -- so none of 4, 5 and 6
 known_low : (s n : ℕ) → (s ≡ 0) ⊎ (s ≡ 1) ⊎ (s ≡ 2) ⊎ (s ≡ 3) → s ≡ n → 4 ≤ n → ⊥
@@ -107,34 +108,34 @@ counts_at result status old new rose calm = by_test (nat_eq result status) refl
     by_test false e = calm (λ h. differ (sym (eq-eqb result status h) ∙ e))
 
 module _ (status : AnswersHaveStatus) (asked : Asked) (old new : Outside) (result : ℕ) where
-  no_texts : {A : Type 0} (n : ℕ) → 4 ≤ n → HasWritten old.written new.written (IsAnswer asked old.contents old.fixed result) → result ≡ n → A
-  no_texts n l h e = absurd (known_low result n (status asked old.contents old.fixed result h.0 h.1) e l)
+  no_texts : {A : Type 0} (n : ℕ) → 4 ≤ n → HasWritten old.written new.written (IsAnswer asked old.contents old.moments result) → result ≡ n → A
+  no_texts n l h e = absurd (known_low result n (status asked old.contents old.moments result h.0 h.1) e l)
 
   pub ends_answered : Ends (IsAnswer asked) old new result
-      → HasWritten old.written new.written (IsAnswer asked old.contents old.fixed result) ⊎ ((result ≡ 4) ⊎ ((result ≡ 5) ⊎ (result ≡ 6)))
+      → HasWritten old.written new.written (IsAnswer asked old.contents old.moments result) ⊎ ((result ≡ 4) ⊎ ((result ≡ 5) ⊎ (result ≡ 6)))
   ends_answered (Whole h) = inl h
   ends_answered (ReadFault e r n) = inr (inl e)
   ends_answered (WriteFault s e r h) = inr (inr (inl e))
-  ends_answered (OutOfMemory e n) = inr (inr (inr e))
+  ends_answered (GivenUp e n) = inr (inr (inr e))
 
   ends_read_fault : Ends (IsAnswer asked) old new result → result ≡ 4 → Rose old.read_faults new.read_faults × (new.written ≡ old.written)
   ends_read_fault (Whole h) e = no_texts 4 (omega arith) h e
   ends_read_fault (ReadFault f r n) e = (r, n)
   ends_read_fault (WriteFault s f r h) e = absurd (omega (arith, e, f))
-  ends_read_fault (OutOfMemory f n) e = absurd (omega (arith, e, f))
+  ends_read_fault (GivenUp f n) e = absurd (omega (arith, e, f))
 
   pub ends_cut : Ends (IsAnswer asked) old new result → result ≡ 5
-      → Rose old.write_faults new.write_faults × ((s : ℕ) × HasBegun old.ready old.written new.written (IsAnswer asked old.contents old.fixed s))
+      → Rose old.write_faults new.write_faults × ((s : ℕ) × HasBegun old.ready old.written new.written (IsAnswer asked old.contents old.moments s))
   ends_cut (Whole h) e = no_texts 5 (omega arith) h e
   ends_cut (ReadFault f r n) e = absurd (omega (arith, e, f))
   ends_cut (WriteFault s f r h) e = (r, (s, h))
-  ends_cut (OutOfMemory f n) e = absurd (omega (arith, e, f))
+  ends_cut (GivenUp f n) e = absurd (omega (arith, e, f))
 
   ends_short : Ends (IsAnswer asked) old new result → result ≡ 6 → new.written ≡ old.written
   ends_short (Whole h) e = no_texts 6 (omega arith) h e
   ends_short (ReadFault f r n) e = absurd (omega (arith, e, f))
   ends_short (WriteFault s f r h) e = absurd (omega (arith, e, f))
-  ends_short (OutOfMemory f n) e = n
+  ends_short (GivenUp f n) e = n
 
   -- after a failed read and for want of memory nothing is added to the channels
   pub ends_unwritten : Ends (IsAnswer asked) old new result → (result ≡ 4) ⊎ (result ≡ 6) → new.written ≡ old.written
@@ -142,11 +143,12 @@ module _ (status : AnswersHaveStatus) (asked : Asked) (old new : Outside) (resul
   ends_unwritten ends (inr e) = ends_short ends e
 
   -- what the call does to the shelf, and what it counts of the outbox
-  pub ends_read : Ends (IsAnswer asked) old new result → IsReadOnly old.contents old.read_faults new.contents new.read_faults → (result ≢ 4 → new.read_faults ≡ old.read_faults)
-      → IsRead (nat_eq result 4) old.contents old.read_faults new.contents new.read_faults
+  pub ends_read : Ends (IsAnswer asked) old new result → (new.contents ≡ old.contents) × (new.may ≡ old.may) × (old.read_faults ≤ new.read_faults) → (result ≢ 4 → new.read_faults ≡ old.read_faults)
+      → HasRead (nat_eq result 4) old.contents old.may old.read_faults new.contents new.may new.read_faults
   ends_read ends only calm = record {
     same = only.0;
-    later = only.1;
+    names = only.1;
+    later = only.2;
     told = counts_at result 4 old.read_faults new.read_faults (λ e. (ends_read_fault ends e).0) calm;
   }
 
@@ -166,13 +168,13 @@ module _ (one : WordsAreOne) (asked : Asked) (old new : Outside) (result : ℕ) 
     as_that P p = subst P (one asked.words command c line.line l.line) p
 
   -- what is answered where nothing is wrong with what the command finds
-  done_as : RefusedOrNot → IsFine old.contents asked.given command → (s : ℕ) (texts : Written) → IsAnswer asked old.contents old.fixed s texts → IsDoneAnswer asked.given command old.contents old.fixed s texts
+  done_as : RefusedOrNot → IsFine old.contents asked.given command → (s : ℕ) (texts : Written) → IsAnswer asked old.contents old.moments s texts → IsDoneAnswer asked.given command old.contents old.moments s texts
   done_as law fine s texts (inl usage) = absurd (usage.1 command line)
-  done_as law fine s texts (inr (c, l, (found, told, inl done))) = as_this c l (λ (d : Command). IsDoneAnswer asked.given d old.contents old.fixed s texts) (found, told, done.1)
+  done_as law fine s texts (inr (c, l, (found, told, inl done))) = as_this c l (λ (d : Command). IsDoneAnswer asked.given d old.contents old.moments s texts) (found, told, done.1)
   done_as law fine s texts (inr (c, l, (found, told, inr bad))) = absurd (law c found bad.0 bad.1 (as_that c l (λ (d : Command). IsFine old.contents asked.given d) fine found told))
 
   -- and where something is
-  refused_as : RefusalIsOne → RefusedOrNot → (r : Refusal) → IsWrong old.contents asked.given command r → (s : ℕ) (texts : Written) → IsAnswer asked old.contents old.fixed s texts → IsRefused r s texts
+  refused_as : RefusalIsOne → RefusedOrNot → (r : Refusal) → IsWrong old.contents asked.given command r → (s : ℕ) (texts : Written) → IsAnswer asked old.contents old.moments s texts → IsRefused r s texts
   refused_as once law r wrong s texts (inl usage) = absurd (usage.1 command line)
   refused_as once law r wrong s texts (inr (c, l, (found, told, inl done))) = absurd (law c found r (as_that c l (λ (d : Command). IsWrong old.contents asked.given d r) wrong found told) done.0)
   refused_as once law r wrong s texts (inr (c, l, (found, told, inr bad))) =
@@ -181,8 +183,8 @@ module _ (one : WordsAreOne) (asked : Asked) (old new : Outside) (result : ℕ) 
   pub complete : RefusedOrNot → Ends (IsAnswer asked) old new result → IsFine old.contents asked.given command → Ends (IsDoneAnswer asked.given command) old new result
   complete law ends fine = ends_weaker (IsAnswer asked) (IsDoneAnswer asked.given command) old new result (done_as law fine) ends
 
-  pub refuses : RefusalIsOne → RefusedOrNot → Ends (IsAnswer asked) old new result → (r : Refusal) → IsWrong old.contents asked.given command r → Ends (λ contents fixed. IsRefused r) old new result
-  refuses once law ends r wrong = ends_weaker (IsAnswer asked) (λ contents fixed. IsRefused r) old new result (refused_as once law r wrong) ends
+  pub refuses : RefusalIsOne → RefusedOrNot → Ends (IsAnswer asked) old new result → (r : Refusal) → IsWrong old.contents asked.given command r → Ends (λ contents moments. IsRefused r) old new result
+  refuses once law ends r wrong = ends_weaker (IsAnswer asked) (λ contents moments. IsRefused r) old new result (refused_as once law r wrong) ends
 
 -- ---- a run in short
 
@@ -194,11 +196,11 @@ told_files folder files held told = λ i file. told file i
 pub added : (old new texts : Written) → Wrote (Some old) (Some new) texts → new ≡ joined old texts
 added old new texts w = cc
 
-in_short : CountsOfARun → (given : Given) (files : Files) (fixed : Option ℕ) (folder : List ℕ) (workers ratio : ℕ) (table : FrequencyTable) (old new texts : Written) (found : Found)
-    → IsFoundTold (Some files) given (Run folder workers ratio table) found → IsDone (Run folder workers ratio table) found fixed 0 texts → new ≡ joined old texts
+in_short : CountsOfARun → (given : Given) (files : Files) (moments : Moments) (folder : List ℕ) (workers ratio : ℕ) (table : FrequencyTable) (old new texts : Written) (found : Found)
+    → IsFoundTold (Some files) given (Run folder workers ratio table) found → IsDone (Run folder workers ratio table) found moments 0 texts → new ≡ joined old texts
     → IsRunInShort files folder workers ratio table old new
-in_short counts given files fixed folder workers ratio table old new texts found told done e =
-    let run : IsRun (held_in folder files) workers ratio table fixed texts = subst (λ (h : Held). IsRun h workers ratio table fixed texts) (told_files folder files found.held told.0) done.1 in
+in_short counts given files moments folder workers ratio table old new texts found told done e =
+    let run : IsRun (held_in folder files) workers ratio table moments texts = subst (λ (h : Held). IsRun h workers ratio table moments texts) (told_files folder files found.held told.0) done.1 in
     record {
       graph = run.graph;
       plan = run.plan;
@@ -209,7 +211,7 @@ in_short counts given files fixed folder workers ratio table old new texts found
       waits = run.left.ran.waits;
       below = run.left.ran.below;
       logged = logged_of run.left.replies run.left.history;
-      counted = counts workers run.plan fixed run.graph run.left.history run.left.replies run.left.final run.left.ran;
+      counted = counts workers run.plan moments run.graph run.left.history run.left.replies run.left.final run.left.ran;
       log = ap (λ (w : Written). w.log) e ∙ ap (λ (w : Written). old.log ++ w.log) run.left.shown;
       read_back = run.left.read_back;
       replies = run.left.replies;
@@ -221,12 +223,12 @@ in_short counts given files fixed folder workers ratio table old new texts found
     }
 
 pub run_in_short : WordsAreOne → CountsOfARun → RunInShort
-run_in_short one counts asked files fixed folder workers ratio table old new line (texts, inl usage, w) = let e = usage.0 in absurd (omega (arith, e))
-run_in_short one counts asked files fixed folder workers ratio table old new line (texts, inr (c, l, (found, told, inr bad)), w) = let e = bad.2.0 in absurd (omega (arith, e))
-run_in_short one counts asked files fixed folder workers ratio table old new line (texts, inr (c, l, (found, told, inl done)), w) =
+run_in_short one counts asked files moments folder workers ratio table old new line (texts, inl usage, w) = let e = usage.0 in absurd (omega (arith, e))
+run_in_short one counts asked files moments folder workers ratio table old new line (texts, inr (c, l, (found, told, inr bad)), w) = let e = bad.2.0 in absurd (omega (arith, e))
+run_in_short one counts asked files moments folder workers ratio table old new line (texts, inr (c, l, (found, told, inl done)), w) =
     let same = one asked.words c (Run folder workers ratio table) l.line line in
-    in_short counts asked.given files fixed folder workers ratio table old new texts found (subst (λ (d : Command). IsFoundTold (Some files) asked.given d found) same told)
-    (subst (λ (d : Command). IsDone d found fixed 0 texts) same done.1) (added old new texts w)
+    in_short counts asked.given files moments folder workers ratio table old new texts found (subst (λ (d : Command). IsFoundTold (Some files) asked.given d found) same told)
+    (subst (λ (d : Command). IsDone d found moments 0 texts) same done.1) (added old new texts w)
 
 -- ---- an audit in short
 
@@ -255,14 +257,14 @@ not_low s n (inl a) b c = absurd (omega (arith, a, b, c))
 not_low s n (inr a) b c = absurd (omega (arith, a, b, c))
 
 pub audit_in_short : WordsAreOne → AcceptedInOrder → AuditInShort
-audit_in_short words_one in_order asked files fixed folder log ratio table status old new line low (texts, inl usage, w) = not_low status 2 low usage.0 (omega arith)
-audit_in_short words_one in_order asked files fixed folder log ratio table status old new line low (texts, inr (c, l, (found, told, inr bad)), w) =
+audit_in_short words_one in_order asked files moments folder log ratio table status old new line low (texts, inl usage, w) = not_low status 2 low usage.0 (omega arith)
+audit_in_short words_one in_order asked files moments folder log ratio table status old new line low (texts, inr (c, l, (found, told, inr bad)), w) =
     not_low status 3 low bad.2.0 (omega arith)
-audit_in_short words_one in_order asked files fixed folder log ratio table status old new line low (texts, inr (c, l, (found, told, inl done)), w) =
+audit_in_short words_one in_order asked files moments folder log ratio table status old new line low (texts, inr (c, l, (found, told, inl done)), w) =
     let same = words_one asked.words c (Audit folder log ratio table) l.line line in
     audited_short in_order asked.given files folder log ratio table status old new texts found
     (subst (λ (d : Command). IsFoundTold (Some files) asked.given d found) same told)
-    (subst (λ (d : Command). IsDone d found fixed status texts) same done.1) (added old new texts w)
+    (subst (λ (d : Command). IsDone d found moments status texts) same done.1) (added old new texts w)
 
 -- ---- latencies in short
 
@@ -317,14 +319,14 @@ measured_short exactly given files folder log ratio table status old new texts f
     }
 
 pub latency_in_short : WordsAreOne → WholeExactly → LatencyInShort
-latency_in_short words_one exactly asked files fixed folder log ratio table status old new line low (texts, inl usage, w) = not_low status 2 low usage.0 (omega arith)
-latency_in_short words_one exactly asked files fixed folder log ratio table status old new line low (texts, inr (c, l, (found, told, inr bad)), w) =
+latency_in_short words_one exactly asked files moments folder log ratio table status old new line low (texts, inl usage, w) = not_low status 2 low usage.0 (omega arith)
+latency_in_short words_one exactly asked files moments folder log ratio table status old new line low (texts, inr (c, l, (found, told, inr bad)), w) =
     not_low status 3 low bad.2.0 (omega arith)
-latency_in_short words_one exactly asked files fixed folder log ratio table status old new line low (texts, inr (c, l, (found, told, inl done)), w) =
+latency_in_short words_one exactly asked files moments folder log ratio table status old new line low (texts, inr (c, l, (found, told, inl done)), w) =
     let same = words_one asked.words c (Latency folder log ratio table) l.line line in
     measured_short exactly asked.given files folder log ratio table status old new texts found
     (subst (λ (d : Command). IsFoundTold (Some files) asked.given d found) same told)
-    (subst (λ (d : Command). IsDone d found fixed status texts) same done.1) (added old new texts w)
+    (subst (λ (d : Command). IsDone d found moments status texts) same done.1) (added old new texts w)
 
 -- ---- a validation in short
 
@@ -353,11 +355,11 @@ validated_short one given files folder name via status old new texts found told 
     }
 
 pub validate_in_short : WordsAreOne → FindingIsOne → ValidateInShort
-validate_in_short words_one one asked files fixed folder name via status old new line low (texts, inl usage, w) = not_low status 2 low usage.0 (omega arith)
-validate_in_short words_one one asked files fixed folder name via status old new line low (texts, inr (c, l, (found, told, inr bad)), w) =
+validate_in_short words_one one asked files moments folder name via status old new line low (texts, inl usage, w) = not_low status 2 low usage.0 (omega arith)
+validate_in_short words_one one asked files moments folder name via status old new line low (texts, inr (c, l, (found, told, inr bad)), w) =
     not_low status 3 low bad.2.0 (omega arith)
-validate_in_short words_one one asked files fixed folder name via status old new line low (texts, inr (c, l, (found, told, inl done)), w) =
+validate_in_short words_one one asked files moments folder name via status old new line low (texts, inr (c, l, (found, told, inl done)), w) =
     let same = words_one asked.words c (Validate folder name via) l.line line in
     validated_short one asked.given files folder name via status old new texts found
     (subst (λ (d : Command). IsFoundTold (Some files) asked.given d found) same told)
-    (subst (λ (d : Command). IsDone d found fixed status texts) same done.1) (added old new texts w)
+    (subst (λ (d : Command). IsDone d found moments status texts) same done.1) (added old new texts w)

@@ -1,5 +1,6 @@
 -- Facts on the command `expect`: words spell the parameters of the queries of a plan that is read from files.
 use Rattle.std.proofs.Common.{◌≡◌, ◌<◌, ◌+◌, ◌∙◌, ℕ, zero, suc, ◌⊎◌, List, [], ◌∷◌, length, Option, Some, None, Ok, inl, inr, refl, sym, ap, subst, arith}
+use Rattle.snb_base.specs.Moments.{Moments}
 use Rattle.std.specs.List.{All}
 use Rattle.std.proofs.lemmas.List.Elements.{All-cons, All-contains, All-contains_itself, All-nil}
 use Rattle.std.proofs.lemmas.Option.{get_or_from_slice_get, same_Some, slice_get_within}
@@ -103,9 +104,9 @@ has_cases input graph plan n old texts same_graph same_plan streams start has si
 
 -- ---- what the command answers
 
-pub expect_done : (contents : Option Files) (folder : List ℕ) (ratio : ℕ) (table : FrequencyTable) (given : Given) (fixed : Option ℕ) → ratio ≡ 1000000 → ParamsFiles → (input : Input) (texts : Written)
-    → IsInputAnswer contents folder ratio table (Ok input) → AreCasesOf input texts → IsDoneWith (Expect folder table) contents given fixed 0 texts
-expect_done contents folder ratio table given fixed one files input texts h are =
+pub expect_done : (contents : Option Files) (folder : List ℕ) (ratio : ℕ) (table : FrequencyTable) (given : Given) (moments : Moments) → ratio ≡ 1000000 → ParamsFiles → (input : Input) (texts : Written)
+    → IsInputAnswer contents folder ratio table (Ok input) → AreCasesOf input texts → IsDoneWith (Expect folder table) contents given moments 0 texts
+expect_done contents folder ratio table given moments one files input texts h are =
     let k : IsInputAnswer contents folder 1000000 table (Ok input) = subst (λ (n : ℕ). IsInputAnswer contents folder n table (Ok input)) one h in (
       record { missing = None; pick = Modulo; held = k.0; beside = None },
       (k.1, tt, tt),

@@ -1,10 +1,11 @@
 -- Facts on how a call ends.
 use Rattle.std.proofs.Common.{◌≡◌, ℕ, ◌+◌, List, [], ◌++◌, length, length-append, Option, None, Some, Ok, Err, Vec, refl, sym, subst, ap, ◌∙◌, inl, inr}
+use Rattle.snb_base.specs.Moments.{Moments}
 use Rattle.std.proofs.lemmas.List.Sorted.{length_permutation}
 use Rattle.std.specs.declared.alloc.Global.{Global}
 use Rattle.snb_base.specs.declared.outbox.Outbox.{Ghosts as Outboxes}
 use Rattle.snb_base.specs.Outbox.{Rooms, Written}
-use Rattle.snb_base.specs.Shelf.{Counts, Files}
+use Rattle.snb_base.specs.Shelf.{Counts, Files, Names}
 use Rattle.snb_runlog.specs.Laws.{ReadsBack}
 use Rattle.snb_schema.specs.declared.query.Query.{Query}
 use Rattle.snb_input_files.specs.declared.load.Load.{Load}
@@ -48,29 +49,30 @@ use Rattle.snb_validation_check.specs.declared.text.Tally.{Tally}
 use Rattle.snb_tool.specs.Endings.{AreTexts, Delivers, Finishes, IsDoneWith, IsFinished, IsInputAnswer, IsJudgedAnswer, IsReplyAnswer, IsTallyAnswer, IsTrialInput, IsWalkAnswer, TellsTally, bytes_of}
 use Rattle.snb_tool.specs.Outcome.{IsCommandAnswer, IsLeft, ShowsSummary, check_of}
 use Rattle.snb_tool.specs.Output.{HasBegun, on_screen}
-use Rattle.snb_tool.specs.Outside.{Ends, OutOfMemory, Outside, ReadFault, Whole, WriteFault}
+use Rattle.snb_tool.specs.Outside.{Ends, GivenUp, Outside, ReadFault, Whole, WriteFault}
 
 -- a front of texts of which this holds is one of texts of which that holds, where the first gives the second
 begun_weaker : (ready : Rooms → Type 0) (old new : Option Written) (P Q : Written → Type 0) → ((texts : Written) → P texts → Q texts) → HasBegun ready old new P → HasBegun ready old new Q
 begun_weaker ready old new P Q f b = record { texts = b.texts; part = b.part; are = f b.texts b.are; front = b.front; wrote = b.wrote; unsure = b.unsure }
 
 -- what belongs to a status by one rule may by another
-pub ends_weaker : (P Q : Option Files → Option ℕ → ℕ → Written → Type 0) (old new : Outside) (result : ℕ)
-    → ((s : ℕ) (texts : Written) → P old.contents old.fixed s texts → Q old.contents old.fixed s texts) → Ends P old new result → Ends Q old new result
+pub ends_weaker : (P Q : Option Files → Moments → ℕ → Written → Type 0) (old new : Outside) (result : ℕ)
+    → ((s : ℕ) (texts : Written) → P old.contents old.moments s texts → Q old.contents old.moments s texts) → Ends P old new result → Ends Q old new result
 ends_weaker P Q old new result f (Whole h) = Whole (h.0, f result h.0 h.1, h.2)
 ends_weaker P Q old new result f (ReadFault e r n) = ReadFault e r n
-ends_weaker P Q old new result f (WriteFault s e r h) = WriteFault s e r (begun_weaker old.ready old.written new.written (P old.contents old.fixed s) (Q old.contents old.fixed s) (f s) h)
-ends_weaker P Q old new result f (OutOfMemory e n) = OutOfMemory e n
+ends_weaker P Q old new result f (WriteFault s e r h) = WriteFault s e r (begun_weaker old.ready old.written new.written (P old.contents old.moments s) (Q old.contents old.moments s) (f s) h)
+ends_weaker P Q old new result f (GivenUp e n) = GivenUp e n
 
 module _ {O : Type 0} (outboxes : Outboxes O) (out out_after : O) where
-  module _ (contents contents_after : Option Files) (fixed : Option ℕ) (faults faults_after : ℕ) where
+  module _ (contents contents_after : Option Files) (may may_after : Names) (moments : Moments) (faults faults_after : ℕ) where
     abbrev old : Outside
-    old = record { contents = contents; fixed = fixed; read_faults = faults; write_faults = outboxes.faults out; written = outboxes.written out; ready = outboxes.ready out }
+    old = record { contents = contents; may = may; moments = moments; read_faults = faults; write_faults = outboxes.faults out; written = outboxes.written out; ready = outboxes.ready out }
 
     abbrev new : Outside
     new = record {
       contents = contents_after;
-      fixed = fixed;
+      may = may_after;
+      moments = moments;
       read_faults = faults_after;
       write_faults = outboxes.faults out_after;
       written = outboxes.written out_after;
@@ -78,24 +80,24 @@ module _ {O : Type 0} (outboxes : Outboxes O) (out out_after : O) where
     }
 
     -- a call that delivers texts that belong to its status
-    pub delivers_ends : (P : Option Files → Option ℕ → ℕ → Written → Type 0) (status : ℕ) (texts : Written) (result : ℕ) → P contents fixed status texts
+    pub delivers_ends : (P : Option Files → Moments → ℕ → Written → Type 0) (status : ℕ) (texts : Written) (result : ℕ) → P contents moments status texts
         → Delivers outboxes out out_after status texts result → Ends P old new result
     delivers_ends P status texts result b (inl h) = subst (λ (r : ℕ). Ends P old new r) (sym h.0) (Whole (texts, b, h.1))
     delivers_ends P status texts result b (inr h) =
         WriteFault status h.0 h.1
-        (begun_weaker old.ready old.written new.written (λ all. all ≡ texts) (P contents fixed status)
-        (λ all e. subst (λ (t : Written). P contents fixed status t) (sym e) b) h.2)
+        (begun_weaker old.ready old.written new.written (λ all. all ≡ texts) (P contents moments status)
+        (λ all e. subst (λ (t : Written). P contents moments status t) (sym e) b) h.2)
 
     -- and one that delivers what a command answers
-    pub finished_ends : (given : Given) (command : Command) (answer : Result Finished Load) (result : ℕ) → IsFinished command contents given fixed answer → Counts (is_read_fault answer) faults faults_after
+    pub finished_ends : (given : Given) (command : Command) (answer : Result Finished Load) (result : ℕ) → IsFinished command contents given moments answer → Counts (is_read_fault answer) faults faults_after
         → Finishes outboxes out out_after answer result → Ends (IsCommandAnswer given command) old new result
     finished_ends given command (Ok f) result is counts d =
         delivers_ends (IsCommandAnswer given command) f.status (bytes_of f.output) result (is.0, is.1, inl (is.2, is.3)) d
     finished_ends given command (Err (loads.Refused r)) result is counts (inl d) =
         delivers_ends (IsCommandAnswer given command) 3 (on_screen (refusal_text r)) result (is.0, is.1, inr (r, is.2, (refl, refl))) d
-    finished_ends given command (Err (loads.Refused r)) result is counts (inr d) = OutOfMemory d.0 d.1
+    finished_ends given command (Err (loads.Refused r)) result is counts (inr d) = GivenUp d.0 d.1
     finished_ends given command (Err loads.ReadFault) result is counts d = ReadFault d.0 counts d.1
-    finished_ends given command (Err loads.Memory) result is counts d = OutOfMemory d.0 d.1
+    finished_ends given command (Err loads.Memory) result is counts d = GivenUp d.0 d.1
 
   -- it counts a failed read by status 4 alone
   pub finished_calm : (answer : Result Finished Load) (result faults faults_after : ℕ) → Finishes outboxes out out_after answer result → Counts (is_read_fault answer) faults faults_after
@@ -108,33 +110,33 @@ module _ {O : Type 0} (outboxes : Outboxes O) (out out_after : O) where
 -- ---- what a command answers where it isn't done
 
 -- a command whose files are those of a plan answers what the loading of its input does
-module _ (contents : Option Files) (folder : List ℕ) (table : FrequencyTable) (given : Given) (fixed : Option ℕ) where
-  pub run_not : (workers ratio : ℕ) (load : Load) → IsInputAnswer contents folder ratio table (Err load) → IsFinished (Run folder workers ratio table) contents given fixed (Err load)
+module _ (contents : Option Files) (folder : List ℕ) (table : FrequencyTable) (given : Given) (moments : Moments) where
+  pub run_not : (workers ratio : ℕ) (load : Load) → IsInputAnswer contents folder ratio table (Err load) → IsFinished (Run folder workers ratio table) contents given moments (Err load)
   run_not workers ratio (loads.Refused r) h = (record { missing = None; pick = Modulo; held = h.0; beside = None }, (h.1, tt, tt), h.2)
   run_not workers ratio loads.ReadFault h = tt
   run_not workers ratio loads.Memory h = tt
 
-  check_by : (load : Load) → IsInputAnswer contents folder 1000000 table (Err load) → IsFinished (Check folder table) contents given fixed (Err load)
+  check_by : (load : Load) → IsInputAnswer contents folder 1000000 table (Err load) → IsFinished (Check folder table) contents given moments (Err load)
   check_by (loads.Refused r) h = (record { missing = None; pick = Modulo; held = h.0; beside = None }, (h.1, tt, tt), h.2)
   check_by loads.ReadFault h = tt
   check_by loads.Memory h = tt
 
-  expect_by : (load : Load) → IsInputAnswer contents folder 1000000 table (Err load) → IsFinished (Expect folder table) contents given fixed (Err load)
+  expect_by : (load : Load) → IsInputAnswer contents folder 1000000 table (Err load) → IsFinished (Expect folder table) contents given moments (Err load)
   expect_by (loads.Refused r) h = (record { missing = None; pick = Modulo; held = h.0; beside = None }, (h.1, tt, tt), h.2)
   expect_by loads.ReadFault h = tt
   expect_by loads.Memory h = tt
 
-  pub check_not : (ratio : ℕ) → ratio ≡ 1000000 → (load : Load) → IsInputAnswer contents folder ratio table (Err load) → IsFinished (Check folder table) contents given fixed (Err load)
+  pub check_not : (ratio : ℕ) → ratio ≡ 1000000 → (load : Load) → IsInputAnswer contents folder ratio table (Err load) → IsFinished (Check folder table) contents given moments (Err load)
   check_not ratio one load h = check_by load (subst (λ (n : ℕ). IsInputAnswer contents folder n table (Err load)) one h)
 
-  pub expect_not : (ratio : ℕ) → ratio ≡ 1000000 → (load : Load) → IsInputAnswer contents folder ratio table (Err load) → IsFinished (Expect folder table) contents given fixed (Err load)
+  pub expect_not : (ratio : ℕ) → ratio ≡ 1000000 → (load : Load) → IsInputAnswer contents folder ratio table (Err load) → IsFinished (Expect folder table) contents given moments (Err load)
   expect_not ratio one load h = expect_by load (subst (λ (n : ℕ). IsInputAnswer contents folder n table (Err load)) one h)
 
-pub read_not : (contents : Option Files) (folder : List ℕ) (query : Query) (given : Given) (fixed : Option ℕ) (load : Load) → IsReplyAnswer contents folder query (Err load)
-    → IsFinished (Read folder query) contents given fixed (Err load)
-read_not contents folder query given fixed (loads.Refused r) h = (record { missing = None; pick = Modulo; held = h.0; beside = None }, (h.1, tt, tt), h.2)
-read_not contents folder query given fixed loads.ReadFault h = tt
-read_not contents folder query given fixed loads.Memory h = tt
+pub read_not : (contents : Option Files) (folder : List ℕ) (query : Query) (given : Given) (moments : Moments) (load : Load) → IsReplyAnswer contents folder query (Err load)
+    → IsFinished (Read folder query) contents given moments (Err load)
+read_not contents folder query given moments (loads.Refused r) h = (record { missing = None; pick = Modulo; held = h.0; beside = None }, (h.1, tt, tt), h.2)
+read_not contents folder query given moments loads.ReadFault h = tt
+read_not contents folder query given moments loads.Memory h = tt
 
 -- ---- the texts of a command
 
@@ -142,26 +144,26 @@ read_not contents folder query given fixed loads.Memory h = tt
 rows_after : (old more new : List Row) → HasGained old more new → length new ≡ length old + length more
 rows_after old more new gained = sym (length_permutation new (old ++ more) gained.rows) ∙ length-append old more
 
-pub check_done : (contents : Option Files) (folder : List ℕ) (ratio : ℕ) (table : FrequencyTable) (given : Given) (fixed : Option ℕ) (input : Input) (status : ℕ) (texts : Written) → ratio ≡ 1000000
-    → IsInputAnswer contents folder ratio table (Ok input) → status ≡ 0 → texts ≡ on_screen (check_of input.graph input.plan) → IsDoneWith (Check folder table) contents given fixed status texts
-check_done contents folder ratio table given fixed input status texts one h s e =
+pub check_done : (contents : Option Files) (folder : List ℕ) (ratio : ℕ) (table : FrequencyTable) (given : Given) (moments : Moments) (input : Input) (status : ℕ) (texts : Written) → ratio ≡ 1000000
+    → IsInputAnswer contents folder ratio table (Ok input) → status ≡ 0 → texts ≡ on_screen (check_of input.graph input.plan) → IsDoneWith (Check folder table) contents given moments status texts
+check_done contents folder ratio table given moments input status texts one h s e =
     let k : IsInputAnswer contents folder 1000000 table (Ok input) = subst (λ (n : ℕ). IsInputAnswer contents folder n table (Ok input)) one h in
     (record { missing = None; pick = Modulo; held = k.0; beside = None }, (k.1, tt, tt), k.2.clean, (s, record { graph = input.graph; plan = input.plan; input = k.2.is; shown = e }))
 
-pub run_done : (contents : Option Files) (folder : List ℕ) (workers ratio : ℕ) (table : FrequencyTable) (given : Given) (fixed : Option ℕ) (input : Input) (texts : Written) → IsInputAnswer contents folder ratio table (Ok input)
-    → IsLeft workers input.graph input.plan fixed texts → IsDoneWith (Run folder workers ratio table) contents given fixed 0 texts
-run_done contents folder workers ratio table given fixed input texts h left =
+pub run_done : (contents : Option Files) (folder : List ℕ) (workers ratio : ℕ) (table : FrequencyTable) (given : Given) (moments : Moments) (input : Input) (texts : Written) → IsInputAnswer contents folder ratio table (Ok input)
+    → IsLeft workers input.graph input.plan moments texts → IsDoneWith (Run folder workers ratio table) contents given moments 0 texts
+run_done contents folder workers ratio table given moments input texts h left =
     (record { missing = None; pick = Modulo; held = h.0; beside = None }, (h.1, tt, tt), h.2.clean, (refl, record { graph = input.graph; plan = input.plan; input = h.2.is; left = left }))
 
-pub trial_done : (contents : Option Files) (size workers : ℕ) (given : Given) (fixed : Option ℕ) (input : Input) (texts : Written) → IsTrialInput size input → IsLeft workers input.graph input.plan fixed texts
-    → IsDoneWith (Trial size workers) contents given fixed 0 texts
-trial_done contents size workers given fixed input texts is left =
-    (record { missing = None; pick = Modulo; held = λ file. None; beside = None }, (tt, tt, tt), tt, (refl, record { plan = input.plan; is_plan = is.is_plan; left = subst (λ (g : List Row). IsLeft workers g input.plan fixed texts) is.same left }))
+pub trial_done : (contents : Option Files) (size workers : ℕ) (given : Given) (moments : Moments) (input : Input) (texts : Written) → IsTrialInput size input → IsLeft workers input.graph input.plan moments texts
+    → IsDoneWith (Trial size workers) contents given moments 0 texts
+trial_done contents size workers given moments input texts is left =
+    (record { missing = None; pick = Modulo; held = λ file. None; beside = None }, (tt, tt, tt), tt, (refl, record { plan = input.plan; is_plan = is.is_plan; left = subst (λ (g : List Row). IsLeft workers g input.plan moments texts) is.same left }))
 
 -- the texts of what a run left, where the final graph has the rows of the dataset and of each insert
-pub run_shown : (workers : ℕ) (input : Input) (fixed : Option ℕ) (o : Outcome) (texts : Written) → HasRun workers input.plan fixed input.graph o.events.items o.replies o.graph
-    → ReadsBack (header_of workers (length input.plan.operations)) (logged_of o.replies o.events.items) → AreTexts workers input.plan o texts → IsLeft workers input.graph input.plan fixed texts
-run_shown workers input fixed o texts ran back shown = record {
+pub run_shown : (workers : ℕ) (input : Input) (moments : Moments) (o : Outcome) (texts : Written) → HasRun workers input.plan moments input.graph o.events.items o.replies o.graph
+    → ReadsBack (header_of workers (length input.plan.operations)) (logged_of o.replies o.events.items) → AreTexts workers input.plan o texts → IsLeft workers input.graph input.plan moments texts
+run_shown workers input moments o texts ran back shown = record {
   history = o.events.items;
   replies = o.replies;
   final = o.graph;
@@ -176,9 +178,9 @@ run_shown workers input fixed o texts ran back shown = record {
   });
 }
 
-pub read_done : (contents : Option Files) (folder : List ℕ) (query : Query) (given : Given) (fixed : Option ℕ) (line : Vec ℕ Global) (status : ℕ) (texts : Written) → IsReplyAnswer contents folder query (Ok line)
-    → status ≡ 0 → texts ≡ on_screen line.items → IsDoneWith (Read folder query) contents given fixed status texts
-read_done contents folder query given fixed line status texts h s e = (
+pub read_done : (contents : Option Files) (folder : List ℕ) (query : Query) (given : Given) (moments : Moments) (line : Vec ℕ Global) (status : ℕ) (texts : Written) → IsReplyAnswer contents folder query (Ok line)
+    → status ≡ 0 → texts ≡ on_screen line.items → IsDoneWith (Read folder query) contents given moments status texts
+read_done contents folder query given moments line status texts h s e = (
   record { missing = None; pick = Modulo; held = h.0; beside = None },
   (h.1, tt, tt),
   h.2.dataset.clean,
@@ -208,14 +210,14 @@ pub any_told : (contents : Option Files) (name : List ℕ) → (beside : Option 
 any_told None name = (None, tt)
 any_told (Some files) name = (files name, refl)
 
-module _ (contents : Option Files) (folder log : List ℕ) (ratio : ℕ) (table : FrequencyTable) (given : Given) (fixed : Option ℕ) where
-  pub audit_not : (load : Load) → IsJudgedAnswer contents folder log ratio table (Err load) → IsFinished (Audit folder log ratio table) contents given fixed (Err load)
+module _ (contents : Option Files) (folder log : List ℕ) (ratio : ℕ) (table : FrequencyTable) (given : Given) (moments : Moments) where
+  pub audit_not : (load : Load) → IsJudgedAnswer contents folder log ratio table (Err load) → IsFinished (Audit folder log ratio table) contents given moments (Err load)
   audit_not (loads.Refused r) h = (record { missing = None; pick = Modulo; held = h.0; beside = h.1 }, (h.2, beside_told contents log h.1 h.3, tt), h.4)
   audit_not loads.ReadFault h = tt
   audit_not loads.Memory h = tt
 
   pub audit_done : (judged : Judged) (status : ℕ) (texts : Written) → IsJudgedAnswer contents folder log ratio table (Ok judged) → status ≡ audit_status judged.audited.verdict
-      → texts ≡ on_screen (audit_text judged.audited.verdict) → IsDoneWith (Audit folder log ratio table) contents given fixed status texts
+      → texts ≡ on_screen (audit_text judged.audited.verdict) → IsDoneWith (Audit folder log ratio table) contents given moments status texts
   audit_done judged status texts h s e = (
     record { missing = None; pick = Modulo; held = h.0; beside = h.1 },
     (h.2, beside_told contents log h.1 h.3, tt),
@@ -231,7 +233,7 @@ module _ (contents : Option Files) (folder log : List ℕ) (ratio : ℕ) (table 
     },
   )
 
-  pub latency_not : (load : Load) → IsJudgedAnswer contents folder log ratio table (Err load) → IsFinished (Latency folder log ratio table) contents given fixed (Err load)
+  pub latency_not : (load : Load) → IsJudgedAnswer contents folder log ratio table (Err load) → IsFinished (Latency folder log ratio table) contents given moments (Err load)
   latency_not (loads.Refused r) h = (record { missing = None; pick = Modulo; held = h.0; beside = h.1 }, (h.2, beside_told contents log h.1 h.3, tt), h.4)
   latency_not loads.ReadFault h = tt
   latency_not loads.Memory h = tt
@@ -239,7 +241,7 @@ module _ (contents : Option Files) (folder log : List ℕ) (ratio : ℕ) (table 
   latency_done : (judged : Judged) (status : ℕ) (texts : Written) → IsJudgedAnswer contents folder log ratio table (Ok judged)
       → MatchBool (is_whole judged.audited.verdict) ((status ≡ 0) × ShowsSummary judged.plan (events_of judged.audited.log.logged.items) texts)
       ((status ≡ 1) × (texts ≡ on_screen (audit_text judged.audited.verdict)))
-      → IsDoneWith (Latency folder log ratio table) contents given fixed status texts
+      → IsDoneWith (Latency folder log ratio table) contents given moments status texts
   latency_done judged status texts h told = (
     record { missing = None; pick = Modulo; held = h.0; beside = h.1 },
     (h.2, beside_told contents log h.1 h.3, tt),
@@ -257,7 +259,7 @@ module _ (contents : Option Files) (folder log : List ℕ) (ratio : ℕ) (table 
   -- what is shown of the log of a whole run
   pub latency_summed : (judged : Judged) (status : ℕ) (texts shown : Written) (logged : List Logged) → IsJudgedAnswer contents folder log ratio table (Ok judged)
       → is_whole judged.audited.verdict ≡ true → logged ≡ judged.audited.log.logged.items → status ≡ 0 → texts ≡ shown → ShowsSummary judged.plan (events_of logged) shown
-      → IsDoneWith (Latency folder log ratio table) contents given fixed status texts
+      → IsDoneWith (Latency folder log ratio table) contents given moments status texts
   latency_summed judged status texts shown logged h whole same zero e shows =
       latency_done judged status texts h
       (subst (λ (b : Bool). MatchBool b ((status ≡ 0) × ShowsSummary judged.plan (events_of judged.audited.log.logged.items) texts) ((status ≡ 1) × (texts ≡ on_screen (audit_text judged.audited.verdict)))) (sym whole)
@@ -266,7 +268,7 @@ module _ (contents : Option Files) (folder log : List ℕ) (ratio : ℕ) (table 
   -- and of any other
   pub latency_judged : (judged : Judged) (status : ℕ) (texts : Written) → IsJudgedAnswer contents folder log ratio table (Ok judged)
       → is_whole judged.audited.verdict ≡ false → status ≡ 1 → texts ≡ on_screen (audit_text judged.audited.verdict)
-      → IsDoneWith (Latency folder log ratio table) contents given fixed status texts
+      → IsDoneWith (Latency folder log ratio table) contents given moments status texts
   latency_judged judged status texts h whole one e =
       latency_done judged status texts h
       (subst (λ (b : Bool). MatchBool b ((status ≡ 0) × ShowsSummary judged.plan (events_of judged.audited.log.logged.items) texts) ((status ≡ 1) × (texts ≡ on_screen (audit_text judged.audited.verdict)))) (sym whole)
@@ -280,14 +282,14 @@ module _ (contents : Option Files) (folder log : List ℕ) (ratio : ℕ) (table 
       let run = (exactly h.5.graph judged.plan judged.audited.log.header judged.audited.log.logged.items judged.audited.verdict h.5.judged).0 is in
       ((judged.audited.log.header.workers, run.legal), run.complete)
 
-module _ (contents : Option Files) (folder cases : List ℕ) (fixed : Option ℕ) where
+module _ (contents : Option Files) (folder cases : List ℕ) (moments : Moments) where
   module _ (given : Given) where
-    pub validate_not : (load : Load) → IsTallyAnswer contents folder cases (Err load) → IsFinished (Validate folder cases via.Graph) contents given fixed (Err load)
+    pub validate_not : (load : Load) → IsTallyAnswer contents folder cases (Err load) → IsFinished (Validate folder cases via.Graph) contents given moments (Err load)
     validate_not (loads.Refused r) h = (record { missing = None; pick = Modulo; held = h.0; beside = h.1 }, (h.2, beside_told contents cases h.1 h.3, tt), h.4)
     validate_not loads.ReadFault h = tt
     validate_not loads.Memory h = tt
 
-    pub validate_done : (tally : Tally) (f : Finished) → IsTallyAnswer contents folder cases (Ok tally) → TellsTally tally f → IsFinished (Validate folder cases via.Graph) contents given fixed (Ok f)
+    pub validate_done : (tally : Tally) (f : Finished) → IsTallyAnswer contents folder cases (Ok tally) → TellsTally tally f → IsFinished (Validate folder cases via.Graph) contents given moments (Ok f)
     validate_done tally f h told = (
       record { missing = None; pick = Modulo; held = h.0; beside = h.1 },
       (h.2, beside_told contents cases h.1 h.3, tt),
@@ -297,7 +299,7 @@ module _ (contents : Option Files) (folder cases : List ℕ) (fixed : Option ℕ
 
   -- the same of a table in which each kind of read has a handler
   module _ (c : Connector) where
-    pub table_not : HasAll c.kinds → (load : Load) → IsTallyAnswer contents folder cases (Err load) → IsFinished (Validate folder cases via.Table) contents (Some c) fixed (Err load)
+    pub table_not : HasAll c.kinds → (load : Load) → IsTallyAnswer contents folder cases (Err load) → IsFinished (Validate folder cases via.Table) contents (Some c) moments (Err load)
     table_not all (loads.Refused r) h = (
       record { missing = None; pick = c.pick; held = h.0; beside = h.1 },
       (h.2, beside_told contents cases h.1 h.3, (all, refl)),
@@ -307,7 +309,7 @@ module _ (contents : Option Files) (folder cases : List ℕ) (fixed : Option ℕ
     table_not all loads.Memory h = tt
 
     pub table_done : HasAll c.kinds → (tally : Tally) (f : Finished) → IsTallyAnswer contents folder cases (Ok tally) → TellsTally tally f
-        → IsFinished (Validate folder cases via.Table) contents (Some c) fixed (Ok f)
+        → IsFinished (Validate folder cases via.Table) contents (Some c) moments (Ok f)
     table_done all tally f h told = (
       record { missing = None; pick = c.pick; held = h.0; beside = h.1 },
       (h.2, beside_told contents cases h.1 h.3, (all, refl)),
@@ -316,21 +318,21 @@ module _ (contents : Option Files) (folder cases : List ℕ) (fixed : Option ℕ
     )
 
     -- and of one in which a kind has none: whatever there is of files, that is what is wrong first
-    pub table_lacks : (kind : ReadKind) → IsFirstMissing c.kinds kind → (r : Refusal) → r ≡ Unregistered kind → IsFinished (Validate folder cases via.Table) contents (Some c) fixed (Err (loads.Refused r))
+    pub table_lacks : (kind : ReadKind) → IsFirstMissing c.kinds kind → (r : Refusal) → r ≡ Unregistered kind → IsFinished (Validate folder cases via.Table) contents (Some c) moments (Err (loads.Refused r))
     table_lacks kind first r is =
         let held = held_told contents folder in
         let beside = any_told contents cases in
         (record { missing = Some kind; pick = c.pick; held = held.0; beside = beside.0 }, (held.1, beside_told contents cases beside.0 beside.1, (first, refl)), inl is)
 
 -- a walk by a table in which each kind of read has a handler, and a policy
-module _ (contents : Option Files) (folder : List ℕ) (query : Query) (chance : Falling) (words : List ℕ) (c : Connector) (fixed : Option ℕ) where
-  pub walk_not : HasAll c.kinds → (load : Load) → IsWalkAnswer contents folder c.pick query chance words (Err load) → IsFinished (Walk folder query chance words) contents (Some c) fixed (Err load)
+module _ (contents : Option Files) (folder : List ℕ) (query : Query) (chance : Falling) (words : List ℕ) (c : Connector) (moments : Moments) where
+  pub walk_not : HasAll c.kinds → (load : Load) → IsWalkAnswer contents folder c.pick query chance words (Err load) → IsFinished (Walk folder query chance words) contents (Some c) moments (Err load)
   walk_not all (loads.Refused r) h = (record { missing = None; pick = c.pick; held = h.0; beside = None }, (h.1, tt, (all, refl)), inr (λ q no. no, h.2))
   walk_not all loads.ReadFault h = tt
   walk_not all loads.Memory h = tt
 
   pub walk_done : HasAll c.kinds → (text : Vec ℕ Global) (status : ℕ) (texts : Written) → IsWalkAnswer contents folder c.pick query chance words (Ok text) → status ≡ 0 → texts ≡ on_screen text.items
-      → IsDoneWith (Walk folder query chance words) contents (Some c) fixed status texts
+      → IsDoneWith (Walk folder query chance words) contents (Some c) moments status texts
   walk_done all text status texts h s e = (
     record { missing = None; pick = c.pick; held = h.0; beside = None },
     (h.1, tt, (all, refl)),
@@ -350,7 +352,7 @@ module _ (contents : Option Files) (folder : List ℕ) (query : Query) (chance :
   )
 
   -- and by one in which a kind has none
-  pub walk_lacks : (kind : ReadKind) → IsFirstMissing c.kinds kind → (r : Refusal) → r ≡ Unregistered kind → IsFinished (Walk folder query chance words) contents (Some c) fixed (Err (loads.Refused r))
+  pub walk_lacks : (kind : ReadKind) → IsFirstMissing c.kinds kind → (r : Refusal) → r ≡ Unregistered kind → IsFinished (Walk folder query chance words) contents (Some c) moments (Err (loads.Refused r))
   walk_lacks kind first r is =
       let held = held_told contents folder in
       (record { missing = Some kind; pick = c.pick; held = held.0; beside = None }, (held.1, tt, (first, refl)), inl is)

@@ -1,5 +1,6 @@
 -- What `expect` wrote is valid.
 use Rattle.std.proofs.Common.{◌≡◌, ◌≤◌, ◌∙◌, ℕ, ◌++◌, List, [], ◌∷◌, length, Option, Some, None, inl, inr, sym, ap, subst, arith}
+use Rattle.snb_base.specs.Moments.{Moments}
 use Rattle.snb_base.specs.Outbox.{Written}
 use Rattle.snb_base.specs.Shelf.{Files}
 use Rattle.snb_schema.specs.declared.limits.TheConstants.{MAX_BYTES}
@@ -59,19 +60,19 @@ module _ (one : DatasetIsOne) (or_not : CasesRefusedOrNot) (tally_one : TallyIsO
       v.status_is ∙ ap tally_status (tally_one r.graph (Some text) v.tally (record { reads = r.reads; first = None }) found r.right)
 
 -- what `expect` answered with status 0 are the cases of the files
-done_expected : WordsAreOne → (asked : Asked) (files : Files) (fixed : Option ℕ) (folder : List ℕ) (table : FrequencyTable) (texts : Written) → IsLineOf asked.words (Expect folder table)
-    → IsAnswer asked (Some files) fixed 0 texts → IsExpected (held_in folder files) table texts
-done_expected one asked files fixed folder table texts line (inl usage) = (let e = usage.0 in absurd (omega (arith, e)))
-done_expected one asked files fixed folder table texts line (inr (c, l, (found, told, inr bad))) = (let e = bad.2.0 in absurd (omega (arith, e)))
-done_expected one asked files fixed folder table texts line (inr (c, l, (found, told, inl done))) =
+done_expected : WordsAreOne → (asked : Asked) (files : Files) (moments : Moments) (folder : List ℕ) (table : FrequencyTable) (texts : Written) → IsLineOf asked.words (Expect folder table)
+    → IsAnswer asked (Some files) moments 0 texts → IsExpected (held_in folder files) table texts
+done_expected one asked files moments folder table texts line (inl usage) = (let e = usage.0 in absurd (omega (arith, e)))
+done_expected one asked files moments folder table texts line (inr (c, l, (found, told, inr bad))) = (let e = bad.2.0 in absurd (omega (arith, e)))
+done_expected one asked files moments folder table texts line (inr (c, l, (found, told, inl done))) =
     let same = one asked.words c (Expect folder table) l.line line in
     let told_here = subst (λ (d : Command). IsFoundTold (Some files) asked.given d found) same told in
-    subst (λ (h : Held). IsExpected h table texts) (told_files folder files found.held told_here.0) (subst (λ (d : Command). IsDone d found fixed 0 texts) same done.1).1
+    subst (λ (h : Held). IsExpected h table texts) (told_files folder files found.held told_here.0) (subst (λ (d : Command). IsDone d found moments 0 texts) same done.1).1
 
 -- and they were added to the channels
 pub expect_in_short : WordsAreOne → ExpectInShort
-expect_in_short one asked files fixed folder table old new line (texts, answered, w) =
-    let e = done_expected one asked files fixed folder table texts line answered in
+expect_in_short one asked files moments folder table old new line (texts, answered, w) =
+    let e = done_expected one asked files moments folder table texts line answered in
     let now = added old new texts w in
     record {
       graph = e.graph;
@@ -98,7 +99,7 @@ module _ (one : DatasetIsOne) (or_not : CasesRefusedOrNot) (tally_one : TallyIsO
   fine_found found told =
       as_found (λ held beside. NoneOf (dataset_checks at_first held ++ AreBadCases held beside ∷ [])) found told (fine one or_not tally_one (held_in folder after) text r)
 
-  module _ (words_one : WordsAreOne) (law : RefusedOrNot) (words : List (List ℕ)) (later : Option ℕ) (line : IsLineOf words (Validate folder name Graph)) where
+  module _ (words_one : WordsAreOne) (law : RefusedOrNot) (words : List (List ℕ)) (later : Moments) (line : IsLineOf words (Validate folder name Graph)) where
     abbrev others : Asked
     others = record { words = words; given = given }
 
@@ -114,8 +115,8 @@ module _ (one : DatasetIsOne) (or_not : CasesRefusedOrNot) (tally_one : TallyIsO
         (found_as (λ held beside. IsValidated held beside status shown) found told_here (subst (λ (d : Command). IsDone d found later status shown) same done.1))
 
 pub expected_is_valid : WordsAreOne → RefusedOrNot → DatasetIsOne → CasesRefusedOrNot → TallyIsOne → ExpectedAreRight → ExpectedIsValid
-expected_is_valid words_one law one or_not tally_one right asked others files after fixed later folder name table texts line answered short other_line there kept =
-    let e = done_expected words_one asked files fixed folder table texts line answered in
+expected_is_valid words_one law one or_not tally_one right asked others files after moments later folder name table texts line answered short other_line there kept =
+    let e = done_expected words_one asked files moments folder table texts line answered in
     let same : held_in folder after ≡ held_in folder files = (λ i file. kept file i) in
     let r : IsRight (held_in folder after) texts.cases = subst (λ (h : Held). IsRight h texts.cases) (sym same) (expected_right right (held_in folder files) table texts e short) in (
       fine_found one or_not tally_one others.given after folder name texts.cases r there,

@@ -1,5 +1,6 @@
 -- A validation by a table of handlers.
 use Rattle.std.specs.Prelude.{IsSome, MatchOption}
+use Rattle.snb_base.specs.Moments.{Moments}
 use Rattle.std.specs.Option.{IsSomeAnd}
 use Rattle.std.proofs.Common.{◌≡◌, ◌∙◌, ℕ, ◌⊎◌, ◌++◌, List, [], ◌∷◌, Option, Some, None, inl, inr, refl, sym, ap, subst}
 use Rattle.snb_base.specs.FirstOf.{FirstOf, NoneOf}
@@ -71,12 +72,12 @@ module _ (files : Files) (folder name : List ℕ) where
         let same : w.0 ≡ v.0 = once (Validate folder name Graph) found_there w.0 v.0 w.1 v.1 in
         (w.2.0 ∙ sym v.2.0, w.2.1 ∙ ap (λ (r : Refusal). on_screen (refusal_text r)) same ∙ sym v.2.1)
 
-  module _ (found : Found) (fixed : Option ℕ) (status : ℕ) (texts : Written) where
+  module _ (found : Found) (moments : Moments) (status : ℕ) (texts : Written) where
     moved : (held : found.held ≡ held_in folder files) → found.beside ≡ files name → (P : Held → Option (List ℕ) → Type 0) → P found.held found.beside → P (held_in folder files) (files name)
     moved held beside P p = subst (P (held_in folder files)) beside (subst (λ (h : Held). P h found.beside) held p)
 
     -- by the graph's own reads
-    graph_told : (given : Given) → IsFoundTold (Some files) given (Validate folder name Graph) found → Belongs (Validate folder name Graph) found fixed status texts → Told status texts
+    graph_told : (given : Given) → IsFoundTold (Some files) given (Validate folder name Graph) found → Belongs (Validate folder name Graph) found moments status texts → Told status texts
     graph_told given told (inl b) =
         let there = moved (told_files folder files found.held told.0) told.1 in
         inl (there (λ held beside. NoneOf (checks held beside)) b.0, there (λ held beside. IsValidated held beside status texts) b.1)
@@ -85,7 +86,7 @@ module _ (files : Files) (folder name : List ℕ) where
 
     -- and by a table in which each kind has a handler
     table_told : (given : Given) → IsSomeAnd given (λ c. HasAll c.kinds) → IsFoundTold (Some files) given (Validate folder name Table) found
-        → Belongs (Validate folder name Table) found fixed status texts → Told status texts
+        → Belongs (Validate folder name Table) found moments status texts → Told status texts
     table_told None all told b = absurd all
     table_told (Some c) all told (inl b) =
         let there = moved (told_files folder files found.held told.0) told.1 in
@@ -94,23 +95,23 @@ module _ (files : Files) (folder name : List ℕ) where
     table_told (Some c) all told (inr (r, inr q, refused)) =
         inr (r, moved (told_files folder files found.held told.0) told.1 (λ held beside. FirstOf (checks held beside) r) q.1, refused)
 
-  module _ (words_one : WordsAreOne) (asked : Asked) (fixed : Option ℕ) (status : ℕ) (texts : Written) where
-    graph_answered : IsLineOf asked.words (Validate folder name Graph) → IsAnswer asked (Some files) fixed status texts → Told status texts
+  module _ (words_one : WordsAreOne) (asked : Asked) (moments : Moments) (status : ℕ) (texts : Written) where
+    graph_answered : IsLineOf asked.words (Validate folder name Graph) → IsAnswer asked (Some files) moments status texts → Told status texts
     graph_answered line (inl usage) = absurd (usage.1 (Validate folder name Graph) (record { line = line; given = λ e. absurd cc }))
     graph_answered line (inr (c, l, (found, told, b))) =
         let same = words_one asked.words c (Validate folder name Graph) l.line line in
-        graph_told found fixed status texts asked.given (subst (λ (d : Command). IsFoundTold (Some files) asked.given d found) same told)
-        (subst (λ (d : Command). Belongs d found fixed status texts) same b)
+        graph_told found moments status texts asked.given (subst (λ (d : Command). IsFoundTold (Some files) asked.given d found) same told)
+        (subst (λ (d : Command). Belongs d found moments status texts) same b)
 
-    table_answered : IsLineOf asked.words (Validate folder name Table) → IsSomeAnd asked.given (λ c. HasAll c.kinds) → IsAnswer asked (Some files) fixed status texts → Told status texts
+    table_answered : IsLineOf asked.words (Validate folder name Table) → IsSomeAnd asked.given (λ c. HasAll c.kinds) → IsAnswer asked (Some files) moments status texts → Told status texts
     table_answered line all (inl usage) = absurd (usage.1 (Validate folder name Table) (record { line = line; given = λ e. given_there asked.given all }))
     table_answered line all (inr (c, l, (found, told, b))) =
         let same = words_one asked.words c (Validate folder name Table) l.line line in
-        table_told found fixed status texts asked.given all (subst (λ (d : Command). IsFoundTold (Some files) asked.given d found) same told)
-        (subst (λ (d : Command). Belongs d found fixed status texts) same b)
+        table_told found moments status texts asked.given all (subst (λ (d : Command). IsFoundTold (Some files) asked.given d found) same told)
+        (subst (λ (d : Command). Belongs d found moments status texts) same b)
 
 pub via_table_is_the_same : WordsAreOne → RefusalIsOne → RefusedOrNot → DatasetIsOne → TallyIsOne → ViaTableIsTheSame
-via_table_is_the_same words_one once law one tally_one asked others files fixed later folder name status other texts shown line answer other_line all other_answer =
+via_table_is_the_same words_one once law one tally_one asked others files moments later folder name status other texts shown line answer other_line all other_answer =
     told_one files folder name once law one tally_one status other texts shown
-    (graph_answered files folder name words_one asked fixed status texts line answer)
+    (graph_answered files folder name words_one asked moments status texts line answer)
     (table_answered files folder name words_one others later other shown other_line all other_answer)

@@ -1,5 +1,6 @@
 -- How the parts of a call end. Cited by contracts of private functions alone.
 use Rattle.std.specs.Prelude.{◌≡◌, ℕ, ◌<◌, ◌≤◌, ◌⊎◌, List, [], ◌∷◌, ◌++◌, length, Option, None, Some, IfSome, Result, Ok, Err, Vec}
+use Rattle.snb_base.specs.Moments.{Moments}
 use Rattle.std.specs.Borrow.{Bor}
 use Rattle.std.specs.declared.alloc.Global.{Global}
 use Rattle.snb_auditor_log.specs.LogFiles.{log_checks}
@@ -98,18 +99,18 @@ asked_by words given = record { words = texts_of words; given = given }
 
 -- there are files, which are those that the shelf tells where it tells any, and a table where the command asks one, of which nothing is wrong, and
 -- the command is done with this status and these texts
-abbrev pub IsDoneWith : Command → Option Files → Given → Option ℕ → ℕ → Written → Type 0
-IsDoneWith command contents given fixed status texts =
-    (found : Found) × IsFoundTold contents given command found × NoneOf (checks_of command found) × IsDone command found fixed status texts
+abbrev pub IsDoneWith : Command → Option Files → Given → Moments → ℕ → Written → Type 0
+IsDoneWith command contents given moments status texts =
+    (found : Found) × IsFoundTold contents given command found × NoneOf (checks_of command found) × IsDone command found moments status texts
 
 -- what a command answers: its status and texts, where it is done; or what is wrong first with files, which are those that the shelf tells where it
 -- tells any, and with the table that it asks
-abbrev pub IsFinished : Command → Option Files → Given → Option ℕ → Result Finished Load → Type 0
-IsFinished command contents given fixed (Ok f) = IsDoneWith command contents given fixed f.status (bytes_of f.output)
-IsFinished command contents given fixed (Err (Refused r)) =
+abbrev pub IsFinished : Command → Option Files → Given → Moments → Result Finished Load → Type 0
+IsFinished command contents given moments (Ok f) = IsDoneWith command contents given moments f.status (bytes_of f.output)
+IsFinished command contents given moments (Err (Refused r)) =
     (found : Found) × IsFoundTold contents given command found × FirstOf (checks_of command found) r
-IsFinished command contents given fixed (Err ReadFault) = Unit {0}
-IsFinished command contents given fixed (Err Memory) = Unit {0}
+IsFinished command contents given moments (Err ReadFault) = Unit {0}
+IsFinished command contents given moments (Err Memory) = Unit {0}
 
 -- nothing is wrong with the files of a plan, and these are their dataset and the plan
 pub record IsLoaded (held : Held) (ratio : ℕ) (frequencies : FrequencyTable) (input : Input) : Type 0 where

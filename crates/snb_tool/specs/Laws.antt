@@ -1,5 +1,6 @@
 -- Laws of what the commands answer.
 use Rattle.std.specs.Prelude.{◌≡◌, ◌≤◌, ℕ, ◌⊎◌, ◌↔◌, ◌++◌, List, length, Option, Some}
+use Rattle.snb_base.specs.Moments.{Moments}
 use Rattle.snb_auditor_log.specs.LogFiles.{IsLogOf}
 use Rattle.snb_auditor_log.specs.declared.verdict.AuditVerdict.{AuditVerdict}
 use Rattle.snb_auditor_log.specs.AuditVerdicts.{IsAuditVerdict, IsInOrder, IsWhole}
@@ -63,7 +64,7 @@ RefusedOrNot = (command : Command) (found : Found) (r : Refusal) → FirstOf (ch
 -- words are answered with a status of these, where texts belong to it
 abbrev pub AnswersHaveStatus : Type 0
 AnswersHaveStatus =
-    (asked : Asked) (contents : Option Files) (fixed : Option ℕ) (status : ℕ) (texts : Written) → IsAnswer asked contents fixed status texts
+    (asked : Asked) (contents : Option Files) (moments : Moments) (status : ℕ) (texts : Written) → IsAnswer asked contents moments status texts
     → (status ≡ 0) ⊎ (status ≡ 1) ⊎ (status ≡ 2) ⊎ (status ≡ 3)
 
 -- what a run that is done has added to the channels, where the files and the channels are told: the log of a legal, complete history of the plan
@@ -93,8 +94,8 @@ pub record IsRunInShort (files : Files) (folder : List ℕ) (workers ratio : ℕ
 -- status 0 of `run` says that
 abbrev pub RunInShort : Type 0
 RunInShort =
-    (asked : Asked) (files : Files) (fixed : Option ℕ) (folder : List ℕ) (workers ratio : ℕ) (frequencies : FrequencyTable) (old new : Written)
-    → IsLineOf asked.words (Run folder workers ratio frequencies) → HasWritten (Some old) (Some new) (IsAnswer asked (Some files) fixed 0)
+    (asked : Asked) (files : Files) (moments : Moments) (folder : List ℕ) (workers ratio : ℕ) (frequencies : FrequencyTable) (old new : Written)
+    → IsLineOf asked.words (Run folder workers ratio frequencies) → HasWritten (Some old) (Some new) (IsAnswer asked (Some files) moments 0)
     → IsRunInShort files folder workers ratio frequencies old new
 
 -- what an audit that is done says, where the files and the channels are told: the log of this name says one header and one list of events with
@@ -116,9 +117,9 @@ pub record IsAuditInShort (files : Files) (folder log : List ℕ) (ratio : ℕ) 
 -- status 0 or 1 of `audit` says that
 abbrev pub AuditInShort : Type 0
 AuditInShort =
-    (asked : Asked) (files : Files) (fixed : Option ℕ) (folder log : List ℕ) (ratio : ℕ) (frequencies : FrequencyTable) (status : ℕ) (old new : Written)
+    (asked : Asked) (files : Files) (moments : Moments) (folder log : List ℕ) (ratio : ℕ) (frequencies : FrequencyTable) (status : ℕ) (old new : Written)
     → IsLineOf asked.words (Audit folder log ratio frequencies) → (status ≡ 0) ⊎ (status ≡ 1)
-    → HasWritten (Some old) (Some new) (IsAnswer asked (Some files) fixed status)
+    → HasWritten (Some old) (Some new) (IsAnswer asked (Some files) moments status)
     → IsAuditInShort files folder log ratio frequencies status old new
 
 -- what `latency` that is done says, where the files and the channels are told: the log of this name says one header and one list of events with
@@ -139,9 +140,9 @@ pub record IsLatencyInShort (files : Files) (folder log : List ℕ) (ratio : ℕ
 -- status 0 or 1 of `latency` says that
 abbrev pub LatencyInShort : Type 0
 LatencyInShort =
-    (asked : Asked) (files : Files) (fixed : Option ℕ) (folder log : List ℕ) (ratio : ℕ) (frequencies : FrequencyTable) (status : ℕ) (old new : Written)
+    (asked : Asked) (files : Files) (moments : Moments) (folder log : List ℕ) (ratio : ℕ) (frequencies : FrequencyTable) (status : ℕ) (old new : Written)
     → IsLineOf asked.words (Latency folder log ratio frequencies) → (status ≡ 0) ⊎ (status ≡ 1)
-    → HasWritten (Some old) (Some new) (IsAnswer asked (Some files) fixed status)
+    → HasWritten (Some old) (Some new) (IsAnswer asked (Some files) moments status)
     → IsLatencyInShort files folder log ratio frequencies status old new
 
 -- what a validation that is done says, where the files and the channels are told: the file of this name says these cases; the status is 0 exactly
@@ -160,8 +161,8 @@ pub record IsValidateInShort (files : Files) (folder name : List ℕ) (status : 
 -- status 0 or 1 of `validate` says that
 abbrev pub ValidateInShort : Type 0
 ValidateInShort =
-    (asked : Asked) (files : Files) (fixed : Option ℕ) (folder name : List ℕ) (via : Via) (status : ℕ) (old new : Written)
-    → IsLineOf asked.words (Validate folder name via) → (status ≡ 0) ⊎ (status ≡ 1) → HasWritten (Some old) (Some new) (IsAnswer asked (Some files) fixed status)
+    (asked : Asked) (files : Files) (moments : Moments) (folder name : List ℕ) (via : Via) (status : ℕ) (old new : Written)
+    → IsLineOf asked.words (Validate folder name via) → (status ≡ 0) ⊎ (status ≡ 1) → HasWritten (Some old) (Some new) (IsAnswer asked (Some files) moments status)
     → IsValidateInShort files folder name status old new
 
 -- what `expect` that is done has added to the channels, where the files and the channels are told: the cases of the plan of the files, each
@@ -180,16 +181,16 @@ pub record IsExpectInShort (files : Files) (folder : List ℕ) (frequencies : Fr
 -- status 0 of `expect` says that
 abbrev pub ExpectInShort : Type 0
 ExpectInShort =
-    (asked : Asked) (files : Files) (fixed : Option ℕ) (folder : List ℕ) (frequencies : FrequencyTable) (old new : Written)
-    → IsLineOf asked.words (Expect folder frequencies) → HasWritten (Some old) (Some new) (IsAnswer asked (Some files) fixed 0)
+    (asked : Asked) (files : Files) (moments : Moments) (folder : List ℕ) (frequencies : FrequencyTable) (old new : Written)
+    → IsLineOf asked.words (Expect folder frequencies) → HasWritten (Some old) (Some new) (IsAnswer asked (Some files) moments 0)
     → IsExpectInShort files folder frequencies old new
 
 -- the cases that `expect` wrote of a folder are right for `validate`: where the file of a name has them, at most `MAX_BYTES` bytes, and the
 -- folder's files are what they were, nothing is wrong with what `validate` finds, and it is done with status 0
 abbrev pub ExpectedIsValid : Type 0
 ExpectedIsValid =
-    (asked others : Asked) (files after : Files) (fixed later : Option ℕ) (folder name : List ℕ) (frequencies : FrequencyTable) (texts : Written)
-    → IsLineOf asked.words (Expect folder frequencies) → IsAnswer asked (Some files) fixed 0 texts → length texts.cases ≤ MAX_BYTES
+    (asked others : Asked) (files after : Files) (moments later : Moments) (folder name : List ℕ) (frequencies : FrequencyTable) (texts : Written)
+    → IsLineOf asked.words (Expect folder frequencies) → IsAnswer asked (Some files) moments 0 texts → length texts.cases ≤ MAX_BYTES
     → IsLineOf others.words (Validate folder name Graph) → after name ≡ Some texts.cases → ((file : FileId) → held_in folder after file ≡ held_in folder files file)
     → IsFine (Some after) others.given (Validate folder name Graph) × ((status : ℕ) (shown : Written) → IsAnswer others (Some after) later status shown → status ≡ 0)
 
@@ -197,7 +198,7 @@ ExpectedIsValid =
 -- status, and the same texts
 abbrev pub ViaTableIsTheSame : Type 0
 ViaTableIsTheSame =
-    (asked others : Asked) (files : Files) (fixed later : Option ℕ) (folder name : List ℕ) (status other : ℕ) (texts shown : Written)
-    → IsLineOf asked.words (Validate folder name Graph) → IsAnswer asked (Some files) fixed status texts
+    (asked others : Asked) (files : Files) (moments later : Moments) (folder name : List ℕ) (status other : ℕ) (texts shown : Written)
+    → IsLineOf asked.words (Validate folder name Graph) → IsAnswer asked (Some files) moments status texts
     → IsLineOf others.words (Validate folder name Table) → IsSomeAnd others.given (λ c. HasAll c.kinds) → IsAnswer others (Some files) later other shown
     → (other ≡ status) × (shown ≡ texts)

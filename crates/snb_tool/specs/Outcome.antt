@@ -1,5 +1,6 @@
 -- What a call of the program answers and writes.
 use Rattle.std.specs.Prelude.{◌≡◌, ℕ, ◌+◌, true, List, [], length, Option, None, Some, IfSome, IsSome, ◌⊎◌, MatchBool}
+use Rattle.snb_base.specs.Moments.{Moments}
 use Rattle.std.specs.Borrow.{Bor}
 use Rattle.snb_auditor_log.specs.LogFiles.{IsLogOf}
 use Rattle.snb_auditor_log.specs.declared.verdict.AuditVerdict.{AuditVerdict}
@@ -87,26 +88,26 @@ pub record IsChecked (held : Held) (frequencies : FrequencyTable) (texts : Writt
 -- what a run of a plan by so many workers over a dataset leaves: the texts of a legal, complete history, of the replies to its reads, each on
 -- the dataset with what had finished in the read's front, and of the dataset with the rows of each insert once; where the clock tells a fixed
 -- moment, each Start and Finish is at it. The log is read as what it was written of, and in no other way
-pub record IsLeft (workers : ℕ) (graph : List Row) (plan : Plan) (fixed : Option ℕ) (texts : Written) : Type 0 where
+pub record IsLeft (workers : ℕ) (graph : List Row) (plan : Plan) (moments : Moments) (texts : Written) : Type 0 where
   pub history : List Event
   pub replies : List Answered
   pub final : List Row
-  pub ran : HasRun workers plan fixed graph history replies final
+  pub ran : HasRun workers plan moments graph history replies final
   pub read_back : ReadsBack (header_of workers (length plan.operations)) (logged_of replies history)
   pub shown : texts ≡ run_texts workers graph plan history replies final
 
 -- nothing is wrong with the files, and the texts are what a run of their plan leaves
-pub record IsRun (held : Held) (workers ratio : ℕ) (frequencies : FrequencyTable) (fixed : Option ℕ) (texts : Written) : Type 0 where
+pub record IsRun (held : Held) (workers ratio : ℕ) (frequencies : FrequencyTable) (moments : Moments) (texts : Written) : Type 0 where
   pub graph : List Row
   pub plan : Plan
   pub input : IsInput held ratio frequencies graph plan
-  pub left : IsLeft workers graph plan fixed texts
+  pub left : IsLeft workers graph plan moments texts
 
 -- the texts are what a run by so many workers leaves of the formula workload of a size: of the plan of its lanes and lists over its dataset
-pub record IsTried (size workers : ℕ) (fixed : Option ℕ) (texts : Written) : Type 0 where
+pub record IsTried (size workers : ℕ) (moments : Moments) (texts : Written) : Type 0 where
   pub plan : Plan
   pub is_plan : IsPlan (lanes size) (lists size) read_frequencies least_ratio plan
-  pub left : IsLeft workers dataset plan fixed texts
+  pub left : IsLeft workers dataset plan moments texts
 
 -- nothing is wrong with the files of a plan, which is this; these bytes are a log that says this header and these events with their counts; and this
 -- is the verdict on it by the plan over the dataset
@@ -187,16 +188,16 @@ pub record IsWalked (held : Held) (pick : Pick) (query : Query) (chance : Fallin
   pub shown : texts ≡ on_screen (walk_text answer steps stop)
 
 -- the status and the texts of a command that is done
-abbrev pub IsDone : Command → Found → Option ℕ → ℕ → Written → Type 0
-IsDone (Check folder frequencies) found fixed status texts = (status ≡ 0) × IsChecked found.held frequencies texts
-IsDone (Run folder workers ratio frequencies) found fixed status texts = (status ≡ 0) × IsRun found.held workers ratio frequencies fixed texts
-IsDone (Audit folder log ratio frequencies) found fixed status texts = TellsVerdict found.held found.beside ratio frequencies status texts
-IsDone (Latency folder log ratio frequencies) found fixed status texts = TellsLatencies found.held found.beside ratio frequencies status texts
-IsDone (Expect folder frequencies) found fixed status texts = (status ≡ 0) × IsExpected found.held frequencies texts
-IsDone (Validate folder cases via) found fixed status texts = IsValidated found.held found.beside status texts
-IsDone (Read folder query) found fixed status texts = (status ≡ 0) × IsRead found.held query texts
-IsDone (Walk folder query chance words) found fixed status texts = (status ≡ 0) × IsWalked found.held found.pick query chance words texts
-IsDone (Trial size workers) found fixed status texts = (status ≡ 0) × IsTried size workers fixed texts
+abbrev pub IsDone : Command → Found → Moments → ℕ → Written → Type 0
+IsDone (Check folder frequencies) found moments status texts = (status ≡ 0) × IsChecked found.held frequencies texts
+IsDone (Run folder workers ratio frequencies) found moments status texts = (status ≡ 0) × IsRun found.held workers ratio frequencies moments texts
+IsDone (Audit folder log ratio frequencies) found moments status texts = TellsVerdict found.held found.beside ratio frequencies status texts
+IsDone (Latency folder log ratio frequencies) found moments status texts = TellsLatencies found.held found.beside ratio frequencies status texts
+IsDone (Expect folder frequencies) found moments status texts = (status ≡ 0) × IsExpected found.held frequencies texts
+IsDone (Validate folder cases via) found moments status texts = IsValidated found.held found.beside status texts
+IsDone (Read folder query) found moments status texts = (status ≡ 0) × IsRead found.held query texts
+IsDone (Walk folder query chance words) found moments status texts = (status ≡ 0) × IsWalked found.held found.pick query chance words texts
+IsDone (Trial size workers) found moments status texts = (status ≡ 0) × IsTried size workers moments texts
 
 -- the status and the texts of a command that is refused: what is wrong first is shown
 abbrev pub IsRefused : Refusal → ℕ → Written → Type 0
@@ -204,21 +205,21 @@ IsRefused r status texts = (status ≡ 3) × (texts ≡ on_screen (refusal_text 
 
 -- the status and the texts that belong to what a command finds: nothing is wrong with it and the command is done, or what is wrong with it
 -- first is shown
-abbrev pub Belongs : Command → Found → Option ℕ → ℕ → Written → Type 0
-Belongs command found fixed status texts =
-    (NoneOf (checks_of command found) × IsDone command found fixed status texts)
+abbrev pub Belongs : Command → Found → Moments → ℕ → Written → Type 0
+Belongs command found moments status texts =
+    (NoneOf (checks_of command found) × IsDone command found moments status texts)
     ⊎ ((r : Refusal) × FirstOf (checks_of command found) r × IsRefused r status texts)
 
 -- the status and the texts that a command answers: there are files, which are those that the shelf tells where it tells any, and a table of
 -- handlers where it asks one, of which this is true
-abbrev pub IsCommandAnswer : Given → Command → Option Files → Option ℕ → ℕ → Written → Type 0
-IsCommandAnswer given command contents fixed status texts =
-    (found : Found) × IsFoundTold contents given command found × Belongs command found fixed status texts
+abbrev pub IsCommandAnswer : Given → Command → Option Files → Moments → ℕ → Written → Type 0
+IsCommandAnswer given command contents moments status texts =
+    (found : Found) × IsFoundTold contents given command found × Belongs command found moments status texts
 
 -- and where it is done
-abbrev pub IsDoneAnswer : Given → Command → Option Files → Option ℕ → ℕ → Written → Type 0
-IsDoneAnswer given command contents fixed status texts =
-    (found : Found) × IsFoundTold contents given command found × IsDone command found fixed status texts
+abbrev pub IsDoneAnswer : Given → Command → Option Files → Moments → ℕ → Written → Type 0
+IsDoneAnswer given command contents moments status texts =
+    (found : Found) × IsFoundTold contents given command found × IsDone command found moments status texts
 
 -- what a call is asked: its words, and a table of handlers with a policy, where it is given them
 pub record Asked : Type 0 where
@@ -243,21 +244,21 @@ abbrev pub IsOther : Asked → Type 0
 IsOther asked = (command : Command) → ¬ IsAsked asked command
 
 -- the status and the texts that words are answered with: the usage, where they are no command's line; else those of the command
-abbrev pub IsAnswer : Asked → Option Files → Option ℕ → ℕ → Written → Type 0
-IsAnswer asked contents fixed status texts =
+abbrev pub IsAnswer : Asked → Option Files → Moments → ℕ → Written → Type 0
+IsAnswer asked contents moments status texts =
     ((status ≡ 2) × IsOther asked × (texts ≡ on_screen usage_text))
-    ⊎ ((command : Command) × IsAsked asked command × IsCommandAnswer asked.given command contents fixed status texts)
+    ⊎ ((command : Command) × IsAsked asked command × IsCommandAnswer asked.given command contents moments status texts)
 
 -- texts that belong to the words and the status of the call were added to the channels, unless the status is 4, 5 or 6
 abbrev pub IsAnswered : Asked → Call → ℕ → Type 0
 IsAnswered asked call status =
-    HasWritten call.before.written call.after.written (IsAnswer asked call.before.contents call.before.fixed status)
+    HasWritten call.before.written call.after.written (IsAnswer asked call.before.contents call.before.moments status)
     ⊎ ((status ≡ 4) ⊎ ((status ≡ 5) ⊎ (status ≡ 6)))
 
 -- a front of texts that belong to the words and some status was added to them
 abbrev pub IsCut : Asked → Call → Type 0
 IsCut asked call =
-    (status : ℕ) × HasBegun call.before.ready call.before.written call.after.written (IsAnswer asked call.before.contents call.before.fixed status)
+    (status : ℕ) × HasBegun call.before.ready call.before.written call.after.written (IsAnswer asked call.before.contents call.before.moments status)
 
 -- where the words are a command's line, and nothing is wrong with what the command finds, the call ends with the command done
 abbrev pub Completes : Asked → Call → ℕ → Type 0
@@ -274,7 +275,7 @@ Refuses asked call status =
     → IsAsked asked command
     → (r : Refusal)
     → IsWrong call.before.contents asked.given command r
-    → EndsAs (λ contents fixed. IsRefused r) call status
+    → EndsAs (λ contents moments. IsRefused r) call status
 
 -- the words are that of a command that reads nothing: it reads no folder, or asks a table in which a kind of read has no handler
 abbrev pub ReadsNothing : Asked → Type 0

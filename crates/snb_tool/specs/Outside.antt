@@ -1,17 +1,19 @@
 -- What a call sees of the world outside it.
 use Rattle.std.specs.Prelude.{◌≡◌, ℕ, ◌≤◌, Option}
+use Rattle.snb_base.specs.Moments.{Moments}
 use Rattle.snb_base.specs.declared.clock.Clock.{Ghosts as Clocks}
 use Rattle.snb_base.specs.declared.outbox.Outbox.{Ghosts as Outboxes}
 use Rattle.snb_base.specs.declared.shelf.Shelf.{Ghosts as Shelves}
 use Rattle.snb_base.specs.Outbox.{Rooms, Written}
-use Rattle.snb_base.specs.Shelf.{Files, Rose}
+use Rattle.snb_base.specs.Shelf.{Files, Names, Rose}
 use Rattle.snb_tool.specs.Output.{HasBegun, HasWritten}
 
--- the world outside at one moment: the files that the shelf tells, the clock's one moment, how many faults of reading and of writing there have
--- been, the bytes on the channels, and how many more each takes for sure
+-- the world outside at one moment: the files that the shelf tells, the names that it may be asked for, the moments that the clock can answer, how
+-- many faults of reading and of writing there have been, the bytes on the channels, and how many more each takes for sure
 pub record Outside : Type 1 where
   pub contents : Option Files
-  pub fixed : Option ℕ
+  pub may : Names
+  pub moments : Moments
   pub read_faults : ℕ
   pub write_faults : ℕ
   pub written : Option Written
@@ -21,7 +23,8 @@ pub record Outside : Type 1 where
 abbrev pub outside : {S O C : Type 0} → Shelves S → Outboxes O → Clocks C → S → O → C → Outside
 outside shelves outboxes clocks shelf out clock = record {
   contents = shelves.contents shelf;
-  fixed = clocks.fixed clock;
+  may = shelves.may shelf;
+  moments = clocks.moments clock;
   read_faults = shelves.faults shelf;
   write_faults = outboxes.faults out;
   written = outboxes.written out;
@@ -38,19 +41,19 @@ abbrev pub seen : {S O C : Type 0} → Shelves S → Outboxes O → Clocks C →
 seen shelves outboxes clocks shelf shelf_after out out_after clock =
     record { before = outside shelves outboxes clocks shelf out clock; after = outside shelves outboxes clocks shelf_after out_after clock }
 
--- the shelf was read and not changed: it tells what it told, and forgets no fault
-abbrev pub IsReadOnly : Option Files → ℕ → Option Files → ℕ → Type 0
-IsReadOnly files faults files_after faults_after = (files_after ≡ files) × (faults ≤ faults_after)
+-- the shelf was read and not changed: it tells what it told, may be asked for the same names, and forgets no fault
+abbrev pub IsReadOnly : {S : Type 0} → Shelves S → S → S → Type 0
+IsReadOnly shelves old new = (shelves.contents new ≡ shelves.contents old) × (shelves.may new ≡ shelves.may old) × (shelves.faults old ≤ shelves.faults new)
 
 -- how a call ends: with texts that belong to its status, whole; with a failed read; with a failed write, after a front of texts that belong to
--- some status; or for want of memory. After a failed read and for want of memory nothing is added to the channels
-pub data Ends (belongs : Option Files → Option ℕ → ℕ → Written → Type 0) (old new : Outside) (status : ℕ) : Type 0 where
-  Whole : HasWritten old.written new.written (belongs old.contents old.fixed status) → Ends belongs old new status
+-- some status; or given up. After a failed read, and where it is given up, nothing is added to the channels
+pub data Ends (belongs : Option Files → Moments → ℕ → Written → Type 0) (old new : Outside) (status : ℕ) : Type 0 where
+  Whole : HasWritten old.written new.written (belongs old.contents old.moments status) → Ends belongs old new status
   ReadFault : status ≡ 4 → Rose old.read_faults new.read_faults → new.written ≡ old.written → Ends belongs old new status
-  WriteFault : (s : ℕ) → status ≡ 5 → Rose old.write_faults new.write_faults → HasBegun old.ready old.written new.written (belongs old.contents old.fixed s)
+  WriteFault : (s : ℕ) → status ≡ 5 → Rose old.write_faults new.write_faults → HasBegun old.ready old.written new.written (belongs old.contents old.moments s)
       → Ends belongs old new status
-  OutOfMemory : status ≡ 6 → new.written ≡ old.written → Ends belongs old new status
+  GivenUp : status ≡ 6 → new.written ≡ old.written → Ends belongs old new status
 
 -- how a call ends, by what it sees of the world outside
-abbrev pub EndsAs : (Option Files → Option ℕ → ℕ → Written → Type 0) → Call → ℕ → Type 0
+abbrev pub EndsAs : (Option Files → Moments → ℕ → Written → Type 0) → Call → ℕ → Type 0
 EndsAs belongs call status = Ends belongs call.before call.after status

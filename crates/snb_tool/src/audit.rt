@@ -1,7 +1,8 @@
 //! The command `audit`.
 
 ghost use Rattle.std.specs.Prelude.{ℕ, Option};
-ghost use Rattle.snb_base.specs.Shelf.{IsRead};
+ghost use Rattle.snb_base.specs.Moments.{Moments};
+ghost use Rattle.snb_base.specs.Reads.{IsRead};
 ghost use Rattle.snb_input_files.specs.Loading.{is_read_fault};
 ghost use Rattle.snb_tool_words.specs.declared.command.Command.TheVariants.{Audit};
 ghost use Rattle.snb_tool.specs.Endings.{IsFinished, IsJudgedAnswer};
@@ -44,7 +45,7 @@ pub fn judge<S: Shelf>(
     frequencies: Frequencies,
 ) -> Result<Judged, Load>
     ensures answer { IsJudgedAnswer (S.contents shelf.old) folder.now log.now ratio frequencies result }
-    ensures read { IsRead (is_read_fault result) (S.contents shelf.old) (S.faults shelf.old) (S.contents shelf.new) (S.faults shelf.new) }
+    ensures read { IsRead (is_read_fault result) S.Shelf shelf.old shelf.new }
 {
     let input = load_input(alloc, shelf, folder, ratio, frequencies)?;
     let audited = audit_log(alloc, shelf, &input.plan, &input.graph, log)?;
@@ -62,8 +63,8 @@ pub fn audit<S: Shelf>(
     ratio: Ratio,
     frequencies: Frequencies,
 ) -> Result<Finished, Load>
-    ensures answer { (given : Given) (fixed : Option ℕ) → IsFinished (Audit folder.now log.now ratio frequencies) (S.contents shelf.old) given fixed result }
-    ensures read { IsRead (is_read_fault result) (S.contents shelf.old) (S.faults shelf.old) (S.contents shelf.new) (S.faults shelf.new) }
+    ensures answer { (given : Given) (moments : Moments) → IsFinished (Audit folder.now log.now ratio frequencies) (S.contents shelf.old) given moments result }
+    ensures read { IsRead (is_read_fault result) S.Shelf shelf.old shelf.new }
 {
     let judged = judge(alloc, shelf, folder, log, ratio, frequencies)?;
     let verdict = judged.audited.verdict;

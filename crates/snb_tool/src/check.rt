@@ -1,7 +1,8 @@
 //! The command `check`.
 
 ghost use Rattle.std.specs.Prelude.{◌≡◌, ℕ, IfOk, Option};
-ghost use Rattle.snb_base.specs.Shelf.{IsRead};
+ghost use Rattle.snb_base.specs.Moments.{Moments};
+ghost use Rattle.snb_base.specs.Reads.{IsRead};
 ghost use Rattle.snb_input_files.specs.Loading.{is_read_fault};
 ghost use Rattle.snb_tool_words.specs.declared.command.Command.TheVariants.{Check};
 ghost use Rattle.snb_tool.specs.Endings.{IsFinished};
@@ -37,8 +38,8 @@ pub fn check<S: Shelf>(
     folder: &str,
     frequencies: Frequencies,
 ) -> Result<Finished, Load>
-    ensures answer { (given : Given) (fixed : Option ℕ) → IsFinished (Check folder.now frequencies) (S.contents shelf.old) given fixed result }
-    ensures read { IsRead (is_read_fault result) (S.contents shelf.old) (S.faults shelf.old) (S.contents shelf.new) (S.faults shelf.new) }
+    ensures answer { (given : Given) (moments : Moments) → IsFinished (Check folder.now frequencies) (S.contents shelf.old) given moments result }
+    ensures read { IsRead (is_read_fault result) S.Shelf shelf.old shelf.new }
 {
     let input = load_input(alloc, shelf, folder, Ratio::one(), frequencies)?;
     let text = counts_of(alloc, input)?;

@@ -1,7 +1,7 @@
 //! The dataset of a folder, and the plan of its streams and parameter files.
 
 ghost use Rattle.std.specs.Prelude.{◌≡◌, ◌≤◌, IfOk};
-ghost use Rattle.snb_base.specs.Shelf.{IsRead};
+ghost use Rattle.snb_base.specs.Reads.{IsRead};
 ghost use Rattle.snb_input_files.specs.Loading.{is_read_fault};
 ghost use Rattle.snb_plan.specs.Closed.{IsClosed, IsFirstWrong};
 ghost use Rattle.snb_plan.specs.Plans.{OnRefused, updates_in};
@@ -78,7 +78,7 @@ pub fn load_input<S: Shelf>(
     ensures answer { IsInputAnswer (S.contents shelf.old) folder.now ratio frequencies result }
     ensures closed { IfOk result (λ i. IsClosed (HoldsKey i.graph) (updates_in i.plan)) }
     ensures sound { IfOk result (λ i. Sound i.graph) }
-    ensures read { IsRead (is_read_fault result) (S.contents shelf.old) (S.faults shelf.old) (S.contents shelf.new) (S.faults shelf.new) }
+    ensures read { IsRead (is_read_fault result) S.Shelf shelf.old shelf.new }
 {
     stages_join();
     one_dataset();

@@ -1,7 +1,8 @@
 //! The command `latency`.
 
 ghost use Rattle.std.specs.Prelude.{◌≡◌, ℕ, IfOk, Option};
-ghost use Rattle.snb_base.specs.Shelf.{IsRead};
+ghost use Rattle.snb_base.specs.Moments.{Moments};
+ghost use Rattle.snb_base.specs.Reads.{IsRead};
 ghost use Rattle.snb_history.specs.Rules.{IsComplete, IsLegal};
 ghost use Rattle.snb_input_files.specs.Loading.{is_read_fault};
 ghost use Rattle.snb_plan.specs.Plans.{schedule_of};
@@ -55,8 +56,8 @@ pub fn latency<S: Shelf>(
     ratio: Ratio,
     frequencies: Frequencies,
 ) -> Result<Finished, Load>
-    ensures answer { (given : Given) (fixed : Option ℕ) → IsFinished (Latency folder.now log.now ratio frequencies) (S.contents shelf.old) given fixed result }
-    ensures read { IsRead (is_read_fault result) (S.contents shelf.old) (S.faults shelf.old) (S.contents shelf.new) (S.faults shelf.new) }
+    ensures answer { (given : Given) (moments : Moments) → IsFinished (Latency folder.now log.now ratio frequencies) (S.contents shelf.old) given moments result }
+    ensures read { IsRead (is_read_fault result) S.Shelf shelf.old shelf.new }
 {
     whole_exactly();
     let judged = judge(alloc, shelf, folder, log, ratio, frequencies)?;

@@ -1,7 +1,8 @@
 //! The command `read`.
 
 ghost use Rattle.std.specs.Prelude.{ℕ, IfOk, Option};
-ghost use Rattle.snb_base.specs.Shelf.{IsRead};
+ghost use Rattle.snb_base.specs.Moments.{Moments};
+ghost use Rattle.snb_base.specs.Reads.{IsRead};
 ghost use Rattle.snb_input_files.specs.Loading.{is_read_fault};
 ghost use Rattle.snb_graph_model.specs.Soundness.{Sound};
 ghost use Rattle.snb_tool_words.specs.declared.command.Command.TheVariants.{Read};
@@ -38,7 +39,7 @@ fn read_line<S: Shelf>(
     query: &Query,
 ) -> Result<Vec<u8>, Load>
     ensures answer { IsReplyAnswer (S.contents shelf.old) folder.now query.now result }
-    ensures read { IsRead (is_read_fault result) (S.contents shelf.old) (S.faults shelf.old) (S.contents shelf.new) (S.faults shelf.new) }
+    ensures read { IsRead (is_read_fault result) S.Shelf shelf.old shelf.new }
 {
     let mut used = Used { bytes: 0, rows: 0 };
     let graph = load_dataset(alloc, shelf, folder, &mut used)?;
@@ -52,8 +53,8 @@ pub fn read<S: Shelf>(
     folder: &str,
     query: &Query,
 ) -> Result<Finished, Load>
-    ensures answer { (given : Given) (fixed : Option ℕ) → IsFinished (Read folder.now query.now) (S.contents shelf.old) given fixed result }
-    ensures read { IsRead (is_read_fault result) (S.contents shelf.old) (S.faults shelf.old) (S.contents shelf.new) (S.faults shelf.new) }
+    ensures answer { (given : Given) (moments : Moments) → IsFinished (Read folder.now query.now) (S.contents shelf.old) given moments result }
+    ensures read { IsRead (is_read_fault result) S.Shelf shelf.old shelf.new }
 {
     let line = read_line(alloc, shelf, folder, query)?;
     Ok(Finished::shown(alloc, line, 0))

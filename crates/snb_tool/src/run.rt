@@ -1,7 +1,7 @@
 //! The command `run`.
 
 ghost use Rattle.std.specs.Prelude.{◌≡◌, ◌≤◌, All, IfOk, length};
-ghost use Rattle.snb_base.specs.Shelf.{IsRead};
+ghost use Rattle.snb_base.specs.Reads.{IsRead};
 ghost use Rattle.snb_input_files.specs.Loading.{is_read_fault};
 ghost use Rattle.snb_plan.specs.Closed.{IsClosed};
 ghost use Rattle.snb_plan.specs.Plans.{queries_in, schedule_of, updates_in};
@@ -141,7 +141,7 @@ pub fn run_output<R: Threads + Wait + Sync, C: Clock + Sync, G: Gate + Sync>(
     requires few { workers ≤ MAX_WORKERS }
     requires closed { IsClosed (HoldsKey input.graph) (updates_in input.plan) }
     requires sound { Sound input.graph }
-    ensures { IfOk result (λ output. IsLeft workers input.graph input.plan (C.fixed clock.now) (bytes_of output)) }
+    ensures { IfOk result (λ output. IsLeft workers input.graph input.plan (C.moments clock.now) (bytes_of output)) }
 {
     legal_is_short();
     log_reads_back();
@@ -166,8 +166,8 @@ pub fn run<R: AllocGlobal + Threads + Wait + Sync, S: Shelf, C: Clock + Sync, G:
 ) -> Result<Finished, Load>
     requires workers { 1 ≤ workers }
     requires few { workers ≤ MAX_WORKERS }
-    ensures answer { (given : Given) → IsFinished (Run folder.now workers ratio frequencies) (S.contents shelf.old) given (C.fixed clock.now) result }
-    ensures read { IsRead (is_read_fault result) (S.contents shelf.old) (S.faults shelf.old) (S.contents shelf.new) (S.faults shelf.new) }
+    ensures answer { (given : Given) → IsFinished (Run folder.now workers ratio frequencies) (S.contents shelf.old) given (C.moments clock.now) result }
+    ensures read { IsRead (is_read_fault result) S.Shelf shelf.old shelf.new }
 {
     let input = load_input(rt.alloc(), shelf, folder, ratio, frequencies)?;
     let output = run_output(rt, rt.alloc(), workers, input, clock, gate)?;

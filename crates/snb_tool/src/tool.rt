@@ -1,7 +1,8 @@
 //! The one call that does all that the program does.
 
 ghost use Rattle.std.specs.Prelude.{◌≡◌, ◌≤◌, ◌⊎◌, None, ◌≢◌, nat_eq, true, IfOk, IfSome, IsSome, MatchOption, OnErr};
-ghost use Rattle.snb_base.specs.Shelf.{HasCounted, IsRead};
+ghost use Rattle.snb_base.specs.Reads.{IsRead};
+ghost use Rattle.snb_base.specs.Shelf.{HasCounted};
 ghost use Rattle.snb_handlers.specs.Table.{kinds};
 ghost use Rattle.snb_input_files.specs.Loading.{is_read_fault};
 ghost use Rattle.snb_tool_words.specs.Commands.{IsRunnable, folder_of, needs_table};
@@ -46,10 +47,10 @@ fn obey<R: AllocGlobal + Threads + Wait + Sync, S: Shelf, C: Clock + Sync, G: Ga
 ) -> Result<Finished, Load>
     requires runnable { IsRunnable command.now }
     requires given { needs_table command.now ≡ true → IsSome given }
-    ensures answer { IsFinished command.now (S.contents shelf.old) (given_by given.entry) (C.fixed clock.now) result }
+    ensures answer { IsFinished command.now (S.contents shelf.old) (given_by given.entry) (C.moments clock.now) result }
     ensures unread { folder_of command.now ≡ None → shelf.new ≡ shelf.old }
     ensures unasked { needs_table command.now ≡ true → LacksKind (given_by given.entry) → shelf.new ≡ shelf.old }
-    ensures read { IsRead (is_read_fault result) (S.contents shelf.old) (S.faults shelf.old) (S.contents shelf.new) (S.faults shelf.new) }
+    ensures read { IsRead (is_read_fault result) S.Shelf shelf.old shelf.new }
 {
     let alloc = rt.alloc();
     match command {
@@ -175,7 +176,7 @@ fn answer<
     ensures ends { EndsAs (IsAnswer (asked_by words.now (given_by given.entry))) (seen S.Shelf O.Outbox C.Clock shelf.old shelf.new out.old out.new clock.now) result }
     ensures other_line { IsOther (asked_by words.now (given_by given.entry)) → ((result ≡ 2) ⊎ (result ≡ 5)) × (shelf.new ≡ shelf.old) }
     ensures unread { ReadsNothing (asked_by words.now (given_by given.entry)) → shelf.new ≡ shelf.old }
-    ensures read_only { IsReadOnly (S.contents shelf.old) (S.faults shelf.old) (S.contents shelf.new) (S.faults shelf.new) }
+    ensures read_only { IsReadOnly S.Shelf shelf.old shelf.new }
     ensures reads_calm { result ≢ 4 → S.faults shelf.new ≡ S.faults shelf.old }
     ensures writes_later { O.faults out.old ≤ O.faults out.new }
     ensures writes_calm { result ≢ 5 → O.faults out.new ≡ O.faults out.old }
@@ -292,7 +293,7 @@ pub fn snb_with<
     ensures refuses { Refuses (with words.now (kinds handlers.now) policy.now.pick) (seen S.Shelf O.Outbox C.Clock shelf.old shelf.new out.old out.new clock.now) result }
     ensures other_line { IsOther (with words.now (kinds handlers.now) policy.now.pick) → ((result ≡ 2) ⊎ (result ≡ 5)) × (shelf.new ≡ shelf.old) }
     ensures unread { ReadsNothing (with words.now (kinds handlers.now) policy.now.pick) → shelf.new ≡ shelf.old }
-    ensures read { IsRead (nat_eq result 4) (S.contents shelf.old) (S.faults shelf.old) (S.contents shelf.new) (S.faults shelf.new) }
+    ensures read { IsRead (nat_eq result 4) S.Shelf shelf.old shelf.new }
     ensures counted { HasCounted (nat_eq result 5) (O.faults out.old) (O.faults out.new) }
 {
     one_command();
@@ -317,7 +318,7 @@ pub fn snb<
     ensures refuses { Refuses (alone words.now) (seen S.Shelf O.Outbox C.Clock shelf.old shelf.new out.old out.new clock.now) result }
     ensures other_line { IsOther (alone words.now) → ((result ≡ 2) ⊎ (result ≡ 5)) × (shelf.new ≡ shelf.old) }
     ensures unread { ReadsNothing (alone words.now) → shelf.new ≡ shelf.old }
-    ensures read { IsRead (nat_eq result 4) (S.contents shelf.old) (S.faults shelf.old) (S.contents shelf.new) (S.faults shelf.new) }
+    ensures read { IsRead (nat_eq result 4) S.Shelf shelf.old shelf.new }
     ensures counted { HasCounted (nat_eq result 5) (O.faults out.old) (O.faults out.new) }
 {
     one_command();

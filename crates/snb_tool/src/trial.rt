@@ -54,7 +54,7 @@ pub fn trial<R: AllocGlobal + Threads + Wait + Sync, C: Clock + Sync, G: Gate + 
     requires few { size ≤ MAX_TRIAL }
     requires workers { 1 ≤ workers }
     requires crew { workers ≤ MAX_WORKERS }
-    ensures answer { (contents : Option Files) (given : Given) → IsFinished (Trial size workers) contents given (C.fixed clock.now) result }
+    ensures answer { (contents : Option Files) (given : Given) → IsFinished (Trial size workers) contents given (C.moments clock.now) result }
     ensures read { is_read_fault result ≡ false }
 {
     let input = input_of_size(rt.alloc(), size)?;

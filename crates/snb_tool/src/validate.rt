@@ -1,7 +1,8 @@
 //! The command `validate`.
 
 ghost use Rattle.std.specs.Prelude.{◌≡◌, ℕ, IfOk, IfSome, Option, Some};
-ghost use Rattle.snb_base.specs.Shelf.{IsRead};
+ghost use Rattle.snb_base.specs.Moments.{Moments};
+ghost use Rattle.snb_base.specs.Reads.{IsRead};
 ghost use Rattle.snb_handlers.specs.Table.{HasAll, kinds};
 ghost use Rattle.snb_input_files.specs.Loading.{is_read_fault};
 ghost use Rattle.snb_tool_words.specs.declared.command.Command.TheVariants.{Validate};
@@ -33,7 +34,7 @@ fn tally_of<S: Shelf>(
 ) -> Result<Tally, Load>
     requires all { IfSome handlers (λ table. HasAll (kinds table.now)) }
     ensures answer { IsTallyAnswer (S.contents shelf.old) folder.now cases.now result }
-    ensures read { IsRead (is_read_fault result) (S.contents shelf.old) (S.faults shelf.old) (S.contents shelf.new) (S.faults shelf.new) }
+    ensures read { IsRead (is_read_fault result) S.Shelf shelf.old shelf.new }
 {
     one_dataset();
     one_cases_refusal();
@@ -61,8 +62,8 @@ pub fn validate<S: Shelf>(
     folder: &str,
     cases: &str,
 ) -> Result<Finished, Load>
-    ensures answer { (given : Given) (fixed : Option ℕ) → IsFinished (Validate folder.now cases.now via.Graph) (S.contents shelf.old) given fixed result }
-    ensures read { IsRead (is_read_fault result) (S.contents shelf.old) (S.faults shelf.old) (S.contents shelf.new) (S.faults shelf.new) }
+    ensures answer { (given : Given) (moments : Moments) → IsFinished (Validate folder.now cases.now via.Graph) (S.contents shelf.old) given moments result }
+    ensures read { IsRead (is_read_fault result) S.Shelf shelf.old shelf.new }
 {
     let tally = tally_of(alloc, shelf, folder, cases, None)?;
     Ok(finished_of(alloc, &tally)?)
@@ -77,9 +78,9 @@ pub fn validate_via<S: Shelf>(
     cases: &str,
     handlers: &Handlers,
 ) -> Result<Finished, Load>
-    ensures answer { (pick : Pick) (fixed : Option ℕ) → IsFinished (Validate folder.now cases.now via.Table) (S.contents shelf.old) (Some (record { kinds = kinds handlers.now; pick = pick })) fixed result }
+    ensures answer { (pick : Pick) (moments : Moments) → IsFinished (Validate folder.now cases.now via.Table) (S.contents shelf.old) (Some (record { kinds = kinds handlers.now; pick = pick })) moments result }
     ensures unread { ¬ HasAll (kinds handlers.now) → shelf.new ≡ shelf.old }
-    ensures read { IsRead (is_read_fault result) (S.contents shelf.old) (S.faults shelf.old) (S.contents shelf.new) (S.faults shelf.new) }
+    ensures read { IsRead (is_read_fault result) S.Shelf shelf.old shelf.new }
 {
     match handlers.missing() {
         Some(kind) => Err(Load::Refused {

@@ -1,7 +1,8 @@
 //! The command `walk`.
 
 ghost use Rattle.std.specs.Prelude.{◌≡◌, ◌++◌, ℕ, IfOk, OnOk, Option, Some};
-ghost use Rattle.snb_base.specs.Shelf.{IsRead};
+ghost use Rattle.snb_base.specs.Moments.{Moments};
+ghost use Rattle.snb_base.specs.Reads.{IsRead};
 ghost use Rattle.snb_handlers.specs.Table.{HasAll, kinds};
 ghost use Rattle.snb_input_files.specs.Loading.{is_read_fault};
 ghost use Rattle.snb_graph_model.specs.Soundness.{Sound};
@@ -80,7 +81,7 @@ fn walk_of<S: Shelf>(
 ) -> Result<Vec<u8>, Load>
     requires all { HasAll (kinds handlers.now) }
     ensures answer { IsWalkAnswer (S.contents shelf.old) folder.now policy.now.pick query.now chance words.now result }
-    ensures read { IsRead (is_read_fault result) (S.contents shelf.old) (S.faults shelf.old) (S.contents shelf.new) (S.faults shelf.new) }
+    ensures read { IsRead (is_read_fault result) S.Shelf shelf.old shelf.new }
 {
     let mut used = Used { bytes: 0, rows: 0 };
     let graph = load_dataset(alloc, shelf, folder, &mut used)?;
@@ -100,9 +101,9 @@ pub fn walk<S: Shelf>(
     handlers: &Handlers,
     policy: &Policy,
 ) -> Result<Finished, Load>
-    ensures answer { (fixed : Option ℕ) → IsFinished (Walk folder.now query.now chance words.now) (S.contents shelf.old) (Some (connector_of handlers.now policy.now)) fixed result }
+    ensures answer { (moments : Moments) → IsFinished (Walk folder.now query.now chance words.now) (S.contents shelf.old) (Some (connector_of handlers.now policy.now)) moments result }
     ensures unread { ¬ HasAll (kinds handlers.now) → shelf.new ≡ shelf.old }
-    ensures read { IsRead (is_read_fault result) (S.contents shelf.old) (S.faults shelf.old) (S.contents shelf.new) (S.faults shelf.new) }
+    ensures read { IsRead (is_read_fault result) S.Shelf shelf.old shelf.new }
 {
     match handlers.missing() {
         Some(kind) => Err(Load::Refused {

@@ -1,7 +1,7 @@
 //! The cases of a file, checked against a graph.
 
 ghost use Rattle.std.specs.Prelude.{◌≡◌, [], ◌∷◌, None};
-ghost use Rattle.snb_base.specs.Shelf.{IsRead};
+ghost use Rattle.snb_base.specs.Reads.{IsRead};
 ghost use Rattle.snb_input_files.specs.Loading.{is_read_fault};
 ghost use Rattle.snb_graph_model.specs.Soundness.{Sound};
 ghost use Rattle.snb_handlers.specs.Table.{HasAll, kinds};
@@ -175,7 +175,7 @@ fn check_cases_by<S: Shelf, R: Replier>(
     requires ready { R.ready replier.now }
     requires sound { Sound graph }
     ensures answer { IsCasesAnswer (S.contents shelf.old) path.now graph result }
-    ensures read { IsRead (is_read_fault result) (S.contents shelf.old) (S.faults shelf.old) (S.contents shelf.new) (S.faults shelf.new) }
+    ensures read { IsRead (is_read_fault result) S.Shelf shelf.old shelf.new }
 {
     cases_are_lawful();
     graph.known();
@@ -214,7 +214,7 @@ pub fn check_cases<S: Shelf>(
 ) -> Result<Tally, Load>
     requires { Sound graph }
     ensures answer { IsCasesAnswer (S.contents shelf.old) path.now graph result }
-    ensures read { IsRead (is_read_fault result) (S.contents shelf.old) (S.faults shelf.old) (S.contents shelf.new) (S.faults shelf.new) }
+    ensures read { IsRead (is_read_fault result) S.Shelf shelf.old shelf.new }
 {
     check_cases_by(alloc, shelf, path, graph, &OwnReads { alloc })
 }
@@ -233,7 +233,7 @@ pub fn check_cases_via<S: Shelf>(
     requires all { HasAll (kinds handlers.now) }
     requires sound { Sound graph }
     ensures answer { IsCasesAnswer (S.contents shelf.old) path.now graph result }
-    ensures read { IsRead (is_read_fault result) (S.contents shelf.old) (S.faults shelf.old) (S.contents shelf.new) (S.faults shelf.new) }
+    ensures read { IsRead (is_read_fault result) S.Shelf shelf.old shelf.new }
 {
     check_cases_by(alloc, shelf, path, graph, handlers)
 }

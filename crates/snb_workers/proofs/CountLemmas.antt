@@ -170,7 +170,7 @@ module _ (base : List Row) (plan : Plan) (workers : ℕ) (h : List Event) (repli
       }
 
 pub counts_of_a_run : OnceEach → CountsOfARun
-counts_of_a_run each_once workers plan fixed base h replies graph run = tells_counts base plan workers h replies each_once run.legal run.answered
+counts_of_a_run each_once workers plan moments base h replies graph run = tells_counts base plan workers h replies each_once run.legal run.answered
 
 -- ---- one reply
 

@@ -1,5 +1,6 @@
 -- What a run of several workers comes to.
 use Rattle.std.proofs.Common.{◌≡◌, ◌∙◌, ℕ, zero, suc, ◌<◌, ◌≤◌, List, [], ◌∷◌, ◌++◌, length, map, take, get_or, true, false, Option, Some, None, inl, inr, refl, sym, ap, subst, arith, append-nil, length-append}
+use Rattle.snb_base.specs.Moments.{Moments}
 use Rattle.std.specs.Prelude.{All, AllPairs, Any, Contains, Result, Ok, slice_get}
 use Rattle.std.specs.List.{flat_map}
 use Rattle.std.specs.List.Sorted.{IsPermutation}
@@ -68,9 +69,9 @@ all_ready z seats made k d lt =
     subst (IsReady z) (sym is) record { site = refl; seen = refl }
 
 -- the crew of a board that was made for so many workers, each of which began with a replica of a copy of the base
-pub crew_is : {E : Type 0} (plan : Plan) (fixed : Option ℕ) (base copy : List Row) (z : Site) (workers : ℕ) (seats : List Sitting) (all : List (Result Worker E)) → copy ≡ base → 1 ≤ workers → workers ≤ MAX_WORKERS →
-    z.schedule ≡ schedule_of plan → z.workers ≡ workers → IsGraph base → IsClosed (HoldsKey base) (updates_in plan) → AreSeats z seats → AllLeave plan fixed copy seats all → IsCrew plan fixed base z all
-crew_is plan fixed base copy z workers seats all copied some few schedule same graph closed made left = record {
+pub crew_is : {E : Type 0} (plan : Plan) (moments : Moments) (base copy : List Row) (z : Site) (workers : ℕ) (seats : List Sitting) (all : List (Result Worker E)) → copy ≡ base → 1 ≤ workers → workers ≤ MAX_WORKERS →
+    z.schedule ≡ schedule_of plan → z.workers ≡ workers → IsGraph base → IsClosed (HoldsKey base) (updates_in plan) → AreSeats z seats → AllLeave plan moments copy seats all → IsCrew plan moments base z all
+crew_is plan moments base copy z workers seats all copied some few schedule same graph closed made left = record {
   some = subst (λ (n : ℕ). 0 < n) (sym same) some;
   few = subst (λ (n : ℕ). n ≤ MAX_WORKERS) (sym same) few;
   schedule = schedule;
@@ -78,7 +79,7 @@ crew_is plan fixed base copy z workers seats all copied some few schedule same g
   closed = closed;
   seats = seats;
   made = made;
-  all = subst (λ (b : List Row). AllLeave plan fixed b seats all) copied left;
+  all = subst (λ (b : List Row). AllLeave plan moments b seats all) copied left;
 }
 
 -- ---- a crew of one
@@ -87,10 +88,10 @@ only_one : (seats rest : List Sitting) (s : Sitting) → seats ≡ rest ++ s ∷
 only_one seats [] s are one = are
 only_one seats (x ∷ rest) s are one = absurd (let n : length seats ≡ suc (length (rest ++ s ∷ [])) = ap length are in let m = length-append rest (s ∷ []) in omega arith)
 
-one_leaves : {E : Type 0} (plan : Plan) (fixed : Option ℕ) (base : List Row) (seat : Sitting) (left : Result Worker E) → IfOk left (Leaves plan fixed base seat) → AllLeave plan fixed base (seat ∷ []) (left ∷ [])
-one_leaves {E} plan fixed base seat left is = record { many = refl; each = at }
+one_leaves : {E : Type 0} (plan : Plan) (moments : Moments) (base : List Row) (seat : Sitting) (left : Result Worker E) → IfOk left (Leaves plan moments base seat) → AllLeave plan moments base (seat ∷ []) (left ∷ [])
+one_leaves {E} plan moments base seat left is = record { many = refl; each = at }
   where
-    at : (k : ℕ) (d : Sitting) (e : Result Worker E) → k < 1 → IfOk (get_or (left ∷ []) k e) (Leaves plan fixed base (get_or (seat ∷ []) k d))
+    at : (k : ℕ) (d : Sitting) (e : Result Worker E) → k < 1 → IfOk (get_or (left ∷ []) k e) (Leaves plan moments base (get_or (seat ∷ []) k d))
     at zero d e lt = is
     at (suc k) d e lt = absurd (omega (arith, lt))
 
@@ -101,15 +102,15 @@ module _ (z : Site) (seats rest : List Sitting) (seat : Sitting) (made : AreSeat
   pub alone_ready : IsReady z seat
   alone_ready = subst (λ (l : List Sitting). IsReady z (get_or l 0 seat)) alone (all_ready z seats made 0 seat (let n = made.0 in omega arith))
 
-  pub crew_of_one : {E : Type 0} (plan : Plan) (fixed : Option ℕ) (base : List Row) (left : Result Worker E) (all : List (Result Worker E)) → z.schedule ≡ schedule_of plan → IsGraph base → IsClosed (HoldsKey base) (updates_in plan) →
-      IfOk left (Leaves plan fixed base seat) → all ≡ left ∷ [] → IsCrew plan fixed base z all
-  crew_of_one {E} plan fixed base left all schedule graph closed leaves is =
-      crew_is plan fixed base base z 1 seats all refl (omega arith) (omega arith) schedule one graph closed made
-      (subst (λ (x : List Sitting × List (Result Worker E)). AllLeave plan fixed base x.0 x.1) (λ i. (sym alone i, sym is i)) (one_leaves plan fixed base seat left leaves))
+  pub crew_of_one : {E : Type 0} (plan : Plan) (moments : Moments) (base : List Row) (left : Result Worker E) (all : List (Result Worker E)) → z.schedule ≡ schedule_of plan → IsGraph base → IsClosed (HoldsKey base) (updates_in plan) →
+      IfOk left (Leaves plan moments base seat) → all ≡ left ∷ [] → IsCrew plan moments base z all
+  crew_of_one {E} plan moments base left all schedule graph closed leaves is =
+      crew_is plan moments base base z 1 seats all refl (omega arith) (omega arith) schedule one graph closed made
+      (subst (λ (x : List Sitting × List (Result Worker E)). AllLeave plan moments base x.0 x.1) (λ i. (sym alone i, sym is i)) (one_leaves plan moments base seat left leaves))
 
 -- a run of one worker is one of any number of workers
-pub run_of_more : (plan : Plan) (fixed : Option ℕ) (base : List Row) (h : List Event) (replies : List Answered) (graph : List Row) (one workers : ℕ) → one ≡ 1 → 1 ≤ workers → HasRun one plan fixed base h replies graph → HasRun workers plan fixed base h replies graph
-run_of_more plan fixed base h replies graph one workers same some run = record {
+pub run_of_more : (plan : Plan) (moments : Moments) (base : List Row) (h : List Event) (replies : List Answered) (graph : List Row) (one workers : ℕ) → one ≡ 1 → 1 ≤ workers → HasRun one plan moments base h replies graph → HasRun workers plan moments base h replies graph
+run_of_more plan moments base h replies graph one workers same some run = record {
   legal = of_more (schedule_of plan) workers h some (subst (λ (n : ℕ). IsLegal (schedule_of plan) n h) same run.legal);
   complete = run.complete;
   waits = run.waits;
@@ -153,19 +154,19 @@ answered_whole base plan workers finishes seen h a pre legal within is =
     }
 
 module _ {E : Type 0}
-    (plan : Plan) (fixed : Option ℕ) (base : List Row) (z : Site) (all : List (Result Worker E)) (h : List Event)
-    (is_crew : IsCrew plan fixed base z all) (crew : List Worker) (had : all ≡ map Ok crew)
+    (plan : Plan) (moments : Moments) (base : List Row) (z : Site) (all : List (Result Worker E)) (h : List Event)
+    (is_crew : IsCrew plan moments base z all) (crew : List Worker) (had : all ≡ map Ok crew)
   where
     many_crew : length crew ≡ z.workers
     many_crew = sym (length-map crew (λ (w : Worker). Ok w)) ∙ ap length (sym had) ∙ is_crew.all.many ∙ is_crew.made.0
 
-    leaves : (k : ℕ) (e : Worker) → k < z.workers → Leaves plan fixed base (fresh z k) (get_or crew k e)
+    leaves : (k : ℕ) (e : Worker) → k < z.workers → Leaves plan moments base (fresh z k) (get_or crew k e)
     leaves k e lt =
         let n = many_crew in
         let m = is_crew.made.0 in
         let seat : get_or is_crew.seats k (fresh z k) ≡ fresh z k = seat_at is_crew.seats k (fresh z k) (fresh z k) (is_crew.made.1 k lt) in
         let one : get_or all k (Ok e) ≡ Ok (get_or crew k e) = ap (λ (l : List (Result Worker E)). get_or l k (Ok e)) had ∙ get_or-map (λ (w : Worker). Ok w) crew k e (Ok e) (omega arith) in
-        subst (λ (x : Sitting × Result Worker E). IfOk x.1 (Leaves plan fixed base x.0)) (λ i. (seat i, one i)) (is_crew.all.each k (fresh z k) (Ok e) (omega arith))
+        subst (λ (x : Sitting × Result Worker E). IfOk x.1 (Leaves plan moments base x.0)) (λ i. (seat i, one i)) (is_crew.all.each k (fresh z k) (Ok e) (omega arith))
 
     worked : (k : ℕ) (e : Worker) → k < z.workers → HasWorked plan (fresh z k) (get_or crew k e).seat (opening base) (get_or crew k e).replica (get_or crew k e).replies
     worked k e lt = (leaves k e lt).worked
@@ -264,10 +265,10 @@ module _ {E : Type 0}
             at_seam [] e rest = refl
             at_seam (x ∷ g) e rest = at_seam g e rest
 
-        pub moments : AreAt fixed h
-        moments = by_clock fixed (λ k low. (leaves k nobody low).timely)
+        pub moments : AreAt moments h
+        moments = by_clock moments (λ k low. (leaves k nobody low).timely)
           where
-            by_clock : (fixed : Option ℕ) → ((k : ℕ) → k < z.workers → IfSome fixed (λ now. AreTimely now k 0 (left k).seat.seen)) → AreAt fixed h
+            by_clock : (moments : Moments) → ((k : ℕ) → k < z.workers → IfSome moments (λ now. AreTimely now k 0 (left k).seat.seen)) → AreAt moments h
             by_clock None timely = tt
             by_clock (Some now) timely = all_at now h (λ g rest e at has.
                 let there = in_seat g rest e at in
@@ -333,7 +334,7 @@ module _ {E : Type 0}
                 )
 
             -- and brought to the end it makes the outcome of a run
-            pub crew_has_run : (new : Taken) (final : List Row) → CompleteIsFinal → RunsWait → IsOfStreams plan → StandsFor base plan h new → final ≡ new.graph → Sound final → HasRun z.workers plan fixed base h replies final
+            pub crew_has_run : (new : Taken) (final : List Row) → CompleteIsFinal → RunsWait → IsOfStreams plan → StandsFor base plan h new → final ≡ new.graph → Sound final → HasRun z.workers plan moments base h replies final
             crew_has_run new final law wait streams stands same sound = record {
               legal = legal;
               complete = complete;

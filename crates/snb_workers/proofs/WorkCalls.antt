@@ -1,5 +1,6 @@
 -- What a call of a board leaves of how far a worker has come.
 use Rattle.std.proofs.Common.{◌≡◌, ◌∙◌, ℕ, ◌≤◌, ◌⊎◌, List, [], ◌∷◌, ◌++◌, length, drop, Bool, true, false, cond, Option, Some, None, inl, inr, refl, sym, ap, subst, arith, append_assoc, append-nil}
+use Rattle.snb_base.specs.Moments.{Moments}
 use Rattle.std.proofs.lemmas.List.{append_cancel_left, append_cancel_right}
 use Rattle.std.specs.Prelude.{All, Contains, IfSome}
 use Rattle.std.proofs.Math.Seq.{drop-append-le}
@@ -105,22 +106,22 @@ module _ {P : List Event → List Event → Type 0} (s t : Sitting) (c : HasCall
 -- ---- how far the worker has come
 
 -- where the clock tells a moment, the worker's events stay at it
-pub timely_fixed : {P : List Event → List Event → Type 0} (fixed : Option ℕ) (s t : Sitting) (c : HasCalled s t P) (worker n now : ℕ) → s.worker ≡ worker → AddsOne s.worker now c.found c.added → IfSome fixed (λ told. now ≡ told) →
-    IfSome fixed (λ told. AreTimely told worker n s.seen) → IfSome fixed (λ told. AreTimely told worker n t.seen)
-timely_fixed None s t c worker n now same one shown were = tt
-timely_fixed (Some told) s t c worker n now same one shown were =
+pub timely_told : {P : List Event → List Event → Type 0} (moments : Moments) (s t : Sitting) (c : HasCalled s t P) (worker n now : ℕ) → s.worker ≡ worker → AddsOne s.worker now c.found c.added → IfSome moments (λ told. now ≡ told) →
+    IfSome moments (λ told. AreTimely told worker n s.seen) → IfSome moments (λ told. AreTimely told worker n t.seen)
+timely_told None s t c worker n now same one shown were = tt
+timely_told (Some told) s t c worker n now same one shown were =
     subst (λ (w : ℕ). AreTimely told w n t.seen) same
     (timely_called s t c n told (subst (λ (m : ℕ). AddsOne s.worker m c.found c.added) shown one) (subst (λ (w : ℕ). AreTimely told w n s.seen) (sym same) were))
 
 -- a call leads on
-pub come_called : {P : List Event → List Event → Type 0} (plan : Plan) (fixed : Option ℕ) (first : Sitting) (old : Taken) (s t : Sitting) (r new : Taken) (c : HasCalled s t P) (now : ℕ) →
-    HasCome plan fixed first old s r → AddsOne s.worker now c.found c.added → IfSome fixed (λ told. now ≡ told) → halted (mine t) t.worker ≡ false →
-    ((base : List Row) → IsFollowing base plan s.seen r → IsFollowing base plan t.seen new) → HasCome plan fixed first old t new
-come_called plan fixed first old s t r new c now come one shown runs follows = record {
+pub come_called : {P : List Event → List Event → Type 0} (plan : Plan) (moments : Moments) (first : Sitting) (old : Taken) (s t : Sitting) (r new : Taken) (c : HasCalled s t P) (now : ℕ) →
+    HasCome plan moments first old s r → AddsOne s.worker now c.found c.added → IfSome moments (λ told. now ≡ told) → halted (mine t) t.worker ≡ false →
+    ((base : List Row) → IsFollowing base plan s.seen r → IsFollowing base plan t.seen new) → HasCome plan moments first old t new
+come_called plan moments first old s t r new c now come one shown runs follows = record {
   schedule = ap (λ (z : Site). z.schedule) c.site ∙ come.schedule;
   later = later-trans first s t come.later (later s t c);
   running = runs;
-  timely = timely_fixed fixed s t c first.worker (length first.seen) now come.later.worker one shown come.timely;
+  timely = timely_told moments s t c first.worker (length first.seen) now come.later.worker one shown come.timely;
   some = come.some;
   follows = λ base f. follows base (come.follows base f);
 }
@@ -146,9 +147,9 @@ pub replies_within : (base : List Row) (plan : Plan) (h : List Event) (r : Taken
 replies_within base plan h r replies f low k d lt = (let le = low k d lt in let within = front_follows base plan h r f in omega arith)
 
 -- a call that adds no Finish leaves them
-pub replied_called : {P : List Event → List Event → Type 0} (plan : Plan) (fixed : Option ℕ) (first : Sitting) (old : Taken) (s t : Sitting) (r new : Taken) (replies : List Answered) (c : HasCalled s t P) →
-    HasCome plan fixed first old s r → HasReplied plan first old s r replies → ((k w at front : ℕ) → ¬ Contains c.added (Finish k w at front)) → r.front ≤ new.front → HasReplied plan first old t new replies
-replied_called plan fixed first old s t r new replies c come replied none rise = record {
+pub replied_called : {P : List Event → List Event → Type 0} (plan : Plan) (moments : Moments) (first : Sitting) (old : Taken) (s t : Sitting) (r new : Taken) (replies : List Answered) (c : HasCalled s t P) →
+    HasCome plan moments first old s r → HasReplied plan first old s r replies → ((k w at front : ℕ) → ¬ Contains c.added (Finish k w at front)) → r.front ≤ new.front → HasReplied plan first old t new replies
+replied_called plan moments first old s t r new replies c come replied none rise = record {
   answered = λ base f.
       subst (λ (h : List Event). AreReplies base plan (added first t) h replies) (whole s t c)
       (subst (λ (events : List Event). AreReplies base plan events (s.seen ++ (c.begins.0 ++ c.added)) replies) (sym (added_called s t c first come.later.mine))

@@ -1,5 +1,6 @@
 -- Facts on the turns of a worker at a board.
 use Rattle.std.proofs.Common.{◌≡◌, ◌∙◌, ℕ, ◌<◌, List, [], ◌∷◌, ◌++◌, length, Bool, true, false, cond, Option, Some, None, inl, inr, refl, sym, ap, subst, arith, append-nil}
+use Rattle.snb_base.specs.Moments.{Moments}
 use Rattle.std.specs.Prelude.{AllPairs, Contains, IfSome, ℤ, slice_get}
 use Rattle.std.proofs.lemmas.Bool.{eq-eqb}
 use Rattle.std.proofs.lemmas.List.Elements.{Contains-append_left}
@@ -25,25 +26,25 @@ use Rattle.snb_workers.specs.Turns.{IsServed}
 use Rattle.snb_workers.specs.Works.{AreTimely, HasStopped, HasWorked, IsFollowing, IsLater, NothingIsLeft, added}
 use Rattle.snb_workers.specs.WorkTurns.{HasCome, HasFollowed, HasReplied, IsAtWork, IsHolding}
 use Rattle.snb_workers.proofs.TurnReplies.{answered_at_finish, front_is, fronts_served, none_replied}
-use Rattle.snb_workers.proofs.WorkCalls.{added_called, come_called, following_later, later, later-trans, replied_called, replies_within, runs_on, timely_fixed, whole}
+use Rattle.snb_workers.proofs.WorkCalls.{added_called, come_called, following_later, later, later-trans, replied_called, replies_within, runs_on, timely_told, whole}
 use Rattle.snb_workers.proofs.WorkEvents.{own_contained, starts_there}
 use Rattle.snb_workers.proofs.WorkFollow.{followed_by_none}
 
 -- ---- a seat that has perhaps looked
 
-module _ (plan : Plan) (fixed : Option ℕ) (first : Sitting) (old : Taken) (s t : Sitting) (r new : Taken) where
+module _ (plan : Plan) (moments : Moments) (first : Sitting) (old : Taken) (s t : Sitting) (r new : Taken) where
   -- a look leads on, whatever the clock shows
-  come_looked : (c : HasLooked s t) → HasCome plan fixed first old s r → ((base : List Row) → IsFollowing base plan s.seen r → IsFollowing base plan t.seen new) → HasCome plan fixed first old t new
-  come_looked c come follows = by fixed come
+  come_looked : (c : HasLooked s t) → HasCome plan moments first old s r → ((base : List Row) → IsFollowing base plan s.seen r → IsFollowing base plan t.seen new) → HasCome plan moments first old t new
+  come_looked c come follows = by moments come
     where
       by : (told : Option ℕ) → HasCome plan told first old s r → HasCome plan told first old t new
       by None before = come_called plan None first old s t r new c 0 before (inl c.is_so) tt (runs_on s t c before.running (inl c.is_so)) follows
       by (Some now) before = come_called plan (Some now) first old s t r new c now before (inl c.is_so) refl (runs_on s t c before.running (inl c.is_so)) follows
 
-  module _ (f : HasFollowed plan s t r new) (come : HasCome plan fixed first old s r) where
-    pub come_followed : HasCome plan fixed first old t new
+  module _ (f : HasFollowed plan s t r new) (come : HasCome plan moments first old s r) where
+    pub come_followed : HasCome plan moments first old t new
     come_followed = elim f.call [
-      | inl same ↦ subst (λ (x : Sitting). HasCome plan fixed first old x new) (sym same) (record {
+      | inl same ↦ subst (λ (x : Sitting). HasCome plan moments first old x new) (sym same) (record {
         schedule = come.schedule;
         later = come.later;
         running = come.running;
@@ -60,7 +61,7 @@ module _ (plan : Plan) (fixed : Option ℕ) (first : Sitting) (old : Taken) (s t
         answered = replied.answered;
         fronts = λ k d lt. (let le = replied.fronts k d lt in let rise = f.rise in omega arith);
       })
-      | inr look ↦ replied_called plan fixed first old s t r new replies look come replied (λ k w at front c. none_in look k w at front c) f.rise
+      | inr look ↦ replied_called plan moments first old s t r new replies look come replied (λ k w at front c. none_in look k w at front c) f.rise
     ]
       where
         none_in : (c : HasLooked s t) → (k w at front : ℕ) → ¬ Contains c.added (Finish k w at front)
@@ -96,15 +97,15 @@ module _ (plan : Plan) (fixed : Option ℕ) (first : Sitting) (old : Taken) (s t
                 ∙ (c.mine ∙ (ap (λ (l : List Event). mine s ++ l) c.is_so ∙ (append-nil (mine s) ∙ ap (λ (w : ℕ). events_of w s.seen) (sym theirs))))
 
 -- what a worker has in hand it still has
-pub holding_followed : HandIsOwn → (plan : Plan) (fixed : Option ℕ) (first : Sitting) (old : Taken) (s t : Sitting) (r new : Taken) (replies : List Answered) (ticket : Ticket) → HasFollowed plan s t r new →
-    IsHolding plan fixed first old s r replies ticket → IsHolding plan fixed first old t new replies ticket
-holding_followed own plan fixed first old s t r new replies ticket f h = record {
-  come = come_followed plan fixed first old s t r new f h.come;
-  worker = h.worker ∙ sym (same_worker plan fixed first old s t r new f h.come);
-  held = held_followed plan fixed first old s t r new f h.come own ticket h.worker h.held;
+pub holding_followed : HandIsOwn → (plan : Plan) (moments : Moments) (first : Sitting) (old : Taken) (s t : Sitting) (r new : Taken) (replies : List Answered) (ticket : Ticket) → HasFollowed plan s t r new →
+    IsHolding plan moments first old s r replies ticket → IsHolding plan moments first old t new replies ticket
+holding_followed own plan moments first old s t r new replies ticket f h = record {
+  come = come_followed plan moments first old s t r new f h.come;
+  worker = h.worker ∙ sym (same_worker plan moments first old s t r new f h.come);
+  held = held_followed plan moments first old s t r new f h.come own ticket h.worker h.held;
   there = h.there;
   new = h.new;
-  replied = replied_followed plan fixed first old s t r new f h.come replies h.replied;
+  replied = replied_followed plan moments first old s t r new f h.come replies h.replied;
 }
 
 pub site_followed : (plan : Plan) (s t : Sitting) (r new : Taken) → HasFollowed plan s t r new → t.site ≡ s.site
@@ -116,30 +117,30 @@ site_followed plan s t r new f = elim f.call [ inl same ↦ ap (λ (x : Sitting)
 abbrev start_of : Ticket → ℕ → List Event → ℕ → Event
 start_of ticket worker found now = Start ticket.op worker (moment_after found now)
 
-module _ (plan : Plan) (fixed : Option ℕ) (first : Sitting) (old : Taken) (s t : Sitting) (r : Taken) (replies : List Answered) (work : IsAtWork plan fixed first old s r replies) where
+module _ (plan : Plan) (moments : Moments) (first : Sitting) (old : Taken) (s t : Sitting) (r : Taken) (replies : List Answered) (work : IsAtWork plan moments first old s r replies) where
   module _ {P : List Event → List Event → Type 0} (c : HasCalled s t P) (none : c.added ≡ []) where
     looked : HasLooked s t
     looked = record { site = c.site; worker = c.worker; found = c.found; begins = c.begins; added = c.added; seen = c.seen; mine = c.mine; legal = c.legal; told = c.told; known = c.known; is_so = none }
 
     -- a call that adds nothing leaves the worker at work
-    pub at_work_still : IsAtWork plan fixed first old t r replies
+    pub at_work_still : IsAtWork plan moments first old t r replies
     at_work_still = record {
-      come = come_followed plan fixed first old s t r r (followed_by_none plan s t r looked) work.come;
+      come = come_followed plan moments first old s t r r (followed_by_none plan s t r looked) work.come;
       empty = ap (λ (l : List Event). hand l t.worker) (c.mine ∙ (ap (λ (l : List Event). mine s ++ l) none ∙ append-nil (mine s))) ∙ (ap (hand (mine s)) c.worker ∙ work.empty);
-      replied = replied_followed plan fixed first old s t r r (followed_by_none plan s t r looked) work.come replies work.replied;
+      replied = replied_followed plan moments first old s t r r (followed_by_none plan s t r looked) work.come replies work.replied;
     }
 
     -- and so does what the seat is then told of the completion time
-    pub at_work_told : (u : Sitting) (time : ℤ) → HasLearned t u time → IsAtWork plan fixed first old u r replies
-    at_work_told u time h = subst (λ (x : Site × ℕ × List Event). IsAtWork plan fixed first old (sitting x.0 x.1 x.2 u.told) r replies) (λ i. (sym h.site i, sym h.worker i, sym h.seen i)) same
+    pub at_work_told : (u : Sitting) (time : ℤ) → HasLearned t u time → IsAtWork plan moments first old u r replies
+    at_work_told u time h = subst (λ (x : Site × ℕ × List Event). IsAtWork plan moments first old (sitting x.0 x.1 x.2 u.told) r replies) (λ i. (sym h.site i, sym h.worker i, sym h.seen i)) same
       where
-        still : IsAtWork plan fixed first old t r replies
+        still : IsAtWork plan moments first old t r replies
         still = at_work_still
 
-        come : HasCome plan fixed first old t r
+        come : HasCome plan moments first old t r
         come = still.come
 
-        same : IsAtWork plan fixed first old (sitting t.site t.worker t.seen u.told) r replies
+        same : IsAtWork plan moments first old (sitting t.site t.worker t.seen u.told) r replies
         same = record {
           come = record {
             schedule = come.schedule;
@@ -167,23 +168,23 @@ module _ (plan : Plan) (fixed : Option ℕ) (first : Sitting) (old : Taken) (s t
         let runs : halted t.seen t.worker ≡ false = sym (own t.seen t.worker).1 ∙ at_work_still.come.running in
         inr (w, (λ same. let moved : halted t.seen w ≡ halted t.seen t.worker = ap (halted t.seen) same in cc), there)
 
-  pub over_started : (now : ℕ) → HasClaimed s t now AllStarted → IsAtWork plan fixed first old t r replies × NothingIsLeft t.site.schedule t.worker t.seen
+  pub over_started : (now : ℕ) → HasClaimed s t now AllStarted → IsAtWork plan moments first old t r replies × NothingIsLeft t.site.schedule t.worker t.seen
   over_started now c = (at_work_still c c.is_so.1, left_started c c.is_so.1 c.is_so.0.1)
 
-  pub over_halted : HandIsOwn → (now : ℕ) → HasClaimed s t now Halted → IsAtWork plan fixed first old t r replies × NothingIsLeft t.site.schedule t.worker t.seen
+  pub over_halted : HandIsOwn → (now : ℕ) → HasClaimed s t now Halted → IsAtWork plan moments first old t r replies × NothingIsLeft t.site.schedule t.worker t.seen
   over_halted own now c = (at_work_still c c.is_so.1, left_halted c c.is_so.1 own c.is_so.0.0 c.is_so.0.1)
 
   -- a Go puts an operation into its hand
-  pub holds_now : PrefixIsLegal → (now : ℕ) (ticket : Ticket) → HasClaimed s t now (Go ticket) → IfSome fixed (λ told. now ≡ told) → (ticket.worker ≡ s.worker) × IsInHand t.seen ticket → halted (mine t) ticket.worker ≡ false →
-      IsHolding plan fixed first old t r replies ticket
+  pub holds_now : PrefixIsLegal → (now : ℕ) (ticket : Ticket) → HasClaimed s t now (Go ticket) → IfSome moments (λ told. now ≡ told) → (ticket.worker ≡ s.worker) × IsInHand t.seen ticket → halted (mine t) ticket.worker ≡ false →
+      IsHolding plan moments first old t r replies ticket
   holds_now legal now ticket c shown held acts = record {
-    come = come_called plan fixed first old s t r r c now work.come (inr (start_of ticket s.worker c.found now, c.is_so.1, eq-eqb s.worker s.worker refl, λ has. refl)) shown (subst (λ (w : ℕ). halted (mine t) w ≡ false) (held.0 ∙ sym c.worker) acts)
+    come = come_called plan moments first old s t r r c now work.come (inr (start_of ticket s.worker c.found now, c.is_so.1, eq-eqb s.worker s.worker refl, λ has. refl)) shown (subst (λ (w : ℕ). halted (mine t) w ≡ false) (held.0 ∙ sym c.worker) acts)
         (λ base f. following_later base plan s.seen t.seen r (later s t c).seen f);
     worker = held.0 ∙ sym c.worker;
     held = held.1;
     there = subst (λ (z : Schedule). IsOperation z ticket.op) work.come.schedule c.is_so.0.1.0.0.0;
     new = none_replied work.come.some.0 plan s.site.workers (added first s) s.seen c.found ticket.op replies found_legal added_found (work.replied.answered work.come.some.0 work.come.some.1) c.is_so.0.1.0.0.1.fresh;
-    replied = replied_called plan fixed first old s t r r replies c work.come work.replied none (omega arith);
+    replied = replied_called plan moments first old s t r r replies c work.come work.replied none (omega arith);
   }
     where
       found_legal : IsLegal (schedule_of plan) s.site.workers c.found
@@ -200,7 +201,7 @@ module _ (plan : Plan) (fixed : Option ℕ) (first : Sitting) (old : Taken) (s t
 
 -- ---- the operation in hand
 
-module _ (plan : Plan) (fixed : Option ℕ) (first : Sitting) (old : Taken) (s : Sitting) (r : Taken) (replies : List Answered) (ticket : Ticket) (h : IsHolding plan fixed first old s r replies ticket)
+module _ (plan : Plan) (moments : Moments) (first : Sitting) (old : Taken) (s : Sitting) (r : Taken) (replies : List Answered) (ticket : Ticket) (h : IsHolding plan moments first old s r replies ticket)
     (ready : (query : Query) → Asks plan ticket.op query → (base : List Row) → IsFollowing base plan first.seen old → StandsFor base plan s.seen r)
     (new : List Answered) (front : ℕ) (served : IsServed plan ticket.op r replies new front) where
   -- the front that it is served with is that of its Finish
@@ -215,9 +216,9 @@ module _ (plan : Plan) (fixed : Option ℕ) (first : Sitting) (old : Taken) (s :
     end = Finish ticket.op s.worker (moment_after c.found now) front
 
     -- then the worker is at work again
-    pub at_work_again : IfSome fixed (λ told. now ≡ told) → AllPairs (λ one other. one.op < other.op) new → IsAtWork plan fixed first old t r new
+    pub at_work_again : IfSome moments (λ told. now ≡ told) → AllPairs (λ one other. one.op < other.op) new → IsAtWork plan moments first old t r new
     at_work_again shown rise = record {
-      come = come_called plan fixed first old s t r r c now h.come (inr (end, c.is_so, eq-eqb s.worker s.worker refl, λ has. refl)) shown (runs_on s t c h.come.running (inr (end, c.is_so, refl)))
+      come = come_called plan moments first old s t r r c now h.come (inr (end, c.is_so, eq-eqb s.worker s.worker refl, λ has. refl)) shown (runs_on s t c h.come.running (inr (end, c.is_so, refl)))
           (λ base f. following_later base plan s.seen t.seen r (later s t c).seen f);
       empty =
           ap (λ (l : List Event). hand l t.worker) (c.mine ∙ ap (λ (l : List Event). mine s ++ l) c.is_so)
@@ -235,25 +236,25 @@ module _ (plan : Plan) (fixed : Option ℕ) (first : Sitting) (old : Taken) (s :
 -- ---- the whole
 
 -- what it leaves
-pub has_worked : (plan : Plan) (fixed : Option ℕ) (first : Sitting) (old : Taken) (s : Sitting) (r : Taken) (replies : List Answered) → IsAtWork plan fixed first old s r replies → NothingIsLeft s.site.schedule s.worker s.seen →
+pub has_worked : (plan : Plan) (moments : Moments) (first : Sitting) (old : Taken) (s : Sitting) (r : Taken) (replies : List Answered) → IsAtWork plan moments first old s r replies → NothingIsLeft s.site.schedule s.worker s.seen →
     HasWorked plan first s old r replies
-has_worked plan fixed first old s r replies work over = record { free = record { empty = work.empty; running = work.come.running }; over = over; answered = work.replied.answered; fronts = work.replied.fronts }
+has_worked plan moments first old s r replies work over = record { free = record { empty = work.empty; running = work.come.running }; over = over; answered = work.replied.answered; fronts = work.replied.fronts }
 
 -- ---- a worker that halts
 
-module _ (plan : Plan) (fixed : Option ℕ) (first : Sitting) (old : Taken) (s t : Sitting) (r : Taken) (come : HasCome plan fixed first old s r) (c : HasHalted s t) where
+module _ (plan : Plan) (moments : Moments) (first : Sitting) (old : Taken) (s t : Sitting) (r : Taken) (come : HasCome plan moments first old s r) (c : HasHalted s t) where
   pub later_halted : IsLater first t
   later_halted = later-trans first s t come.later (later s t c)
 
   pub follows_halted : (base : List Row) → IsFollowing base plan first.seen old → IsFollowing base plan t.seen r
   follows_halted base f = following_later base plan s.seen t.seen r (later s t c).seen (come.follows base f)
 
-  pub timely_halted : IfSome fixed (λ told. AreTimely told first.worker (length first.seen) t.seen)
-  timely_halted = by fixed come.timely
+  pub timely_halted : IfSome moments (λ told. AreTimely told first.worker (length first.seen) t.seen)
+  timely_halted = by moments come.timely
     where
       by : (told : Option ℕ) → IfSome told (λ moment. AreTimely moment first.worker (length first.seen) s.seen) → IfSome told (λ moment. AreTimely moment first.worker (length first.seen) t.seen)
       by None were = tt
-      by (Some now) were = timely_fixed (Some now) s t c first.worker (length first.seen) now come.later.worker (inr (Halt s.worker, c.is_so, eq-eqb s.worker s.worker refl, λ has. absurd cc)) refl were
+      by (Some now) were = timely_told (Some now) s t c first.worker (length first.seen) now come.later.worker (inr (Halt s.worker, c.is_so, eq-eqb s.worker s.worker refl, λ has. absurd cc)) refl were
 
   pub stopped : HasStopped t
   stopped = (mine s, c.mine ∙ (ap (λ (l : List Event). mine s ++ l) c.is_so ∙ ap (λ (w : ℕ). mine s ++ Halt w ∷ []) (sym c.worker)))

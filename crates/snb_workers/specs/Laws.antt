@@ -1,5 +1,6 @@
 -- Laws of runs, and of the counts that their logs tell.
 use Rattle.std.specs.Prelude.{◌≡◌, ℕ, ◌<◌, List, Contains, Option, length}
+use Rattle.snb_base.specs.Moments.{Moments}
 use Rattle.serde_json.specs.Written.{compact_text}
 use Rattle.snb_history.specs.declared.event.Event.{Event}
 use Rattle.snb_schema.specs.declared.query.Query.{Query}
@@ -26,8 +27,8 @@ FinishesAreOfOperations =
 -- what the log of a run tells by the replies to its reads is its history, each Finish with its count
 abbrev pub CountsOfARun : Type 0
 CountsOfARun =
-    (workers : ℕ) (plan : Plan) (fixed : Option ℕ) (base : List Row) (h : List Event) (replies : List Answered) (graph : List Row)
-    → HasRun workers plan fixed base h replies graph → TellsCounts base plan h (logged_of replies h)
+    (workers : ℕ) (plan : Plan) (moments : Moments) (base : List Row) (h : List Event) (replies : List Answered) (graph : List Row)
+    → HasRun workers plan moments base h replies graph → TellsCounts base plan h (logged_of replies h)
 
 -- on a sound graph, the rows and the text that are kept of a reply are those of the reply
 abbrev pub OneEntry : Type 0

@@ -1,5 +1,6 @@
 -- What a run of a plan leaves: its history, the replies to its reads, and the graph.
 use Rattle.std.specs.Prelude.{◌≡◌, ℕ, min, List, take, All, AllPairs, Contains, ◌<◌, Option, Some, slice_get}
+use Rattle.snb_base.specs.Moments.{Moments}
 use Rattle.std.specs.Option.{IfSome}
 use Rattle.serde_json.specs.Written.{compact_text}
 use Rattle.snb_history.specs.declared.event.Event.{Event}
@@ -26,7 +27,7 @@ IsAt moment (Halt worker) = Unit {0}
 
 -- where the clock tells a fixed moment, each Start and Finish is at this moment, or at MAX_AT where it is later
 abbrev pub AreAt : Option ℕ → List Event → Type 0
-AreAt fixed h = IfSome fixed (λ moment. All (IsAt (min moment MAX_AT)) h)
+AreAt moments h = IfSome moments (λ moment. All (IsAt (min moment MAX_AT)) h)
 
 -- the operation of this number asks the query
 abbrev pub Asks : Plan → ℕ → Query → Type 0
@@ -61,12 +62,12 @@ pub record AreReplies (base : List Row) (plan : Plan) (finishes h : List Event) 
 -- waits starts in it before every insert of a person or a forum has finished whose t is at most its t_d, and at no time does the completion
 -- time come to the t of one that hasn't finished; the replies to its reads; and a sound graph that has the rows of the base and of each
 -- insert
-pub record HasRun (workers : ℕ) (plan : Plan) (fixed : Option ℕ) (base : List Row) (h : List Event) (replies : List Answered) (graph : List Row) : Type 0 where
+pub record HasRun (workers : ℕ) (plan : Plan) (moments : Moments) (base : List Row) (h : List Event) (replies : List Answered) (graph : List Row) : Type 0 where
   pub legal : IsLegal (schedule_of plan) workers h
   pub complete : IsComplete (schedule_of plan) h
   pub waits : WaitsForAll plan h
   pub below : StaysBelow plan h
-  pub moments : AreAt fixed h
+  pub moments : AreAt moments h
   pub answered : AreReplies base plan h h replies
   pub final : IsFinal base plan graph
   pub sound : Sound graph

@@ -1,5 +1,6 @@
 -- How far a worker at a board has come. Cited by contracts of private functions alone.
 use Rattle.std.specs.Prelude.{◌≡◌, ◌≢◌, ◌⊎◌, ◌≤◌, ℕ, List, length, All, Option, None, false}
+use Rattle.snb_base.specs.Moments.{Moments}
 use Rattle.std.specs.Option.{IfSome}
 use Rattle.snb_schema.specs.declared.query.Query.{Query}
 use Rattle.snb_schema.specs.declared.row.Row.{Row}
@@ -17,11 +18,11 @@ use Rattle.snb_workers.specs.Runs.{AreReplies, Asks}
 use Rattle.snb_workers.specs.Works.{AreTimely, IsFollowing, IsLater, NothingIsLeft, added}
 
 -- from the first sitting, where it had the old replica, the worker has come to this sitting and this replica, and it hasn't halted
-pub record HasCome (plan : Plan) (fixed : Option ℕ) (first : Sitting) (old : Taken) (s : Sitting) (now : Taken) : Type 0 where
+pub record HasCome (plan : Plan) (moments : Moments) (first : Sitting) (old : Taken) (s : Sitting) (now : Taken) : Type 0 where
   pub schedule : s.site.schedule ≡ schedule_of plan
   pub later : IsLater first s
   pub running : halted (mine s) s.worker ≡ false
-  pub timely : IfSome fixed (λ moment. AreTimely moment first.worker (length first.seen) s.seen)
+  pub timely : IfSome moments (λ moment. AreTimely moment first.worker (length first.seen) s.seen)
   pub some : (base : List Row) × IsFollowing base plan first.seen old
   pub follows : (base : List Row) → IsFollowing base plan first.seen old → IsFollowing base plan s.seen now
 
@@ -31,14 +32,14 @@ pub record HasReplied (plan : Plan) (first : Sitting) (old : Taken) (s : Sitting
   pub fronts : All (λ a. a.front ≤ now.front) replies
 
 -- and it has nothing in hand
-pub record IsAtWork (plan : Plan) (fixed : Option ℕ) (first : Sitting) (old : Taken) (s : Sitting) (now : Taken) (replies : List Answered) : Type 0 where
-  pub come : HasCome plan fixed first old s now
+pub record IsAtWork (plan : Plan) (moments : Moments) (first : Sitting) (old : Taken) (s : Sitting) (now : Taken) (replies : List Answered) : Type 0 where
+  pub come : HasCome plan moments first old s now
   pub empty : hand (mine s) s.worker ≡ None
   pub replied : HasReplied plan first old s now replies
 
 -- or it has the ticket's operation in hand, which has no reply yet
-pub record IsHolding (plan : Plan) (fixed : Option ℕ) (first : Sitting) (old : Taken) (s : Sitting) (now : Taken) (replies : List Answered) (ticket : Ticket) : Type 0 where
-  pub come : HasCome plan fixed first old s now
+pub record IsHolding (plan : Plan) (moments : Moments) (first : Sitting) (old : Taken) (s : Sitting) (now : Taken) (replies : List Answered) (ticket : Ticket) : Type 0 where
+  pub come : HasCome plan moments first old s now
   pub worker : ticket.worker ≡ s.worker
   pub held : IsInHand s.seen ticket
   pub there : IsOperation (schedule_of plan) ticket.op
@@ -47,8 +48,8 @@ pub record IsHolding (plan : Plan) (fixed : Option ℕ) (first : Sitting) (old :
 
 -- a turn after which there may be more to do leaves the worker at work, and after the last one nothing is left to start
 abbrev pub TurnsOn : Plan → Option ℕ → Sitting → Taken → Sitting → Taken → List Answered → Turn → Type 0
-TurnsOn plan fixed first old s now replies More = IsAtWork plan fixed first old s now replies
-TurnsOn plan fixed first old s now replies Over = IsAtWork plan fixed first old s now replies × NothingIsLeft s.site.schedule s.worker s.seen
+TurnsOn plan moments first old s now replies More = IsAtWork plan moments first old s now replies
+TurnsOn plan moments first old s now replies Over = IsAtWork plan moments first old s now replies × NothingIsLeft s.site.schedule s.worker s.seen
 
 -- the seat has perhaps looked at what has happened since, which the replica still follows, at an earlier place never
 pub record HasFollowed (plan : Plan) (s t : Sitting) (old new : Taken) : Type 0 where

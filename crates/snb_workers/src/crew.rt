@@ -1,6 +1,7 @@
 //! What a worker of a run does, and what it leaves.
 
 ghost use Rattle.std.specs.Prelude.{◌≡◌, ◌⊎◌, ℕ, ◌<◌, List, IfOk, OnOk, Option, Some, length};
+ghost use Rattle.snb_base.specs.Moments.{Moments};
 ghost use Rattle.snb_schema.specs.declared.row.Row.{Row};
 ghost use Rattle.snb_graph_model.specs.Graphs.{HoldsKey};
 ghost use Rattle.snb_graph_model.specs.Soundness.{Sound};
@@ -58,7 +59,7 @@ impl Worker {
         requires ready { IsReady board.now seat }
         requires sound { Sound base.now }
         requires closed { IsClosed (HoldsKey base.now) (updates_in plan.now) }
-        ensures { IfOk result (Leaves plan.now (C.fixed clock.now) base.now seat) }
+        ensures { IfOk result (Leaves plan.now (C.moments clock.now) base.now seat) }
     {
         base.known();
         let mut replica = match Replica::new(base) {
@@ -149,9 +150,9 @@ pub(crate) fn outcome_of(
     board: Board,
     crew: Vec<Result<Worker, AllocError>>,
 ) -> Result<Outcome, AllocError>
-    requires { (fixed : Option ℕ) × (base : List Row) × IsCrew plan.now fixed base board crew.items }
-    ensures { IfOk result (λ o. (fixed : Option ℕ) (base : List Row) → IsCrew plan.now fixed base board crew.items →
-        HasRun board.workers plan.now fixed base o.events.items o.replies o.graph) }
+    requires { (moments : Moments) × (base : List Row) × IsCrew plan.now moments base board crew.items }
+    ensures { IfOk result (λ o. (moments : Moments) (base : List Row) → IsCrew plan.now moments base board crew.items →
+        HasRun board.workers plan.now moments base o.events.items o.replies o.graph) }
 {
     plan.known();
     replay_is_welcome();

@@ -66,7 +66,7 @@ pub fn run_alone<R: Wait, C: Clock, G: Gate>(
     requires sound { Sound base.now }
     requires closed { IsClosed (HoldsKey base.now) (updates_in plan.now) }
     ensures ran { IfOk result (λ o. (workers : ℕ) → 1 ≤ workers →
-        HasRun workers plan.now (C.fixed clock.now) base.now o.events.items o.replies o.graph) }
+        HasRun workers plan.now (C.moments clock.now) base.now o.events.items o.replies o.graph) }
 {
     base.known();
     let (board, mut seats) = Board::make(alloc, plan.schedule(), 1)?;

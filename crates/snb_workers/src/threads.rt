@@ -44,7 +44,7 @@ fn work_all<R: Threads + Wait + Sync, C: Clock + Sync, G: Gate + Sync>(
     requires seats { AreReady board.now seats.items }
     requires sound { Sound base.now }
     requires closed { IsClosed (HoldsKey base.now) (updates_in plan.now) }
-    ensures { IfOk result (λ crew. AllLeave plan.now (C.fixed clock.now) base.now seats.items crew.items) }
+    ensures { IfOk result (λ crew. AllLeave plan.now (C.moments clock.now) base.now seats.items crew.items) }
 {
     thread::map_vec(
         rt,
@@ -71,7 +71,7 @@ pub fn run_workers<R: Threads + Wait + Sync, C: Clock + Sync, G: Gate + Sync>(
     requires few { workers ≤ MAX_WORKERS }
     requires sound { Sound base.now }
     requires closed { IsClosed (HoldsKey base.now) (updates_in plan.now) }
-    ensures ran { IfOk result (λ o. HasRun workers plan.now (C.fixed clock.now) base.now o.events.items o.replies o.graph) }
+    ensures ran { IfOk result (λ o. HasRun workers plan.now (C.moments clock.now) base.now o.events.items o.replies o.graph) }
 {
     base.known();
     let (board, seats) = Board::make(alloc, plan.schedule(), workers)?;

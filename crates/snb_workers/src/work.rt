@@ -111,11 +111,11 @@ impl<'a, R: Wait, C: Clock, G: Gate> Shared<'a, R, C, G> {
         ticket: Ticket,
     ) -> Result<(), AllocError>
         requires board { seat.old.site ≡ self.now.board.now }
-        requires holding { (first : Sitting) × (old : Taken) × IsHolding self.now.plan.now (C.fixed self.now.clock.now) first old seat.old replica.old replies.old ticket }
-        ensures ok { OnOk result ((first : Sitting) (old : Taken) → IsHolding self.now.plan.now (C.fixed self.now.clock.now) first old seat.old replica.old replies.old ticket →
-            IsAtWork self.now.plan.now (C.fixed self.now.clock.now) first old seat.new replica.new replies.new) }
-        ensures err { OnErr result ((first : Sitting) (old : Taken) → IsHolding self.now.plan.now (C.fixed self.now.clock.now) first old seat.old replica.old replies.old ticket →
-            HasCome self.now.plan.now (C.fixed self.now.clock.now) first old seat.new replica.new) }
+        requires holding { (first : Sitting) × (old : Taken) × IsHolding self.now.plan.now (C.moments self.now.clock.now) first old seat.old replica.old replies.old ticket }
+        ensures ok { OnOk result ((first : Sitting) (old : Taken) → IsHolding self.now.plan.now (C.moments self.now.clock.now) first old seat.old replica.old replies.old ticket →
+            IsAtWork self.now.plan.now (C.moments self.now.clock.now) first old seat.new replica.new replies.new) }
+        ensures err { OnErr result ((first : Sitting) (old : Taken) → IsHolding self.now.plan.now (C.moments self.now.clock.now) first old seat.old replica.old replies.old ticket →
+            HasCome self.now.plan.now (C.moments self.now.clock.now) first old seat.new replica.new) }
     {
         hand_is_own();
         self.plan.known();
@@ -150,11 +150,11 @@ impl<'a, R: Wait, C: Clock, G: Gate> Shared<'a, R, C, G> {
         replies: &mut Done,
     ) -> Result<Turn, AllocError>
         requires board { seat.old.site ≡ self.now.board.now }
-        requires at_work { (first : Sitting) × (old : Taken) × IsAtWork self.now.plan.now (C.fixed self.now.clock.now) first old seat.old replica.old replies.old }
-        ensures ok { IfOk result (λ turn. (first : Sitting) (old : Taken) → IsAtWork self.now.plan.now (C.fixed self.now.clock.now) first old seat.old replica.old replies.old →
-            TurnsOn self.now.plan.now (C.fixed self.now.clock.now) first old seat.new replica.new replies.new turn) }
-        ensures err { OnErr result ((first : Sitting) (old : Taken) → IsAtWork self.now.plan.now (C.fixed self.now.clock.now) first old seat.old replica.old replies.old →
-            HasCome self.now.plan.now (C.fixed self.now.clock.now) first old seat.new replica.new) }
+        requires at_work { (first : Sitting) × (old : Taken) × IsAtWork self.now.plan.now (C.moments self.now.clock.now) first old seat.old replica.old replies.old }
+        ensures ok { IfOk result (λ turn. (first : Sitting) (old : Taken) → IsAtWork self.now.plan.now (C.moments self.now.clock.now) first old seat.old replica.old replies.old →
+            TurnsOn self.now.plan.now (C.moments self.now.clock.now) first old seat.new replica.new replies.new turn) }
+        ensures err { OnErr result ((first : Sitting) (old : Taken) → IsAtWork self.now.plan.now (C.moments self.now.clock.now) first old seat.old replica.old replies.old →
+            HasCome self.now.plan.now (C.moments self.now.clock.now) first old seat.new replica.new) }
     {
         hand_is_own();
         prefix_is_legal();
@@ -206,7 +206,7 @@ pub fn work<R: Wait, C: Clock, G: Gate>(
     requires following { (base : List Row) × IsFollowing base plan.now seat.old.seen replica.old }
     ensures later { IsLater seat.old seat.new }
     ensures follows { (base : List Row) → IsFollowing base plan.now seat.old.seen replica.old → IsFollowing base plan.now seat.new.seen replica.new }
-    ensures timely { IfSome (C.fixed clock.now) (λ now. AreTimely now seat.old.worker (length seat.old.seen) seat.new.seen) }
+    ensures timely { IfSome (C.moments clock.now) (λ now. AreTimely now seat.old.worker (length seat.old.seen) seat.new.seen) }
     ensures ok { IfOk result (HasWorked plan.now seat.old seat.new replica.old replica.new) }
     ensures err { OnErr result (HasStopped seat.new) }
 {

@@ -7,11 +7,11 @@ use Rattle.snb_tool.proofs.OutcomeLemmas.{audit_done, audit_not}
 use Rattle.snb_tool.proofs.audit.audit.Goals as goal
 
 pub returns-in_err-judged-clause-answer : goal.returns-in_err-judged-clause-answer
-returns-in_err-judged-clause-answer g c = λ given fixed.
-    passed (IsFinished (Audit c.args.folder.now c.args.log.now c.args.ratio c.args.frequencies) (g.S.Shelf.contents c.args.shelf.now) given fixed) c.from_residual.result c.in_err-judged.field-0.0 c.from_residual.ensures.1
-    (audit_not (g.S.Shelf.contents c.args.shelf.now) c.args.folder.now c.args.log.now c.args.ratio c.args.frequencies given fixed c.in_err-judged.field-0.0 c.in_err-judged.ensures.answer)
+returns-in_err-judged-clause-answer g c = λ given moments.
+    passed (IsFinished (Audit c.args.folder.now c.args.log.now c.args.ratio c.args.frequencies) (g.S.Shelf.contents c.args.shelf.now) given moments) c.from_residual.result c.in_err-judged.field-0.0 c.from_residual.ensures.1
+    (audit_not (g.S.Shelf.contents c.args.shelf.now) c.args.folder.now c.args.log.now c.args.ratio c.args.frequencies given moments c.in_err-judged.field-0.0 c.in_err-judged.ensures.answer)
 
 pub returns-clause-answer : goal.returns-clause-answer
-returns-clause-answer g c = λ given fixed.
-    audit_done (g.S.Shelf.contents c.args.shelf.now) c.args.folder.now c.args.log.now c.args.ratio c.args.frequencies given fixed c.in_ok-judged.judged _ _ c.in_ok-judged.ensures.answer
+returns-clause-answer g c = λ given moments.
+    audit_done (g.S.Shelf.contents c.args.shelf.now) c.args.folder.now c.args.log.now c.args.ratio c.args.frequencies given moments c.in_ok-judged.judged _ _ c.in_ok-judged.ensures.answer
     (c.shown.ensures.status ∙ c.status_of.ensures) (c.shown.ensures.texts ∙ ap on_screen c.in_ok-text.ensures)

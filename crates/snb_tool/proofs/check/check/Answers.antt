@@ -7,11 +7,11 @@ use Rattle.snb_tool.proofs.OutcomeLemmas.{check_done, check_not}
 use Rattle.snb_tool.proofs.check.check.Goals as goal
 
 pub returns-in_err-input-clause-answer : goal.returns-in_err-input-clause-answer
-returns-in_err-input-clause-answer g c = λ given fixed.
-    passed (IsFinished (Check c.args.folder.now c.args.frequencies) (g.S.Shelf.contents c.args.shelf.now) given fixed) c.from_residual.result c.in_err-input.field-0.0 c.from_residual.ensures.1
-    (check_not (g.S.Shelf.contents c.args.shelf.now) c.args.folder.now c.args.frequencies given fixed c.one.result c.one.ensures c.in_err-input.field-0.0 c.in_err-input.ensures.answer)
+returns-in_err-input-clause-answer g c = λ given moments.
+    passed (IsFinished (Check c.args.folder.now c.args.frequencies) (g.S.Shelf.contents c.args.shelf.now) given moments) c.from_residual.result c.in_err-input.field-0.0 c.from_residual.ensures.1
+    (check_not (g.S.Shelf.contents c.args.shelf.now) c.args.folder.now c.args.frequencies given moments c.one.result c.one.ensures c.in_err-input.field-0.0 c.in_err-input.ensures.answer)
 
 pub returns-clause-answer : goal.returns-clause-answer
-returns-clause-answer g c = λ given fixed.
-    check_done (g.S.Shelf.contents c.args.shelf.now) c.args.folder.now c.one.result c.args.frequencies given fixed c.in_ok-input.input _ _ c.one.ensures c.in_ok-input.ensures.answer c.shown.ensures.status
+returns-clause-answer g c = λ given moments.
+    check_done (g.S.Shelf.contents c.args.shelf.now) c.args.folder.now c.one.result c.args.frequencies given moments c.in_ok-input.input _ _ c.one.ensures c.in_ok-input.ensures.answer c.shown.ensures.status
     (c.shown.ensures.texts ∙ ap on_screen c.in_ok-text.ensures)

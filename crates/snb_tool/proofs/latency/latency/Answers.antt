@@ -22,16 +22,16 @@ summary_of-requires-clause-complete g c =
     (judged_whole (g.S.Shelf.contents c.args.shelf.now) c.args.folder.now c.args.log.now c.args.ratio c.args.frequencies c.whole_exactly.ensures c.in_ok-judged.judged c.in_ok-judged.ensures.answer (sym c.is_whole.ensures ∙ c.if-is_whole.true)).1
 
 pub returns-in_err-judged-clause-answer : goal.returns-in_err-judged-clause-answer
-returns-in_err-judged-clause-answer g c = λ given fixed.
-    passed (IsFinished (Latency c.args.folder.now c.args.log.now c.args.ratio c.args.frequencies) (g.S.Shelf.contents c.args.shelf.now) given fixed) c.from_residual.result c.in_err-judged.field-0.0 c.from_residual.ensures.1
-    (latency_not (g.S.Shelf.contents c.args.shelf.now) c.args.folder.now c.args.log.now c.args.ratio c.args.frequencies given fixed c.in_err-judged.field-0.0 c.in_err-judged.ensures.answer)
+returns-in_err-judged-clause-answer g c = λ given moments.
+    passed (IsFinished (Latency c.args.folder.now c.args.log.now c.args.ratio c.args.frequencies) (g.S.Shelf.contents c.args.shelf.now) given moments) c.from_residual.result c.in_err-judged.field-0.0 c.from_residual.ensures.1
+    (latency_not (g.S.Shelf.contents c.args.shelf.now) c.args.folder.now c.args.log.now c.args.ratio c.args.frequencies given moments c.in_err-judged.field-0.0 c.in_err-judged.ensures.answer)
 
 pub returns-then-is_whole-clause-answer : goal.returns-then-is_whole-clause-answer
-returns-then-is_whole-clause-answer g c = λ given fixed.
-    latency_summed (g.S.Shelf.contents c.args.shelf.now) c.args.folder.now c.args.log.now c.args.ratio c.args.frequencies given fixed c.in_ok-judged.judged _ _ _ _ c.in_ok-judged.ensures.answer
+returns-then-is_whole-clause-answer g c = λ given moments.
+    latency_summed (g.S.Shelf.contents c.args.shelf.now) c.args.folder.now c.args.log.now c.args.ratio c.args.frequencies given moments c.in_ok-judged.judged _ _ _ _ c.in_ok-judged.ensures.answer
     (sym c.is_whole.ensures ∙ c.if-is_whole.true) c.deref.ensures.value c.shown.ensures.status c.shown.ensures.texts c.in_ok-text.ensures
 
 pub returns-clause-answer : goal.returns-clause-answer
-returns-clause-answer g c = λ given fixed.
-    latency_judged (g.S.Shelf.contents c.args.shelf.now) c.args.folder.now c.args.log.now c.args.ratio c.args.frequencies given fixed c.in_ok-judged.judged _ _ c.in_ok-judged.ensures.answer
+returns-clause-answer g c = λ given moments.
+    latency_judged (g.S.Shelf.contents c.args.shelf.now) c.args.folder.now c.args.log.now c.args.ratio c.args.frequencies given moments c.in_ok-judged.judged _ _ c.in_ok-judged.ensures.answer
     (sym c.is_whole.ensures ∙ c.if-is_whole.false) c.shown-2.ensures.status (c.shown-2.ensures.texts ∙ ap on_screen c.in_ok-text-2.ensures)

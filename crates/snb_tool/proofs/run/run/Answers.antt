@@ -6,9 +6,9 @@ use Rattle.snb_tool.proofs.run.run.Goals as goal
 
 pub returns-in_err-input-clause-answer : goal.returns-in_err-input-clause-answer
 returns-in_err-input-clause-answer g c = λ given.
-    passed (IsFinished (Run c.args.folder.now c.args.workers c.args.ratio c.args.frequencies) (g.S.Shelf.contents c.args.shelf.now) given (g.C.Clock.fixed c.args.clock.now)) c.from_residual.result c.in_err-input.field-0.0 c.from_residual.ensures.1
-    (run_not (g.S.Shelf.contents c.args.shelf.now) c.args.folder.now c.args.frequencies given (g.C.Clock.fixed c.args.clock.now) c.args.workers c.args.ratio c.in_err-input.field-0.0 c.in_err-input.ensures.answer)
+    passed (IsFinished (Run c.args.folder.now c.args.workers c.args.ratio c.args.frequencies) (g.S.Shelf.contents c.args.shelf.now) given (g.C.Clock.moments c.args.clock.now)) c.from_residual.result c.in_err-input.field-0.0 c.from_residual.ensures.1
+    (run_not (g.S.Shelf.contents c.args.shelf.now) c.args.folder.now c.args.frequencies given (g.C.Clock.moments c.args.clock.now) c.args.workers c.args.ratio c.in_err-input.field-0.0 c.in_err-input.ensures.answer)
 
 pub returns-clause-answer : goal.returns-clause-answer
 returns-clause-answer g c = λ given.
-    run_done (g.S.Shelf.contents c.args.shelf.now) c.args.folder.now c.args.workers c.args.ratio c.args.frequencies given (g.C.Clock.fixed c.args.clock.now) c.in_ok-input.input _ c.in_ok-input.ensures.answer c.in_ok-output.ensures
+    run_done (g.S.Shelf.contents c.args.shelf.now) c.args.folder.now c.args.workers c.args.ratio c.args.frequencies given (g.C.Clock.moments c.args.clock.now) c.in_ok-input.input _ c.in_ok-input.ensures.answer c.in_ok-output.ensures

@@ -15,7 +15,7 @@ returns g c =
     let back =
     run_back c.log_reads_back.ensures.run c.legal_is_short.ensures c.args.input.plan c.args.workers outcome.events.items outcome.replies ran.legal c.requires.workers c.requires.few
     (subst IsPlanned c.schedule.ensures c.steps.ensures.planned) (subst (λ (replies : List Answered). All (λ a. a.rows ≤ MAX_NUMBER) replies) c.as_slice.ensures c.known_counts.ensures) in
-    IfOk-weaker c.texts_of.result _ _ (λ output shown. run_shown c.args.workers c.args.input (g.C.Clock.fixed c.args.clock.now) outcome (bytes_of output) ran back shown) c.texts_of.ensures
+    IfOk-weaker c.texts_of.result _ _ (λ output shown. run_shown c.args.workers c.args.input (g.C.Clock.moments c.args.clock.now) outcome (bytes_of output) ran back shown) c.texts_of.ensures
 
 pub texts_of-requires : goal.texts_of-requires
 texts_of-requires g c = record { some = c.requires.workers; few = c.requires.few; legal = c.in_ok-outcome.ensures.ran.legal }

@@ -25,34 +25,34 @@ pub returns-in-Trial-clause-answer : goal.returns-in-Trial-clause-answer
 returns-in-Trial-clause-answer g c = rw c.in-Trial.is (c.trial.ensures.answer (g.S.Shelf.contents c.args.shelf.now) (given_by c.args.given))
 
 pub returns-in-Check-clause-answer : goal.returns-in-Check-clause-answer
-returns-in-Check-clause-answer g c = rw (c.in-Check.is, ← c.as_str.ensures) (c.check.ensures.answer (given_by c.args.given) (g.C.Clock.fixed c.args.clock.now))
+returns-in-Check-clause-answer g c = rw (c.in-Check.is, ← c.as_str.ensures) (c.check.ensures.answer (given_by c.args.given) (g.C.Clock.moments c.args.clock.now))
 
 pub returns-in-Run-clause-answer : goal.returns-in-Run-clause-answer
 returns-in-Run-clause-answer g c = rw (c.in-Run.is, ← c.as_str-in-Run.ensures) (c.run.ensures.answer (given_by c.args.given))
 
 pub returns-in-Read-clause-answer : goal.returns-in-Read-clause-answer
-returns-in-Read-clause-answer g c = rw (c.in-Read.is, ← c.as_str-in-Read.ensures) (c.read.ensures.answer (given_by c.args.given) (g.C.Clock.fixed c.args.clock.now))
+returns-in-Read-clause-answer g c = rw (c.in-Read.is, ← c.as_str-in-Read.ensures) (c.read.ensures.answer (given_by c.args.given) (g.C.Clock.moments c.args.clock.now))
 
 pub returns-in-Audit-clause-answer : goal.returns-in-Audit-clause-answer
-returns-in-Audit-clause-answer g c = rw (c.in-Audit.is, ← c.as_str-in-Audit.ensures, ← c.as_str-in-Audit-2.ensures) (c.audit.ensures.answer (given_by c.args.given) (g.C.Clock.fixed c.args.clock.now))
+returns-in-Audit-clause-answer g c = rw (c.in-Audit.is, ← c.as_str-in-Audit.ensures, ← c.as_str-in-Audit-2.ensures) (c.audit.ensures.answer (given_by c.args.given) (g.C.Clock.moments c.args.clock.now))
 
 pub returns-in-Expect-clause-answer : goal.returns-in-Expect-clause-answer
-returns-in-Expect-clause-answer g c = rw (c.in-Expect.is, ← c.as_str-in-Expect.ensures) (c.expect.ensures.answer (given_by c.args.given) (g.C.Clock.fixed c.args.clock.now))
+returns-in-Expect-clause-answer g c = rw (c.in-Expect.is, ← c.as_str-in-Expect.ensures) (c.expect.ensures.answer (given_by c.args.given) (g.C.Clock.moments c.args.clock.now))
 
 pub returns-in-Latency-clause-answer : goal.returns-in-Latency-clause-answer
-returns-in-Latency-clause-answer g c = rw (c.in-Latency.is, ← c.as_str-in-Latency.ensures, ← c.as_str-in-Latency-2.ensures) (c.latency.ensures.answer (given_by c.args.given) (g.C.Clock.fixed c.args.clock.now))
+returns-in-Latency-clause-answer g c = rw (c.in-Latency.is, ← c.as_str-in-Latency.ensures, ← c.as_str-in-Latency-2.ensures) (c.latency.ensures.answer (given_by c.args.given) (g.C.Clock.moments c.args.clock.now))
 
 pub returns-in-Graph-clause-answer : goal.returns-in-Graph-clause-answer
 returns-in-Graph-clause-answer g c =
-    rw (c.in-Validate.is, c.in-Graph.is, ← c.as_str-in-Graph.ensures, ← c.as_str-in-Graph-2.ensures) (c.validate.ensures.answer (given_by c.args.given) (g.C.Clock.fixed c.args.clock.now))
+    rw (c.in-Validate.is, c.in-Graph.is, ← c.as_str-in-Graph.ensures, ← c.as_str-in-Graph-2.ensures) (c.validate.ensures.answer (given_by c.args.given) (g.C.Clock.moments c.args.clock.now))
 
 pub returns-in-Some-clause-answer : goal.returns-in-Some-clause-answer
 returns-in-Some-clause-answer g c =
-    rw (c.in-Validate.is, c.in-Table.is, c.in-Some.is, ← c.as_str-in-Some.ensures, ← c.as_str-in-Some-2.ensures) (c.validate_via.ensures.answer c.in-Some.field-0-1.now.pick (g.C.Clock.fixed c.args.clock.now))
+    rw (c.in-Validate.is, c.in-Table.is, c.in-Some.is, ← c.as_str-in-Some.ensures, ← c.as_str-in-Some-2.ensures) (c.validate_via.ensures.answer c.in-Some.field-0-1.now.pick (g.C.Clock.moments c.args.clock.now))
 
 pub returns-in-Some-clause-unasked : goal.returns-in-Some-clause-unasked
 returns-in-Some-clause-unasked g c = λ asks. rw c.in-Some.is c.validate_via.ensures.unread
 
 pub returns-in-Some-given-clause-answer : goal.returns-in-Some-given-clause-answer
 returns-in-Some-given-clause-answer g c =
-    rw (c.in-Walk.is, c.in-Some-given.is, ← c.as_str-in-Some-given.ensures, ← c.as_slice.ensures) (c.walk.ensures.answer (g.C.Clock.fixed c.args.clock.now))
+    rw (c.in-Walk.is, c.in-Some-given.is, ← c.as_str-in-Some-given.ensures, ← c.as_slice.ensures) (c.walk.ensures.answer (g.C.Clock.moments c.args.clock.now))

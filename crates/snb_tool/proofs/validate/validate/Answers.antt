@@ -6,10 +6,10 @@ use Rattle.snb_tool.proofs.OutcomeLemmas.{validate_done, validate_not}
 use Rattle.snb_tool.proofs.validate.validate.Goals as goal
 
 pub returns-in_err-tally-clause-answer : goal.returns-in_err-tally-clause-answer
-returns-in_err-tally-clause-answer g c = λ given fixed.
-    passed (IsFinished (Validate c.args.folder.now c.args.cases.now Graph) (g.S.Shelf.contents c.args.shelf.now) given fixed) c.from_residual.result c.in_err-tally.field-0.0 c.from_residual.ensures.1
-    (validate_not (g.S.Shelf.contents c.args.shelf.now) c.args.folder.now c.args.cases.now fixed given c.in_err-tally.field-0.0 c.in_err-tally.ensures.answer)
+returns-in_err-tally-clause-answer g c = λ given moments.
+    passed (IsFinished (Validate c.args.folder.now c.args.cases.now Graph) (g.S.Shelf.contents c.args.shelf.now) given moments) c.from_residual.result c.in_err-tally.field-0.0 c.from_residual.ensures.1
+    (validate_not (g.S.Shelf.contents c.args.shelf.now) c.args.folder.now c.args.cases.now moments given c.in_err-tally.field-0.0 c.in_err-tally.ensures.answer)
 
 pub returns-clause-answer : goal.returns-clause-answer
-returns-clause-answer g c = λ given fixed.
-    validate_done (g.S.Shelf.contents c.args.shelf.now) c.args.folder.now c.args.cases.now fixed given c.in_ok-tally.tally c.in_ok-finished_of.field-0 c.in_ok-tally.ensures.answer c.in_ok-finished_of.ensures
+returns-clause-answer g c = λ given moments.
+    validate_done (g.S.Shelf.contents c.args.shelf.now) c.args.folder.now c.args.cases.now moments given c.in_ok-tally.tally c.in_ok-finished_of.field-0 c.in_ok-tally.ensures.answer c.in_ok-finished_of.ensures

@@ -8,14 +8,14 @@ use Rattle.snb_tool.proofs.OutcomeLemmas.{table_done, table_lacks, table_not}
 use Rattle.snb_tool.proofs.validate.validate_via.Goals as goal
 
 pub returns-in_err-tally-in-None-clause-answer : goal.returns-in_err-tally-in-None-clause-answer
-returns-in_err-tally-in-None-clause-answer g c = λ pick fixed.
-    passed (IsFinished (Validate c.args.folder.now c.args.cases.now Table) (g.S.Shelf.contents c.args.shelf.now) (Some (record { kinds = kinds c.args.handlers.now; pick = pick })) fixed) c.from_residual.result c.in_err-tally-in-None.field-0.0 c.from_residual.ensures.1
-    (table_not (g.S.Shelf.contents c.args.shelf.now) c.args.folder.now c.args.cases.now fixed (record { kinds = kinds c.args.handlers.now; pick = pick }) c.in-None.ensures c.in_err-tally-in-None.field-0.0 c.in_err-tally-in-None.ensures.answer)
+returns-in_err-tally-in-None-clause-answer g c = λ pick moments.
+    passed (IsFinished (Validate c.args.folder.now c.args.cases.now Table) (g.S.Shelf.contents c.args.shelf.now) (Some (record { kinds = kinds c.args.handlers.now; pick = pick })) moments) c.from_residual.result c.in_err-tally-in-None.field-0.0 c.from_residual.ensures.1
+    (table_not (g.S.Shelf.contents c.args.shelf.now) c.args.folder.now c.args.cases.now moments (record { kinds = kinds c.args.handlers.now; pick = pick }) c.in-None.ensures c.in_err-tally-in-None.field-0.0 c.in_err-tally-in-None.ensures.answer)
 
 pub returns-in-Some-clause-answer : goal.returns-in-Some-clause-answer
-returns-in-Some-clause-answer g c = λ pick fixed.
-    table_lacks (g.S.Shelf.contents c.args.shelf.now) c.args.folder.now c.args.cases.now fixed (record { kinds = kinds c.args.handlers.now; pick = pick }) c.in-Some.kind c.in-Some.ensures _ refl
+returns-in-Some-clause-answer g c = λ pick moments.
+    table_lacks (g.S.Shelf.contents c.args.shelf.now) c.args.folder.now c.args.cases.now moments (record { kinds = kinds c.args.handlers.now; pick = pick }) c.in-Some.kind c.in-Some.ensures _ refl
 
 pub returns-in_ok-finished_of-in-None-clause-answer : goal.returns-in_ok-finished_of-in-None-clause-answer
-returns-in_ok-finished_of-in-None-clause-answer g c = λ pick fixed.
-    table_done (g.S.Shelf.contents c.args.shelf.now) c.args.folder.now c.args.cases.now fixed (record { kinds = kinds c.args.handlers.now; pick = pick }) c.in-None.ensures c.in_ok-tally-in-None.tally c.in_ok-finished_of-in-None.field-0 c.in_ok-tally-in-None.ensures.answer c.in_ok-finished_of-in-None.ensures
+returns-in_ok-finished_of-in-None-clause-answer g c = λ pick moments.
+    table_done (g.S.Shelf.contents c.args.shelf.now) c.args.folder.now c.args.cases.now moments (record { kinds = kinds c.args.handlers.now; pick = pick }) c.in-None.ensures c.in_ok-tally-in-None.tally c.in_ok-finished_of-in-None.field-0 c.in_ok-tally-in-None.ensures.answer c.in_ok-finished_of-in-None.ensures

@@ -8,9 +8,9 @@ run-requires-clause-ready g c = alone_ready c.in_ok-board.board c.in_ok-board.se
 
 pub outcome_of-requires : goal.outcome_of-requires
 outcome_of-requires g c = (
-  g.C.Clock.fixed c.args.clock.now,
+  g.C.Clock.moments c.args.clock.now,
   c.args.base.now,
-  crew_of_one c.in_ok-board.board c.in_ok-board.seats.items c.pop.new.self.items c.in-Some.seat c.in_ok-board.ensures.seats c.in_ok-board.ensures.board.1 c.in-Some.ensures.items c.args.plan.now (g.C.Clock.fixed c.args.clock.now)
+  crew_of_one c.in_ok-board.board c.in_ok-board.seats.items c.pop.new.self.items c.in-Some.seat c.in_ok-board.ensures.seats c.in_ok-board.ensures.board.1 c.in-Some.ensures.items c.args.plan.now (g.C.Clock.moments c.args.clock.now)
       c.args.base.now c.run.result c.push.new.self.items (c.in_ok-board.ensures.board.0 ∙ c.schedule.ensures) c.known.ensures c.requires.closed c.run.ensures
       (c.in_ok-push.ensures.items ∙ (λ i. c.in_ok-crew.ensures.items i ++ c.run.result ∷ [])),
 )
@@ -18,11 +18,11 @@ outcome_of-requires g c = (
 pub returns : goal.returns
 returns g c =
     let crew =
-    crew_of_one c.in_ok-board.board c.in_ok-board.seats.items c.pop.new.self.items c.in-Some.seat c.in_ok-board.ensures.seats c.in_ok-board.ensures.board.1 c.in-Some.ensures.items c.args.plan.now (g.C.Clock.fixed c.args.clock.now)
+    crew_of_one c.in_ok-board.board c.in_ok-board.seats.items c.pop.new.self.items c.in-Some.seat c.in_ok-board.ensures.seats c.in_ok-board.ensures.board.1 c.in-Some.ensures.items c.args.plan.now (g.C.Clock.moments c.args.clock.now)
     c.args.base.now c.run.result c.push.new.self.items (c.in_ok-board.ensures.board.0 ∙ c.schedule.ensures) c.known.ensures c.requires.closed c.run.ensures
     (c.in_ok-push.ensures.items ∙ (λ i. c.in_ok-crew.ensures.items i ++ c.run.result ∷ [])) in
     record {
       ran = IfOk-weaker c.outcome_of.result _ _
-          (λ o ran workers some. run_of_more c.args.plan.now (g.C.Clock.fixed c.args.clock.now) c.args.base.now o.events.items o.replies o.graph c.in_ok-board.board.workers workers c.in_ok-board.ensures.board.1 some
-          (ran (g.C.Clock.fixed c.args.clock.now) c.args.base.now crew)) c.outcome_of.ensures;
+          (λ o ran workers some. run_of_more c.args.plan.now (g.C.Clock.moments c.args.clock.now) c.args.base.now o.events.items o.replies o.graph c.in_ok-board.board.workers workers c.in_ok-board.ensures.board.1 some
+          (ran (g.C.Clock.moments c.args.clock.now) c.args.base.now crew)) c.outcome_of.ensures;
     }

@@ -3,4 +3,4 @@ use Rattle.snb_workers.specs.WorkTurns.{IsAtWork}
 use Rattle.snb_workers.proofs.work.work.Given as goal
 
 abbrev pub invariant-loop : goal.invariant-loop
-invariant-loop g l = IsAtWork l.plan (g.C.Clock.fixed l.clock) l.fn.seat l.fn.replica l.seat l.replica l.replies
+invariant-loop g l = IsAtWork l.plan (g.C.Clock.moments l.clock) l.fn.seat l.fn.replica l.seat l.replica l.replies
