@@ -325,7 +325,7 @@ module _ {E : Type 0}
                     stands = subst (StandsFor base plan follows.taken) (ap (λ (w : Worker). w.replica) same ∙ any.4) follows.stands;
                     closed = is_crew.closed;
                     workers = z.workers;
-                    few = is_crew.few;
+                    few = inl is_crew.few;
                     legal = subst (IsLegal (schedule_of plan) z.workers) (sym pre.1) legal;
                   },
                 )
