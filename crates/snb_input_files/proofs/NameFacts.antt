@@ -1,8 +1,8 @@
 -- What a shelf may still be asked for after calls that read, and for which names of a stage.
-use Rattle.std.proofs.Common.{◌≡◌, ℕ, ◌<◌, ◌≤◌, List, [], ◌∷◌, ◌++◌, length, get_or, true, refl, sym, ◌∙◌, ap, subst}
-use Rattle.std.proofs.lemmas.List.Elements.{Contains, Contains-append_left, Contains-append_right}
+use Rattle.std.proofs.Common.{◌≡◌, ℕ, ◌≤◌, List, [], ◌∷◌, ◌++◌, Contains, true, refl, ◌∙◌, ap, subst}
+use Rattle.std.proofs.lemmas.List.Elements.{Contains-append_left, Contains-append_right}
 use Rattle.snb_base.specs.Shelf.{Names}
-use Rattle.snb_base.proofs.Laws.{at_contains, contains_here, in_one}
+use Rattle.snb_base.proofs.Laws.{contains_here, in_one}
 use Rattle.snb_schema.specs.FileNames.{name_of}
 use Rattle.snb_input_files.specs.declared.series.Series.{Series}
 use Rattle.snb_input_files.specs.Names.{Allows, IsNameIn}

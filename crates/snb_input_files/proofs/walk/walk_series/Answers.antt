@@ -22,8 +22,8 @@ loop-part-init g c = record {
 pub look-requires-clause-allowed : goal.look-requires-clause-allowed
 look-requires-clause-allowed g c = of_part c.args.folder.now c.args.series c.loop-part.part (omega arith) (still_allows (IsNameIn (c.args.series ∷ []) c.args.folder.now) c.loop-part.invariant.read.names c.requires.allowed)
 
-pub is_held-requires-clause-allowed : goal.is_held-requires-clause-allowed
-is_held-requires-clause-allowed g c = of_part c.args.folder.now c.args.series c.args.series.most (omega arith) (still_allows (IsNameIn (c.args.series ∷ []) c.args.folder.now) c.loop-part.invariant.read.names c.requires.allowed)
+pub is_held-requires : goal.is_held-requires
+is_held-requires g c = record { allowed = of_part c.args.folder.now c.args.series c.args.series.most (omega arith) (still_allows (IsNameIn (c.args.series ∷ []) c.args.folder.now) c.loop-part.invariant.read.names c.requires.allowed) }
 
 pub returns-in-Err-clause-answer : goal.returns-in-Err-clause-answer
 returns-in-Err-clause-answer g c =
