@@ -1,5 +1,5 @@
 -- What other crates may cite: how numbers are spelled, facts about lists that no library states, and what calls that count faults do together.
-use Rattle.std.proofs.Common.{◌≡◌, ◌≢◌, ℕ, zero, suc, ◌+◌, ◌<◌, List, [], ◌∷◌, ◌++◌, Option, refl, sym, ◌∙◌, ◌⊎◌, inl, inr, subst, arith, Bool, true, false, All}
+use Rattle.std.proofs.Common.{◌≡◌, ◌≢◌, ℕ, zero, suc, ◌<◌, List, [], ◌∷◌, ◌++◌, Option, refl, sym, ◌∙◌, ◌⊎◌, inl, inr, subst, arith, Bool, true, false, All}
 use Rattle.std.proofs.lemmas.Bool.{cases_Bool, cases_lt}
 use Rattle.std.proofs.lemmas.List.Elements.{All-head, All-tail}
 use Rattle.snb_base.specs.Shelf.{Counts, Files, HasCounted, HasRead, Names}

@@ -24,14 +24,20 @@ impl TryCopy for u64 {
     }
 }
 
-impl TryCopy for (u64, u32) {
-    fn try_copy(&self) -> Result<(u64, u32), AllocError> {
+impl TryCopy for u32 {
+    fn try_copy(&self) -> Result<u32, AllocError> {
         Ok(*self)
     }
 }
 
-impl TryCopy for (u64, u64) {
-    fn try_copy(&self) -> Result<(u64, u64), AllocError> {
-        Ok(*self)
+impl<A: TryCopy, B: TryCopy> TryCopy for (A, B) {
+    fn try_copy(&self) -> Result<(A, B), AllocError> {
+        Ok((self.0.try_copy()?, self.1.try_copy()?))
+    }
+}
+
+impl<A: TryCopy, B: TryCopy, C: TryCopy> TryCopy for (A, B, C) {
+    fn try_copy(&self) -> Result<(A, B, C), AllocError> {
+        Ok((self.0.try_copy()?, self.1.try_copy()?, self.2.try_copy()?))
     }
 }

@@ -67,11 +67,6 @@ pub record HasGained (old : List Row) (more : List Row) (new : List Row) : Type 
   pub graph : IsGraph new
   pub rows : IsPermutation new (old ++ more)
 
--- the graph holds these rows, each once, and no others
-pub record HoldsRows (g : List Row) (held : List Row) : Type 0 where
-  pub graph : IsGraph g
-  pub same : IsPermutation g held
-
 -- one of the rows has the key
 pub record HasKey (g : List Row) (k : RowKey) : Type 0 where
   pub it : Row

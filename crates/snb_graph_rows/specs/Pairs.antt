@@ -1,5 +1,5 @@
 -- Pairs of an id and a date for each id.
-use Rattle.std.specs.Prelude.{map, ◌≡◌, ◌≢◌, ℕ, ◌^◌, ◌<◌, ◌↔◌, ◌⊎◌, List, All, Contains}
+use Rattle.std.specs.Prelude.{◌≡◌, ◌≢◌, ℕ, ◌^◌, ◌<◌, ◌↔◌, ◌⊎◌, List, All, Contains}
 use Rattle.std.specs.declared.cmp.Ordering.{Ordering}
 use Rattle.std.specs.List.Sorted.{IsStrictlySortedBy}
 use Rattle.std.specs.Map.{keys_of}
@@ -30,12 +30,3 @@ HasDropped old of id new = (e : (ℕ × ℕ) × ℕ) → Contains new e ↔ (Con
 pub record ArePairsOf (es : List ((ℕ × ℕ) × ℕ)) (of : ℕ) (ps : List ((ℕ × ℕ) × ℕ)) : Type 0 where
   pub rises : IsStrictlySortedBy pair_order (keys_of ps)
   pub same : (e : (ℕ × ℕ) × ℕ) → Contains ps e ↔ (Contains es e × (e.0.0 ≡ of))
-
--- the other id and the date of each entry
-abbrev pub ends_of : List ((ℕ × ℕ) × ℕ) → List (ℕ × ℕ)
-ends_of es = map (λ e. (e.0.1, e.1)) es
-
--- the other ids and dates are those of an id, by rising id
-pub record AreEndsOf (es : List ((ℕ × ℕ) × ℕ)) (of : ℕ) (ends : List (ℕ × ℕ)) : Type 0 where
-  pub rises : IsStrictlySortedBy nat_cmp (keys_of ends)
-  pub same : (id date : ℕ) → Contains ends (id, date) ↔ HasPair es of id date

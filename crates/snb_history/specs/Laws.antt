@@ -1,11 +1,11 @@
 -- Laws of the definitions, over every schedule and every history.
-use Rattle.std.specs.Prelude.{◌≡◌, ℕ, ◌+◌, ◌*◌, ◌<◌, ◌≤◌, ◌↔◌, ◌⊎◌, pos, ◌+ℤ◌, ◌≤ℤ◌, ◌<ℤ◌, List, [], ◌∷◌, ◌++◌, length, true, false, Some, None, count_by, filter}
+use Rattle.std.specs.Prelude.{◌≡◌, ℕ, ◌+◌, ◌*◌, ◌<◌, ◌≤◌, ◌↔◌, ◌⊎◌, pos, ◌+ℤ◌, ◌≤ℤ◌, ◌<ℤ◌, List, ◌∷◌, ◌++◌, length, true, false, Some, None, count_by, filter}
 use Rattle.std.specs.List.{list_any, position_or_len}
 use Rattle.snb_schema.specs.declared.limits.TheConstants.{MAX_TIME, MAX_AT}
 use Rattle.snb_history.specs.declared.event.Event.{Event}
 use Rattle.snb_history.specs.declared.event.Event.TheVariants.{Start, Finish}
 use Rattle.snb_history.specs.Schedule.{Schedule, step_of, IsOperation, IsBefore, IsInForum, IsTimely, IsPlaced, IsPlanned, is_dependency}
-use Rattle.snb_history.specs.History.{starts, finishes, is_by, started, finished, halted, hand, holder, moment, last}
+use Rattle.snb_history.specs.History.{starts, finishes, is_by, started, finished, halted, hand, holder, last}
 use Rattle.snb_history.specs.Completion.{completion, local}
 use Rattle.snb_history.specs.Rules.{Rule, Fits, IsCleared, IsLegal}
 use Rattle.snb_history.specs.Violation.{Told, Breaks}
@@ -128,12 +128,6 @@ LegalIsShort = (s : Schedule) (workers : ℕ) (h : List Event) → IsLegal s wor
 -- the events before an event of a legal history are a legal history
 abbrev pub PrefixIsLegal : Type 0
 PrefixIsLegal = (s : Schedule) (workers : ℕ) (g h : List Event) → IsLegal s workers (g ++ h) → IsLegal s workers g
-
--- an event that fits, at a moment that isn't too great, makes a legal history of a legal one
-abbrev pub MoreIsLegal : Type 0
-MoreIsLegal =
-    (s : Schedule) (workers : ℕ) (h : List Event) (e : Event) → IsLegal s workers h → Fits s workers h e → moment e ≤ MAX_AT →
-    IsLegal s workers (h ++ e ∷ [])
 
 -- the last moment of a legal history isn't above the greatest
 abbrev pub LastIsBounded : Type 0

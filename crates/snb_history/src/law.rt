@@ -1,10 +1,42 @@
 //! Laws of histories, over every schedule and every history.
 
-ghost use Rattle.snb_history.specs.Laws.{CompletionWaits, HandIsOwn, HandIsTheirs, LegalIsShort, OnceEach, PrefixIsLegal, StartStays};
+ghost use Rattle.snb_history.specs.Laws.{BreaksOne, CompletionDecides, CompletionRises, CompletionWaits, FitsOrBreaks, HandIsOwn, HandIsTheirs, LegalIsShort, NeverStuck, OnceEach, PlannedIsTimely, PrefixIsLegal, StartStays};
 
 /// The completion time is below the t of each unfinished dependency.
 pub fn completion_waits()
     ensures { CompletionWaits }
+{}
+
+/// The completion time never falls: that of the events so far is at most that of these and any that follow.
+pub fn completion_rises()
+    ensures { CompletionRises }
+{}
+
+/// The completion time decides when a dependent may start: the dependencies whose t is at most its t_d are
+/// all finished exactly where its t_d is at most the completion time.
+pub fn completion_decides()
+    ensures { CompletionDecides }
+{}
+
+/// No state is stuck: where nobody has an operation in hand, nobody has halted and not all is started, there
+/// is an unstarted operation, due no later than any other, that any worker may start once it is due.
+pub fn never_stuck()
+    ensures { NeverStuck }
+{}
+
+/// A plan is never stuck where each dependent needs only what lies before it.
+pub fn planned_is_timely()
+    ensures { PlannedIsTimely }
+{}
+
+/// An event fits, or there is a first rule that it breaks.
+pub fn fits_or_breaks()
+    ensures { FitsOrBreaks }
+{}
+
+/// No event breaks two rules as the first one, nor one with two values.
+pub fn breaks_one()
+    ensures { BreaksOne }
 {}
 
 /// Each operation starts at most once and finishes at most once.

@@ -20,7 +20,7 @@ pub type Reply<T> = OwnedList<Answer<T>>;
 pub fn copy_answer(answer: &Answer<CowText<'_>>) -> Result<Answer<Text>, AllocError>
     ensures { IfOk result (λ copy. copy ≡ answer.now) }
 {
-    answer.try_map(|row| row.try_map(|cell| cell.try_copy()))
+    answer.try_map(|row| row.try_map(|cell| cell.to_texts()))
 }
 
 /// An equal answer, whose texts are lent.

@@ -4,7 +4,7 @@ ghost use Rattle.std.specs.Prelude.{◌≡◌, ◌<◌, ◌^◌, pos, IfOk};
 ghost use Rattle.snb_read_model.specs.declared.cell.Cell.TheVariants.{Number};
 
 use crate::cow_text::CowText;
-use snb_base::{OwnedList, Text};
+use snb_base::{OwnedList, Text, TryCopy};
 use std::alloc::AllocError;
 
 /// Texts, as a cell of an answer.
@@ -54,18 +54,9 @@ impl<T> Cell<T> {
     }
 }
 
-// An equal stay, with texts of its own.
-fn copy_stay(stay: &(CowText<'_>, u32, CowText<'_>)) -> Result<(Text, u32, Text), AllocError>
-    ensures { IfOk result (λ copy. copy ≡ stay.now) }
-{
-    Ok((stay.0.try_copy()?, stay.1, stay.2.try_copy()?))
-}
-
-impl<'a> Cell<CowText<'a>> {
-    /// An equal cell, with texts of its own.
-    pub fn try_copy(&self) -> Result<Cell<Text>, AllocError>
-        ensures { IfOk result (λ c. c ≡ self.now) }
-    {
+// A cell of the same kind, of equal texts.
+impl<T: TryCopy> TryCopy for Cell<T> {
+    fn try_copy(&self) -> Result<Cell<T>, AllocError> {
         match self {
             Cell::Number { value } => Ok(Cell::Number { value: *value }),
             Cell::Flag { value } => Ok(Cell::Flag { value: *value }),
@@ -73,7 +64,35 @@ impl<'a> Cell<CowText<'a>> {
                 text: text.try_copy()?,
             }),
             Cell::List { texts } => Ok(Cell::List {
-                texts: texts.try_map(|text| text.try_copy())?,
+                texts: texts.try_copy()?,
+            }),
+            Cell::Stays { stays } => Ok(Cell::Stays {
+                stays: stays.try_copy()?,
+            }),
+        }
+    }
+}
+
+// An equal stay, with texts of its own.
+fn copy_stay(stay: &(CowText<'_>, u32, CowText<'_>)) -> Result<(Text, u32, Text), AllocError>
+    ensures { IfOk result (λ copy. copy ≡ stay.now) }
+{
+    Ok((stay.0.to_text()?, stay.1, stay.2.to_text()?))
+}
+
+impl<'a> Cell<CowText<'a>> {
+    /// An equal cell, with texts of its own.
+    pub fn to_texts(&self) -> Result<Cell<Text>, AllocError>
+        ensures { IfOk result (λ c. c ≡ self.now) }
+    {
+        match self {
+            Cell::Number { value } => Ok(Cell::Number { value: *value }),
+            Cell::Flag { value } => Ok(Cell::Flag { value: *value }),
+            Cell::Words { text } => Ok(Cell::Words {
+                text: text.to_text()?,
+            }),
+            Cell::List { texts } => Ok(Cell::List {
+                texts: texts.try_map(|text| text.to_text())?,
             }),
             Cell::Stays { stays } => Ok(Cell::Stays {
                 stays: stays.try_map(|stay| copy_stay(stay))?,

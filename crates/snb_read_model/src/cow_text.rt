@@ -4,7 +4,7 @@ ghost use Rattle.std.specs.Prelude.{◌≡◌, ◌↔◌, IfOk, IsTrue};
 ghost use Rattle.std.specs.Cmp.Lexicographic.{slice_cmp};
 ghost use Rattle.std.specs.Ordering.{nat_cmp};
 
-use snb_base::Text;
+use snb_base::{Text, TryCopy};
 use std::alloc::AllocError;
 use std::cmp::Ordering;
 use std::marker::Model;
@@ -96,9 +96,16 @@ impl<'a> CowText<'a> {
     }
 
     /// An equal text, as one's own.
-    pub fn try_copy(&self) -> Result<Text, AllocError>
+    pub fn to_text(&self) -> Result<Text, AllocError>
         ensures { IfOk result (λ w. w ≡ self.now) }
     {
         self.text().try_copy()
+    }
+}
+
+// The copy has its text.
+impl<'a> TryCopy for CowText<'a> {
+    fn try_copy(&self) -> Result<CowText<'a>, AllocError> {
+        Ok(CowText::own(self.to_text()?))
     }
 }

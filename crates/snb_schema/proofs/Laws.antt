@@ -3,7 +3,3 @@ pub use Rattle.snb_schema.proofs.Apart.{one_kind, passed_on, table_exact}
 pub use Rattle.snb_schema.proofs.FrequencyFacts.{uncut}
 pub use Rattle.snb_schema.proofs.PlaceFacts.{each_same, frequent_complex}
 pub use Rattle.snb_schema.proofs.Walks.{walked_all, walked_to}
-
--- ---- walks over nodes
-
--- ---- values by place

@@ -24,4 +24,3 @@ pub mod RowKeys
 pub mod TableOrder
 pub mod TableRows
 pub mod WorkedInserts
-pub mod Pairs

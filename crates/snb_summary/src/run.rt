@@ -25,5 +25,5 @@ pub fn summarise(alloc: Global, plan: &Plan, events: &[Event]) -> Result<Summary
     let schedule = plan.schedule();
     let times = Times::of(alloc, schedule, events)?;
     let measures = measures_of(alloc, schedule, &kinds, &times)?;
-    Ok(Summary::of(measures))
+    Ok(Summary::from_vec(alloc, measures))
 }

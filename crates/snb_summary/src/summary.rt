@@ -8,9 +8,9 @@ ghost use Rattle.snb_summary.specs.Summaries.{AreMeasures, IsMeasure, IsPercenti
 use crate::kind::{OpKind, What};
 use crate::rank::rank;
 use crate::times::Times;
+use snb_base::{OwnedList, TryCopy};
 use snb_history::Schedule;
 use std::alloc::{AllocError, Global};
-use std::marker::Model;
 
 /// What is told of a measure of a kind, in milliseconds. Percentiles are exact: the percentile p of n
 /// values is the value whose rank is p hundredths of n, rounded up.
@@ -28,41 +28,14 @@ pub struct Measure {
     pub greatest: u64,
 }
 
-/// The summary of a run. It is seen as a list of measures.
-pub struct Summary {
-    measures: Vec<Measure>,
-}
-
-impl Drop for Summary {
-    fn drop(self) {
-        let Summary { measures: _ } = self;
+impl TryCopy for Measure {
+    fn try_copy(&self) -> Result<Measure, AllocError> {
+        Ok(*self)
     }
 }
 
-impl Model for Summary {
-    ghost use Rattle.std.specs.Prelude.{List};
-    ghost use Rattle.snb_summary.specs.declared.summary.Measure.{Measure as OneMeasure};
-
-    ghost Value = { List OneMeasure };
-
-    ghost view = { λ s. s.measures.items };
-}
-
-impl Summary {
-    /// A summary of these measures.
-    pub fn of(measures: Vec<Measure>) -> Summary
-        ensures { result ≡ measures.items }
-    {
-        Summary { measures }
-    }
-
-    /// The measures, in order.
-    pub fn measures(&self) -> &[Measure]
-        ensures { result.now ≡ self.now }
-    {
-        &self.measures
-    }
-}
+/// The summary of a run: its measures in order.
+pub type Summary = OwnedList<Measure>;
 
 const KINDS: [OpKind; 15] = [
     OpKind::AddPerson,

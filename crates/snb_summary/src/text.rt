@@ -86,7 +86,7 @@ pub fn measures_text(summary: &Summary, to: &mut Vec<u8>) -> Result<(), AllocErr
     ensures err { OnErr result (to.new.items ≡ to.old.items) }
 {
     let mut text = Vec::from_slice(*to.allocator(), b"summary|1\n")?;
-    for measure in summary.measures() {
+    for measure in summary.as_slice() {
         put_measure(*measure, &mut text)?;
     }
     to.extend_from_slice(&text)

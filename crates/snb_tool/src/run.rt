@@ -112,11 +112,11 @@ fn texts_of(
 ) -> Result<Output, AllocError>
     requires some { 1 ≤ workers }
     requires few { workers ≤ MAX_WORKERS }
-    requires legal { IsLegal (schedule_of plan.now) workers outcome.events.items }
+    requires legal { IsLegal (schedule_of plan.now) workers outcome.events }
     ensures { IfOk result (λ output. AreTexts workers plan.now outcome (bytes_of output)) }
 {
     let (events, replies, graph) = outcome.into_parts();
-    let log = log_of(alloc, workers, plan, events, &replies)?;
+    let log = log_of(alloc, workers, plan, events.into_vec(), &replies)?;
     let (finals, screen) = graph_texts(alloc, plan, graph)?;
     // The answers last: the short texts of the replies are let go meanwhile, and the long ones are handed on.
     let answers = answer_pieces(alloc, replies)?;

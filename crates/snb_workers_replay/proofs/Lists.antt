@@ -30,5 +30,3 @@ pub given_split : {X Y : Type 0} (f : X → Option Y) (xs : List X) (k : ℕ) (x
 given_split {X} {Y} f xs k x y e q =
     ap (λ (o : Option Y). filter_map f (take k xs) ++ cons_option o (filter_map f (drop (k + 1) xs))) (sym q)
     ∙ (sym (filter_map-append f (take k xs) (x ∷ drop (k + 1) xs)) ∙ ap (filter_map f) (split_at xs k x e))
-
--- ---- tests
