@@ -5,9 +5,9 @@ use Rattle.snb_input_files.specs.Format.{format_in}
 use Rattle.snb_input_files.specs.declared.found.Found.{Found}
 use Rattle.snb_input_files.specs.Loading.{IsWithin}
 use Rattle.snb_input_files.specs.Looking.{IsFileTold, IsLook, IsPeek}
+use Rattle.snb_input_files.specs.Names.{IsNameIn}
 use Rattle.snb_input_files.specs.Walk.{file_at, first_role}
 use Rattle.snb_input_files.proofs.NameFacts.{of_part, still_allows}
-use Rattle.snb_input_files.specs.Names.{IsNameIn}
 use Rattle.snb_input_files.proofs.SeriesFacts.{along_absent, along_end, along_err, along_first, along_last, along_more, along_over}
 use Rattle.snb_input_files.proofs.walk.walk_series.Goals as goal
 

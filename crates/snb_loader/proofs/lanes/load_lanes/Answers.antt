@@ -1,8 +1,8 @@
 use Rattle.std.proofs.Common.{Option, Ok, Err, subst}
 use Rattle.snb_base.specs.Shelf.{Files}
 use Rattle.snb_input_files.specs.Names.{IsNameIn}
-use Rattle.snb_input_files.proofs.Laws.{of_back, of_front, still_allows}
 use Rattle.snb_input_files.specs.Stages.{IsStage, before}
+use Rattle.snb_input_files.proofs.Laws.{of_back, of_front, still_allows}
 use Rattle.snb_loader.specs.Order.{forum_series, person_series}
 use Rattle.snb_loader.specs.Lanes.{IsHeard, stream_format}
 use Rattle.snb_loader.proofs.LaneFacts.{forums_err, forums_few, forums_ok, lanes_counted, lanes_streams, persons_err, persons_few}
