@@ -19,8 +19,8 @@ returns-in-Err-load_stage-clause-answer g c =
 pub load_stage-requires-clause-allowed : goal.load_stage-requires-clause-allowed
 load_stage-requires-clause-allowed g c = of_front person_series forum_series c.args.folder.now c.requires.allowed
 
-pub load_stage-in-Ok-requires-clause-allowed : goal.load_stage-in-Ok-requires-clause-allowed
-load_stage-in-Ok-requires-clause-allowed g c =
+pub load_stage-requires-2-clause-allowed : goal.load_stage-requires-2-clause-allowed
+load_stage-requires-2-clause-allowed g c =
     still_allows (IsNameIn forum_series c.args.folder.now) c.in-Ok.ensures.read.names (of_back person_series forum_series c.args.folder.now c.requires.allowed)
 
 pub lanes_of-requires-clause-persons : goal.lanes_of-requires-clause-persons
