@@ -1,6 +1,6 @@
 //! The audit of a log.
 
-ghost use Rattle.std.specs.Prelude.{◌≡◌, ◌≤◌, All, IfOk};
+ghost use Rattle.std.specs.Prelude.{◌≡◌, ◌≤◌, All, IfOk, true};
 ghost use Rattle.snb_base.specs.Reads.{IsRead};
 ghost use Rattle.snb_schema.specs.declared.limits.TheConstants.{MAX_AT, MAX_WORKERS};
 ghost use Rattle.snb_history.specs.History.{moment};
@@ -116,7 +116,7 @@ fn verdict_on(
 /// What the log of this path says, of version 1 or 2, and the verdict on it by a plan that is closed over a sound
 /// dataset. The whole log is read before any verdict: with a log that is refused there is none. A log of version 2 is
 /// judged by its counts too: that of operations comes before anything else, and those of rows are looked at
-/// where the history is legal. The errors are those of `load_log`.
+/// where the history is legal. The errors are those of `load_log`. The shelf may be asked for the path (`allowed`).
 pub fn audit_log<S: Shelf>(
     alloc: Global,
     shelf: &mut S,
@@ -126,6 +126,7 @@ pub fn audit_log<S: Shelf>(
 ) -> Result<Audited, Load>
     requires sound { Sound base.now }
     requires closed { IsClosed (HoldsKey base.now) (updates_in plan.now) }
+    requires allowed { S.may shelf.old path.now ≡ true }
     ensures answer { IsAuditAnswer base.now plan.now (S.contents shelf.old) path.now result }
     ensures read { IsRead (is_read_fault result) S.Shelf shelf.old shelf.new }
 {

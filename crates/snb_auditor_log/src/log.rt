@@ -1,6 +1,6 @@
 //! The reading of a log.
 
-ghost use Rattle.std.specs.Prelude.{IfOk};
+ghost use Rattle.std.specs.Prelude.{◌≡◌, IfOk, true};
 ghost use Rattle.snb_base.specs.Reads.{IsRead};
 ghost use Rattle.snb_input_files.specs.Loading.{is_read_fault};
 ghost use Rattle.snb_auditor_log.specs.LogFiles.{IsAuditable, IsLogAnswer};
@@ -43,7 +43,10 @@ impl Drop for Log {
 /// column 1); it isn't UTF-8 (`NotUtf8`); its bad column (`BadLine`), as that of the header where it is
 /// the first line with a byte, else as that of an event. A line without a byte is refused only as too
 /// large. `ReadFault` is a read that failed, and `Memory` want of memory.
+///
+/// The shelf may be asked for the path (`allowed`).
 pub fn load_log<S: Shelf>(alloc: Global, shelf: &mut S, path: &str) -> Result<Log, Load>
+    requires allowed { S.may shelf.old path.now ≡ true }
     ensures answer { IsLogAnswer (S.contents shelf.old) path.now result }
     ensures auditable { IfOk result IsAuditable }
     ensures read { IsRead (is_read_fault result) S.Shelf shelf.old shelf.new }

@@ -1,5 +1,8 @@
 //! What happens in a run: a history is a list of events.
 
+use snb_base::TryCopy;
+use std::alloc::AllocError;
+
 /// What a worker did, and when.
 ///
 /// Operations and workers are numbered from 0. A moment `at` is in milliseconds since the start of the
@@ -24,4 +27,10 @@ pub enum Event {
     Halt {
         worker: u32,
     },
+}
+
+impl TryCopy for Event {
+    fn try_copy(&self) -> Result<Event, AllocError> {
+        Ok(*self)
+    }
 }

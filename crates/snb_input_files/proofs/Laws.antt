@@ -1,8 +1,9 @@
--- What other crates may cite of this one: facts about checks and then more checks, and of data lines.
+-- What other crates may cite of this one: facts about checks and then more checks, of data lines, and of names that may still be asked for.
 use Rattle.std.proofs.Common.{List, [], ◌∷◌, ◌++◌, inl, inr}
 use Rattle.snb_schema.specs.declared.refusal.Refusal.{Refusal}
 use Rattle.snb_base.specs.FirstOf.{FirstOf, NoneOf}
 pub use Rattle.snb_input_files.proofs.LawFacts.{file_one, first_some}
+pub use Rattle.snb_input_files.proofs.NameFacts.{of_back, of_front, still_allows, still_asked}
 pub use Rattle.snb_input_files.proofs.Taking.{says_count, says_knows, says_one}
 
 -- none refuses, and then none

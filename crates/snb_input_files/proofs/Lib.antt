@@ -4,6 +4,7 @@ pub mod FirstLine
 pub mod Going
 pub mod LawFacts
 pub mod Laws
+pub mod NameFacts
 pub mod Reach
 pub mod SeriesFacts
 pub mod StageFacts

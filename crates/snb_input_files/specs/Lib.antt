@@ -3,6 +3,7 @@ pub mod Format
 pub mod Laws
 pub mod Loading
 pub mod Looking
+pub mod Names
 pub mod Pieces
 pub mod Places
 pub mod Ranks

@@ -1,6 +1,6 @@
 //! The loading of one file.
 
-ghost use Rattle.std.specs.Prelude.{◌≡◌, ◌+◌, ◌≤◌, ◌<◌, ℕ, [], List, IfOk, vec_len, None, false};
+ghost use Rattle.std.specs.Prelude.{◌≡◌, ◌+◌, ◌≤◌, ◌<◌, ℕ, [], List, IfOk, vec_len, None, false, true};
 ghost use Rattle.snb_base.specs.Reads.{IsRead};
 ghost use Rattle.snb_schema.specs.declared.limits.TheConstants.{MAX_BYTES};
 ghost use Rattle.snb_input_lines.specs.Counts.{IsUnder};
@@ -84,8 +84,8 @@ fn end_file<G: Grammar + Drop, P: FileSink<G> + Drop>(
 /// refused only as too large. The other errors are a read that failed and want of memory. The file_sink is
 /// gone with an error.
 ///
-/// The file_sink is one of the format (`right`), and what was read before is within the limits on bytes
-/// (`bytes`) and on data lines (`rows`).
+/// The file_sink is one of the format (`right`), what was read before is within the limits on bytes
+/// (`bytes`) and on data lines (`rows`), and the shelf may be asked for the path (`allowed`).
 pub fn load_file<S: Shelf, G: Grammar + Drop, P: FileSink<G> + Drop>(
     alloc: Global,
     shelf: &mut S,
@@ -97,6 +97,7 @@ pub fn load_file<S: Shelf, G: Grammar + Drop, P: FileSink<G> + Drop>(
     requires right { AreTakers G.language P.stage P.meaning }
     requires bytes { used.bytes ≤ MAX_BYTES }
     requires rows { IsUnder P.stage.limit used.rows }
+    requires allowed { S.may shelf.old path.now ≡ true }
     ensures answer { (begun : P) (past : List Source) (done : List (List G.Item)) → FilesSay (format_in G.language P.stage begun) past done → P.stage.heard begun file_sink done []
         → IsAnswer (format_in G.language P.stage begun) (P.stage.heard begun) (S.contents shelf.old) path.now file used past file_sink result }
     ensures within { IfOk result (IsWithin P.stage.limit) }
@@ -107,8 +108,8 @@ pub fn load_file<S: Shelf, G: Grammar + Drop, P: FileSink<G> + Drop>(
 }
 
 /// Does what `load_file` does, with a reader that the caller keeps, so that it can be asked in the end
-/// what the header of the file said (`LineReader::known`). It is a new reader of the file (`begins`). After an
-/// error it is done with.
+/// what the header of the file said (`LineReader::known`). It is a new reader of the file (`begins`), and the
+/// shelf may be asked for the path (`allowed`). After an error the reader is done with.
 pub fn load_known<S: Shelf, G: Grammar + Drop, P: FileSink<G> + Drop>(
     alloc: Global,
     shelf: &mut S,
@@ -122,6 +123,7 @@ pub fn load_known<S: Shelf, G: Grammar + Drop, P: FileSink<G> + Drop>(
     requires begins { reader.old ≡ at_begin file (P.stage.grammar_of file) (G.language (P.stage.grammar_of file)).begins }
     requires bytes { used.bytes ≤ MAX_BYTES }
     requires rows { IsUnder P.stage.limit used.rows }
+    requires allowed { S.may shelf.old path.now ≡ true }
     ensures answer { (begun : P) (past : List Source) (done : List (List G.Item)) → FilesSay (format_in G.language P.stage begun) past done → P.stage.heard begun file_sink done []
         → IsKnownAnswer (format_in G.language P.stage begun) (P.stage.heard begun) (S.contents shelf.old) path.now file used past file_sink reader.new.known result }
     ensures within { IfOk result (IsWithin P.stage.limit) }

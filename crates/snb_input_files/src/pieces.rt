@@ -1,6 +1,6 @@
 //! The pieces of a file, fed to its reader as they come.
 
-ghost use Rattle.std.specs.Prelude.{◌≡◌, ◌+◌, ◌<◌, ◌≤◌, IfOk, OnOk, length, None, false};
+ghost use Rattle.std.specs.Prelude.{◌≡◌, ◌+◌, ◌<◌, ◌≤◌, IfOk, OnOk, length, None, false, true};
 ghost use Rattle.snb_base.specs.Reads.{IsRead};
 ghost use Rattle.snb_schema.specs.declared.limits.TheConstants.{MAX_BYTES};
 ghost use Rattle.snb_input_files.specs.Format.{AreTakers, format_in};
@@ -73,7 +73,7 @@ fn feed_piece<G: Grammar + Drop, P: FileSink<G> + Drop>(
 ///
 /// The file_sink is one of the format (`right`). The reader is of the file, by its grammar (`of_file`, `by_grammar`). No more than the most bytes of an input may be read
 /// (`most`), and no more than these were (`few`); the reader has neither ended (`goes_on`) nor stopped
-/// (`good`). The buffer has room for a byte (`room`).
+/// (`good`). The buffer has room for a byte (`room`), and the shelf may be asked for the name (`allowed`).
 pub fn read_piece<S: Shelf, G: Grammar + Drop, P: FileSink<G> + Drop>(
     shelf: &mut S,
     name: &str,
@@ -91,6 +91,7 @@ pub fn read_piece<S: Shelf, G: Grammar + Drop, P: FileSink<G> + Drop>(
     requires goes_on { reader.old.over ≡ false }
     requires good { reader.old.fault ≡ None }
     requires room { 0 < length buffer.old }
+    requires allowed { S.may shelf.old name.now ≡ true }
     ensures step { (begun : P) → IsStep (format_in G.language P.stage begun) (P.stage.heard begun) P.meaning.takes (S.contents shelf.old) name.now file (P.stage.grammar_of file) most
         reader.old sink.old reader.new sink.new result }
     ensures more { IfOk result (λ step. step ≡ Step.More → reader.old.fed < reader.new.fed) }

@@ -1,6 +1,6 @@
 //! The files of a stage of an input, looked for in order.
 
-ghost use Rattle.std.specs.Prelude.{◌≡◌, ◌++◌, ◌∷◌, ◌≤◌, ◌<◌, ◌^◌, ℕ, [], List, IfOk, string_bytes};
+ghost use Rattle.std.specs.Prelude.{◌≡◌, ◌++◌, ◌∷◌, ◌≤◌, ◌<◌, ◌^◌, ℕ, [], List, IfOk, string_bytes, true};
 ghost use Rattle.snb_base.specs.Reads.{IsRead};
 ghost use Rattle.snb_schema.specs.declared.limits.TheConstants.{MAX_BYTES};
 ghost use Rattle.snb_input_lines.specs.Counts.{IsUnder};
@@ -8,6 +8,7 @@ ghost use Rattle.snb_schema.specs.FileNames.{name_of};
 ghost use Rattle.snb_input_files.specs.Format.{AreTakers, format_in};
 ghost use Rattle.snb_input_files.specs.Loading.{IsWithin, is_read_fault};
 ghost use Rattle.snb_input_files.specs.Looking.{IsLook, IsNotRefused, IsPeek, IsSeries};
+ghost use Rattle.snb_input_files.specs.Names.{Allows, IsNameIn};
 ghost use Rattle.snb_input_files.specs.Stages.{AreRising, IsStage, IsWalkWithin, Walked, before};
 ghost use Rattle.snb_input_files.specs.Walk.{Before, Look};
 
@@ -41,6 +42,7 @@ fn path_of(alloc: Global, folder: &str, file: FileId) -> Result<String, AllocErr
 
 // Whether the folder holds a file. Its bytes aren't taken.
 fn is_held<S: Shelf>(alloc: Global, shelf: &mut S, folder: &str, file: FileId) -> Result<bool, Load>
+    requires allowed { S.may shelf.old (folder.now ++ 47 ∷ name_of file) ≡ true }
     ensures told { IfOk result (IsPeek (S.contents shelf.old) folder.now file) }
     ensures refused { IsNotRefused result }
     ensures read { IsRead (is_read_fault result) S.Shelf shelf.old shelf.new }
@@ -67,6 +69,7 @@ fn look<S: Shelf, G: Grammar + Drop, P: FileSink<G> + Drop>(
     requires right { AreTakers G.language P.stage P.meaning }
     requires bytes { walk.used.bytes ≤ MAX_BYTES }
     requires rows { IsUnder P.stage.limit walk.used.rows }
+    requires allowed { S.may shelf.old (folder.now ++ 47 ∷ name_of file) ≡ true }
     ensures answer { (begun : P) (start : Before) (looked : List Look) → Walked (format_in G.language P.stage begun) (P.stage.heard begun) start looked walk
         → IsLook (format_in G.language P.stage begun) (P.stage.heard begun) (S.contents shelf.old) folder.now file needed start looked walk.used result }
     ensures within { IfOk result (IsWithin P.stage.limit) }
@@ -108,6 +111,7 @@ fn walk_series<S: Shelf, G: Grammar + Drop, P: FileSink<G> + Drop>(
     requires bytes { walk.used.bytes ≤ MAX_BYTES }
     requires rows { IsUnder P.stage.limit walk.used.rows }
     requires few { series.most < 2 ^ 32 }
+    requires allowed { Allows (S.may shelf.old) (IsNameIn (series ∷ []) folder.now) }
     ensures answer { (begun : P) (start : Before) (looked : List Look) → Walked (format_in G.language P.stage begun) (P.stage.heard begun) start looked walk
         → IsSeries (format_in G.language P.stage begun) (P.stage.heard begun) (S.contents shelf.old) folder.now series start looked result }
     ensures within { IfOk result (IsWalkWithin P.stage.limit) }
@@ -156,8 +160,9 @@ fn walk_series<S: Shelf, G: Grammar + Drop, P: FileSink<G> + Drop>(
 /// are a read that failed and want of memory. The file_sink is gone with an error.
 ///
 /// The file_sink is one of the format (`right`), what was read before is within the limits on bytes
-/// (`bytes`) and on data lines (`rows`), and the series come in the order of files (`rising`). The answer is of a
-/// file_sink that was told nothing before.
+/// (`bytes`) and on data lines (`rows`), and the series come in the order of files (`rising`). The shelf may be
+/// asked for each file of the series, and for the one too many of each (`allowed`). The answer is of a file_sink
+/// that was told nothing before.
 pub fn walk_stage<S: Shelf, G: Grammar + Drop, P: FileSink<G> + Drop>(
     alloc: Global,
     shelf: &mut S,
@@ -170,6 +175,7 @@ pub fn walk_stage<S: Shelf, G: Grammar + Drop, P: FileSink<G> + Drop>(
     requires bytes { used.bytes ≤ MAX_BYTES }
     requires rows { IsUnder P.stage.limit used.rows }
     requires rising { AreRising 0 stage.now }
+    requires allowed { Allows (S.may shelf.old) (IsNameIn stage.now folder.now) }
     ensures answer { P.stage.heard file_sink file_sink [] []
         → IsStage (format_in G.language P.stage file_sink) (P.stage.heard file_sink) (S.contents shelf.old) folder.now stage.now (before used) result }
     ensures within { IfOk result (IsWalkWithin P.stage.limit) }

@@ -1,7 +1,7 @@
 -- The files of each stage of an input, in their order.
-use Rattle.std.specs.Prelude.{ℕ, true, false, List, [], ◌∷◌, map, Some, None}
+use Rattle.std.specs.Prelude.{ℕ, true, false, List, [], ◌∷◌, ◌++◌, map, Some, None}
 use Rattle.snb_schema.specs.declared.file.FileKind.TheVariants as kinds
-use Rattle.snb_schema.specs.declared.limits.TheConstants.{MAX_PARTS}
+use Rattle.snb_schema.specs.declared.limits.TheConstants.{MAX_LANES, MAX_PARTS}
 use Rattle.snb_schema.specs.declared.refusal.Counted.TheVariants.{Lanes, Parts}
 use Rattle.snb_schema.specs.declared.table.Table.{Table}
 use Rattle.snb_schema.specs.Layouts.{layout}
@@ -16,12 +16,16 @@ parts_of t = record { kind = kinds.Table t; needed = (layout t).is_needed; most 
 abbrev pub table_series : List Series
 table_series = map parts_of all_tables
 
--- the person streams, and the forum streams: there may be none, and at most 256 of each
+-- the person streams, and the forum streams: there may be none, and at most MAX_LANES of each
 abbrev pub person_series : List Series
-person_series = record { kind = kinds.PersonStream; needed = false; most = 256; what = Some Lanes } ∷ []
+person_series = record { kind = kinds.PersonStream; needed = false; most = MAX_LANES; what = Some Lanes } ∷ []
 
 abbrev pub forum_series : List Series
-forum_series = record { kind = kinds.ForumStream; needed = false; most = 256; what = Some Lanes } ∷ []
+forum_series = record { kind = kinds.ForumStream; needed = false; most = MAX_LANES; what = Some Lanes } ∷ []
+
+-- all streams
+abbrev pub stream_series : List Series
+stream_series = person_series ++ forum_series
 
 -- the parameter file of a complex query, of which there is one, and which must be there
 abbrev pub params_series : ℕ → Series

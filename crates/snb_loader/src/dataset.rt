@@ -3,8 +3,10 @@
 ghost use Rattle.std.specs.Prelude.{◌≡◌, ◌≤◌, ℕ, IfOk, OnOk, OnErr};
 ghost use Rattle.snb_base.specs.Reads.{IsRead};
 ghost use Rattle.snb_input_files.specs.Loading.{is_read_fault};
+ghost use Rattle.snb_input_files.specs.Names.{Allows, IsNameIn};
 ghost use Rattle.snb_schema.specs.declared.limits.TheConstants.{MAX_BYTES, MAX_ROWS};
 ghost use Rattle.snb_loader.specs.Dataset.{IsDatasetAnswer, refusal_for};
+ghost use Rattle.snb_loader.specs.Order.{table_series};
 ghost use Rattle.snb_graph_model.specs.Soundness.{Sound};
 
 use crate::tables::{TableGraph, load_tables, tables_are_lawful};
@@ -39,7 +41,8 @@ fn refusal_of(why: Unsound) -> Load
 /// parts and lines; or, where nothing is, `Lacks` or `Cycle`. `ReadFault` says that the shelf failed, and
 /// `Memory` that memory doesn't suffice. After an error `used` is as it was.
 ///
-/// What was read before keeps within the limits (`bytes`, `rows`).
+/// What was read before keeps within the limits (`bytes`, `rows`), and the shelf may be asked for the parts of
+/// each table in the folder, and for the one too many of each (`allowed`).
 pub fn load_dataset<S: Shelf>(
     alloc: Global,
     shelf: &mut S,
@@ -48,6 +51,7 @@ pub fn load_dataset<S: Shelf>(
 ) -> Result<Graph, Load>
     requires bytes { used.old.bytes ≤ MAX_BYTES }
     requires rows { used.old.rows ≤ MAX_ROWS }
+    requires allowed { Allows (S.may shelf.old) (IsNameIn table_series folder.now) }
     ensures answer { IsDatasetAnswer (S.contents shelf.old) folder.now used.old used.new result }
     ensures sound { IfOk result Sound }
     ensures within { OnOk result ((used.new.bytes ≤ MAX_BYTES) × (used.new.rows ≤ MAX_ROWS)) }

@@ -6,7 +6,9 @@ ghost use Rattle.snb_schema.specs.declared.limits.TheConstants.{MAX_BYTES, MAX_L
 ghost use Rattle.snb_schema.specs.LineLanes.{update_count};
 ghost use Rattle.snb_schema.specs.StreamLines.{AreOfStreams};
 ghost use Rattle.snb_input_files.specs.Loading.{is_read_fault};
+ghost use Rattle.snb_input_files.specs.Names.{Allows, IsNameIn};
 ghost use Rattle.snb_loader.specs.Lanes.{AreTaken, IsLanesAnswer};
+ghost use Rattle.snb_loader.specs.Order.{stream_series};
 
 use crate::order::{FORUM_STREAMS, PERSON_STREAMS};
 use crate::streams::{StreamFileSink, load_stage};
@@ -54,6 +56,9 @@ fn lanes_of(
 /// before (`OutOfOrder`). A line without a byte is refused only as too large. After `MAX_LANES` streams
 /// of a kind one more is too many (`TooMany`), and isn't read. `ReadFault` is a read that failed, and
 /// `Memory` want of memory.
+///
+/// The shelf may be asked for the streams of both kinds in the folder, and for the one too many of each
+/// (`allowed`).
 pub fn load_lanes<S: Shelf>(
     alloc: Global,
     shelf: &mut S,
@@ -62,6 +67,7 @@ pub fn load_lanes<S: Shelf>(
 ) -> Result<Lanes, Load>
     requires bytes { used.old.bytes ≤ MAX_BYTES }
     requires rows { used.old.rows ≤ MAX_ROWS }
+    requires allowed { Allows (S.may shelf.old) (IsNameIn stream_series folder.now) }
     ensures answer { IsLanesAnswer (S.contents shelf.old) folder.now used.old used.new result }
     ensures streams { IfOk result AreOfStreams }
     ensures counted { IfOk result (λ lanes. used.new.rows ≡ used.old.rows + update_count lanes) }

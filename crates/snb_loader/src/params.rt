@@ -8,6 +8,7 @@ ghost use Rattle.snb_schema.specs.Queries.{IsComplex};
 ghost use Rattle.snb_schema.specs.QueryLists.{AreOf, HaveParameters, list_of};
 ghost use Rattle.snb_input_files.specs.Format.{Lawful};
 ghost use Rattle.snb_input_files.specs.Loading.{is_read_fault};
+ghost use Rattle.snb_input_files.specs.Names.{Allows, IsNameIn};
 ghost use Rattle.snb_input_files.specs.Stages.{AreRising, IsStage, IsWalkWithin, before};
 ghost use Rattle.snb_loader.specs.Params.{AreOfEach, HasHeard, IsParamFileSink, IsParamsAnswer, asked, params_format, params_stage, query_in as query_within};
 
@@ -187,6 +188,8 @@ fn lists_of(
 /// hasn't a field for each parameter of the query (`BadLine` in column 0); its bad column by
 /// `read_query` (`BadLine`); it is a data line too many (`TooMany`). A line without a byte is refused
 /// only as too large. `ReadFault` is a read that failed, and `Memory` want of memory.
+///
+/// The shelf may be asked for the parameter files of the queries with a frequency in the folder (`allowed`).
 pub fn load_params<S: Shelf>(
     alloc: Global,
     shelf: &mut S,
@@ -196,6 +199,7 @@ pub fn load_params<S: Shelf>(
 ) -> Result<Lists, Load>
     requires bytes { used.old.bytes ≤ MAX_BYTES }
     requires rows { used.old.rows ≤ MAX_ROWS }
+    requires allowed { Allows (S.may shelf.old) (IsNameIn (params_stage frequencies.now) folder.now) }
     ensures answer { IsParamsAnswer (S.contents shelf.old) folder.now frequencies.now used.old used.new result }
     ensures full { IfOk result (λ lists. HaveParameters lists frequencies.now) }
     ensures within { OnOk result ((used.new.bytes ≤ MAX_BYTES) × (used.new.rows ≤ MAX_ROWS)) }

@@ -5,6 +5,7 @@ ghost use Rattle.snb_base.specs.Reads.{IsRead};
 ghost use Rattle.snb_schema.specs.declared.limits.TheConstants.{MAX_BYTES, MAX_ROWS};
 ghost use Rattle.snb_input_files.specs.Format.{Lawful};
 ghost use Rattle.snb_input_files.specs.Loading.{is_read_fault};
+ghost use Rattle.snb_input_files.specs.Names.{Allows, IsNameIn};
 ghost use Rattle.snb_input_files.specs.Stages.{AreRising, IsStage, IsWalkWithin, before};
 ghost use Rattle.snb_loader.specs.Lanes.{AreTaken, InsertsOfFieldsFit, IsHeard, IsStreamFileSink, stream_format};
 
@@ -149,8 +150,8 @@ impl FileSink<StreamLines> for StreamFileSink {
 /// is wrong first with the files, `ReadFault` that the shelf failed, and `Memory` that memory doesn't
 /// suffice.
 ///
-/// What was read before keeps within the limits (`bytes`, `rows`), and the series come in the order of
-/// files (`rising`).
+/// What was read before keeps within the limits (`bytes`, `rows`), the series come in the order of files
+/// (`rising`), and the shelf may be asked for their files (`allowed`).
 pub(crate) fn load_stage<S: Shelf>(
     alloc: Global,
     shelf: &mut S,
@@ -161,6 +162,7 @@ pub(crate) fn load_stage<S: Shelf>(
     requires bytes { used.bytes ≤ MAX_BYTES }
     requires rows { used.rows ≤ MAX_ROWS }
     requires rising { AreRising 0 stage.now }
+    requires allowed { Allows (S.may shelf.old) (IsNameIn stage.now folder.now) }
     ensures answer { IsStage stream_format IsHeard (S.contents shelf.old) folder.now stage.now (before used) result }
     ensures within { IfOk result (IsWalkWithin (Some MAX_ROWS)) }
     ensures read { IsRead (is_read_fault result) S.Shelf shelf.old shelf.new }

@@ -4,6 +4,7 @@ ghost use Rattle.std.specs.Prelude.{◌≡◌, ◌≤◌, [], OnErr, OnOk, IfOk,
 ghost use Rattle.snb_base.specs.Reads.{IsRead};
 ghost use Rattle.snb_input_files.specs.Format.{Lawful};
 ghost use Rattle.snb_input_files.specs.Loading.{is_read_fault};
+ghost use Rattle.snb_input_files.specs.Names.{Allows, IsNameIn};
 ghost use Rattle.snb_input_files.specs.Stages.{IsStage, IsWalkWithin, before};
 ghost use Rattle.snb_schema.specs.declared.limits.TheConstants.{MAX_BYTES, MAX_ROWS};
 ghost use Rattle.snb_schema.specs.Faults.{OnBad};
@@ -151,7 +152,8 @@ pub(crate) fn tables_are_lawful()
 /// what is wrong first with the files: whether the graph is sound isn't asked. `ReadFault` says that
 /// the shelf failed, and `Memory` that memory doesn't suffice.
 ///
-/// What was read before keeps within the limits (`bytes`, `rows`).
+/// What was read before keeps within the limits (`bytes`, `rows`), and the shelf may be asked for the parts of
+/// each table in the folder, and for the one too many of each (`allowed`).
 pub fn load_tables<S: Shelf>(
     alloc: Global,
     shelf: &mut S,
@@ -160,6 +162,7 @@ pub fn load_tables<S: Shelf>(
 ) -> Result<Walk<TableGraph>, Load>
     requires bytes { used.bytes ≤ MAX_BYTES }
     requires rows { used.rows ≤ MAX_ROWS }
+    requires allowed { Allows (S.may shelf.old) (IsNameIn table_series folder.now) }
     ensures answer { IsStage table_format IsHeard (S.contents shelf.old) folder.now table_series (before used) result }
     ensures within { IfOk result (IsWalkWithin (Some MAX_ROWS)) }
     ensures read { IsRead (is_read_fault result) S.Shelf shelf.old shelf.new }

@@ -16,4 +16,5 @@ pub record LimitsAreThese : Type 0 where
   pub reads : limits.MAX_READS ≡ 200000
   pub frequency : limits.MAX_FREQUENCY ≡ 1000000
   pub workers : limits.MAX_WORKERS ≡ 8
+  pub words : limits.MAX_WORDS ≡ 1000
   pub trial : limits.MAX_TRIAL ≡ 5000

@@ -38,5 +38,8 @@ pub const MAX_FREQUENCY: u32 = 1000000;
 /// The most workers of a run.
 pub const MAX_WORKERS: u32 = 8;
 
+/// The most words of a walk.
+pub const MAX_WORDS: usize = 1000;
+
 /// The greatest size of a trial.
 pub const MAX_TRIAL: u32 = 5000;

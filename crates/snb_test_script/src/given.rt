@@ -25,8 +25,8 @@ impl Notes {
 }
 
 /// A clock that shows the given moments one after another, the last of them from then on, and a gate that
-/// lets everybody pass. What is done to them is noted: `now MOMENT`, `rest UNTIL`, `held WORKER OP` and
-/// `done WORKER OP`, a line each. A note for which there is no memory is missing, and so is that of a thread
+/// lets everybody pass. What is done to them is noted: `now MOMENT`, `after MOMENT REPLY`, `rest UNTIL`, `held
+/// WORKER OP` and `done WORKER OP`, a line each. A note for which there is no memory is missing, and so is that of a thread
 /// while another one notes; to that thread the clock shows the last moment.
 pub struct Given<'a> {
     moments: &'a [u64],
@@ -54,15 +54,17 @@ impl<'a> Given<'a> {
         }
     }
 
-    // The next moment, which is noted; the last one while another thread notes.
-    fn next_moment(&self) -> u64 {
+    // The next moment, which is noted after this word, with the reply that was handed over; the last one while
+    // another thread notes.
+    fn next_moment(&self, word: &str, reply: &str) -> u64 {
         let last = self.moments.last().copied().unwrap_or(0);
         let Some(mut notes) = self.notes.try_lock() else {
             return last;
         };
         let moment = self.moments.get(notes.shown).copied().unwrap_or(last);
         notes.shown = notes.shown.saturating_add(1);
-        let _ = writeln!(notes.text, "now {moment}");
+        let gap = if reply.is_empty() { "" } else { " " };
+        let _ = writeln!(notes.text, "{word} {moment}{gap}{reply}");
         moment
     }
 
@@ -86,11 +88,11 @@ impl Clock for Given<'_> {
     ghost moments = { λ _. any_moment };
 
     fn now(&self) -> u64 {
-        self.next_moment()
+        self.next_moment("now", "")
     }
 
-    fn after(&self, _reply: &[u8]) -> u64 {
-        self.next_moment()
+    fn after(&self, reply: &[u8]) -> u64 {
+        self.next_moment("after", str::from_utf8(reply).unwrap_or("no text"))
     }
 
     fn rest<R: Wait>(&self, _rt: &R, until: u64) {

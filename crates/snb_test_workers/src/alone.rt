@@ -79,7 +79,7 @@ fn told_by_itself<R: Wait>(
     let outcome = run_alone(rt, alloc, &whole.plan, &whole.graph, &given, &given)?;
     let notes = given.notes();
     let replies = outcome.replies.as_slice().len() as u64;
-    told_work(alloc, notes.as_str(), &outcome.events, replies)
+    told_work(alloc, notes.as_str(), outcome.events.as_slice(), replies)
 }
 
 /// `by_itself MOMENTS RATIO` or `by_itself MOMENTS RATIO FREQUENCIES`

@@ -50,8 +50,8 @@ fn told_meeting<R: Threads + Wait + Sync>(
     let clock = FarClock::new(now);
     let outcome = run_workers(rt, alloc, &whole.plan, &whole.graph, 2, &clock, &gate)?;
     let met = told_gate(&gate);
-    let count = outcome.events.len();
-    let complete = completeness(&whole.plan, &outcome.events);
+    let count = outcome.events.as_slice().len();
+    let complete = completeness(&whole.plan, outcome.events.as_slice());
     Ok(format!(in alloc; "{met}, {count} events, {complete}")?)
 }
 

@@ -1,6 +1,7 @@
 pub mod Endings
 pub mod Inputs
 pub mod Laws
+pub mod Names
 pub mod Outcome
 pub mod Output
 pub mod Outside

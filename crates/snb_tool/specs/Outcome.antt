@@ -86,8 +86,8 @@ pub record IsChecked (held : Held) (frequencies : FrequencyTable) (texts : Writt
   pub shown : texts ≡ on_screen (check_of graph plan)
 
 -- what a run of a plan by so many workers over a dataset leaves: the texts of a legal, complete history, of the replies to its reads, each on
--- the dataset with what had finished in the read's front, and of the dataset with the rows of each insert once; where the clock tells a fixed
--- moment, each Start and Finish is at it. The log is read as what it was written of, and in no other way
+-- the dataset with what had finished in the read's front, and of the dataset with the rows of each insert once; each Start and Finish is at a moment
+-- that the clock can answer. The log is read as what it was written of, and in no other way
 pub record IsLeft (workers : ℕ) (graph : List Row) (plan : Plan) (moments : Moments) (texts : Written) : Type 0 where
   pub history : List Event
   pub replies : List Answered

@@ -1,12 +1,14 @@
 //! The command `audit`.
 
-ghost use Rattle.std.specs.Prelude.{ℕ, Option};
+ghost use Rattle.std.specs.Prelude.{◌≡◌, ℕ, Option, true};
 ghost use Rattle.snb_base.specs.Moments.{Moments};
 ghost use Rattle.snb_base.specs.Reads.{IsRead};
 ghost use Rattle.snb_input_files.specs.Loading.{is_read_fault};
+ghost use Rattle.snb_input_files.specs.Names.{Allows, IsNameIn};
 ghost use Rattle.snb_tool_words.specs.declared.command.Command.TheVariants.{Audit};
 ghost use Rattle.snb_tool.specs.Endings.{IsFinished, IsJudgedAnswer};
 ghost use Rattle.snb_tool.specs.Inputs.{Given};
+ghost use Rattle.snb_tool.specs.Names.{IsNameOf, plan_series};
 
 use crate::deliver::Finished;
 use crate::input::load_input;
@@ -35,7 +37,7 @@ impl Drop for Judged {
 }
 
 /// Reads the tables, the streams and the parameter files of a folder, and a log, and judges the log by their
-/// plan over their dataset.
+/// plan over their dataset. The shelf may be asked for these files (`allowed`) and for the log (`log`).
 pub fn judge<S: Shelf>(
     alloc: Global,
     shelf: &mut S,
@@ -44,6 +46,8 @@ pub fn judge<S: Shelf>(
     ratio: Ratio,
     frequencies: Frequencies,
 ) -> Result<Judged, Load>
+    requires allowed { Allows (S.may shelf.old) (IsNameIn (plan_series frequencies) folder.now) }
+    requires log { S.may shelf.old log.now ≡ true }
     ensures answer { IsJudgedAnswer (S.contents shelf.old) folder.now log.now ratio frequencies result }
     ensures read { IsRead (is_read_fault result) S.Shelf shelf.old shelf.new }
 {
@@ -54,7 +58,7 @@ pub fn judge<S: Shelf>(
 }
 
 /// Reads the tables, the streams and the parameter files of a folder, and a log, and judges the log by their
-/// plan.
+/// plan. The shelf may be asked for these files and for the log (`allowed`).
 pub fn audit<S: Shelf>(
     alloc: Global,
     shelf: &mut S,
@@ -63,6 +67,7 @@ pub fn audit<S: Shelf>(
     ratio: Ratio,
     frequencies: Frequencies,
 ) -> Result<Finished, Load>
+    requires allowed { Allows (S.may shelf.old) (IsNameOf (Audit folder.now log.now ratio frequencies)) }
     ensures answer { (given : Given) (moments : Moments) → IsFinished (Audit folder.now log.now ratio frequencies) (S.contents shelf.old) given moments result }
     ensures read { IsRead (is_read_fault result) S.Shelf shelf.old shelf.new }
 {

@@ -4,9 +4,11 @@ ghost use Rattle.std.specs.Prelude.{◌≡◌, ℕ, IfOk, Option};
 ghost use Rattle.snb_base.specs.Moments.{Moments};
 ghost use Rattle.snb_base.specs.Reads.{IsRead};
 ghost use Rattle.snb_input_files.specs.Loading.{is_read_fault};
+ghost use Rattle.snb_input_files.specs.Names.{Allows};
 ghost use Rattle.snb_tool_words.specs.declared.command.Command.TheVariants.{Check};
 ghost use Rattle.snb_tool.specs.Endings.{IsFinished};
 ghost use Rattle.snb_tool.specs.Inputs.{Given};
+ghost use Rattle.snb_tool.specs.Names.{IsNameOf};
 ghost use Rattle.snb_tool.specs.Outcome.{check_of};
 
 use crate::deliver::Finished;
@@ -31,13 +33,14 @@ fn counts_of(alloc: Global, input: Input) -> Result<Vec<u8>, AllocError>
 }
 
 /// Reads the tables, the streams and the parameter files of a folder, and counts the rows, updates and reads
-/// that they have.
+/// that they have. The shelf may be asked for these files (`allowed`).
 pub fn check<S: Shelf>(
     alloc: Global,
     shelf: &mut S,
     folder: &str,
     frequencies: Frequencies,
 ) -> Result<Finished, Load>
+    requires allowed { Allows (S.may shelf.old) (IsNameOf (Check folder.now frequencies)) }
     ensures answer { (given : Given) (moments : Moments) → IsFinished (Check folder.now frequencies) (S.contents shelf.old) given moments result }
     ensures read { IsRead (is_read_fault result) S.Shelf shelf.old shelf.new }
 {

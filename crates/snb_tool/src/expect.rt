@@ -4,6 +4,7 @@ ghost use Rattle.std.specs.Prelude.{ℕ, IfOk, Option};
 ghost use Rattle.snb_base.specs.Moments.{Moments};
 ghost use Rattle.snb_base.specs.Reads.{IsRead};
 ghost use Rattle.snb_input_files.specs.Loading.{is_read_fault};
+ghost use Rattle.snb_input_files.specs.Names.{Allows};
 ghost use Rattle.snb_plan.specs.Closed.{IsClosed};
 ghost use Rattle.snb_plan.specs.Plans.{updates_in};
 ghost use Rattle.snb_graph_model.specs.Graphs.{HoldsKey};
@@ -11,6 +12,7 @@ ghost use Rattle.snb_graph_model.specs.Soundness.{Sound};
 ghost use Rattle.snb_tool_words.specs.declared.command.Command.TheVariants.{Expect};
 ghost use Rattle.snb_tool.specs.Endings.{AreCasesOf, IsFinished, bytes_of};
 ghost use Rattle.snb_tool.specs.Inputs.{Given};
+ghost use Rattle.snb_tool.specs.Names.{IsNameOf};
 
 use crate::deliver::{Finished, Output};
 use crate::input::{Input, load_input};
@@ -45,13 +47,14 @@ fn cases_of(alloc: Global, input: Input) -> Result<Output, AllocError>
 }
 
 /// Reads the tables, the streams and the parameter files of a folder, and makes the cases of their plan over
-/// the dataset.
+/// the dataset. The shelf may be asked for these files (`allowed`).
 pub fn expect<S: Shelf>(
     alloc: Global,
     shelf: &mut S,
     folder: &str,
     frequencies: Frequencies,
 ) -> Result<Finished, Load>
+    requires allowed { Allows (S.may shelf.old) (IsNameOf (Expect folder.now frequencies)) }
     ensures answer { (given : Given) (moments : Moments) → IsFinished (Expect folder.now frequencies) (S.contents shelf.old) given moments result }
     ensures read { IsRead (is_read_fault result) S.Shelf shelf.old shelf.new }
 {

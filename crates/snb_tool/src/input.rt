@@ -3,6 +3,7 @@
 ghost use Rattle.std.specs.Prelude.{◌≡◌, ◌≤◌, IfOk};
 ghost use Rattle.snb_base.specs.Reads.{IsRead};
 ghost use Rattle.snb_input_files.specs.Loading.{is_read_fault};
+ghost use Rattle.snb_input_files.specs.Names.{Allows, IsNameIn};
 ghost use Rattle.snb_plan.specs.Closed.{IsClosed, IsFirstWrong};
 ghost use Rattle.snb_plan.specs.Plans.{OnRefused, updates_in};
 ghost use Rattle.snb_schema.specs.declared.limits.TheConstants.{MAX_ROWS};
@@ -12,6 +13,7 @@ ghost use Rattle.snb_schema.specs.StreamLines.{AreOfStreams};
 ghost use Rattle.snb_graph_model.specs.Graphs.{HoldsKey};
 ghost use Rattle.snb_graph_model.specs.Soundness.{Sound};
 ghost use Rattle.snb_tool.specs.Endings.{IsInputAnswer, IsMadeAnswer};
+ghost use Rattle.snb_tool.specs.Names.{plan_series};
 
 use snb_base::Shelf;
 use snb_graph::Graph;
@@ -67,7 +69,8 @@ fn input_of(
 }
 
 /// Reads the tables of a folder, its streams, and the parameter files of the queries with a frequency, and
-/// makes the plan of them under the ratio, which must be closed over the dataset.
+/// makes the plan of them under the ratio, which must be closed over the dataset. The shelf may be asked for
+/// these files (`allowed`).
 pub fn load_input<S: Shelf>(
     alloc: Global,
     shelf: &mut S,
@@ -75,6 +78,7 @@ pub fn load_input<S: Shelf>(
     ratio: Ratio,
     frequencies: Frequencies,
 ) -> Result<Input, Load>
+    requires allowed { Allows (S.may shelf.old) (IsNameIn (plan_series frequencies) folder.now) }
     ensures answer { IsInputAnswer (S.contents shelf.old) folder.now ratio frequencies result }
     ensures closed { IfOk result (λ i. IsClosed (HoldsKey i.graph) (updates_in i.plan)) }
     ensures sound { IfOk result (λ i. Sound i.graph) }

@@ -5,11 +5,13 @@ ghost use Rattle.snb_base.specs.Moments.{Moments};
 ghost use Rattle.snb_base.specs.Reads.{IsRead};
 ghost use Rattle.snb_history.specs.Rules.{IsComplete, IsLegal};
 ghost use Rattle.snb_input_files.specs.Loading.{is_read_fault};
+ghost use Rattle.snb_input_files.specs.Names.{Allows};
 ghost use Rattle.snb_plan.specs.Plans.{schedule_of};
 ghost use Rattle.snb_tool_words.specs.declared.command.Command.TheVariants.{Latency};
 ghost use Rattle.snb_workers.specs.Miscounts.{events_of};
 ghost use Rattle.snb_tool.specs.Endings.{IsFinished};
 ghost use Rattle.snb_tool.specs.Inputs.{Given};
+ghost use Rattle.snb_tool.specs.Names.{IsNameOf};
 ghost use Rattle.snb_tool.specs.Outcome.{ShowsSummary};
 ghost use Rattle.snb_tool.specs.Output.{on_screen};
 
@@ -47,7 +49,8 @@ fn summary_of(alloc: Global, plan: &Plan, logged: &[Logged]) -> Result<Vec<u8>, 
 }
 
 /// Reads what `audit` reads, and judges the log. Where the run is accepted or late, makes the summary of its
-/// latencies, and else says what `audit` says, with status 1.
+/// latencies, and else says what `audit` says, with status 1. The shelf may be asked for what `audit` asks for
+/// (`allowed`).
 pub fn latency<S: Shelf>(
     alloc: Global,
     shelf: &mut S,
@@ -56,6 +59,7 @@ pub fn latency<S: Shelf>(
     ratio: Ratio,
     frequencies: Frequencies,
 ) -> Result<Finished, Load>
+    requires allowed { Allows (S.may shelf.old) (IsNameOf (Latency folder.now log.now ratio frequencies)) }
     ensures answer { (given : Given) (moments : Moments) → IsFinished (Latency folder.now log.now ratio frequencies) (S.contents shelf.old) given moments result }
     ensures read { IsRead (is_read_fault result) S.Shelf shelf.old shelf.new }
 {

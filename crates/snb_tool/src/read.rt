@@ -4,10 +4,13 @@ ghost use Rattle.std.specs.Prelude.{ℕ, IfOk, Option};
 ghost use Rattle.snb_base.specs.Moments.{Moments};
 ghost use Rattle.snb_base.specs.Reads.{IsRead};
 ghost use Rattle.snb_input_files.specs.Loading.{is_read_fault};
+ghost use Rattle.snb_input_files.specs.Names.{Allows, IsNameIn};
 ghost use Rattle.snb_graph_model.specs.Soundness.{Sound};
+ghost use Rattle.snb_loader.specs.Order.{table_series};
 ghost use Rattle.snb_tool_words.specs.declared.command.Command.TheVariants.{Read};
 ghost use Rattle.snb_tool.specs.Endings.{IsFinished, IsReplyAnswer, IsReplyLine};
 ghost use Rattle.snb_tool.specs.Inputs.{Given};
+ghost use Rattle.snb_tool.specs.Names.{IsNameOf};
 
 use crate::deliver::Finished;
 use snb_base::Shelf;
@@ -38,6 +41,7 @@ fn read_line<S: Shelf>(
     folder: &str,
     query: &Query,
 ) -> Result<Vec<u8>, Load>
+    requires allowed { Allows (S.may shelf.old) (IsNameIn table_series folder.now) }
     ensures answer { IsReplyAnswer (S.contents shelf.old) folder.now query.now result }
     ensures read { IsRead (is_read_fault result) S.Shelf shelf.old shelf.new }
 {
@@ -46,13 +50,14 @@ fn read_line<S: Shelf>(
     Ok(reply_line(alloc, &graph, query)?)
 }
 
-/// Reads the tables of a folder, and answers a read on them.
+/// Reads the tables of a folder, and answers a read on them. The shelf may be asked for the tables (`allowed`).
 pub fn read<S: Shelf>(
     alloc: Global,
     shelf: &mut S,
     folder: &str,
     query: &Query,
 ) -> Result<Finished, Load>
+    requires allowed { Allows (S.may shelf.old) (IsNameOf (Read folder.now query.now)) }
     ensures answer { (given : Given) (moments : Moments) → IsFinished (Read folder.now query.now) (S.contents shelf.old) given moments result }
     ensures read { IsRead (is_read_fault result) S.Shelf shelf.old shelf.new }
 {

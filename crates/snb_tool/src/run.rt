@@ -3,6 +3,7 @@
 ghost use Rattle.std.specs.Prelude.{◌≡◌, ◌≤◌, All, IfOk, length};
 ghost use Rattle.snb_base.specs.Reads.{IsRead};
 ghost use Rattle.snb_input_files.specs.Loading.{is_read_fault};
+ghost use Rattle.snb_input_files.specs.Names.{Allows};
 ghost use Rattle.snb_plan.specs.Closed.{IsClosed};
 ghost use Rattle.snb_plan.specs.Plans.{queries_in, schedule_of, updates_in};
 ghost use Rattle.snb_history.specs.Rules.{IsLegal};
@@ -17,6 +18,7 @@ ghost use Rattle.snb_graph_model.specs.Soundness.{Sound};
 ghost use Rattle.snb_tool_words.specs.declared.command.Command.TheVariants.{Run};
 ghost use Rattle.snb_tool.specs.Endings.{AreTexts, IsFinished, bytes_of};
 ghost use Rattle.snb_tool.specs.Inputs.{Given};
+ghost use Rattle.snb_tool.specs.Names.{IsNameOf};
 ghost use Rattle.snb_tool.specs.Outcome.{IsLeft};
 
 use crate::deliver::{Finished, Output};
@@ -110,11 +112,11 @@ fn texts_of(
 ) -> Result<Output, AllocError>
     requires some { 1 ≤ workers }
     requires few { workers ≤ MAX_WORKERS }
-    requires legal { IsLegal (schedule_of plan.now) workers outcome.events.items }
+    requires legal { IsLegal (schedule_of plan.now) workers outcome.events }
     ensures { IfOk result (λ output. AreTexts workers plan.now outcome (bytes_of output)) }
 {
     let (events, replies, graph) = outcome.into_parts();
-    let log = log_of(alloc, workers, plan, events, &replies)?;
+    let log = log_of(alloc, workers, plan, events.into_vec(), &replies)?;
     let (finals, screen) = graph_texts(alloc, plan, graph)?;
     // The answers last: the short texts of the replies are let go meanwhile, and the long ones are handed on.
     let answers = answer_pieces(alloc, replies)?;
@@ -153,7 +155,8 @@ pub fn run_output<R: Threads + Wait + Sync, C: Clock + Sync, G: Gate + Sync>(
 }
 
 /// Reads the tables, the streams and the parameter files of a folder, runs their plan by so many workers,
-/// each in a thread of its own where one can be made, and makes the texts of the run.
+/// each in a thread of its own where one can be made, and makes the texts of the run. The shelf may be asked for
+/// these files (`allowed`).
 pub fn run<R: AllocGlobal + Threads + Wait + Sync, S: Shelf, C: Clock + Sync, G: Gate + Sync>(
     rt: &R,
     shelf: &mut S,
@@ -166,6 +169,7 @@ pub fn run<R: AllocGlobal + Threads + Wait + Sync, S: Shelf, C: Clock + Sync, G:
 ) -> Result<Finished, Load>
     requires workers { 1 ≤ workers }
     requires few { workers ≤ MAX_WORKERS }
+    requires allowed { Allows (S.may shelf.old) (IsNameOf (Run folder.now workers ratio frequencies)) }
     ensures answer { (given : Given) → IsFinished (Run folder.now workers ratio frequencies) (S.contents shelf.old) given (C.moments clock.now) result }
     ensures read { IsRead (is_read_fault result) S.Shelf shelf.old shelf.new }
 {

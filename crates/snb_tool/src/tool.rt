@@ -5,8 +5,10 @@ ghost use Rattle.snb_base.specs.Reads.{IsRead};
 ghost use Rattle.snb_base.specs.Shelf.{HasCounted};
 ghost use Rattle.snb_handlers.specs.Table.{kinds};
 ghost use Rattle.snb_input_files.specs.Loading.{is_read_fault};
+ghost use Rattle.snb_input_files.specs.Names.{Allows};
 ghost use Rattle.snb_tool_words.specs.Commands.{IsRunnable, folder_of, needs_table};
 ghost use Rattle.snb_tool.specs.Endings.{IsFinished, LacksKind, asked_by, given_by};
+ghost use Rattle.snb_tool.specs.Names.{IsNameOf, MayAskFor};
 ghost use Rattle.snb_tool.specs.Outcome.{Completes, IsAnswer, IsAnswered, IsAsked, IsCut, IsOther, ReadsNothing, Refuses, alone, with};
 ghost use Rattle.snb_tool.specs.Outside.{EndsAs, IsReadOnly, seen};
 
@@ -36,7 +38,8 @@ use std::thread::Threads;
 const USAGE: &str =
     "usage: snb COMMAND, where COMMAND is check, run, audit, latency, expect, validate, read, walk or trial\n";
 
-// Does what a command says, and answers it. The condition `given`: a command that asks a table is given one.
+// Does what a command says, and answers it. The conditions: a command that asks a table is given one (`given`), and
+// the shelf may be asked for the names of the command (`allowed`).
 fn obey<R: AllocGlobal + Threads + Wait + Sync, S: Shelf, C: Clock + Sync, G: Gate + Sync>(
     rt: &R,
     command: &Command,
@@ -47,6 +50,7 @@ fn obey<R: AllocGlobal + Threads + Wait + Sync, S: Shelf, C: Clock + Sync, G: Ga
 ) -> Result<Finished, Load>
     requires runnable { IsRunnable command.now }
     requires given { needs_table command.now ≡ true → IsSome given }
+    requires allowed { Allows (S.may shelf.old) (IsNameOf command.now) }
     ensures answer { IsFinished command.now (S.contents shelf.old) (given_by given.entry) (C.moments clock.now) result }
     ensures unread { folder_of command.now ≡ None → shelf.new ≡ shelf.old }
     ensures unasked { needs_table command.now ≡ true → LacksKind (given_by given.entry) → shelf.new ≡ shelf.old }
@@ -173,6 +177,7 @@ fn answer<
     gate: &G,
     given: Option<(&Handlers, &Policy)>,
 ) -> u8
+    requires allowed { MayAskFor (S.may shelf.old) (asked_by words.now (given_by given.entry)) }
     ensures ends { EndsAs (IsAnswer (asked_by words.now (given_by given.entry))) (seen S.Shelf O.Outbox C.Clock shelf.old shelf.new out.old out.new clock.now) result }
     ensures other_line { IsOther (asked_by words.now (given_by given.entry)) → ((result ≡ 2) ⊎ (result ≡ 5)) × (shelf.new ≡ shelf.old) }
     ensures unread { ReadsNothing (asked_by words.now (given_by given.entry)) → shelf.new ≡ shelf.old }
@@ -252,6 +257,10 @@ fn answer<
 /// What was read is the files that the shelf tells; of a shelf that tells none there are some files of
 /// which all this is true.
 ///
+/// The condition `allowed`: the shelf may be asked for the names of the command that the words are the line of.
+/// These are the files of the command in `DIR`, and `LOG` or `CASES`. For `trial`, and for words that are no line
+/// of the program's, there are none. No other name is asked for.
+///
 /// Answers the exit status:
 ///
 /// - 0: done, and all texts are written whole; of `audit`, the log is accepted; of `latency`, it is accepted or
@@ -286,6 +295,7 @@ pub fn snb_with<
     handlers: &Handlers,
     policy: &Policy,
 ) -> u8
+    requires allowed { MayAskFor (S.may shelf.old) (with words.now (kinds handlers.now) policy.now.pick) }
     ensures answered { IsAnswered (with words.now (kinds handlers.now) policy.now.pick) (seen S.Shelf O.Outbox C.Clock shelf.old shelf.new out.old out.new clock.now) result }
     ensures unwritten { ((result ≡ 4) ⊎ (result ≡ 6)) → O.written out.new ≡ O.written out.old }
     ensures cut { result ≡ 5 → IsCut (with words.now (kinds handlers.now) policy.now.pick) (seen S.Shelf O.Outbox C.Clock shelf.old shelf.new out.old out.new clock.now) }
@@ -303,7 +313,8 @@ pub fn snb_with<
 }
 
 /// Does what `snb_with` does, without a table of handlers and a policy: a line that asks a table, which is one of
-/// `walk` or of `validate` with `--via table`, is answered as one that is no line of the program's.
+/// `walk` or of `validate` with `--via table`, is answered as one that is no line of the program's. The condition
+/// `allowed` is that of `snb_with`.
 pub fn snb<
     R: AllocGlobal + Threads + Wait + Sync,
     S: Shelf,
@@ -311,6 +322,7 @@ pub fn snb<
     C: Clock + Sync,
     G: Gate + Sync,
 >(rt: &R, words: &[&str], shelf: &mut S, out: &mut O, clock: &C, gate: &G) -> u8
+    requires allowed { MayAskFor (S.may shelf.old) (alone words.now) }
     ensures answered { IsAnswered (alone words.now) (seen S.Shelf O.Outbox C.Clock shelf.old shelf.new out.old out.new clock.now) result }
     ensures unwritten { ((result ≡ 4) ⊎ (result ≡ 6)) → O.written out.new ≡ O.written out.old }
     ensures cut { result ≡ 5 → IsCut (alone words.now) (seen S.Shelf O.Outbox C.Clock shelf.old shelf.new out.old out.new clock.now) }

@@ -1,14 +1,17 @@
 //! The command `validate`.
 
-ghost use Rattle.std.specs.Prelude.{◌≡◌, ℕ, IfOk, IfSome, Option, Some};
+ghost use Rattle.std.specs.Prelude.{◌≡◌, ℕ, IfOk, IfSome, Option, Some, true};
 ghost use Rattle.snb_base.specs.Moments.{Moments};
 ghost use Rattle.snb_base.specs.Reads.{IsRead};
 ghost use Rattle.snb_handlers.specs.Table.{HasAll, kinds};
 ghost use Rattle.snb_input_files.specs.Loading.{is_read_fault};
+ghost use Rattle.snb_input_files.specs.Names.{Allows, IsNameIn};
+ghost use Rattle.snb_loader.specs.Order.{table_series};
 ghost use Rattle.snb_tool_words.specs.declared.command.Command.TheVariants.{Validate};
 ghost use Rattle.snb_tool_words.specs.declared.options.Via.TheVariants as via;
 ghost use Rattle.snb_tool.specs.Endings.{IsFinished, IsTallyAnswer, TellsTally};
 ghost use Rattle.snb_tool.specs.Inputs.{Given};
+ghost use Rattle.snb_tool.specs.Names.{IsNameOf};
 ghost use Rattle.snb_walk.specs.declared.target.Pick.{Pick};
 
 use crate::deliver::Finished;
@@ -33,6 +36,8 @@ fn tally_of<S: Shelf>(
     handlers: Option<&Handlers>,
 ) -> Result<Tally, Load>
     requires all { IfSome handlers (λ table. HasAll (kinds table.now)) }
+    requires allowed { Allows (S.may shelf.old) (IsNameIn table_series folder.now) }
+    requires cases { S.may shelf.old cases.now ≡ true }
     ensures answer { IsTallyAnswer (S.contents shelf.old) folder.now cases.now result }
     ensures read { IsRead (is_read_fault result) S.Shelf shelf.old shelf.new }
 {
@@ -55,13 +60,14 @@ fn finished_of(alloc: Global, tally: &Tally) -> Result<Finished, AllocError>
 }
 
 /// Reads the tables of a folder, and checks the replies of the cases of a file over their graph with the
-/// inserts of the cases.
+/// inserts of the cases. The shelf may be asked for the tables and for the cases (`allowed`).
 pub fn validate<S: Shelf>(
     alloc: Global,
     shelf: &mut S,
     folder: &str,
     cases: &str,
 ) -> Result<Finished, Load>
+    requires allowed { Allows (S.may shelf.old) (IsNameOf (Validate folder.now cases.now via.Graph)) }
     ensures answer { (given : Given) (moments : Moments) → IsFinished (Validate folder.now cases.now via.Graph) (S.contents shelf.old) given moments result }
     ensures read { IsRead (is_read_fault result) S.Shelf shelf.old shelf.new }
 {
@@ -70,7 +76,8 @@ pub fn validate<S: Shelf>(
 }
 
 /// Does what `validate` does, but asks the handlers for the replies to reads. Where a kind of read has none, the
-/// first such kind is what is wrong, and nothing is read.
+/// first such kind is what is wrong, and nothing is read. The shelf may be asked for the tables and for the cases
+/// (`allowed`).
 pub fn validate_via<S: Shelf>(
     alloc: Global,
     shelf: &mut S,
@@ -78,6 +85,7 @@ pub fn validate_via<S: Shelf>(
     cases: &str,
     handlers: &Handlers,
 ) -> Result<Finished, Load>
+    requires allowed { Allows (S.may shelf.old) (IsNameOf (Validate folder.now cases.now via.Table)) }
     ensures answer { (pick : Pick) (moments : Moments) → IsFinished (Validate folder.now cases.now via.Table) (S.contents shelf.old) (Some (record { kinds = kinds handlers.now; pick = pick })) moments result }
     ensures unread { ¬ HasAll (kinds handlers.now) → shelf.new ≡ shelf.old }
     ensures read { IsRead (is_read_fault result) S.Shelf shelf.old shelf.new }

@@ -5,9 +5,12 @@ ghost use Rattle.snb_base.specs.Moments.{Moments};
 ghost use Rattle.snb_base.specs.Reads.{IsRead};
 ghost use Rattle.snb_handlers.specs.Table.{HasAll, kinds};
 ghost use Rattle.snb_input_files.specs.Loading.{is_read_fault};
+ghost use Rattle.snb_input_files.specs.Names.{Allows, IsNameIn};
 ghost use Rattle.snb_graph_model.specs.Soundness.{Sound};
+ghost use Rattle.snb_loader.specs.Order.{table_series};
 ghost use Rattle.snb_tool_words.specs.declared.command.Command.TheVariants.{Walk};
 ghost use Rattle.snb_tool.specs.Endings.{IsFinished, IsWalkAnswer, connector_of};
+ghost use Rattle.snb_tool.specs.Names.{IsNameOf};
 ghost use Rattle.snb_tool.specs.WalkTexts.{reply_line, step_line, stop_line, walk_text};
 
 use crate::deliver::Finished;
@@ -80,6 +83,7 @@ fn walk_of<S: Shelf>(
     policy: &Policy,
 ) -> Result<Vec<u8>, Load>
     requires all { HasAll (kinds handlers.now) }
+    requires allowed { Allows (S.may shelf.old) (IsNameIn table_series folder.now) }
     ensures answer { IsWalkAnswer (S.contents shelf.old) folder.now policy.now.pick query.now chance words.now result }
     ensures read { IsRead (is_read_fault result) S.Shelf shelf.old shelf.new }
 {
@@ -90,7 +94,8 @@ fn walk_of<S: Shelf>(
 }
 
 /// Reads the tables of a folder, and takes the walk of a query on them, which asks the handlers and the policy. Where
-/// a kind of read has no handler, the first such kind is what is wrong, and nothing is read.
+/// a kind of read has no handler, the first such kind is what is wrong, and nothing is read. The shelf may be asked
+/// for the tables (`allowed`).
 pub fn walk<S: Shelf>(
     alloc: Global,
     shelf: &mut S,
@@ -101,6 +106,7 @@ pub fn walk<S: Shelf>(
     handlers: &Handlers,
     policy: &Policy,
 ) -> Result<Finished, Load>
+    requires allowed { Allows (S.may shelf.old) (IsNameOf (Walk folder.now query.now chance words.now)) }
     ensures answer { (moments : Moments) → IsFinished (Walk folder.now query.now chance words.now) (S.contents shelf.old) (Some (connector_of handlers.now policy.now)) moments result }
     ensures unread { ¬ HasAll (kinds handlers.now) → shelf.new ≡ shelf.old }
     ensures read { IsRead (is_read_fault result) S.Shelf shelf.old shelf.new }

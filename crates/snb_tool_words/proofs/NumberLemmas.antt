@@ -5,7 +5,7 @@ use Rattle.std.proofs.lemmas.List.{append_assoc}
 use Rattle.std.proofs.lemmas.List.Splits.{length-slice_split, slice_split_at, slice_split_none}
 use Rattle.std.specs.List.{slice_split}
 use Rattle.snb_base.specs.Spellings.{EachSpells, SpellsId}
-use Rattle.snb_tool_words.specs.declared.number_words.TheConstants.{MAX_WORDS}
+use Rattle.snb_schema.specs.declared.limits.TheConstants.{MAX_WORDS}
 use Rattle.snb_tool_words.specs.Options.{SpellsWords}
 
 -- x is these numbers, separated by commas

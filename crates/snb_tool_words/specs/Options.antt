@@ -8,7 +8,7 @@ use Rattle.snb_ratio.specs.Ratios.{SpellsRatio}
 use Rattle.snb_schema.specs.declared.limits.TheConstants.{MAX_WORKERS}
 use Rattle.snb_schema.specs.QueryPlaces.{values_of}
 use Rattle.snb_schema.specs.Frequencies.{FrequencyTable, HasFrequencies, SpellsFrequencies}
-use Rattle.snb_tool_words.specs.declared.number_words.TheConstants.{MAX_WORDS}
+use Rattle.snb_schema.specs.declared.limits.TheConstants.{MAX_WORDS}
 use Rattle.snb_tool_words.specs.declared.options.OptionName.{OptionName}
 use Rattle.snb_tool_words.specs.declared.options.OptionName.TheVariants.{Workers, Ratio, Frequencies, Via, Chance, Words}
 use Rattle.snb_tool_words.specs.declared.options.Via.{Via as AnyVia}

@@ -5,11 +5,8 @@ ghost use Rattle.snb_base.specs.Spellings.{SpellsId};
 ghost use Rattle.snb_tool_words.specs.Options.{SpellsWords};
 
 use snb_base::{Numbers, read_number};
-use snb_schema::limits::MAX_ID;
+use snb_schema::limits::{MAX_ID, MAX_WORDS};
 use std::alloc::{AllocError, Global};
-
-/// The most numbers of a list.
-pub const MAX_WORDS: usize = 1000;
 
 // What stands before the first comma, and what after it.
 fn at_comma<'a>(text: &'a [u8]) -> Option<(&'a [u8], &'a [u8])>

@@ -1,6 +1,6 @@
 //! The cases of a file, checked against a graph.
 
-ghost use Rattle.std.specs.Prelude.{◌≡◌, [], ◌∷◌, None};
+ghost use Rattle.std.specs.Prelude.{◌≡◌, [], ◌∷◌, None, true};
 ghost use Rattle.snb_base.specs.Reads.{IsRead};
 ghost use Rattle.snb_input_files.specs.Loading.{is_read_fault};
 ghost use Rattle.snb_graph_model.specs.Soundness.{Sound};
@@ -174,6 +174,7 @@ fn check_cases_by<S: Shelf, R: Replier>(
 ) -> Result<Tally, Load>
     requires ready { R.ready replier.now }
     requires sound { Sound graph }
+    requires allowed { S.may shelf.old path.now ≡ true }
     ensures answer { IsCasesAnswer (S.contents shelf.old) path.now graph result }
     ensures read { IsRead (is_read_fault result) S.Shelf shelf.old shelf.new }
 {
@@ -205,14 +206,15 @@ fn check_cases_by<S: Shelf, R: Replier>(
 /// (`Unmet`), or else takes a key that is held (`Duplicate`); else it has no header (`NoHeader`). The
 /// other errors are a read that failed and want of memory. The graph is gone after the call.
 ///
-/// The condition: the graph is sound.
+/// The conditions: the graph is sound (`sound`), and the shelf may be asked for the path (`allowed`).
 pub fn check_cases<S: Shelf>(
     alloc: Global,
     shelf: &mut S,
     path: &str,
     graph: Graph,
 ) -> Result<Tally, Load>
-    requires { Sound graph }
+    requires sound { Sound graph }
+    requires allowed { S.may shelf.old path.now ≡ true }
     ensures answer { IsCasesAnswer (S.contents shelf.old) path.now graph result }
     ensures read { IsRead (is_read_fault result) S.Shelf shelf.old shelf.new }
 {
@@ -222,7 +224,8 @@ pub fn check_cases<S: Shelf>(
 /// Checks the cases of a file as `check_cases` does, but asks the handlers for the replies to reads. An error of a
 /// handler is `Memory` here too.
 ///
-/// The conditions: the graph is sound, and each kind of read has a handler.
+/// The conditions: each kind of read has a handler (`all`), the graph is sound (`sound`), and the shelf may be
+/// asked for the path (`allowed`).
 pub fn check_cases_via<S: Shelf>(
     alloc: Global,
     shelf: &mut S,
@@ -232,6 +235,7 @@ pub fn check_cases_via<S: Shelf>(
 ) -> Result<Tally, Load>
     requires all { HasAll (kinds handlers.now) }
     requires sound { Sound graph }
+    requires allowed { S.may shelf.old path.now ≡ true }
     ensures answer { IsCasesAnswer (S.contents shelf.old) path.now graph result }
     ensures read { IsRead (is_read_fault result) S.Shelf shelf.old shelf.new }
 {

@@ -123,12 +123,12 @@ finishes_are_of_operations plan workers h (Start op worker at) legal c = tt
 finishes_are_of_operations plan workers h (Finish op worker at front) legal c = finish_within plan workers h op worker at front legal c
 finishes_are_of_operations plan workers h (Halt worker) legal c = tt
 
-module _ (base : List Row) (plan : Plan) (workers : ℕ) (h : List Event) (replies : List Answered) (each_once : OnceEach) (legal : IsLegal (schedule_of plan) workers h) (are : AreReplies base plan h h replies) where
+module _ (base : List Row) (plan : Plan) (workers : ℕ) (h : List Event) (replies : List Answered) (each_once : OnceEach) (legal : IsLegal (schedule_of plan) workers h) (are : AreReplies base plan moments h h replies) where
   -- the rows of an entry are the count of the Finish of its operation
   of_entry : (op worker at front : ℕ) (o : Operation) (b : Answered) → Contains h (Finish op worker at front) → slice_get plan.operations op ≡ Some o → Contains replies b → b.op ≡ op
       → IsCountOf base plan h front o.work b.rows
   of_entry op worker at front o b c here there number =
-      let is : IsAnswered base plan h h b = All-contains (IsAnswered base plan h h) replies b are.each there in
+      let is : IsAnswered base plan moments h h b = All-contains (IsAnswered base plan moments h h) replies b are.each there in
       let asks : Asks plan op is.query = subst (λ (k : ℕ). Asks plan k is.query) number is.asks in
       let work : o.work ≡ Ask is.query = ap (λ (x : Operation). x.work) (same_Some o asks.0 (sym here ∙ asks.1)) ∙ asks.2 in
       let same : Finish op worker at front ≡ Finish b.op is.worker is.at b.front =

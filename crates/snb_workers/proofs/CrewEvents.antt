@@ -1,12 +1,15 @@
 -- What the histories of all seats tell of the board's.
-use Rattle.std.proofs.Common.{◌≡◌, ◌≢◌, ◌∙◌, ℕ, suc, ◌+◌, ◌<◌, ◌≤◌, min, List, [], ◌∷◌, ◌++◌, length, get_or, Bool, true, false, inl, inr, refl, sym, ap, subst, arith, append_assoc, append-nil, length-append}
+use Rattle.std.proofs.Common.{◌≡◌, ◌≢◌, ◌∙◌, ℕ, suc, ◌+◌, ◌<◌, ◌≤◌, ◌⊎◌, min, max, List, [], ◌∷◌, ◌++◌, length, get_or, Bool, true, false, inl, inr, refl, sym, ap, subst, arith, append_assoc, append-nil, length-append}
 use Rattle.std.specs.Prelude.{All}
 use Rattle.std.specs.List.{filter, list_any}
+use Rattle.std.proofs.Math.Nat.{eq-or-lt_of_le, le-max_left}
+use Rattle.std.proofs.lemmas.Bool.{eqb-true}
 use Rattle.std.proofs.lemmas.Bool.Decides.{nat_tests}
-use Rattle.std.proofs.lemmas.List.Elements.{All-push, filter-append}
+use Rattle.std.proofs.lemmas.List.Elements.{All-push, All-weaker, filter-append}
 use Rattle.std.proofs.lemmas.List.Folds.{list_any-append}
 use mathlib.Core.List.{IsPrefix}
 use Rattle.snb_base.proofs.Laws.{by_push}
+use Rattle.snb_base.specs.Moments.{Moments, only}
 use Rattle.snb_history.specs.declared.event.Event.{Event}
 use Rattle.snb_history.specs.declared.event.Event.TheVariants.{Start, Finish, Halt}
 use Rattle.snb_schema.specs.declared.limits.TheConstants.{MAX_AT}
@@ -14,7 +17,9 @@ use Rattle.snb_history.specs.History.{has_moment, is_by, last, moment}
 use Rattle.snb_history.proofs.Laws.{last-push}
 use Rattle.snb_book.specs.Kept.{moment_after}
 use Rattle.snb_board.specs.Boards.{events_of}
-use Rattle.snb_workers.specs.Runs.{IsAt}
+use Rattle.snb_workers.specs.Laws.{OneMoment}
+use Rattle.snb_workers.specs.Runs.{AreByClock, IsAt, IsByClock, IsOfClock}
+use Rattle.snb_workers.specs.Works.{IsTimely}
 use Rattle.snb_workers.proofs.WorkEvents.{split_cases}
 
 -- an event of one worker is of no other
@@ -61,26 +66,51 @@ seen_there w seen h g e rest pre same is at =
           omega arith)
     ]
 
--- where each Start and Finish is at the clock's moment, or at the last before it, and the clock shows one moment, all are at that moment
-moment_is : (c now : ℕ) (g : List Event) (e : Event) → c ≡ min now MAX_AT → last g ≤ c → (has_moment e ≡ true → moment e ≡ moment_after g now) → IsAt c e
-moment_is c now g (Start op worker at) is low timely = let t : at ≡ moment_after g now = timely refl in omega arith
-moment_is c now g (Finish op worker at front) is low timely = let t : at ≡ moment_after g now = timely refl in omega arith
-moment_is c now g (Halt worker) is low timely = tt
+-- the last moment of some events, which is 0 where none has one, is at a moment of the clock
+abbrev IsLast : Moments → ℕ → Type 0
+IsLast moments low = (low ≡ 0) ⊎ IsOfClock moments low
 
-last_more : (c : ℕ) (g : List Event) (e : Event) → IsAt c e → last g ≤ c → last (g ++ e ∷ []) ≤ c
-last_more c g (Start op worker at) is low = let p = last-push g (Start op worker at) in let t : at ≡ c = is in omega arith
-last_more c g (Finish op worker at front) is low = let p = last-push g (Finish op worker at front) in let t : at ≡ c = is in omega arith
-last_more c g (Halt worker) is low = let p = last-push g (Halt worker) in omega arith
+-- so is the next one
+of_next : (moments : Moments) (low reading : ℕ) → IsLast moments low → moments.tells reading ≡ true → IsOfClock moments (max low (min reading MAX_AT))
+of_next moments low reading (inl none) tells = record { reading = reading; tells = tells; is = omega arith }
+of_next moments low reading (inr before) tells = elim (eq-or-lt_of_le (le-max_left low (min reading MAX_AT))) [
+  | inl same ↦ record { reading = before.reading; tells = before.tells; is = sym same ∙ before.is }
+  | inr later ↦ record { reading = reading; tells = tells; is = omega arith }
+]
 
-pub all_at : (now : ℕ) (h : List Event) → ((g rest : List Event) (e : Event) → g ++ e ∷ rest ≡ h → has_moment e ≡ true → moment e ≡ moment_after g now) → All (IsAt (min now MAX_AT)) h
-all_at now h timely = (by_push (λ g. (rest : List Event) → g ++ rest ≡ h → All (IsAt c) g × (last g ≤ c)) (λ rest same. ((λ k d lt. absurd (omega arith)), omega arith)) more h [] (append-nil h)).0
+-- where each Start and Finish is at a moment of the clock, or at the last before it, all are at moments of the clock
+by_clock_next : (moments : Moments) (g : List Event) (e : Event) → IsLast moments (last g) → (has_moment e ≡ true → IsTimely moments g e) → IsByClock moments e
+by_clock_next moments g (Start op worker at) before timely =
+    let t : IsTimely moments g (Start op worker at) = timely refl in subst (IsOfClock moments) (sym t.is) (of_next moments (last g) t.reading before t.tells)
+by_clock_next moments g (Finish op worker at front) before timely =
+    let t : IsTimely moments g (Finish op worker at front) = timely refl in subst (IsOfClock moments) (sym t.is) (of_next moments (last g) t.reading before t.tells)
+by_clock_next moments g (Halt worker) before timely = tt
+
+last_next : (moments : Moments) (g : List Event) (e : Event) → IsByClock moments e → IsLast moments (last g) → IsLast moments (last (g ++ e ∷ []))
+last_next moments g (Start op worker at) is before = subst (IsLast moments) (sym (last-push g (Start op worker at))) (inr is)
+last_next moments g (Finish op worker at front) is before = subst (IsLast moments) (sym (last-push g (Finish op worker at front))) (inr is)
+last_next moments g (Halt worker) is before = subst (IsLast moments) (sym (last-push g (Halt worker))) before
+
+pub all_by_clock : (moments : Moments) (h : List Event) → ((g rest : List Event) (e : Event) → g ++ e ∷ rest ≡ h → has_moment e ≡ true → IsTimely moments g e) → AreByClock moments h
+all_by_clock moments h timely =
+    (by_push (λ g. (rest : List Event) → g ++ rest ≡ h → All (IsByClock moments) g × IsLast moments (last g)) (λ rest same. ((λ k d lt. absurd (omega arith)), inl refl)) more h [] (append-nil h)).0
   where
-    c : ℕ
-    c = min now MAX_AT
-
-    more : (g : List Event) (e : Event) → ((rest : List Event) → g ++ rest ≡ h → All (IsAt c) g × (last g ≤ c)) → (rest : List Event) → (g ++ e ∷ []) ++ rest ≡ h → All (IsAt c) (g ++ e ∷ []) × (last (g ++ e ∷ []) ≤ c)
+    more : (g : List Event) (e : Event) → ((rest : List Event) → g ++ rest ≡ h → All (IsByClock moments) g × IsLast moments (last g)) → (rest : List Event) → (g ++ e ∷ []) ++ rest ≡ h
+        → All (IsByClock moments) (g ++ e ∷ []) × IsLast moments (last (g ++ e ∷ []))
     more g e ih rest same =
         let at : g ++ e ∷ rest ≡ h = sym (append_assoc g (e ∷ []) rest) ∙ same in
         let before = ih (e ∷ rest) at in
-        let is : IsAt c e = moment_is c now g e refl before.1 (timely g rest e at) in
-        (All-push (IsAt c) g e before.0 is, last_more c g e is before.1)
+        let is : IsByClock moments e = by_clock_next moments g e before.1 (timely g rest e at) in
+        (All-push (IsByClock moments) g e before.0 is, last_next moments g e is before.1)
+
+-- a clock that can answer one moment alone
+one_of_clock : (at moment : ℕ) → IsOfClock (only at) moment → moment ≡ min at MAX_AT
+one_of_clock at moment is = is.is ∙ ap (λ (n : ℕ). min n MAX_AT) (eqb-true is.reading at is.tells)
+
+one_event : (at : ℕ) (e : Event) → IsByClock (only at) e → IsAt (min at MAX_AT) e
+one_event at (Start op worker moment) is = one_of_clock at moment is
+one_event at (Finish op worker moment front) is = one_of_clock at moment is
+one_event at (Halt worker) is = tt
+
+pub one_moment : OneMoment
+one_moment at h all = All-weaker (IsByClock (only at)) (IsAt (min at MAX_AT)) (one_event at) h all

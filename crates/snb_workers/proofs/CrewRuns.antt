@@ -31,10 +31,10 @@ use Rattle.snb_workers.specs.declared.crew.Worker.{Worker}
 use Rattle.snb_workers.specs.declared.done.Answered.{Answered}
 use Rattle.snb_workers.specs.Crews.{AllLeave, AreReady, IsCrew, IsReady, Leaves, opening}
 use Rattle.snb_workers.specs.Replicas.{StandsFor, Taken}
-use Rattle.snb_workers.specs.Runs.{AreAt, AreReplies, HasRun, IsAnswered}
+use Rattle.snb_workers.specs.Runs.{AreByClock, AreReplies, HasRun, IsAnswered}
 use Rattle.snb_workers.specs.Turns.{IsBehind}
 use Rattle.snb_workers.specs.Works.{AreTimely, HasWorked, IsFollowing, IsFree}
-use Rattle.snb_workers.proofs.CrewEvents.{all_at, any_prefix, none_of, seen_there}
+use Rattle.snb_workers.proofs.CrewEvents.{all_by_clock, any_prefix, none_of, seen_there}
 use Rattle.snb_base.proofs.Laws.{contains_cases, contains_here, in_filter}
 use Rattle.snb_workers.proofs.Gathered.{all_from, of_all}
 use Rattle.snb_workers.proofs.TurnEvents.{all_done, front_within, of_more}
@@ -115,7 +115,7 @@ run_of_more plan moments base h replies graph one workers same some run = record
   complete = run.complete;
   waits = run.waits;
   below = run.below;
-  moments = run.moments;
+  by_clock = run.by_clock;
   answered = run.answered;
   final = run.final;
   sound = run.sound;
@@ -136,15 +136,16 @@ in_piece (x ∷ crew) a c = elim (Contains-append_cases x.replies (flat_map (λ 
 ]
 
 -- a reply on a beginning of a history is one on the whole
-answered_whole : (base : List Row) (plan : Plan) (workers : ℕ) (finishes seen h : List Event) (a : Answered) → IsPrefix seen h → IsLegal (schedule_of plan) workers seen → ((e : Event) → Contains finishes e → Contains seen e)
-    → IsAnswered base plan finishes seen a → IsAnswered base plan h h a
-answered_whole base plan workers finishes seen h a pre legal within is =
+answered_whole : (base : List Row) (plan : Plan) (moments : Moments) (workers : ℕ) (finishes seen h : List Event) (a : Answered) → IsPrefix seen h → IsLegal (schedule_of plan) workers seen → ((e : Event) → Contains finishes e → Contains seen e)
+    → IsAnswered base plan moments finishes seen a → IsAnswered base plan moments h h a
+answered_whole base plan moments workers finishes seen h a pre legal within is =
     let there = within (Finish a.op is.worker is.at a.front) is.finished in
     let front : a.front ≤ length seen = front_within (schedule_of plan) workers seen legal a.op is.worker is.at a.front there in
     let same : take a.front h ≡ take a.front seen = ap (take a.front) (sym pre.1) ∙ take-append-le a.front seen pre.0 front in
     record {
       worker = is.worker;
       at = is.at;
+      later = is.later;
       finished = subst (λ (l : List Event). Contains l (Finish a.op is.worker is.at a.front)) pre.1 (Contains-append_left seen pre.0 (Finish a.op is.worker is.at a.front) there);
       query = is.query;
       asks = is.asks;
@@ -168,7 +169,7 @@ module _ {E : Type 0}
         let one : get_or all k (Ok e) ≡ Ok (get_or crew k e) = ap (λ (l : List (Result Worker E)). get_or l k (Ok e)) had ∙ get_or-map (λ (w : Worker). Ok w) crew k e (Ok e) (omega arith) in
         subst (λ (x : Sitting × Result Worker E). IfOk x.1 (Leaves plan moments base x.0)) (λ i. (seat i, one i)) (is_crew.all.each k (fresh z k) (Ok e) (omega arith))
 
-    worked : (k : ℕ) (e : Worker) → k < z.workers → HasWorked plan (fresh z k) (get_or crew k e).seat (opening base) (get_or crew k e).replica (get_or crew k e).replies
+    worked : (k : ℕ) (e : Worker) → k < z.workers → HasWorked plan moments (fresh z k) (get_or crew k e).seat (opening base) (get_or crew k e).replica (get_or crew k e).replies
     worked k e lt = (leaves k e lt).worked
 
     -- what stands for a worker that there is not
@@ -265,33 +266,29 @@ module _ {E : Type 0}
             at_seam [] e rest = refl
             at_seam (x ∷ g) e rest = at_seam g e rest
 
-        pub moments : AreAt moments h
-        moments = by_clock moments (λ k low. (leaves k nobody low).timely)
-          where
-            by_clock : (moments : Moments) → ((k : ℕ) → k < z.workers → IfSome moments (λ now. AreTimely now k 0 (left k).seat.seen)) → AreAt moments h
-            by_clock None timely = tt
-            by_clock (Some now) timely = all_at now h (λ g rest e at has.
-                let there = in_seat g rest e at in
-                timely there.0 there.1 g there.3.0 e there.3.1 (omega arith) there.2 has)
+        pub by_clock : AreByClock moments h
+        by_clock = all_by_clock moments h (λ g rest e at has.
+            let there = in_seat g rest e at in
+            (leaves there.0 nobody there.1).timely g there.3.0 e there.3.1 (omega arith) there.2 has)
 
         module _ (replies all_replies : List Answered) (gathered : all_replies ≡ flat_map (λ (w : Worker). w.replies) crew)
             (each : All (λ (a : Answered). Contains all_replies a) replies) (every : All (λ (a : Answered). Any (λ (other : Answered). other.op ≡ a.op) replies) all_replies) (rise : AllPairs (λ (one other : Answered). one.op < other.op) replies)
           where
-            seat_replies : (k : ℕ) (low : k < z.workers) → AreReplies base plan (mine (left k).seat) (left k).seat.seen (left k).replies
+            seat_replies : (k : ℕ) (low : k < z.workers) → AreReplies base plan moments (mine (left k).seat) (left k).seat.seen (left k).replies
             seat_replies k low = (worked k nobody low).answered base (follows_at_first base plan is_crew.graph is_crew.closed)
 
             seen_legal : (k : ℕ) (low : k < z.workers) → IsLegal (schedule_of plan) z.workers (left k).seat.seen
             seen_legal k low = prefix (schedule_of plan) z.workers (left k).seat.seen (part k low).seen.0 (subst (IsLegal (schedule_of plan) z.workers) (sym (part k low).seen.1) legal)
 
-            pub answered : AreReplies base plan h h replies
+            pub answered : AreReplies base plan moments h h replies
             answered = record {
               rise = rise;
-              each = all_from (IsAnswered base plan h h) replies (λ a c.
+              each = all_from (IsAnswered base plan moments h h) replies (λ a c.
                   let there : Contains (flat_map (λ (w : Worker). w.replies) crew) a = subst (λ (xs : List Answered). Contains xs a) gathered (of_all (λ (x : Answered). Contains all_replies x) replies a each c) in
                   let piece = in_piece crew a there in
                   let low : piece.0 < z.workers = (let n = many_crew in let m : piece.0 < length crew = piece.1 in omega arith) in
-                  let own = of_all (IsAnswered base plan (mine (left piece.0).seat) (left piece.0).seat.seen) (left piece.0).replies a (seat_replies piece.0 low).each (piece.2 nobody) in
-                  answered_whole base plan z.workers (mine (left piece.0).seat) (left piece.0).seat.seen h a (part piece.0 low).seen (seen_legal piece.0 low)
+                  let own = of_all (IsAnswered base plan moments (mine (left piece.0).seat) (left piece.0).seat.seen) (left piece.0).replies a (seat_replies piece.0 low).each (piece.2 nobody) in
+                  answered_whole base plan moments z.workers (mine (left piece.0).seat) (left piece.0).seat.seen h a (part piece.0 low).seen (seen_legal piece.0 low)
                   (λ e c. ((in_filter (is_by (left piece.0).seat.worker) (left piece.0).seat.seen e).0 c).0) own);
               all = λ op worker at front query c asks.
                   let e : Event = Finish op worker at front in
@@ -328,7 +325,7 @@ module _ {E : Type 0}
                     stands = subst (StandsFor base plan follows.taken) (ap (λ (w : Worker). w.replica) same ∙ any.4) follows.stands;
                     closed = is_crew.closed;
                     workers = z.workers;
-                    few = is_crew.few;
+                    few = inl is_crew.few;
                     legal = subst (IsLegal (schedule_of plan) z.workers) (sym pre.1) legal;
                   },
                 )
@@ -340,7 +337,7 @@ module _ {E : Type 0}
               complete = complete;
               waits = (wait plan z.workers h streams legal).0;
               below = (wait plan z.workers h streams legal).1;
-              moments = moments;
+              by_clock = by_clock;
               answered = answered;
               final = subst (IsFinal base plan) (sym same) (law base plan z.workers h new.graph legal complete stands.after);
               sound = sound;

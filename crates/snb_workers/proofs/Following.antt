@@ -1,5 +1,5 @@
 -- What a replica stands for when it takes the next event of a history.
-use Rattle.std.proofs.Common.{◌≡◌, ◌∷◌, ◌++◌, ◌∙◌, ℕ, ◌+◌, ◌<◌, List, [], length, take, drop, get_or, Some, None, refl, sym, ap, subst, arith, append_assoc, length-append}
+use Rattle.std.proofs.Common.{◌≡◌, ◌∷◌, ◌++◌, ◌∙◌, ℕ, ◌+◌, ◌<◌, List, [], length, take, drop, get_or, Some, None, inl, inr, refl, sym, ap, subst, arith, append_assoc, length-append, length-take}
 use Rattle.std.proofs.lemmas.List.{get_or_default, length-map, take-append-drop, take_more}
 use Rattle.snb_history.specs.declared.event.Event.{Event}
 use Rattle.snb_history.specs.declared.event.Event.TheVariants.{Start, Finish, Halt}
@@ -69,7 +69,15 @@ module _ {plan : Plan} {events : List Event} {old now : Taken} (i : ℕ) (d : Ev
         stands = taken base g may;
         closed = may.closed;
         workers = may.workers;
-        few = may.few;
+        few = elim may.few [
+          | inl few ↦ inl few
+          | inr short ↦ inr (
+              let all = length-append g events in
+              let here = length-append g (take i events) in
+              let next = length-append (g ++ take i events) (e ∷ []) in
+              let taken = length-take i events in
+              omega (arith, short, lt, all, here, next, taken))
+        ];
         legal =
             prefix (schedule_of plan) may.workers ((g ++ take i events) ++ e ∷ []) (drop (i + 1) events)
             (subst (IsLegal (schedule_of plan) may.workers)

@@ -27,7 +27,7 @@ use Rattle.snb_workers.specs.declared.miscount.Miscount.{Miscount}
 use Rattle.snb_workers.specs.declared.tally.Tally.{Tally}
 use Rattle.snb_workers.specs.Counts.{IsCount, IsCountOf, first_rows}
 use Rattle.snb_workers.specs.Miscounts.{IsFirstMiscount, IsMiscount, events_of}
-use Rattle.snb_workers.specs.Replicas.{HasTaken, IfFinish, MayTake, StandsFor, Taken}
+use Rattle.snb_workers.specs.Replicas.{HasTaken, IfFinish, IsCountable, MayTake, StandsFor, Taken}
 use Rattle.snb_workers.specs.Tallies.{CountsRows, HasRows, HasTallies, HasTally, IsAlong, IsEarlier, IsInsert, IsLeastAmong, IsTally, IsWeighed, miscount_of}
 use Rattle.snb_workers_replay.proofs.Laws.{same_gain}
 
@@ -187,7 +187,10 @@ module _ (base : List Row) (plan : Plan) (h : List Event) (r : Taken) (along : I
     stands = along.stands;
     closed = along.closed;
     workers = along.workers;
-    few = along.few;
+    few = elim along.few [
+      | inl few ↦ inl few
+      | inr short ↦ inr (let same = ap length reaches in let size = length-take front h in omega (arith, short, within, same, size))
+    ];
     legal = prefix (schedule_of plan) along.workers (take r.front h ++ events) (drop front h) (subst (IsLegal (schedule_of plan) along.workers) (sym (ap (λ (l : List Event). l ++ drop front h) reaches ∙ take-append-drop front h)) along.legal);
   }
 
@@ -208,7 +211,7 @@ module _ (base : List Row) (plan : Plan) (h : List Event) (r : Taken) (along : I
       )
 
 -- before the first event
-pub along_start : (base : List Row) (plan : Plan) (h : List Event) (workers : ℕ) (r : Taken) → r ≡ record { graph = base; front = 0 } → IsGraph base → IsClosed (HoldsKey base) (updates_in plan) → workers ≤ MAX_WORKERS
+pub along_start : (base : List Row) (plan : Plan) (h : List Event) (workers : ℕ) (r : Taken) → r ≡ record { graph = base; front = 0 } → IsGraph base → IsClosed (HoldsKey base) (updates_in plan) → IsCountable workers h
     → IsLegal (schedule_of plan) workers h → IsAlong base plan h r
 along_start base plan h workers r is graph closed few legal =
     subst (IsAlong base plan h) (sym is)

@@ -2,7 +2,7 @@
 use Rattle.std.proofs.Common.{◌≡◌, ◌∙◌, ℕ, ◌≤◌, ◌⊎◌, List, [], ◌∷◌, ◌++◌, length, drop, Bool, true, false, cond, Option, Some, None, inl, inr, refl, sym, ap, subst, arith, append_assoc, append-nil}
 use Rattle.snb_base.specs.Moments.{Moments}
 use Rattle.std.proofs.lemmas.List.{append_cancel_left, append_cancel_right}
-use Rattle.std.specs.Prelude.{All, Contains, IfSome}
+use Rattle.std.specs.Prelude.{All, Contains}
 use Rattle.std.proofs.Math.Seq.{drop-append-le}
 use mathlib.Core.List.{IsPrefix}
 use Rattle.snb_history.specs.declared.event.Event.{Event}
@@ -16,21 +16,21 @@ use Rattle.snb_plan.specs.Plans.{Plan}
 use Rattle.snb_workers.specs.declared.done.Answered.{Answered}
 use Rattle.snb_workers.specs.Replicas.{Taken}
 use Rattle.snb_workers.specs.Runs.{AreReplies}
-use Rattle.snb_workers.specs.Works.{AreTimely, IsFollowing, IsLater, added}
+use Rattle.snb_workers.specs.Works.{AreTimely, IsFollowing, IsLater, IsTimely, added}
 use Rattle.snb_workers.specs.WorkTurns.{HasCome, HasReplied}
 use Rattle.snb_workers.proofs.TurnReplies.{AreWithin, answered_more}
 use Rattle.snb_workers.proofs.WorkEvents.{events_of-own, none_own, prefix-trans, split_cases}
 use Rattle.snb_base.proofs.Laws.{prefix-length, prefix-refl}
 use Rattle.snb_board.proofs.Laws.{events_of-append}
 
--- at most one event is added, of this worker; if it is a Start or a Finish it is at the next moment
-abbrev pub AddsOne : ℕ → ℕ → List Event → List Event → Type 0
-AddsOne w now found events = (events ≡ []) ⊎ ((e : Event) × (events ≡ e ∷ []) × (is_by w e ≡ true) × (has_moment e ≡ true → moment e ≡ moment_after found now))
+-- at most one event is added, of this worker; if it is a Start or a Finish it is timely
+abbrev pub AddsOne : Moments → ℕ → List Event → List Event → Type 0
+AddsOne moments w found events = (events ≡ []) ⊎ ((e : Event) × (events ≡ e ∷ []) × (is_by w e ≡ true) × (has_moment e ≡ true → IsTimely moments found e))
 
 -- it is of the worker alone
-adds_own : (w now : ℕ) (found events : List Event) → AddsOne w now found events → events_of w events ≡ events
-adds_own w now found events (inl none) = ap (events_of w) none ∙ sym none
-adds_own w now found events (inr one) = ap (events_of w) one.1 ∙ (events_of-own w one.0 one.2 ∙ sym one.1)
+adds_own : (moments : Moments) (w : ℕ) (found events : List Event) → AddsOne moments w found events → events_of w events ≡ events
+adds_own moments w found events (inl none) = ap (events_of w) none ∙ sym none
+adds_own moments w found events (inr one) = ap (events_of w) one.1 ∙ (events_of-own w one.0 one.2 ∙ sym one.1)
 
 -- ---- sittings
 
@@ -79,17 +79,17 @@ module _ {P : List Event → List Event → Type 0} (s t : Sitting) (c : HasCall
       (sym (events_of-append s.worker s.seen (c.begins.0 ++ c.added)) ∙ (ap (events_of s.worker) whole ∙ own_now))))
 
   -- the worker's events are timely where they were and where the one that is added is
-  pub timely_called : (n now : ℕ) → AddsOne s.worker now c.found c.added → AreTimely now s.worker n s.seen → AreTimely now s.worker n t.seen
-  timely_called n now one were g rest e is low own has = elim (split_cases g e rest s.seen (c.begins.0 ++ c.added) (is ∙ sym whole)) [
+  pub timely_called : (moments : Moments) (n : ℕ) → AddsOne moments s.worker c.found c.added → AreTimely moments s.worker n s.seen → AreTimely moments s.worker n t.seen
+  timely_called moments n one were g rest e is low own has = elim (split_cases g e rest s.seen (c.begins.0 ++ c.added) (is ∙ sym whole)) [
     | inl early ↦ were g early.0 e early.1 low own has
     | inr late ↦ elim (split_cases late.0 e rest c.begins.0 c.added late.2) [
-      | inl between ↦ absurd (none_own s.worker late.0 between.0 e own (ap (events_of s.worker) between.1 ∙ quiet (adds_own s.worker now c.found c.added one)))
+      | inl between ↦ absurd (none_own s.worker late.0 between.0 e own (ap (events_of s.worker) between.1 ∙ quiet (adds_own moments s.worker c.found c.added one)))
       | inr last ↦ elim one [
         | inl none ↦ absurd (let q : last.0 ++ e ∷ rest ≡ [] = last.2 ∙ none in nothing last.0 q)
         | inr event ↦ (
             let only = alone last.0 event.0 (last.2 ∙ event.1) in
             let front : g ≡ c.found = late.1 ∙ (ap (λ (l : List Event). s.seen ++ l) (last.1 ∙ (ap (λ (l : List Event). c.begins.0 ++ l) only.0 ∙ append-nil c.begins.0)) ∙ c.begins.1) in
-            ap moment only.1 ∙ (event.3 (ap has_moment (sym only.1) ∙ has) ∙ ap (λ (l : List Event). moment_after l now) (sym front)))
+            subst (λ (x : List Event × Event). IsTimely moments x.0 x.1) (λ i. (sym front i, sym only.1 i)) (event.3 (ap has_moment (sym only.1) ∙ has)))
       ]
     ]
   ]
@@ -105,23 +105,16 @@ module _ {P : List Event → List Event → Type 0} (s t : Sitting) (c : HasCall
 
 -- ---- how far the worker has come
 
--- where the clock tells a moment, the worker's events stay at it
-pub timely_told : {P : List Event → List Event → Type 0} (moments : Moments) (s t : Sitting) (c : HasCalled s t P) (worker n now : ℕ) → s.worker ≡ worker → AddsOne s.worker now c.found c.added → IfSome moments (λ told. now ≡ told) →
-    IfSome moments (λ told. AreTimely told worker n s.seen) → IfSome moments (λ told. AreTimely told worker n t.seen)
-timely_told None s t c worker n now same one shown were = tt
-timely_told (Some told) s t c worker n now same one shown were =
-    subst (λ (w : ℕ). AreTimely told w n t.seen) same
-    (timely_called s t c n told (subst (λ (m : ℕ). AddsOne s.worker m c.found c.added) shown one) (subst (λ (w : ℕ). AreTimely told w n s.seen) (sym same) were))
-
 -- a call leads on
-pub come_called : {P : List Event → List Event → Type 0} (plan : Plan) (moments : Moments) (first : Sitting) (old : Taken) (s t : Sitting) (r new : Taken) (c : HasCalled s t P) (now : ℕ) →
-    HasCome plan moments first old s r → AddsOne s.worker now c.found c.added → IfSome moments (λ told. now ≡ told) → halted (mine t) t.worker ≡ false →
+pub come_called : {P : List Event → List Event → Type 0} (plan : Plan) (moments : Moments) (first : Sitting) (old : Taken) (s t : Sitting) (r new : Taken) (c : HasCalled s t P) →
+    HasCome plan moments first old s r → AddsOne moments s.worker c.found c.added → halted (mine t) t.worker ≡ false →
     ((base : List Row) → IsFollowing base plan s.seen r → IsFollowing base plan t.seen new) → HasCome plan moments first old t new
-come_called plan moments first old s t r new c now come one shown runs follows = record {
+come_called plan moments first old s t r new c come one runs follows = record {
   schedule = ap (λ (z : Site). z.schedule) c.site ∙ come.schedule;
   later = later-trans first s t come.later (later s t c);
   running = runs;
-  timely = timely_told moments s t c first.worker (length first.seen) now come.later.worker one shown come.timely;
+  timely = subst (λ (w : ℕ). AreTimely moments w (length first.seen) t.seen) come.later.worker
+      (timely_called s t c moments (length first.seen) one (subst (λ (w : ℕ). AreTimely moments w (length first.seen) s.seen) (sym come.later.worker) come.timely));
   some = come.some;
   follows = λ base f. follows base (come.follows base f);
 }
@@ -148,11 +141,11 @@ replies_within base plan h r replies f low k d lt = (let le = low k d lt in let 
 
 -- a call that adds no Finish leaves them
 pub replied_called : {P : List Event → List Event → Type 0} (plan : Plan) (moments : Moments) (first : Sitting) (old : Taken) (s t : Sitting) (r new : Taken) (replies : List Answered) (c : HasCalled s t P) →
-    HasCome plan moments first old s r → HasReplied plan first old s r replies → ((k w at front : ℕ) → ¬ Contains c.added (Finish k w at front)) → r.front ≤ new.front → HasReplied plan first old t new replies
+    HasCome plan moments first old s r → HasReplied plan moments first old s r replies → ((k w at front : ℕ) → ¬ Contains c.added (Finish k w at front)) → r.front ≤ new.front → HasReplied plan moments first old t new replies
 replied_called plan moments first old s t r new replies c come replied none rise = record {
   answered = λ base f.
-      subst (λ (h : List Event). AreReplies base plan (added first t) h replies) (whole s t c)
-      (subst (λ (events : List Event). AreReplies base plan events (s.seen ++ (c.begins.0 ++ c.added)) replies) (sym (added_called s t c first come.later.mine))
-      (answered_more base plan (added first s) s.seen c.added (c.begins.0 ++ c.added) replies (replies_within base plan s.seen r replies (come.follows base f) replied.fronts) none (replied.answered base f)));
+      subst (λ (h : List Event). AreReplies base plan moments (added first t) h replies) (whole s t c)
+      (subst (λ (events : List Event). AreReplies base plan moments events (s.seen ++ (c.begins.0 ++ c.added)) replies) (sym (added_called s t c first come.later.mine))
+      (answered_more base plan moments (added first s) s.seen c.added (c.begins.0 ++ c.added) replies (replies_within base plan s.seen r replies (come.follows base f) replied.fronts) none (replied.answered base f)));
   fronts = λ k d lt. (let le = replied.fronts k d lt in omega arith);
 }

@@ -1,5 +1,5 @@
 -- What a replica that takes what has happened since stands for.
-use Rattle.std.proofs.Common.{◌≡◌, ◌∙◌, ℕ, ◌≤◌, List, ◌++◌, length, drop, Result, Ok, Err, inr, sym, ap, subst, arith, append_assoc, length-append}
+use Rattle.std.proofs.Common.{◌≡◌, ◌∙◌, ℕ, ◌≤◌, List, ◌++◌, length, drop, Result, Ok, Err, inl, inr, sym, ap, subst, arith, append_assoc, length-append}
 use Rattle.std.specs.Prelude.{OnOk, OnErr}
 use Rattle.std.proofs.Math.Seq.{drop-append_seam}
 use mathlib.Core.List.{IsPrefix}
@@ -42,7 +42,7 @@ module _ (plan : Plan) (s t : Sitting) (r new : Taken) (c : HasLooked s t) (sche
       stands = f.stands;
       closed = f.closed;
       workers = s.site.workers;
-      few = few;
+      few = inl few;
       legal = subst (IsLegal (schedule_of plan) s.site.workers) (sym all_taken) (subst (λ (z : Schedule). IsLegal z s.site.workers t.seen) schedule c.legal);
     }
 

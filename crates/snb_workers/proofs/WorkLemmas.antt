@@ -1,7 +1,8 @@
 -- Facts on the turns of a worker at a board.
-use Rattle.std.proofs.Common.{◌≡◌, ◌∙◌, ℕ, ◌<◌, List, [], ◌∷◌, ◌++◌, length, Bool, true, false, cond, Option, Some, None, inl, inr, refl, sym, ap, subst, arith, append-nil}
+use Rattle.std.proofs.Common.{◌≡◌, ◌∙◌, ℕ, ◌<◌, List, [], ◌∷◌, ◌++◌, length, min, Bool, true, false, cond, Option, Some, None, inl, inr, refl, sym, ap, subst, arith, append-nil}
 use Rattle.snb_base.specs.Moments.{Moments}
-use Rattle.std.specs.Prelude.{AllPairs, Contains, IfSome, ℤ, slice_get}
+use Rattle.std.specs.Prelude.{AllPairs, Contains, ℤ, slice_get}
+use Rattle.std.proofs.Math.Nat.{le-max_right}
 use Rattle.std.proofs.lemmas.Bool.{eq-eqb}
 use Rattle.std.proofs.lemmas.List.Elements.{Contains-append_left}
 use Rattle.snb_base.proofs.Laws.{contains_cases, slice_get-prefix}
@@ -9,7 +10,8 @@ use Rattle.snb_history.specs.declared.event.Event.{Event}
 use Rattle.snb_history.specs.declared.event.Event.TheVariants.{Start, Finish, Halt}
 use Rattle.snb_schema.specs.declared.query.Query.{Query}
 use Rattle.snb_schema.specs.declared.row.Row.{Row}
-use Rattle.snb_history.specs.History.{halted, hand, started}
+use Rattle.snb_schema.specs.declared.limits.TheConstants.{MAX_AT}
+use Rattle.snb_history.specs.History.{halted, hand, last, started}
 use Rattle.snb_history.specs.Laws.{HandIsOwn, PrefixIsLegal}
 use Rattle.snb_history.specs.Rules.{IsFront, IsLegal}
 use Rattle.snb_history.specs.Schedule.{Schedule, IsOperation}
@@ -22,24 +24,21 @@ use Rattle.snb_plan.specs.Plans.{IsOfStreams, Plan, schedule_of}
 use Rattle.snb_workers.specs.declared.done.Answered.{Answered}
 use Rattle.snb_workers.specs.Replicas.{StandsFor, Taken}
 use Rattle.snb_workers.specs.Runs.{AreReplies, Asks}
+use Rattle.snb_workers.specs.declared.work.Served.{Served}
 use Rattle.snb_workers.specs.Turns.{IsServed}
 use Rattle.snb_workers.specs.Works.{AreTimely, HasStopped, HasWorked, IsFollowing, IsLater, NothingIsLeft, added}
 use Rattle.snb_workers.specs.WorkTurns.{HasCome, HasFollowed, HasReplied, IsAtWork, IsHolding}
 use Rattle.snb_workers.proofs.TurnReplies.{answered_at_finish, front_is, fronts_served, none_replied}
-use Rattle.snb_workers.proofs.WorkCalls.{added_called, come_called, following_later, later, later-trans, replied_called, replies_within, runs_on, timely_told, whole}
+use Rattle.snb_workers.proofs.WorkCalls.{added_called, come_called, following_later, later, later-trans, replied_called, replies_within, runs_on, timely_called, whole}
 use Rattle.snb_workers.proofs.WorkEvents.{own_contained, starts_there}
 use Rattle.snb_workers.proofs.WorkFollow.{followed_by_none}
 
 -- ---- a seat that has perhaps looked
 
 module _ (plan : Plan) (moments : Moments) (first : Sitting) (old : Taken) (s t : Sitting) (r new : Taken) where
-  -- a look leads on, whatever the clock shows
+  -- a look leads on
   come_looked : (c : HasLooked s t) → HasCome plan moments first old s r → ((base : List Row) → IsFollowing base plan s.seen r → IsFollowing base plan t.seen new) → HasCome plan moments first old t new
-  come_looked c come follows = by moments come
-    where
-      by : (told : Option ℕ) → HasCome plan told first old s r → HasCome plan told first old t new
-      by None before = come_called plan None first old s t r new c 0 before (inl c.is_so) tt (runs_on s t c before.running (inl c.is_so)) follows
-      by (Some now) before = come_called plan (Some now) first old s t r new c now before (inl c.is_so) refl (runs_on s t c before.running (inl c.is_so)) follows
+  come_looked c come follows = come_called plan moments first old s t r new c come (inl c.is_so) (runs_on s t c come.running (inl c.is_so)) follows
 
   module _ (f : HasFollowed plan s t r new) (come : HasCome plan moments first old s r) where
     pub come_followed : HasCome plan moments first old t new
@@ -55,9 +54,9 @@ module _ (plan : Plan) (moments : Moments) (first : Sitting) (old : Taken) (s t 
       | inr look ↦ come_looked look come f.follows
     ]
 
-    replied_followed : (replies : List Answered) → HasReplied plan first old s r replies → HasReplied plan first old t new replies
+    replied_followed : (replies : List Answered) → HasReplied plan moments first old s r replies → HasReplied plan moments first old t new replies
     replied_followed replies replied = elim f.call [
-      | inl same ↦ subst (λ (x : Sitting). HasReplied plan first old x new replies) (sym same) (record {
+      | inl same ↦ subst (λ (x : Sitting). HasReplied plan moments first old x new replies) (sym same) (record {
         answered = replied.answered;
         fronts = λ k d lt. (let le = replied.fronts k d lt in let rise = f.rise in omega arith);
       })
@@ -175,15 +174,15 @@ module _ (plan : Plan) (moments : Moments) (first : Sitting) (old : Taken) (s t 
   over_halted own now c = (at_work_still c c.is_so.1, left_halted c c.is_so.1 own c.is_so.0.0 c.is_so.0.1)
 
   -- a Go puts an operation into its hand
-  pub holds_now : PrefixIsLegal → (now : ℕ) (ticket : Ticket) → HasClaimed s t now (Go ticket) → IfSome moments (λ told. now ≡ told) → (ticket.worker ≡ s.worker) × IsInHand t.seen ticket → halted (mine t) ticket.worker ≡ false →
+  pub holds_now : PrefixIsLegal → (now : ℕ) (ticket : Ticket) → HasClaimed s t now (Go ticket) → moments.tells now ≡ true → (ticket.worker ≡ s.worker) × IsInHand t.seen ticket → halted (mine t) ticket.worker ≡ false →
       IsHolding plan moments first old t r replies ticket
   holds_now legal now ticket c shown held acts = record {
-    come = come_called plan moments first old s t r r c now work.come (inr (start_of ticket s.worker c.found now, c.is_so.1, eq-eqb s.worker s.worker refl, λ has. refl)) shown (subst (λ (w : ℕ). halted (mine t) w ≡ false) (held.0 ∙ sym c.worker) acts)
+    come = come_called plan moments first old s t r r c work.come (inr (start_of ticket s.worker c.found now, c.is_so.1, eq-eqb s.worker s.worker refl, λ has. record { reading = now; tells = shown; is = refl })) (subst (λ (w : ℕ). halted (mine t) w ≡ false) (held.0 ∙ sym c.worker) acts)
         (λ base f. following_later base plan s.seen t.seen r (later s t c).seen f);
     worker = held.0 ∙ sym c.worker;
     held = held.1;
     there = subst (λ (z : Schedule). IsOperation z ticket.op) work.come.schedule c.is_so.0.1.0.0.0;
-    new = none_replied work.come.some.0 plan s.site.workers (added first s) s.seen c.found ticket.op replies found_legal added_found (work.replied.answered work.come.some.0 work.come.some.1) c.is_so.0.1.0.0.1.fresh;
+    new = none_replied work.come.some.0 plan moments s.site.workers (added first s) s.seen c.found ticket.op replies found_legal added_found (work.replied.answered work.come.some.0 work.come.some.1) c.is_so.0.1.0.0.1.fresh;
     replied = replied_called plan moments first old s t r r replies c work.come work.replied none (omega arith);
   }
     where
@@ -203,33 +202,33 @@ module _ (plan : Plan) (moments : Moments) (first : Sitting) (old : Taken) (s t 
 
 module _ (plan : Plan) (moments : Moments) (first : Sitting) (old : Taken) (s : Sitting) (r : Taken) (replies : List Answered) (ticket : Ticket) (h : IsHolding plan moments first old s r replies ticket)
     (ready : (query : Query) → Asks plan ticket.op query → (base : List Row) → IsFollowing base plan first.seen old → StandsFor base plan s.seen r)
-    (new : List Answered) (front : ℕ) (served : IsServed plan ticket.op r replies new front) where
+    (new : List Answered) (done : Served) (served : IsServed plan moments ticket.op r replies new done) where
   -- the front that it is served with is that of its Finish
-  pub front_held : (schedule : Schedule) → schedule ≡ schedule_of plan → IsOfStreams plan → IsFront schedule s.seen ticket.op front
+  pub front_held : (schedule : Schedule) → schedule ≡ schedule_of plan → IsOfStreams plan → IsFront schedule s.seen ticket.op done.front
   front_held schedule is streams =
-      subst (λ (z : Schedule). IsFront z s.seen ticket.op front) (sym is)
-      (front_is h.come.some.0 plan s.seen ticket.op front r replies new streams (starts_there s.seen ticket.start ticket.op ticket.worker h.held.since.0 h.held.since.1)
+      subst (λ (z : Schedule). IsFront z s.seen ticket.op done.front) (sym is)
+      (front_is h.come.some.0 plan moments s.seen ticket.op done r replies new streams (starts_there s.seen ticket.start ticket.op ticket.worker h.held.since.0 h.held.since.1)
       (λ query asks. ready query asks h.come.some.0 h.come.some.1) served)
 
-  module _ (t : Sitting) (now : ℕ) (c : HasFinished s t ticket now front) where
+  module _ (t : Sitting) (c : HasFinished s t ticket done.now done.front) where
     abbrev end : Event
-    end = Finish ticket.op s.worker (moment_after c.found now) front
+    end = Finish ticket.op s.worker (moment_after c.found done.now) done.front
 
     -- then the worker is at work again
-    pub at_work_again : IfSome moments (λ told. now ≡ told) → AllPairs (λ one other. one.op < other.op) new → IsAtWork plan moments first old t r new
+    pub at_work_again : moments.tells done.now ≡ true → AllPairs (λ one other. one.op < other.op) new → IsAtWork plan moments first old t r new
     at_work_again shown rise = record {
-      come = come_called plan moments first old s t r r c now h.come (inr (end, c.is_so, eq-eqb s.worker s.worker refl, λ has. refl)) shown (runs_on s t c h.come.running (inr (end, c.is_so, refl)))
+      come = come_called plan moments first old s t r r c h.come (inr (end, c.is_so, eq-eqb s.worker s.worker refl, λ has. record { reading = done.now; tells = shown; is = refl })) (runs_on s t c h.come.running (inr (end, c.is_so, refl)))
           (λ base f. following_later base plan s.seen t.seen r (later s t c).seen f);
       empty =
           ap (λ (l : List Event). hand l t.worker) (c.mine ∙ ap (λ (l : List Event). mine s ++ l) c.is_so)
           ∙ (hand-push (mine s) end t.worker ∙ ap (λ (b : Bool). cond b None (hand (mine s) t.worker)) (eq-eqb s.worker t.worker (sym c.worker)));
       replied = record {
         answered = λ base f.
-            subst (λ (l : List Event). AreReplies base plan (added first t) l new) (whole s t c)
-            (subst (λ (events : List Event). AreReplies base plan events (s.seen ++ (c.begins.0 ++ c.added)) new) (sym (added_called s t c first h.come.later.mine ∙ ap (λ (l : List Event). added first s ++ l) c.is_so))
-            (answered_at_finish base plan (added first s) s.seen (c.begins.0 ++ c.added) ticket.op s.worker (moment_after c.found now) front r replies new
+            subst (λ (l : List Event). AreReplies base plan moments (added first t) l new) (whole s t c)
+            (subst (λ (events : List Event). AreReplies base plan moments events (s.seen ++ (c.begins.0 ++ c.added)) new) (sym (added_called s t c first h.come.later.mine ∙ ap (λ (l : List Event). added first s ++ l) c.is_so))
+            (answered_at_finish base plan moments (added first s) s.seen (c.begins.0 ++ c.added) ticket.op s.worker (moment_after c.found done.now) done (le-max_right (last c.found) (min done.now MAX_AT)) r replies new
             (replies_within base plan s.seen r replies (h.come.follows base f) h.replied.fronts) (λ query asks. ready query asks base f) (h.replied.answered base f) rise served));
-        fronts = fronts_served plan ticket.op front r replies new h.replied.fronts served;
+        fronts = fronts_served plan moments ticket.op done r replies new h.replied.fronts served;
       };
     }
 
@@ -237,7 +236,7 @@ module _ (plan : Plan) (moments : Moments) (first : Sitting) (old : Taken) (s : 
 
 -- what it leaves
 pub has_worked : (plan : Plan) (moments : Moments) (first : Sitting) (old : Taken) (s : Sitting) (r : Taken) (replies : List Answered) → IsAtWork plan moments first old s r replies → NothingIsLeft s.site.schedule s.worker s.seen →
-    HasWorked plan first s old r replies
+    HasWorked plan moments first s old r replies
 has_worked plan moments first old s r replies work over = record { free = record { empty = work.empty; running = work.come.running }; over = over; answered = work.replied.answered; fronts = work.replied.fronts }
 
 -- ---- a worker that halts
@@ -249,12 +248,11 @@ module _ (plan : Plan) (moments : Moments) (first : Sitting) (old : Taken) (s t 
   pub follows_halted : (base : List Row) → IsFollowing base plan first.seen old → IsFollowing base plan t.seen r
   follows_halted base f = following_later base plan s.seen t.seen r (later s t c).seen (come.follows base f)
 
-  pub timely_halted : IfSome moments (λ told. AreTimely told first.worker (length first.seen) t.seen)
-  timely_halted = by moments come.timely
-    where
-      by : (told : Option ℕ) → IfSome told (λ moment. AreTimely moment first.worker (length first.seen) s.seen) → IfSome told (λ moment. AreTimely moment first.worker (length first.seen) t.seen)
-      by None were = tt
-      by (Some now) were = timely_told (Some now) s t c first.worker (length first.seen) now come.later.worker (inr (Halt s.worker, c.is_so, eq-eqb s.worker s.worker refl, λ has. absurd cc)) refl were
+  pub timely_halted : AreTimely moments first.worker (length first.seen) t.seen
+  timely_halted =
+      subst (λ (w : ℕ). AreTimely moments w (length first.seen) t.seen) come.later.worker
+      (timely_called s t c moments (length first.seen) (inr (Halt s.worker, c.is_so, eq-eqb s.worker s.worker refl, λ has. absurd cc))
+      (subst (λ (w : ℕ). AreTimely moments w (length first.seen) s.seen) (sym come.later.worker) come.timely))
 
   pub stopped : HasStopped t
   stopped = (mine s, c.mine ∙ (ap (λ (l : List Event). mine s ++ l) c.is_so ∙ ap (λ (w : ℕ). mine s ++ Halt w ∷ []) (sym c.worker)))

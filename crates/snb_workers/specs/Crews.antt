@@ -31,8 +31,8 @@ opening base = record { graph = base; front = 0 }
 pub record Leaves (plan : Plan) (moments : Moments) (base : List Row) (seat : Sitting) (worker : Worker) : Type 0 where
   pub later : IsLater seat worker.seat
   pub follows : IsFollowing base plan worker.seat.seen worker.replica
-  pub timely : IfSome moments (λ now. AreTimely now seat.worker (length seat.seen) worker.seat.seen)
-  pub worked : HasWorked plan seat worker.seat (opening base) worker.replica worker.replies
+  pub timely : AreTimely moments seat.worker (length seat.seen) worker.seat.seen
+  pub worked : HasWorked plan moments seat worker.seat (opening base) worker.replica worker.replies
 
 -- so of each worker that had memory
 pub record AllLeave {E : Type 0} (plan : Plan) (moments : Moments) (base : List Row) (seats : List Sitting) (crew : List (Result Worker E)) : Type 0 where

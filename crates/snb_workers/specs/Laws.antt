@@ -1,8 +1,9 @@
 -- Laws of runs, and of the counts that their logs tell.
-use Rattle.std.specs.Prelude.{◌≡◌, ℕ, ◌<◌, List, Contains, Option, length}
-use Rattle.snb_base.specs.Moments.{Moments}
+use Rattle.std.specs.Prelude.{◌≡◌, ℕ, ◌<◌, min, List, All, Contains, length}
+use Rattle.snb_base.specs.Moments.{Moments, only}
 use Rattle.serde_json.specs.Written.{compact_text}
 use Rattle.snb_history.specs.declared.event.Event.{Event}
+use Rattle.snb_schema.specs.declared.limits.TheConstants.{MAX_AT}
 use Rattle.snb_schema.specs.declared.query.Query.{Query}
 use Rattle.snb_schema.specs.declared.row.Row.{Row}
 use Rattle.snb_history.specs.Rules.{IsLegal}
@@ -16,13 +17,17 @@ use Rattle.snb_workers_replay.specs.Laws.{IsReplayed}
 use Rattle.snb_workers.specs.Counts.{IsCount, TellsCounts, first_rows, logged_of}
 use Rattle.snb_workers.specs.declared.done.Answered.{Answered}
 use Rattle.snb_workers.specs.Replicas.{IfFinish}
-use Rattle.snb_workers.specs.Runs.{HasRun, IsReplied}
+use Rattle.snb_workers.specs.Runs.{AreByClock, HasRun, IsAt, IsReplied}
 
 -- in a legal history of a plan, the operation of each Finish is one of the plan
 abbrev pub FinishesAreOfOperations : Type 0
 FinishesAreOfOperations =
     (plan : Plan) (workers : ℕ) (h : List Event) (e : Event) → IsLegal (schedule_of plan) workers h → Contains h e
     → IfFinish e (λ op. op < length plan.operations)
+
+-- where the clock can answer one moment alone, each Start and Finish is at this moment, or at MAX_AT where it is later
+abbrev pub OneMoment : Type 0
+OneMoment = (at : ℕ) (h : List Event) → AreByClock (only at) h → All (IsAt (min at MAX_AT)) h
 
 -- what the log of a run tells by the replies to its reads is its history, each Finish with its count
 abbrev pub CountsOfARun : Type 0

@@ -1,5 +1,5 @@
 -- What a replica of a graph stands for.
-use Rattle.std.specs.Prelude.{◌≡◌, ℕ, ◌≤◌, List, ◌++◌, length}
+use Rattle.std.specs.Prelude.{◌≡◌, ◌⊎◌, ℕ, ◌<◌, ◌≤◌, ◌^◌, List, ◌++◌, length}
 use Rattle.snb_history.specs.declared.event.Event.{Event}
 use Rattle.snb_history.specs.declared.event.Event.TheVariants.{Start, Finish, Halt}
 use Rattle.snb_schema.specs.declared.limits.TheConstants.{MAX_WORKERS}
@@ -20,13 +20,16 @@ pub record StandsFor (base : List Row) (plan : Plan) (h : List Event) (r : Taken
   pub after : IsAfter base plan h r.graph
   pub front : r.front ≡ length h
 
--- a replica stands for a history of the plan, which is closed over the base, and with these events it is a legal one of at most
--- `MAX_WORKERS` workers
+-- the workers are at most MAX_WORKERS, or the history is shorter than 2 ^ 32, which it is where they are and it is legal
+abbrev pub IsCountable : ℕ → List Event → Type 0
+IsCountable workers h = (workers ≤ MAX_WORKERS) ⊎ (length h < 2 ^ 32)
+
+-- a replica stands for a history of the plan, which is closed over the base, and with these events it is a legal one that can be counted
 pub record MayTake (plan : Plan) (events : List Event) (r : Taken) (base : List Row) (g : List Event) : Type 0 where
   pub stands : StandsFor base plan g r
   pub closed : IsClosed (HoldsKey base) (updates_in plan)
   pub workers : ℕ
-  pub few : workers ≤ MAX_WORKERS
+  pub few : IsCountable workers (g ++ events)
   pub legal : IsLegal (schedule_of plan) workers (g ++ events)
 
 -- with the events it stands for the history and these

@@ -1,7 +1,6 @@
 -- What a run of a plan leaves: its history, the replies to its reads, and the graph.
-use Rattle.std.specs.Prelude.{◌≡◌, ℕ, min, List, take, All, AllPairs, Contains, ◌<◌, Option, Some, slice_get}
+use Rattle.std.specs.Prelude.{◌≡◌, ℕ, min, List, take, All, AllPairs, Contains, ◌<◌, ◌≤◌, Some, slice_get, true}
 use Rattle.snb_base.specs.Moments.{Moments}
-use Rattle.std.specs.Option.{IfSome}
 use Rattle.serde_json.specs.Written.{compact_text}
 use Rattle.snb_history.specs.declared.event.Event.{Event}
 use Rattle.snb_history.specs.declared.event.Event.TheVariants.{Start, Finish, Halt}
@@ -25,9 +24,27 @@ IsAt moment (Start op worker at) = at ≡ moment
 IsAt moment (Finish op worker at front) = at ≡ moment
 IsAt moment (Halt worker) = Unit {0}
 
--- where the clock tells a fixed moment, each Start and Finish is at this moment, or at MAX_AT where it is later
-abbrev pub AreAt : Option ℕ → List Event → Type 0
-AreAt moments h = IfSome moments (λ moment. All (IsAt (min moment MAX_AT)) h)
+-- the clock can answer this moment, or a later one where it is MAX_AT
+pub record IsOfClock (moments : Moments) (at : ℕ) : Type 0 where
+  pub reading : ℕ
+  pub tells : moments.tells reading ≡ true
+  pub is : at ≡ min reading MAX_AT
+
+-- the moment of an event, if it has one, is one that the clock can answer
+abbrev pub IsByClock : Moments → Event → Type 0
+IsByClock moments (Start op worker at) = IsOfClock moments at
+IsByClock moments (Finish op worker at front) = IsOfClock moments at
+IsByClock moments (Halt worker) = Unit {0}
+
+-- each Start and Finish is at a moment that the clock can answer
+abbrev pub AreByClock : Moments → List Event → Type 0
+AreByClock moments h = All (IsByClock moments) h
+
+-- the clock can answer a moment once these bytes are there that is no later than this one, or is MAX_AT or later
+pub record ComesAfter (moments : Moments) (reply : List ℕ) (at : ℕ) : Type 0 where
+  pub reading : ℕ
+  pub tells : moments.tells_after reply reading ≡ true
+  pub by : min reading MAX_AT ≤ at
 
 -- the operation of this number asks the query
 abbrev pub Asks : Plan → ℕ → Query → Type 0
@@ -37,12 +54,13 @@ Asks plan op query = (o : Operation) × (slice_get plan.operations op ≡ Some o
 abbrev pub IsReplied : List Row → Query → ℕ → List ℕ → Type 0
 IsReplied graph query rows text = (reply : List (List (List Cell))) × IsReply graph query reply × (rows ≡ first_rows reply) × (text ≡ compact_text (reply_data reply))
 
--- one of these events finishes a read with this front, and the reply is that to its query on the graph of the base and of what had
--- finished in that front of the history
-pub record IsAnswered (base : List Row) (plan : Plan) (finishes h : List Event) (a : Answered) : Type 0 where
+-- one of these events finishes a read with this front, no earlier than the clock could answer with the bytes of the reply there, and the reply is
+-- that to its query on the graph of the base and of what had finished in that front of the history
+pub record IsAnswered (base : List Row) (plan : Plan) (moments : Moments) (finishes h : List Event) (a : Answered) : Type 0 where
   pub worker : ℕ
   pub at : ℕ
   pub finished : Contains finishes (Finish a.op worker at a.front)
+  pub later : ComesAfter moments a.text.items at
   pub query : Query
   pub asks : Asks plan a.op query
   pub graph : List Row
@@ -51,23 +69,22 @@ pub record IsAnswered (base : List Row) (plan : Plan) (finishes h : List Event) 
 
 -- these are the replies to the reads that these events finish, one for each, by rising operation, answered on fronts of the history; the
 -- events are those of the history, or those of one worker's part of it
-pub record AreReplies (base : List Row) (plan : Plan) (finishes h : List Event) (replies : List Answered) : Type 0 where
+pub record AreReplies (base : List Row) (plan : Plan) (moments : Moments) (finishes h : List Event) (replies : List Answered) : Type 0 where
   pub rise : AllPairs (λ one other. one.op < other.op) replies
-  pub each : All (IsAnswered base plan finishes h) replies
+  pub each : All (IsAnswered base plan moments finishes h) replies
   pub all :
       (op worker at front : ℕ) (query : Query) → Contains finishes (Finish op worker at front) → Asks plan op query →
       (a : Answered) × Contains replies a × (a.op ≡ op)
 
--- a legal, complete history of the plan for so many workers, whose events are at the fixed moment where the clock tells one: no insert that
--- waits starts in it before every insert of a person or a forum has finished whose t is at most its t_d, and at no time does the completion
--- time come to the t of one that hasn't finished; the replies to its reads; and a sound graph that has the rows of the base and of each
--- insert
+-- a legal, complete history of the plan for so many workers, whose events are at moments that the clock can answer: no insert that waits starts in
+-- it before every insert of a person or a forum has finished whose t is at most its t_d, and at no time does the completion time come to the t of
+-- one that hasn't finished; the replies to its reads; and a sound graph that has the rows of the base and of each insert
 pub record HasRun (workers : ℕ) (plan : Plan) (moments : Moments) (base : List Row) (h : List Event) (replies : List Answered) (graph : List Row) : Type 0 where
   pub legal : IsLegal (schedule_of plan) workers h
   pub complete : IsComplete (schedule_of plan) h
   pub waits : WaitsForAll plan h
   pub below : StaysBelow plan h
-  pub moments : AreAt moments h
-  pub answered : AreReplies base plan h h replies
+  pub by_clock : AreByClock moments h
+  pub answered : AreReplies base plan moments h h replies
   pub final : IsFinal base plan graph
   pub sound : Sound graph

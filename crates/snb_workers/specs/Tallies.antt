@@ -3,7 +3,6 @@ use Rattle.std.specs.Prelude.{◌≡◌, ◌≢◌, ℕ, ◌≤◌, ◌⊎◌, L
 use Rattle.snb_history.specs.declared.event.Event.{Event}
 use Rattle.snb_history.specs.declared.event.Event.TheVariants.{Finish}
 use Rattle.snb_history.specs.declared.logged.Logged.{Logged}
-use Rattle.snb_schema.specs.declared.limits.TheConstants.{MAX_WORKERS}
 use Rattle.snb_schema.specs.declared.op.Line.{Line}
 use Rattle.snb_schema.specs.declared.row.Row.{Row}
 use Rattle.snb_history.specs.Rules.{IsLegal}
@@ -16,7 +15,7 @@ use Rattle.snb_workers.specs.declared.miscount.Miscount.{Miscount}
 use Rattle.snb_workers.specs.declared.tally.Tally.{Tally}
 use Rattle.snb_workers.specs.Counts.{first_rows}
 use Rattle.snb_workers.specs.Miscounts.{IsMiscount}
-use Rattle.snb_workers.specs.Replicas.{IfFinish, StandsFor, Taken}
+use Rattle.snb_workers.specs.Replicas.{IfFinish, IsCountable, StandsFor, Taken}
 
 -- ---- the counts to look at
 
@@ -71,7 +70,7 @@ pub record IsAlong (base : List Row) (plan : Plan) (h : List Event) (r : Taken) 
   pub within : r.front ≤ length h
   pub closed : IsClosed (HoldsKey base) (updates_in plan)
   pub workers : ℕ
-  pub few : workers ≤ MAX_WORKERS
+  pub few : IsCountable workers h
   pub legal : IsLegal (schedule_of plan) workers h
 
 -- from one front of the history it has gone to another

@@ -22,20 +22,20 @@ pub record HasCome (plan : Plan) (moments : Moments) (first : Sitting) (old : Ta
   pub schedule : s.site.schedule ≡ schedule_of plan
   pub later : IsLater first s
   pub running : halted (mine s) s.worker ≡ false
-  pub timely : IfSome moments (λ moment. AreTimely moment first.worker (length first.seen) s.seen)
+  pub timely : AreTimely moments first.worker (length first.seen) s.seen
   pub some : (base : List Row) × IsFollowing base plan first.seen old
   pub follows : (base : List Row) → IsFollowing base plan first.seen old → IsFollowing base plan s.seen now
 
 -- the reads that it has finished since are answered
-pub record HasReplied (plan : Plan) (first : Sitting) (old : Taken) (s : Sitting) (now : Taken) (replies : List Answered) : Type 0 where
-  pub answered : (base : List Row) → IsFollowing base plan first.seen old → AreReplies base plan (added first s) s.seen replies
+pub record HasReplied (plan : Plan) (moments : Moments) (first : Sitting) (old : Taken) (s : Sitting) (now : Taken) (replies : List Answered) : Type 0 where
+  pub answered : (base : List Row) → IsFollowing base plan first.seen old → AreReplies base plan moments (added first s) s.seen replies
   pub fronts : All (λ a. a.front ≤ now.front) replies
 
 -- and it has nothing in hand
 pub record IsAtWork (plan : Plan) (moments : Moments) (first : Sitting) (old : Taken) (s : Sitting) (now : Taken) (replies : List Answered) : Type 0 where
   pub come : HasCome plan moments first old s now
   pub empty : hand (mine s) s.worker ≡ None
-  pub replied : HasReplied plan first old s now replies
+  pub replied : HasReplied plan moments first old s now replies
 
 -- or it has the ticket's operation in hand, which has no reply yet
 pub record IsHolding (plan : Plan) (moments : Moments) (first : Sitting) (old : Taken) (s : Sitting) (now : Taken) (replies : List Answered) (ticket : Ticket) : Type 0 where
@@ -44,10 +44,10 @@ pub record IsHolding (plan : Plan) (moments : Moments) (first : Sitting) (old : 
   pub held : IsInHand s.seen ticket
   pub there : IsOperation (schedule_of plan) ticket.op
   pub new : All (λ other. other.op ≢ ticket.op) replies
-  pub replied : HasReplied plan first old s now replies
+  pub replied : HasReplied plan moments first old s now replies
 
 -- a turn after which there may be more to do leaves the worker at work, and after the last one nothing is left to start
-abbrev pub TurnsOn : Plan → Option ℕ → Sitting → Taken → Sitting → Taken → List Answered → Turn → Type 0
+abbrev pub TurnsOn : Plan → Moments → Sitting → Taken → Sitting → Taken → List Answered → Turn → Type 0
 TurnsOn plan moments first old s now replies More = IsAtWork plan moments first old s now replies
 TurnsOn plan moments first old s now replies Over = IsAtWork plan moments first old s now replies × NothingIsLeft s.site.schedule s.worker s.seen
 

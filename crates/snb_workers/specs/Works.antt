@@ -12,6 +12,7 @@ use Rattle.snb_board.specs.Boards.{Sitting, mine}
 use Rattle.snb_plan.specs.Closed.{IsClosed}
 use Rattle.snb_plan.specs.Plans.{Plan, updates_in}
 use Rattle.snb_workers.specs.declared.done.Answered.{Answered}
+use Rattle.snb_base.specs.Moments.{Moments}
 use Rattle.snb_workers.specs.Replicas.{StandsFor, Taken}
 use Rattle.snb_workers.specs.Runs.{AreReplies}
 
@@ -38,10 +39,16 @@ pub record IsLater (s t : Sitting) : Type 0 where
 abbrev pub added : Sitting → Sitting → List Event
 added s t = drop (length (mine s)) (mine t)
 
--- each Start and Finish of the worker after the first n events is at the moment at which the clock shows now, or at the last before it
-abbrev pub AreTimely : ℕ → ℕ → ℕ → List Event → Type 0
-AreTimely now worker n h =
-    (g rest : List Event) (e : Event) → g ++ e ∷ rest ≡ h → n ≤ length g → is_by worker e ≡ true → has_moment e ≡ true → moment e ≡ moment_after g now
+-- an event after others is at a moment that the clock can answer, or at the last before it where that is later, and at MAX_AT at most
+pub record IsTimely (moments : Moments) (g : List Event) (e : Event) : Type 0 where
+  pub reading : ℕ
+  pub tells : moments.tells reading ≡ true
+  pub is : moment e ≡ moment_after g reading
+
+-- so is each Start and Finish of the worker after the first n events
+abbrev pub AreTimely : Moments → ℕ → ℕ → List Event → Type 0
+AreTimely moments worker n h =
+    (g rest : List Event) (e : Event) → g ++ e ∷ rest ≡ h → n ≤ length g → is_by worker e ≡ true → has_moment e ≡ true → IsTimely moments g e
 
 -- every operation is started, or another worker has halted
 abbrev pub NothingIsLeft : Schedule → ℕ → List Event → Type 0
@@ -49,10 +56,10 @@ NothingIsLeft s worker h = ((k : ℕ) → IsOperation s k → started h k ≡ tr
 
 -- what a worker leaves that didn't want for memory: it has nothing in hand, and nothing is left to start. Over each base, its replies are those
 -- to the reads that it has finished, each answered at the front of its Finish, up to which the replica has come
-pub record HasWorked (plan : Plan) (s t : Sitting) (old new : Taken) (replies : List Answered) : Type 0 where
+pub record HasWorked (plan : Plan) (moments : Moments) (s t : Sitting) (old new : Taken) (replies : List Answered) : Type 0 where
   pub free : IsFree t
   pub over : NothingIsLeft t.site.schedule t.worker t.seen
-  pub answered : (base : List Row) → IsFollowing base plan s.seen old → AreReplies base plan (added s t) t.seen replies
+  pub answered : (base : List Row) → IsFollowing base plan s.seen old → AreReplies base plan moments (added s t) t.seen replies
   pub fronts : All (λ a. a.front ≤ new.front) replies
 
 -- the worker's last event is its Halt

@@ -14,7 +14,7 @@ ghost use Rattle.snb_workers.specs.Turns.{IsBehind};
 
 use crate::done::{Answered, Done};
 use crate::replica::Replica;
-use crate::run::Outcome;
+use crate::run::{Events, Outcome};
 use crate::work::work;
 use snb_base::{Clock, Gate};
 use snb_board::{Board, Seat};
@@ -152,7 +152,7 @@ pub(crate) fn outcome_of(
 ) -> Result<Outcome, AllocError>
     requires { (moments : Moments) × (base : List Row) × IsCrew plan.now moments base board crew.items }
     ensures { IfOk result (λ o. (moments : Moments) (base : List Row) → IsCrew plan.now moments base board crew.items →
-        HasRun board.workers plan.now moments base o.events.items o.replies o.graph) }
+        HasRun board.workers plan.now moments base o.events o.replies o.graph) }
 {
     plan.known();
     replay_is_welcome();
@@ -165,7 +165,7 @@ pub(crate) fn outcome_of(
     replies.known();
     catch_up(alloc, plan, &book, &mut replica)?;
     Ok(Outcome {
-        events: book.into_events(),
+        events: Events::from_vec(alloc, book.into_events()),
         replies,
         graph: replica.into_graph(),
     })

@@ -4,6 +4,7 @@ ghost use Rattle.std.specs.Prelude.{◌≡◌, ◌≢◌, ℕ, ◌<◌, ◌≤�
 ghost use Rattle.snb_workers.specs.declared.done.Answered.{Answered as AnyAnswered};
 ghost use Rattle.snb_workers.specs.Replies.{HasAdded, HasOne};
 
+use snb_base::{TryCopy, list_of};
 use std::alloc::{AllocError, Global};
 use std::marker::Model;
 
@@ -26,6 +27,17 @@ impl Drop for Answered {
             rows: _,
             text: _,
         } = self;
+    }
+}
+
+impl TryCopy for Answered {
+    fn try_copy(&self) -> Result<Answered, AllocError> {
+        Ok(Answered {
+            op: self.op,
+            front: self.front,
+            rows: self.rows,
+            text: Vec::from_slice(*self.text.allocator(), self.text.as_slice())?,
+        })
     }
 }
 
@@ -90,7 +102,7 @@ impl Done {
 
     /// Adds a reply in its place, to an operation that has none yet (`new`). Want of memory leaves all as it
     /// was.
-    pub fn add(&mut self, one: Answered) -> Result<(), AllocError>
+    pub fn push(&mut self, one: Answered) -> Result<(), AllocError>
         requires new { All (λ other. other.op ≢ one.op) self.old }
         ensures ok { OnOk result (HasAdded one self.old self.new) }
         ensures err { OnErr result (self.new ≡ self.old) }
@@ -115,7 +127,7 @@ impl Done {
         if self.has(one.op) {
             return Ok(());
         }
-        self.add(one)
+        self.push(one)
     }
 
     /// These replies, by rising operation; of several to one operation, one.
@@ -129,6 +141,15 @@ impl Done {
             done.add_new(one)?;
         }
         Ok(done)
+    }
+
+    /// Equal replies of one's own.
+    pub fn try_copy(&self) -> Result<Done, AllocError>
+        ensures { IfOk result (λ copy. copy ≡ self.now) }
+    {
+        let alloc = *self.items.allocator();
+        let items = list_of(alloc, self.items.as_slice(), |one| one.try_copy())?.into_vec();
+        Ok(Done { items })
     }
 
     /// The replies, by rising operation. Takes no memory.

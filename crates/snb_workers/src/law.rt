@@ -1,7 +1,7 @@
 //! Laws of runs and of the counts that their logs tell. The functions only cite laws of histories, graphs and
 //! replies; their contracts are the laws.
 
-ghost use Rattle.snb_workers.specs.Laws.{CountsOfARun, FinishesAreOfOperations, OneCount, OneEntry};
+ghost use Rattle.snb_workers.specs.Laws.{CountsOfARun, FinishesAreOfOperations, OneCount, OneEntry, OneMoment};
 
 use snb_graph_model::law::graphs_are_their_rows;
 use snb_history::law::once_each;
@@ -11,6 +11,11 @@ use snb_workers_replay::law::replay_is_welcome;
 /// In a legal history of a plan, the operation of each Finish is one of the plan.
 pub fn finishes_are_of_operations()
     ensures { FinishesAreOfOperations }
+{}
+
+/// Where a clock can answer one moment alone, each Start and Finish of a run is at it, or at MAX_AT where it is later.
+pub fn one_moment()
+    ensures { OneMoment }
 {}
 
 /// What the log of a run tells by the replies to its reads is its history, each Finish with its count.

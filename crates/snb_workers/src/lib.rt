@@ -17,5 +17,5 @@ pub use counts::Counts;
 pub use done::{Answered, Done};
 pub use miscount::{Miscount, first_miscount};
 pub use replica::{Replica, ReplyText};
-pub use run::{Outcome, run_alone};
+pub use run::{Events, Outcome, run_alone};
 pub use threads::run_workers;

@@ -2,7 +2,6 @@
 
 ghost use Rattle.std.specs.Prelude.{◌≡◌, ℕ, ◌<◌, ◌≤◌, All, IfOk, OnOk, List, length};
 ghost use Rattle.std.specs.List.Sorted.{IsNonDecreasingBy};
-ghost use Rattle.snb_schema.specs.declared.limits.TheConstants.{MAX_WORKERS};
 ghost use Rattle.snb_schema.specs.declared.row.Row.{Row};
 ghost use Rattle.snb_history.specs.Rules.{IsLegal};
 ghost use Rattle.snb_graph_model.specs.Graphs.{HoldsKey};
@@ -10,13 +9,14 @@ ghost use Rattle.snb_graph_model.specs.Soundness.{Sound};
 ghost use Rattle.snb_plan.specs.Closed.{IsClosed};
 ghost use Rattle.snb_plan.specs.Plans.{schedule_of, updates_in};
 ghost use Rattle.snb_workers.specs.Miscounts.{IsFirstMiscount, events_of};
+ghost use Rattle.snb_workers.specs.Replicas.{IsCountable};
 ghost use Rattle.snb_workers.specs.Tallies.{CountsRows, HasGone, IsAlong, IsEarlier, IsLeastAmong, IsTally, IsWeighed};
 
 use crate::replica::{Replica, count_first_rows};
 use crate::tally::{Tally, tallies_by_front};
 use snb_graph::Graph;
 use snb_graph_model::law::graphs_are_their_rows;
-use snb_history::law::{legal_is_short, prefix_is_legal};
+use snb_history::law::prefix_is_legal;
 use snb_history::{Event, Logged};
 use snb_plan::{Plan, Task};
 use snb_read_laws::law::one_reply;
@@ -116,7 +116,7 @@ fn least_among(
 ) -> Result<Option<Miscount>, AllocError>
     requires sound { Sound base.now }
     requires closed { IsClosed (HoldsKey base.now) (updates_in plan.now) }
-    requires legal { (workers : ℕ) × (workers ≤ MAX_WORKERS) × IsLegal (schedule_of plan.now) workers (events_of logged.now) }
+    requires legal { (workers : ℕ) × IsCountable workers (events_of logged.now) × IsLegal (schedule_of plan.now) workers (events_of logged.now) }
     requires each { All (IsTally logged.now) tallies.now }
     requires rises { IsNonDecreasingBy (λ t. t.front) tallies.now }
     ensures { IfOk result (IsLeastAmong base.now plan.now logged.now tallies.now) }
@@ -143,11 +143,12 @@ fn least_among(
 /// counts has none.
 ///
 /// The conditions: the base is sound, the plan's updates are closed over it, and the events that are logged
-/// are a legal history of the plan by at most `MAX_WORKERS` workers.
+/// are a legal history of the plan by some number of workers.
 ///
 /// One replica of the base takes the history once, and each read with a count is answered once, in the order
 /// of the fronts. There is no replica where no count has to be looked at: those of a log without counts, and
-/// the 0 of each insert. An answer of more rows than the greatest u32 is want of memory too.
+/// the 0 of each insert. An answer of more rows than the greatest u32 is want of memory too, and so is a log of
+/// more events.
 pub fn first_miscount(
     alloc: Global,
     plan: &Plan,
@@ -156,11 +157,12 @@ pub fn first_miscount(
 ) -> Result<Option<Miscount>, AllocError>
     requires sound { Sound base.now }
     requires closed { IsClosed (HoldsKey base.now) (updates_in plan.now) }
-    requires legal { (workers : ℕ) × (workers ≤ MAX_WORKERS) × IsLegal (schedule_of plan.now) workers (events_of logged.now) }
+    requires legal { (workers : ℕ) × IsLegal (schedule_of plan.now) workers (events_of logged.now) }
     ensures { IfOk result (IsFirstMiscount base.now plan.now logged.now) }
 {
-    legal_is_short();
-    plan.schedule().steps();
+    if u32::try_from(logged.len()).is_err() {
+        return Err(AllocError);
+    }
     let tallies = tallies_by_front(alloc, plan, logged)?;
     least_among(alloc, plan, base, logged, &tallies)
 }

@@ -4,6 +4,7 @@ ghost use Rattle.std.specs.Prelude.{◌≡◌, ℕ, ◌<◌, ◌≤◌, ◌^◌,
 ghost use Rattle.snb_history.specs.declared.event.Event.{Event as AnyEvent};
 ghost use Rattle.snb_schema.specs.declared.row.Row.{Row};
 ghost use Rattle.snb_graph_model.specs.Soundness.{Sound};
+ghost use Rattle.snb_book.specs.Kept.{IsInHand};
 ghost use Rattle.snb_inserts.specs.Applying.{HasLine};
 ghost use Rattle.snb_plan.specs.Plans.{IsOfStreams};
 ghost use Rattle.snb_workers_replay.specs.Replay.{finished_insert};
@@ -12,6 +13,8 @@ ghost use Rattle.snb_workers.specs.Counts.{first_rows};
 ghost use Rattle.snb_workers.specs.Replicas.{HasTaken, HasTakenSome, IfFinish, MayTake};
 ghost use Rattle.snb_workers.specs.Runs.{IsReplied};
 
+use snb_board::Seat;
+use snb_book::Ticket;
 use snb_graph::Graph;
 use snb_history::Event;
 use snb_history::law::{legal_is_short, prefix_is_legal};
@@ -184,7 +187,17 @@ impl Replica {
 
     /// How many rows the first answer of the reply to a query on its graph has, and the reply's compact JSON
     /// text, in no more memory than its length. An answer of 2^32 rows or more counts as want of memory.
-    pub fn answer_text(&self, alloc: Global, query: &Query) -> Result<ReplyText, AllocError>
+    ///
+    /// The condition: `begun`, the ticket's operation is in the hand of the seat's worker, so that nobody answers
+    /// a read before its Start.
+    pub fn answer_text(
+        &self,
+        alloc: Global,
+        query: &Query,
+        _seat: &Seat,
+        _ticket: Ticket,
+    ) -> Result<ReplyText, AllocError>
+        requires begun { IsInHand _seat.now.seen _ticket }
         ensures { IfOk result (λ r. IsReplied self.now.graph query.now r.rows r.text.items) }
     {
         let reply = self.answer(alloc, query)?;

@@ -9,7 +9,7 @@ ghost use Rattle.snb_workers.specs.Runs.{HasRun};
 
 use crate::crew::{Worker, outcome_of};
 use crate::done::Done;
-use snb_base::{Clock, Gate};
+use snb_base::{Clock, Gate, OwnedList};
 use snb_board::Board;
 use snb_graph::Graph;
 use snb_history::Event;
@@ -17,9 +17,12 @@ use snb_plan::Plan;
 use std::alloc::{AllocError, Global};
 use std::sync::Wait;
 
+/// Events, in the order in which they happened.
+pub type Events = OwnedList<Event>;
+
 /// What a run leaves: its events, the replies to its reads, and its final graph.
 pub struct Outcome {
-    pub events: Vec<Event>,
+    pub events: Events,
     pub replies: Done,
     pub graph: Graph,
 }
@@ -36,7 +39,7 @@ impl Drop for Outcome {
 
 impl Outcome {
     /// Its events, the replies to its reads, and its final graph, each for itself. Takes no memory.
-    pub fn into_parts(self) -> (Vec<Event>, Done, Graph)
+    pub fn into_parts(self) -> (Events, Done, Graph)
         ensures events { result.0 ≡ self.events }
         ensures replies { result.1 ≡ self.replies }
         ensures graph { result.2 ≡ self.graph }
@@ -66,7 +69,7 @@ pub fn run_alone<R: Wait, C: Clock, G: Gate>(
     requires sound { Sound base.now }
     requires closed { IsClosed (HoldsKey base.now) (updates_in plan.now) }
     ensures ran { IfOk result (λ o. (workers : ℕ) → 1 ≤ workers →
-        HasRun workers plan.now (C.moments clock.now) base.now o.events.items o.replies o.graph) }
+        HasRun workers plan.now (C.moments clock.now) base.now o.events o.replies o.graph) }
 {
     base.known();
     let (board, mut seats) = Board::make(alloc, plan.schedule(), 1)?;

@@ -71,7 +71,7 @@ pub fn run_workers<R: Threads + Wait + Sync, C: Clock + Sync, G: Gate + Sync>(
     requires few { workers ≤ MAX_WORKERS }
     requires sound { Sound base.now }
     requires closed { IsClosed (HoldsKey base.now) (updates_in plan.now) }
-    ensures ran { IfOk result (λ o. HasRun workers plan.now (C.moments clock.now) base.now o.events.items o.replies o.graph) }
+    ensures ran { IfOk result (λ o. HasRun workers plan.now (C.moments clock.now) base.now o.events o.replies o.graph) }
 {
     base.known();
     let (board, seats) = Board::make(alloc, plan.schedule(), workers)?;

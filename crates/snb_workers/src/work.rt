@@ -1,8 +1,9 @@
 //! What one of several workers does, who share a board.
 
-ghost use Rattle.std.specs.Prelude.{◌≡◌, ◌≢◌, ◌<◌, All, AllPairs, List, IfOk, IfSome, OnErr, OnOk, length};
+ghost use Rattle.std.specs.Prelude.{◌≡◌, ◌≢◌, ◌<◌, All, AllPairs, List, IfOk, OnErr, OnOk, length, true};
 ghost use Rattle.snb_schema.specs.declared.row.Row.{Row};
 ghost use Rattle.snb_history.specs.Schedule.{IsOperation};
+ghost use Rattle.snb_book.specs.Kept.{IsInHand};
 ghost use Rattle.snb_board.specs.Boards.{HasLearned, Sitting};
 ghost use Rattle.snb_plan.specs.Plans.{schedule_of};
 ghost use Rattle.snb_workers.specs.Replicas.{Taken};
@@ -27,36 +28,54 @@ enum Turn {
     Over,
 }
 
-// Answers the operation from the replica, if it is a read, and keeps the text of its reply and how many
-// rows that has. Gives the front of its Finish.
-fn serve(
+/// What the Finish of an operation says that was done just now: its front, and the moment that the clock
+/// showed then.
+#[derive(Clone, Copy)]
+pub struct Served {
+    pub front: u32,
+    pub now: u64,
+}
+
+// Answers the operation that the seat has in hand from the replica, if it is a read, and keeps the text of its
+// reply and how many rows that has. The clock is asked when the reply is there.
+fn serve<C: Clock>(
     alloc: Global,
     plan: &Plan,
     replica: &Replica,
     replies: &mut Done,
-    op: u32,
-) -> Result<u32, AllocError>
-    requires there { IsOperation (schedule_of plan.now) op }
-    requires new { All (λ other. other.op ≢ op) replies.old }
-    ensures served { IfOk result (IsServed plan.now op replica.now replies.old replies.new) }
+    seat: &Seat,
+    ticket: Ticket,
+    clock: &C,
+) -> Result<Served, AllocError>
+    requires there { IsOperation (schedule_of plan.now) ticket.op }
+    requires held { IsInHand seat.now.seen ticket }
+    requires new { All (λ other. other.op ≢ ticket.op) replies.old }
+    ensures served { IfOk result (IsServed plan.now (C.moments clock.now) ticket.op replica.now replies.old replies.new) }
+    ensures told { IfOk result (λ served. (C.moments clock.now).tells served.now ≡ true) }
     ensures rise { OnOk result (AllPairs (λ one other. one.op < other.op) replies.new) }
 {
-    let front = match plan.task(op) {
-        Task::Insert { .. } => 0,
+    let served = match plan.task(ticket.op) {
+        Task::Insert { .. } => Served {
+            front: 0,
+            now: clock.now(),
+        },
         Task::Ask { query } => {
             let front = replica.front();
-            let (rows, text) = replica.answer_text(alloc, query)?.into_parts();
-            replies.add(Answered {
-                op,
+            let (rows, text) = replica
+                .answer_text(alloc, query, seat, ticket)?
+                .into_parts();
+            let now = clock.after(text.as_slice());
+            replies.push(Answered {
+                op: ticket.op,
                 front,
                 rows,
                 text,
             })?;
-            front
+            Served { front, now }
         }
     };
     replies.known();
-    Ok(front)
+    Ok(served)
 }
 
 // What the workers at a board share.
@@ -122,9 +141,11 @@ impl<'a, R: Wait, C: Clock, G: Gate> Shared<'a, R, C, G> {
         self.gate
             .pass(self.rt, ticket.worker, ticket.op, Phase::Held);
         self.make_ready(seat, replica, ticket.op)?;
-        let front = serve(self.alloc, self.plan, replica, replies, ticket.op)?;
+        let served = serve(
+            self.alloc, self.plan, replica, replies, seat, ticket, self.clock,
+        )?;
         self.board
-            .finish(self.rt, seat, ticket, self.clock.now(), front);
+            .finish(self.rt, seat, ticket, served.now, served.front);
         self.gate
             .pass(self.rt, ticket.worker, ticket.op, Phase::Done);
         Ok(())
@@ -184,7 +205,8 @@ impl<'a, R: Wait, C: Clock, G: Gate> Shared<'a, R, C, G> {
 
 /// Works at a board until nothing is left to start, or another worker has halted: each operation is
 /// claimed, done and finished. A read is answered from the replica, which is brought forward to all that
-/// has happened just before. Where there is no memory, the worker halts, what it has in hand stays
+/// has happened just before, and the clock is asked for the moment of its Finish with the bytes of its reply at
+/// hand. Where there is no memory, the worker halts, what it has in hand stays
 /// unfinished, and the answer is Err.
 ///
 /// The conditions: `board`, the board is one of the plan's schedule; `seat`, the seat is one of the board's;
@@ -206,8 +228,8 @@ pub fn work<R: Wait, C: Clock, G: Gate>(
     requires following { (base : List Row) × IsFollowing base plan.now seat.old.seen replica.old }
     ensures later { IsLater seat.old seat.new }
     ensures follows { (base : List Row) → IsFollowing base plan.now seat.old.seen replica.old → IsFollowing base plan.now seat.new.seen replica.new }
-    ensures timely { IfSome (C.moments clock.now) (λ now. AreTimely now seat.old.worker (length seat.old.seen) seat.new.seen) }
-    ensures ok { IfOk result (HasWorked plan.now seat.old seat.new replica.old replica.new) }
+    ensures timely { AreTimely (C.moments clock.now) seat.old.worker (length seat.old.seen) seat.new.seen }
+    ensures ok { IfOk result (HasWorked plan.now (C.moments clock.now) seat.old seat.new replica.old replica.new) }
     ensures err { OnErr result (HasStopped seat.new) }
 {
     let shared = Shared {

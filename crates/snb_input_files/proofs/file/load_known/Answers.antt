@@ -8,6 +8,7 @@ use Rattle.snb_input_files.specs.declared.pieces.Step.{Step}
 use Rattle.snb_input_files.specs.declared.pieces.Step.TheVariants as step
 use Rattle.snb_input_files.specs.Format.{format_in}
 use Rattle.snb_input_files.specs.Pieces.{IsStep}
+use Rattle.snb_input_files.proofs.NameFacts.{still_asked}
 use Rattle.snb_input_files.proofs.Going.{first, going_absent, going_begins, going_end, going_err, going_more, kept_reader}
 use Rattle.snb_input_files.proofs.file.load_known.Goals as goal
 
@@ -23,6 +24,9 @@ pieces-init g c = record {
   room = search rules;
   read = search rules;
 }
+
+pub read_piece-requires-clause-allowed : goal.read_piece-requires-clause-allowed
+read_piece-requires-clause-allowed g c = still_asked c.pieces.invariant.read.names c.args.path.now c.requires.allowed
 
 pub returns-in-Err-clause-answer : goal.returns-in-Err-clause-answer
 returns-in-Err-clause-answer g c =

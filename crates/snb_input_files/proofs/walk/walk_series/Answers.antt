@@ -1,11 +1,13 @@
-use Rattle.std.proofs.Common.{rules, ◌≡◌, ◌++◌, Option, Some, None, Bool, Ok, Err, subst, sym, arith}
+use Rattle.std.proofs.Common.{rules, ◌≡◌, [], ◌∷◌, ◌++◌, Option, Some, None, Bool, Ok, Err, subst, sym, arith}
 use Rattle.snb_base.specs.Shelf.{Files}
 use Rattle.snb_base.proofs.Laws.{read_after}
 use Rattle.snb_input_files.specs.Format.{format_in}
 use Rattle.snb_input_files.specs.declared.found.Found.{Found}
 use Rattle.snb_input_files.specs.Loading.{IsWithin}
 use Rattle.snb_input_files.specs.Looking.{IsFileTold, IsLook, IsPeek}
+use Rattle.snb_input_files.specs.Names.{IsNameIn}
 use Rattle.snb_input_files.specs.Walk.{file_at, first_role}
+use Rattle.snb_input_files.proofs.NameFacts.{of_part, still_allows}
 use Rattle.snb_input_files.proofs.SeriesFacts.{along_absent, along_end, along_err, along_first, along_last, along_more, along_over}
 use Rattle.snb_input_files.proofs.walk.walk_series.Goals as goal
 
@@ -16,6 +18,12 @@ loop-part-init g c = record {
   rows = search rules;
   read = search rules;
 }
+
+pub look-requires-clause-allowed : goal.look-requires-clause-allowed
+look-requires-clause-allowed g c = of_part c.args.folder.now c.args.series c.loop-part.part (omega arith) (still_allows (IsNameIn (c.args.series ∷ []) c.args.folder.now) c.loop-part.invariant.read.names c.requires.allowed)
+
+pub is_held-requires : goal.is_held-requires
+is_held-requires g c = record { allowed = of_part c.args.folder.now c.args.series c.args.series.most (omega arith) (still_allows (IsNameIn (c.args.series ∷ []) c.args.folder.now) c.loop-part.invariant.read.names c.requires.allowed) }
 
 pub returns-in-Err-clause-answer : goal.returns-in-Err-clause-answer
 returns-in-Err-clause-answer g c =

@@ -1,11 +1,14 @@
 use Rattle.std.proofs.Common.{rules, ◌+◌, List, Option, Ok, Err, drop, get_or, subst}
 use Rattle.std.proofs.lemmas.List.{drop_all}
+use Rattle.std.proofs.lemmas.List.Elements.{Contains-get_or}
 use Rattle.snb_base.specs.Shelf.{Files}
 use Rattle.snb_base.proofs.Laws.{read_after}
 use Rattle.snb_input_files.specs.Format.{format_in}
 use Rattle.snb_input_files.specs.declared.series.Series.{Series}
 use Rattle.snb_input_files.specs.Looking.{IsSeries}
+use Rattle.snb_input_files.specs.Names.{IsNameIn}
 use Rattle.snb_input_files.specs.Stages.{before}
+use Rattle.snb_input_files.proofs.NameFacts.{of_series, still_allows}
 use Rattle.snb_input_files.proofs.StageFacts.{Staged, most_fits, next_series, no_series, staged_end, staged_err, staged_first, staged_more, walked_first}
 use Rattle.snb_input_files.proofs.walk.walk_stage.Goals as goal
 
@@ -22,6 +25,11 @@ loop-series-init g c = record {
 
 pub walk_series-requires-clause-few : goal.walk_series-requires-clause-few
 walk_series-requires-clause-few g c = most_fits c.args.stage.now 0 c.loop-series.series-index c.requires.rising (search rules)
+
+pub walk_series-requires-clause-allowed : goal.walk_series-requires-clause-allowed
+walk_series-requires-clause-allowed g c =
+    of_series c.args.stage.now c.args.folder.now (get_or c.args.stage.now c.loop-series.series-index no_series) (Contains-get_or c.args.stage.now c.loop-series.series-index no_series (search rules))
+    (still_allows (IsNameIn c.args.stage.now c.args.folder.now) c.loop-series.invariant.read.names c.requires.allowed)
 
 pub returns-in-Err-clause-answer : goal.returns-in-Err-clause-answer
 returns-in-Err-clause-answer g c =

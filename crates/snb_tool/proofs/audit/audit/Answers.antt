@@ -1,10 +1,16 @@
-use Rattle.std.proofs.Common.{ap, ◌∙◌}
+use Rattle.std.proofs.Common.{ap, inl, inr, refl, ◌∙◌}
 use Rattle.snb_tool_words.specs.declared.command.Command.TheVariants.{Audit}
 use Rattle.snb_tool.specs.Endings.{IsFinished}
 use Rattle.snb_tool.specs.Output.{on_screen}
 use Rattle.snb_tool.proofs.InputLemmas.{passed}
 use Rattle.snb_tool.proofs.OutcomeLemmas.{audit_done, audit_not}
 use Rattle.snb_tool.proofs.audit.audit.Goals as goal
+
+pub judge-requires-clause-allowed : goal.judge-requires-clause-allowed
+judge-requires-clause-allowed g c = λ name is. c.requires.allowed name (inl is)
+
+pub judge-requires-clause-log : goal.judge-requires-clause-log
+judge-requires-clause-log g c = c.requires.allowed c.args.log.now (inr refl)
 
 pub returns-in_err-judged-clause-answer : goal.returns-in_err-judged-clause-answer
 returns-in_err-judged-clause-answer g c = λ given moments.

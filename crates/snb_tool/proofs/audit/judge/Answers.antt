@@ -3,7 +3,11 @@ use Rattle.snb_base.specs.Shelf.{Files}
 use Rattle.snb_auditor_log.specs.Audited.{IsAuditAnswer}
 use Rattle.snb_tool.specs.Endings.{IsJudgedAnswer}
 use Rattle.snb_tool.proofs.InputLemmas.{judged_by_log, judged_no_input, judged_no_log, passed}
+use Rattle.snb_input_files.proofs.Laws.{still_asked}
 use Rattle.snb_tool.proofs.audit.judge.Goals as goal
+
+pub audit_log-requires-clause-allowed : goal.audit_log-requires-clause-allowed
+audit_log-requires-clause-allowed g c = still_asked c.in_ok-input.ensures.read.names c.args.log.now c.requires.log
 
 pub returns-in_err-input-clause-answer : goal.returns-in_err-input-clause-answer
 returns-in_err-input-clause-answer g c =

@@ -1,11 +1,28 @@
-use Rattle.std.proofs.Common.{subst, Option, Err, Ok, ◌∙◌}
+use Rattle.std.proofs.Common.{subst, Option, Err, Ok, ◌∙◌, ◌++◌}
 use Rattle.snb_base.specs.Shelf.{Files}
 use Rattle.snb_base.proofs.Laws.{read_after, read_well}
 use Rattle.snb_loader.specs.Lanes.{IsLanesAnswer}
 use Rattle.snb_loader.specs.Params.{IsParamsAnswer}
 use Rattle.snb_tool.specs.Endings.{IsInputAnswer}
 use Rattle.snb_tool.proofs.InputLemmas.{AreOne, input_made, input_no_dataset, input_no_lanes, input_no_params, made_closed, made_sound, made_well, passed}
+use Rattle.snb_input_files.specs.Names.{IsNameIn}
+use Rattle.snb_input_files.proofs.Laws.{of_back, of_front, still_allows}
+use Rattle.snb_loader.specs.Order.{stream_series, table_series}
+use Rattle.snb_loader.specs.Params.{params_stage}
 use Rattle.snb_tool.proofs.input.load_input.Goals as goal
+
+pub load_dataset-requires-clause-allowed : goal.load_dataset-requires-clause-allowed
+load_dataset-requires-clause-allowed g c = of_front table_series (stream_series ++ params_stage c.args.frequencies) c.args.folder.now c.requires.allowed
+
+pub load_lanes-requires-clause-allowed : goal.load_lanes-requires-clause-allowed
+load_lanes-requires-clause-allowed g c =
+    still_allows (IsNameIn stream_series c.args.folder.now) c.in_ok-graph.ensures.read.names
+    (of_front stream_series (params_stage c.args.frequencies) c.args.folder.now (of_back table_series (stream_series ++ params_stage c.args.frequencies) c.args.folder.now c.requires.allowed))
+
+pub load_params-requires-clause-allowed : goal.load_params-requires-clause-allowed
+load_params-requires-clause-allowed g c =
+    still_allows (IsNameIn (params_stage c.args.frequencies) c.args.folder.now) (c.in_ok-lanes.ensures.read.names ∙ c.in_ok-graph.ensures.read.names)
+    (of_back stream_series (params_stage c.args.frequencies) c.args.folder.now (of_back table_series (stream_series ++ params_stage c.args.frequencies) c.args.folder.now c.requires.allowed))
 
 pub returns-in_err-graph-clause-answer : goal.returns-in_err-graph-clause-answer
 returns-in_err-graph-clause-answer g c =

@@ -1,5 +1,5 @@
 use Rattle.std.specs.Prelude.{ℕ, List}
-use Rattle.std.proofs.Common.{ap, subst, sym, ◌∙◌}
+use Rattle.std.proofs.Common.{ap, inl, inr, refl, subst, sym, ◌∙◌}
 use Rattle.snb_history.specs.Rules.{IsComplete, IsLegal}
 use Rattle.snb_history.specs.declared.logged.Logged.{Logged}
 use Rattle.snb_plan.specs.Plans.{schedule_of}
@@ -10,6 +10,12 @@ use Rattle.snb_tool.specs.Output.{on_screen}
 use Rattle.snb_tool.proofs.InputLemmas.{passed}
 use Rattle.snb_tool.proofs.OutcomeLemmas.{judged_whole, latency_judged, latency_not, latency_summed}
 use Rattle.snb_tool.proofs.latency.latency.Goals as goal
+
+pub judge-requires-clause-allowed : goal.judge-requires-clause-allowed
+judge-requires-clause-allowed g c = λ name is. c.requires.allowed name (inl is)
+
+pub judge-requires-clause-log : goal.judge-requires-clause-log
+judge-requires-clause-log g c = c.requires.allowed c.args.log.now (inr refl)
 
 pub summary_of-requires-clause-legal : goal.summary_of-requires-clause-legal
 summary_of-requires-clause-legal g c =

@@ -13,7 +13,7 @@ returns g c =
     let outcome = c.in_ok-outcome.outcome in
     let ran = c.in_ok-outcome.ensures.ran in
     let back =
-    run_back c.log_reads_back.ensures.run c.legal_is_short.ensures c.args.input.plan c.args.workers outcome.events.items outcome.replies ran.legal c.requires.workers c.requires.few
+    run_back c.log_reads_back.ensures.run c.legal_is_short.ensures c.args.input.plan c.args.workers outcome.events outcome.replies ran.legal c.requires.workers c.requires.few
     (subst IsPlanned c.schedule.ensures c.steps.ensures.planned) (subst (λ (replies : List Answered). All (λ a. a.rows ≤ MAX_NUMBER) replies) c.as_slice.ensures c.known_counts.ensures) in
     IfOk-weaker c.texts_of.result _ _ (λ output shown. run_shown c.args.workers c.args.input (g.C.Clock.moments c.args.clock.now) outcome (bytes_of output) ran back shown) c.texts_of.ensures
 

@@ -1,5 +1,8 @@
 use Rattle.std.proofs.Common.{subst}
+use Rattle.snb_input_files.specs.Names.{Allows}
+use Rattle.snb_tool_words.specs.declared.command.Command.{Command}
 use Rattle.snb_tool.specs.Endings.{given_by}
+use Rattle.snb_tool.specs.Names.{IsNameOf}
 use Rattle.snb_tool_words.specs.Commands.{IsRunnable}
 use Rattle.snb_tool.proofs.tool.obey.Goals as goal
 
@@ -8,6 +11,33 @@ run-requires-clause-workers g c = λ κs lives. (subst IsRunnable c.in-Run.is c.
 
 pub run-requires-clause-few : goal.run-requires-clause-few
 run-requires-clause-few g c = λ κs lives. (subst IsRunnable c.in-Run.is c.requires.runnable).1
+
+pub check-requires : goal.check-requires
+check-requires g c = record { allowed = rw c.as_str.ensures (subst (λ (z : Command). Allows (g.S.Shelf.may c.args.shelf.now) (IsNameOf z)) c.in-Check.is c.requires.allowed) }
+
+pub run-requires-clause-allowed : goal.run-requires-clause-allowed
+run-requires-clause-allowed g c = λ κs lives. rw c.as_str-in-Run.ensures (subst (λ (z : Command). Allows (g.S.Shelf.may c.args.shelf.now) (IsNameOf z)) c.in-Run.is c.requires.allowed)
+
+pub audit-requires : goal.audit-requires
+audit-requires g c = record { allowed = rw (c.as_str-in-Audit.ensures, c.as_str-in-Audit-2.ensures) (subst (λ (z : Command). Allows (g.S.Shelf.may c.args.shelf.now) (IsNameOf z)) c.in-Audit.is c.requires.allowed) }
+
+pub latency-requires : goal.latency-requires
+latency-requires g c = record { allowed = rw (c.as_str-in-Latency.ensures, c.as_str-in-Latency-2.ensures) (subst (λ (z : Command). Allows (g.S.Shelf.may c.args.shelf.now) (IsNameOf z)) c.in-Latency.is c.requires.allowed) }
+
+pub expect-requires : goal.expect-requires
+expect-requires g c = record { allowed = rw c.as_str-in-Expect.ensures (subst (λ (z : Command). Allows (g.S.Shelf.may c.args.shelf.now) (IsNameOf z)) c.in-Expect.is c.requires.allowed) }
+
+pub read-requires : goal.read-requires
+read-requires g c = record { allowed = rw c.as_str-in-Read.ensures (subst (λ (z : Command). Allows (g.S.Shelf.may c.args.shelf.now) (IsNameOf z)) c.in-Read.is c.requires.allowed) }
+
+pub validate-requires : goal.validate-requires
+validate-requires g c = record { allowed = rw (c.as_str-in-Graph.ensures, c.as_str-in-Graph-2.ensures) (subst (λ (z : Command). Allows (g.S.Shelf.may c.args.shelf.now) (IsNameOf z)) c.in-Validate.is c.requires.allowed) }
+
+pub validate_via-requires : goal.validate_via-requires
+validate_via-requires g c = record { allowed = rw (c.as_str-in-Some.ensures, c.as_str-in-Some-2.ensures) (subst (λ (z : Command). Allows (g.S.Shelf.may c.args.shelf.now) (IsNameOf z)) c.in-Validate.is c.requires.allowed) }
+
+pub walk-requires : goal.walk-requires
+walk-requires g c = record { allowed = rw c.as_str-in-Some-given.ensures (subst (λ (z : Command). Allows (g.S.Shelf.may c.args.shelf.now) (IsNameOf z)) c.in-Walk.is c.requires.allowed) }
 
 pub trial-requires-clause-some : goal.trial-requires-clause-some
 trial-requires-clause-some g c = λ κs lives. (subst IsRunnable c.in-Trial.is c.requires.runnable).0

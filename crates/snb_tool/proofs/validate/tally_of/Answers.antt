@@ -3,7 +3,14 @@ use Rattle.snb_base.specs.Shelf.{Files}
 use Rattle.snb_validation_check.specs.CasesFile.{IsCasesAnswer}
 use Rattle.snb_tool.specs.Endings.{IsTallyAnswer}
 use Rattle.snb_tool.proofs.InputLemmas.{passed, tallied, tally_no_dataset}
+use Rattle.snb_input_files.proofs.Laws.{still_asked}
 use Rattle.snb_tool.proofs.validate.tally_of.Goals as goal
+
+pub check_cases_via-requires-clause-allowed : goal.check_cases_via-requires-clause-allowed
+check_cases_via-requires-clause-allowed g c = still_asked c.in_ok-graph.ensures.read.names c.args.cases.now c.requires.cases
+
+pub check_cases-requires-clause-allowed : goal.check_cases-requires-clause-allowed
+check_cases-requires-clause-allowed g c = still_asked c.in_ok-graph.ensures.read.names c.args.cases.now c.requires.cases
 
 pub returns-in_err-graph-clause-answer : goal.returns-in_err-graph-clause-answer
 returns-in_err-graph-clause-answer g c =

@@ -3,7 +3,14 @@ use Rattle.snb_tool_words.specs.declared.options.Via.TheVariants.{Graph}
 use Rattle.snb_tool.specs.Endings.{IsFinished}
 use Rattle.snb_tool.proofs.InputLemmas.{passed}
 use Rattle.snb_tool.proofs.OutcomeLemmas.{validate_done, validate_not}
+use Rattle.std.proofs.Common.{inl, inr, refl}
 use Rattle.snb_tool.proofs.validate.validate.Goals as goal
+
+pub tally_of-requires-clause-allowed : goal.tally_of-requires-clause-allowed
+tally_of-requires-clause-allowed g c = λ name is. c.requires.allowed name (inl is)
+
+pub tally_of-requires-clause-cases : goal.tally_of-requires-clause-cases
+tally_of-requires-clause-cases g c = c.requires.allowed c.args.cases.now (inr refl)
 
 pub returns-in_err-tally-clause-answer : goal.returns-in_err-tally-clause-answer
 returns-in_err-tally-clause-answer g c = λ given moments.

@@ -1,4 +1,4 @@
-use Rattle.std.proofs.Common.{Some, refl}
+use Rattle.std.proofs.Common.{Some, inl, inr, refl}
 use Rattle.snb_handlers.specs.Table.{kinds}
 use Rattle.snb_tool_words.specs.declared.command.Command.TheVariants.{Validate}
 use Rattle.snb_tool_words.specs.declared.options.Via.TheVariants.{Table}
@@ -6,6 +6,12 @@ use Rattle.snb_tool.specs.Endings.{IsFinished}
 use Rattle.snb_tool.proofs.InputLemmas.{passed}
 use Rattle.snb_tool.proofs.OutcomeLemmas.{table_done, table_lacks, table_not}
 use Rattle.snb_tool.proofs.validate.validate_via.Goals as goal
+
+pub tally_of-requires-clause-allowed : goal.tally_of-requires-clause-allowed
+tally_of-requires-clause-allowed g c = λ name is. c.requires.allowed name (inl is)
+
+pub tally_of-requires-clause-cases : goal.tally_of-requires-clause-cases
+tally_of-requires-clause-cases g c = c.requires.allowed c.args.cases.now (inr refl)
 
 pub returns-in_err-tally-in-None-clause-answer : goal.returns-in_err-tally-in-None-clause-answer
 returns-in_err-tally-in-None-clause-answer g c = λ pick moments.

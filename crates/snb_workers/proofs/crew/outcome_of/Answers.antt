@@ -39,4 +39,4 @@ returns c = λ moments base crew.
     crew_has_run c.args.plan.now moments base c.args.board c.args.crew.items h crew p.workers p.are c.in_ok-seats.seats.items p.seats c.hand_is_own.ensures c.prefix_is_legal.ensures legal book.seats book.made
     c.in_ok-replies.replies c.in_ok-seats.replies.items p.replies c.in_ok-replies.ensures.each c.in_ok-replies.ensures.all c.known-2.ensures c.catch_up.new.replica c.into_graph.result c.replay_is_welcome.ensures.last
     c.runs_wait.ensures c.known.ensures (c.in_ok-catch_up.ensures base at_first) c.into_graph.ensures.value c.into_graph.ensures.sound in
-    subst (λ (x : List Event). HasRun c.args.board.workers c.args.plan.now moments base x c.in_ok-replies.replies c.into_graph.result) (sym c.into_events.ensures) run
+    subst (λ (x : List Event). HasRun c.args.board.workers c.args.plan.now moments base x c.in_ok-replies.replies c.into_graph.result) (sym (c.from_vec.ensures ∙ c.into_events.ensures)) run

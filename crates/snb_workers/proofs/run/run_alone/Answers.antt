@@ -23,6 +23,6 @@ returns g c =
     (c.in_ok-push.ensures.items ∙ (λ i. c.in_ok-crew.ensures.items i ++ c.run.result ∷ [])) in
     record {
       ran = IfOk-weaker c.outcome_of.result _ _
-          (λ o ran workers some. run_of_more c.args.plan.now (g.C.Clock.moments c.args.clock.now) c.args.base.now o.events.items o.replies o.graph c.in_ok-board.board.workers workers c.in_ok-board.ensures.board.1 some
+          (λ o ran workers some. run_of_more c.args.plan.now (g.C.Clock.moments c.args.clock.now) c.args.base.now o.events o.replies o.graph c.in_ok-board.board.workers workers c.in_ok-board.ensures.board.1 some
           (ran (g.C.Clock.moments c.args.clock.now) c.args.base.now crew)) c.outcome_of.ensures;
     }

@@ -22,6 +22,6 @@ returns g c =
     (c.in_ok-board.ensures.board.0 ∙ c.schedule.ensures) c.in_ok-board.ensures.board.1 c.known.ensures c.requires.closed c.in_ok-board.ensures.seats c.in_ok-crew.ensures in
     record {
       ran = IfOk-weaker c.outcome_of.result _ _
-          (λ o ran. subst (λ (n : ℕ). HasRun n c.args.plan.now (g.C.Clock.moments c.args.clock.now) c.args.base.now o.events.items o.replies o.graph) c.in_ok-board.ensures.board.1
+          (λ o ran. subst (λ (n : ℕ). HasRun n c.args.plan.now (g.C.Clock.moments c.args.clock.now) c.args.base.now o.events o.replies o.graph) c.in_ok-board.ensures.board.1
           (ran (g.C.Clock.moments c.args.clock.now) c.args.base.now crew)) c.outcome_of.ensures;
     }

@@ -6,4 +6,4 @@ pub returns-then-has : goal.returns-then-has
 returns-then-has c = has_one_already c.args.one c.args.self.now c.if-has.ensures
 
 pub returns : goal.returns
-returns c = on_ok_weaker c.add.result (has_one c.args.one c.args.self.now c.add.new.self) c.add.ensures.ok
+returns c = on_ok_weaker c.push.result (has_one c.args.one c.args.self.now c.push.new.self) c.push.ensures.ok

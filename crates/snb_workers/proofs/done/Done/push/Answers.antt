@@ -4,7 +4,7 @@ use Rattle.std.specs.Prelude.{All, AllPairs, insert}
 use Rattle.std.proofs.lemmas.Bool.{cases_eq, cases_lt}
 use Rattle.std.proofs.lemmas.List.Edits.{get_or-insert_above, get_or-insert_at, get_or-insert_below, length-insert}
 use Rattle.snb_workers.specs.declared.done.Answered.{Answered}
-use Rattle.snb_workers.proofs.done.Done.add.Goals as goal
+use Rattle.snb_workers.proofs.done.Done.push.Goals as goal
 
 module _ (xs : List Answered) (i : ℕ) (one : Answered) (within : i ≤ length xs) where
   abbrev op_at : Answered → ℕ → ℕ
