@@ -1,6 +1,6 @@
 //! The graph, with what is walked along.
 
-ghost use Rattle.std.specs.Prelude.{◌≢◌, length, map, All, ◌≡◌, ◌∷◌, [], ◌↔◌, Contains, IsSome, IfSome, IfOk, IfErr, OnOk, OnErr, Err};
+ghost use Rattle.std.specs.Prelude.{◌≢◌, length, map, All, ◌≡◌, ◌∷◌, [], ◌↔◌, Contains, IsTrue, IsSome, IfSome, IfOk, IfErr, OnOk, OnErr, Err};
 ghost use Rattle.std.specs.Option.{option_copied};
 ghost use Rattle.snb_schema.specs.declared.layout.KeyColumns.TheVariants as columns;
 ghost use Rattle.snb_schema.specs.declared.layout.Shape.TheVariants as shapes;
@@ -159,6 +159,15 @@ impl Graph {
         ensures held { IsSome result ↔ HasKey self.now (node_key kinds.Comment id) }
     {
         self.tables.comment(id)
+    }
+
+    /// Whether the graph holds just this row. Takes no memory.
+    /// The condition: the row is one that its table can have.
+    pub fn same_row(&self, row: &Row) -> bool
+        requires { IsTableRow row.now }
+        ensures { IsTrue result ↔ Contains self.now row.now }
+    {
+        self.tables.same_row(row)
     }
 
     /// How many rows a table has. It counts those of a table of edges or words one by one.

@@ -1,16 +1,11 @@
 -- Laws that proofs above cite: of references, of lists and of the ends of a range.
-use Rattle.std.proofs.Common.{◌≡◌, ◌≤◌, ℕ, Bool, true, false, cond, List, [], ◌∷◌, Option, Some, None, map, filter, refl, sym, ap, ◌∙◌, subst, arith}
+use Rattle.std.proofs.Common.{◌≡◌, ◌≤◌, ℕ, Bool, true, false, cond, List, [], ◌∷◌, Option, Some, None, map, filter, refl, sym, ap, arith}
 use Rattle.std.specs.Borrow.{Bor}
-use Rattle.std.specs.Cmp.{nat_cmp_total, tied_itself}
-use Rattle.std.specs.List.{All, AllByRecursion, Contains}
-use Rattle.std.specs.List.Sorted.{IsStrictlySortedBy}
-use Rattle.std.specs.Map.{keys_of}
+use Rattle.std.specs.List.{All}
 use Rattle.std.specs.Option.{is_some, option_copied}
-use Rattle.std.specs.Ordering.{is_le, is_lt, nat_cmp, ordering_then}
-use Rattle.std.specs.declared.cmp.Ordering.TheVariants.{Less}
-use Rattle.std.proofs.lemmas.List.Elements.{All-contains_itself, All-head, All-tail, All-weaker}
+use Rattle.std.specs.Ordering.{is_le, is_lt, nat_cmp}
+use Rattle.std.proofs.lemmas.List.Elements.{All-tail}
 use mathlib.Core.Bool.{false≢true}
-use Rattle.snb_base.proofs.Laws.{contains_map, in_map}
 
 -- a reference is there where its value is
 pub some_copied : {X : Type 0} (o : Option (Bor X)) → is_some o ≡ is_some (option_copied o)

@@ -1,6 +1,6 @@
 //! How rows are kept as entries of a map.
 
-ghost use Rattle.std.specs.Prelude.{◌≡◌, ℕ};
+ghost use Rattle.std.specs.Prelude.{◌≡◌, ◌↔◌, ℕ, IsTrue};
 ghost use Rattle.snb_schema.specs.RowKeys.{RowKey};
 ghost use Rattle.snb_graph_model.specs.Graphs.{key_order};
 ghost use Rattle.snb_schema.specs.declared.row.Row.{Row};
@@ -8,9 +8,11 @@ ghost use Rattle.snb_schema.specs.declared.table.Table.{Table};
 
 use snb_graph_maps::Apart;
 
-/// A value whose clone is equal to it.
-pub trait Exact: Clone + Drop {
+/// A value whose clone is it, and to which no other is equal.
+pub trait Exact: Clone + PartialEq + Drop {
     ghost same_clone: { (a b : Self) → Self.is_clone a b → b ≡ a };
+
+    ghost same_value: { (a b : Self) → IsTrue (Self.eq a b) ↔ (a ≡ b) };
 }
 
 /// A key of a map: keys compare as the keys of rows do.

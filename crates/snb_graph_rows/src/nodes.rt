@@ -9,7 +9,7 @@ use crate::kept::{Exact, Kept};
 use snb_schema::{Comment, Forum, Named, Organisation, Person, Place, Post};
 
 /// A class of tags.
-#[derive(Clone)]
+#[derive(Clone, PartialEq, Eq)]
 pub struct Class {
     pub named: Named,
 }
@@ -21,19 +21,25 @@ impl Drop for Class {
 }
 
 /// A word has nothing beside its key.
-#[derive(Clone, Drop)]
+#[derive(Clone, PartialEq, Eq, Drop)]
 pub struct Mark {}
 
 impl Exact for Mark {
     ghost same_clone = { Prim.search rules };
+
+    ghost same_value = { Prim.search rules };
 }
 
 impl Exact for u64 {
     ghost same_clone = { λ a b e. e };
+
+    ghost same_value = { Prim.search rules };
 }
 
 impl Exact for Place {
     ghost same_clone = { Prim.search rules };
+
+    ghost same_value = { Prim.search rules };
 }
 
 impl Kept for Place {
@@ -46,6 +52,8 @@ impl Kept for Place {
 
 impl Exact for Class {
     ghost same_clone = { Prim.search rules };
+
+    ghost same_value = { Prim.search rules };
 }
 
 impl Kept for Class {
@@ -58,6 +66,8 @@ impl Kept for Class {
 
 impl Exact for Named {
     ghost same_clone = { Prim.search rules };
+
+    ghost same_value = { Prim.search rules };
 }
 
 impl Kept for Named {
@@ -70,6 +80,8 @@ impl Kept for Named {
 
 impl Exact for Organisation {
     ghost same_clone = { Prim.search rules };
+
+    ghost same_value = { Prim.search rules };
 }
 
 impl Kept for Organisation {
@@ -82,6 +94,8 @@ impl Kept for Organisation {
 
 impl Exact for Person {
     ghost same_clone = { Prim.search rules };
+
+    ghost same_value = { Prim.search rules };
 }
 
 impl Kept for Person {
@@ -94,6 +108,8 @@ impl Kept for Person {
 
 impl Exact for Forum {
     ghost same_clone = { Prim.search rules };
+
+    ghost same_value = { Prim.search rules };
 }
 
 impl Kept for Forum {
@@ -106,6 +122,8 @@ impl Kept for Forum {
 
 impl Exact for Post {
     ghost same_clone = { Prim.search rules };
+
+    ghost same_value = { Prim.search rules };
 }
 
 impl Kept for Post {
@@ -118,6 +136,8 @@ impl Kept for Post {
 
 impl Exact for Comment {
     ghost same_clone = { Prim.search rules };
+
+    ghost same_value = { Prim.search rules };
 }
 
 impl Kept for Comment {

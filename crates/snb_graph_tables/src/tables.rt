@@ -7,6 +7,7 @@ ghost use Rattle.snb_graph_model.specs.Graphs.{count, IsGraph};
 mod edges;
 mod entries;
 mod nodes;
+mod same;
 mod walks;
 mod words;
 

@@ -24,6 +24,5 @@ pub fn summarise(alloc: Global, plan: &Plan, events: &[Event]) -> Result<Summary
     let kinds = kinds_of(alloc, plan)?;
     let schedule = plan.schedule();
     let times = Times::of(alloc, schedule, events)?;
-    let measures = measures_of(alloc, schedule, &kinds, &times)?;
-    Ok(Summary::from_vec(alloc, measures))
+    measures_of(alloc, schedule, &kinds, &times)
 }

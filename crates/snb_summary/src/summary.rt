@@ -103,13 +103,13 @@ fn put_entry(
     times: &Times,
     kind: OpKind,
     what: What,
-    to: &mut Vec<Measure>,
+    to: &mut Summary,
 ) -> Result<(), AllocError>
     requires each { length kinds.now ≡ length schedule.now.steps }
     requires times { AreTimes schedule.now times.now }
     ensures { OnOk result ((entries : List Entry) →
-        AreMeasures (record { kinds = kinds.now; schedule = schedule.now; moments = moments_in times.now.heard }) entries to.old.items →
-        AreMeasures (record { kinds = kinds.now; schedule = schedule.now; moments = moments_in times.now.heard }) (entries ++ record { kind = kind; what = what } ∷ []) to.new.items) }
+        AreMeasures (record { kinds = kinds.now; schedule = schedule.now; moments = moments_in times.now.heard }) entries to.old →
+        AreMeasures (record { kinds = kinds.now; schedule = schedule.now; moments = moments_in times.now.heard }) (entries ++ record { kind = kind; what = what } ∷ []) to.new) }
 {
     let values = times.values(alloc, schedule, kinds, kind, what)?;
     if has_some(&values) {
@@ -125,13 +125,13 @@ fn put_kind(
     kinds: &[Option<OpKind>],
     times: &Times,
     kind: OpKind,
-    to: &mut Vec<Measure>,
+    to: &mut Summary,
 ) -> Result<(), AllocError>
     requires each { length kinds.now ≡ length schedule.now.steps }
     requires times { AreTimes schedule.now times.now }
     ensures { OnOk result ((entries : List Entry) →
-        AreMeasures (record { kinds = kinds.now; schedule = schedule.now; moments = moments_in times.now.heard }) entries to.old.items →
-        AreMeasures (record { kinds = kinds.now; schedule = schedule.now; moments = moments_in times.now.heard }) (entries ++ entries_of kind) to.new.items) }
+        AreMeasures (record { kinds = kinds.now; schedule = schedule.now; moments = moments_in times.now.heard }) entries to.old →
+        AreMeasures (record { kinds = kinds.now; schedule = schedule.now; moments = moments_in times.now.heard }) (entries ++ entries_of kind) to.new) }
 {
     put_entry(alloc, schedule, kinds, times, kind, What::Latency, to)?;
     put_entry(alloc, schedule, kinds, times, kind, What::Lateness, to)?;
@@ -144,13 +144,13 @@ pub(crate) fn measures_of(
     schedule: &Schedule,
     kinds: &[Option<OpKind>],
     times: &Times,
-) -> Result<Vec<Measure>, AllocError>
+) -> Result<Summary, AllocError>
     requires each { length kinds.now ≡ length schedule.now.steps }
     requires times { AreTimes schedule.now times.now }
     ensures { IfOk result (λ measures.
-        AreMeasures (record { kinds = kinds.now; schedule = schedule.now; moments = moments_in times.now.heard }) all_entries measures.items) }
+        AreMeasures (record { kinds = kinds.now; schedule = schedule.now; moments = moments_in times.now.heard }) all_entries measures) }
 {
-    let mut measures = Vec::new(alloc);
+    let mut measures = Summary::new(alloc);
     for kind in &KINDS {
         put_kind(alloc, schedule, kinds, times, *kind, &mut measures)?;
     }

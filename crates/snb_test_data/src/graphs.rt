@@ -1,13 +1,14 @@
-//! A graph of friendships and another one, and which of them are frozen.
+//! A graph of friendships and forums and another one, and which of the friendships are frozen.
 
 ghost use Rattle.std.specs.Prelude.{IfOk};
 ghost use Rattle.snb_schema.specs.TableRows.{IsTableRow};
 
+use snb_base::Text;
 use snb_graph::{Graph, Links};
 use snb_graph_tables::Insert;
 use snb_schema::limits::{MAX_ID, MAX_TIME};
-use snb_schema::{Row, Table};
-use snb_test_script::told::{told, told_number};
+use snb_schema::{Forum, Row, Table};
+use snb_test_script::told::{told, told_number, told_whether};
 use snb_test_script::words::{first_word, nothing, number_of, two_numbers};
 use snb_test_script::{Flaw, List};
 use std::alloc::{AllocError, Global};
@@ -25,10 +26,13 @@ impl Drop for Graphs {
     }
 }
 
-// The row of a friendship of these two.
-fn friendship(low: u64, high: u64, date: u64) -> Result<Row, Flaw>
+// The row of a friendship, `LOW HIGH DATE`.
+fn friendship(rest: &str) -> Result<Row, Flaw>
     ensures { IfOk result IsTableRow }
 {
+    let (low, rest) = first_word(rest);
+    let low = number_of(low)?;
+    let (high, date) = two_numbers(rest)?;
     if low >= high || high > MAX_ID || date > MAX_TIME {
         return Err(Flaw::OtherValue);
     }
@@ -37,6 +41,23 @@ fn friendship(low: u64, high: u64, date: u64) -> Result<Row, Flaw>
         from: low,
         to: high,
         date,
+    })
+}
+
+// The row of a forum without a title, `ID DATE`.
+fn forum(alloc: Global, rest: &str) -> Result<Row, Flaw>
+    ensures { IfOk result IsTableRow }
+{
+    let (id, creation_date) = two_numbers(rest)?;
+    if id > MAX_ID || creation_date > MAX_TIME {
+        return Err(Flaw::OtherValue);
+    }
+    Ok(Row::Forum {
+        forum: Forum {
+            id,
+            title: Text::new(alloc),
+            creation_date,
+        },
     })
 }
 
@@ -79,11 +100,10 @@ impl Graphs {
         }
     }
 
-    // `know LOW HIGH DATE`
-    fn know(&mut self, alloc: Global, rest: &str) -> Result<String, Flaw> {
-        let (low, rest) = first_word(rest);
-        let (high, date) = two_numbers(rest)?;
-        let row = friendship(number_of(low)?, high, date)?;
+    // Adds a row.
+    fn add(&mut self, alloc: Global, row: Row) -> Result<String, Flaw>
+        requires { IsTableRow row }
+    {
         match self.graph.insert_row(row) {
             Ok(()) => told(alloc, "Ok"),
             Err(Insert::Duplicate) => told(alloc, "Duplicate"),
@@ -122,7 +142,10 @@ impl Graphs {
         rest: &str,
     ) -> Result<Option<String>, Flaw> {
         let answer = match call {
-            "know" => self.know(alloc, rest)?,
+            "know" => self.add(alloc, friendship(rest)?)?,
+            "forum" => self.add(alloc, forum(alloc, rest)?)?,
+            "same_friendship" => told_whether(alloc, self.graph.same_row(&friendship(rest)?))?,
+            "same_forum" => told_whether(alloc, self.graph.same_row(&forum(alloc, rest)?))?,
             "freeze" => self.freeze(alloc, rest)?,
             "copy" => self.copy(alloc, rest)?,
             "other" => self.change(alloc, rest)?,

@@ -55,9 +55,9 @@ impl Loaded {
         shortest(alloc, &self.graph, from, to)
     }
 
-    /// The numbers of an answer to complex read 13.
+    /// The numbers of a copy of the answer to complex read 13.
     pub fn ic13(&self, alloc: Global, from: u64, to: u64) -> Result<String, Flaw> {
-        let answer = ic13(alloc, &self.graph, from, to)?;
+        let answer = ic13(alloc, &self.graph, from, to)?.try_copy()?;
         let mut list = List::new(alloc);
         for row in answer.as_slice() {
             for cell in row.as_slice() {
@@ -67,8 +67,8 @@ impl Loaded {
         list.told(alloc)
     }
 
-    /// Who is near a person.
+    /// Who is near a person, as a copy.
     pub fn within(&self, alloc: Global, start: u64, steps: u32) -> Result<Near, AllocError> {
-        within(alloc, &self.graph, start, steps)
+        within(alloc, &self.graph, start, steps)?.try_copy()
     }
 }

@@ -19,7 +19,7 @@ use snb_graph::Graph;
 use snb_handlers::Handlers;
 use snb_inserts::Applied;
 use snb_inserts::apply::apply;
-use snb_read_model::{Reply, copy_reply, lend_reply};
+use snb_read_model::{Reply, copy_reply};
 use snb_schema::{Missing, Op, Query};
 use snb_validation_cases::Case;
 use std::alloc::{AllocError, Global};
@@ -83,7 +83,7 @@ fn compared<R: Replier>(
     }
     Ok(Some(Difference {
         line,
-        expected: copy_reply(&lend_reply(due)?)?,
+        expected: due.try_copy()?,
         given: copy_reply(&given)?,
     }))
 }

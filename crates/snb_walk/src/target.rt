@@ -1,5 +1,8 @@
 //! Where a walk can go, how it picks, and why it stops.
 
+use snb_base::TryCopy;
+use std::alloc::AllocError;
+
 /// Whom or what the reads of a step ask about.
 #[derive(Clone, Copy)]
 pub enum Target {
@@ -7,6 +10,12 @@ pub enum Target {
     Person { id: u64 },
     /// A message, which IS4, IS5, IS6 and IS7 ask about.
     Message { id: u64 },
+}
+
+impl TryCopy for Target {
+    fn try_copy(&self) -> Result<Target, AllocError> {
+        Ok(*self)
+    }
 }
 
 /// Why a walk stops.

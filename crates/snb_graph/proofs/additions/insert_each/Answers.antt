@@ -1,7 +1,6 @@
-use Rattle.std.proofs.Common.{rules, sym, subst, vec_len, ◌≡◌, ◌∙◌, ◌+◌, ◌++◌, ◌∷◌, [], List, length, drop, ap}
+use Rattle.std.proofs.Common.{rules, sym, subst, vec_len, ◌≡◌, ◌∙◌, ◌+◌, length, drop}
 use Rattle.std.proofs.lemmas.Iterator.Adapters.{YieldsList-from_vec}
 use Rattle.std.proofs.lemmas.Iterator.Consumers.{YieldsList-so_far, YieldsList-turn}
-use Rattle.snb_schema.specs.declared.row.Row.{Row}
 use Rattle.snb_graph.specs.Additions.{Lead}
 use Rattle.snb_graph.proofs.GraphLemmas.{lead_on, next_item, one_taken, taken_clash}
 use Rattle.snb_graph.proofs.additions.insert_each.Goals as goal

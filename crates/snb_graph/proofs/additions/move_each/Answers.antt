@@ -1,4 +1,4 @@
-use Rattle.std.proofs.Common.{rules, sym, subst, vec_len, ◌≡◌, ◌∙◌, ◌+◌, ◌++◌, ◌∷◌, [], List, length, drop, ap, arith, length-append}
+use Rattle.std.proofs.Common.{rules, sym, subst, vec_len, ◌≡◌, ◌∙◌, ◌+◌, length, drop, ap, arith, length-append}
 use Rattle.std.proofs.lemmas.Iterator.Adapters.{YieldsList-from_vec}
 use Rattle.std.proofs.lemmas.Iterator.Consumers.{YieldsList-so_far, YieldsList-turn}
 use Rattle.snb_schema.specs.declared.row.Row.{Row}
