@@ -1,5 +1,5 @@
 -- The parameter files that are read are those of the queries with a frequency, and what each says.
-use Rattle.std.proofs.Common.{◌≡◌, ◌∙◌, ◌<◌, ltb, ℕ, true, List, [], ◌∷◌, ◌++◌, Option, Some, None, Ok, map, length, refl, sym, subst, rules, arith, append_assoc, append-nil, inl, inr}
+use Rattle.std.proofs.Common.{◌≡◌, ◌∙◌, ◌<◌, ltb, ℕ, true, List, [], ◌∷◌, ◌++◌, Option, Some, None, Ok, map, length, refl, sym, subst, arith, append_assoc, append-nil, inl, inr}
 use Rattle.snb_base.specs.Shelf.{Files}
 use Rattle.snb_schema.proofs.Laws.{frequent_complex}
 use Rattle.snb_schema.specs.declared.file.FileId.{FileId}

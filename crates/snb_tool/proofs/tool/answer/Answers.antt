@@ -7,8 +7,8 @@ use Rattle.snb_tool.proofs.AskedLemmas.{reads_nothing}
 use Rattle.snb_tool.proofs.OutcomeLemmas.{delivers_ends, ends_weaker, finished_calm, finished_ends}
 use Rattle.snb_tool.proofs.tool.answer.Goals as goal
 
-pub obey-requires-clause-allowed : goal.obey-requires-clause-allowed
-obey-requires-clause-allowed g c = λ κs lives. c.requires.allowed c.in-Ok-Some.command (rw c.in-Ok-Some.field-0-is at c.in-Ok-Some.ensures.is)
+pub obey-answer-requires-clause-allowed : goal.obey-answer-requires-clause-allowed
+obey-answer-requires-clause-allowed g c = λ κs lives. c.requires.allowed c.in-Ok-Some.command (rw c.in-Ok-Some.field-0-is at c.in-Ok-Some.ensures.is)
 
 pub returns-in-Ok-Some-clause-ends : goal.returns-in-Ok-Some-clause-ends
 returns-in-Ok-Some-clause-ends g c =
