@@ -11,6 +11,7 @@ which a line on standard error says, and then COPY isn't written; with 2 where t
 import json
 import os
 import sys
+from collections.abc import Iterator
 from pathlib import Path
 from typing import Protocol
 
@@ -28,6 +29,10 @@ class Graph(Protocol):
         """
 
 
+def is_read(kind: object, params: object) -> bool:
+    return isinstance(kind, str) and isinstance(params, list)
+
+
 def answered(database: Graph, line: str) -> str:
     """A line of a file of cases, with the reply of the database where it is a read."""
     case = json.loads(line)
@@ -35,28 +40,37 @@ def answered(database: Graph, line: str) -> str:
         raise ValueError("no object")
     if set(case) == {"insert"} and isinstance(case["insert"], str):
         database.insert(case["insert"])
-    elif set(case) == {"params", "read", "reply"} and isinstance(case["params"], list):
+    elif set(case) == {"params", "read", "reply"} and is_read(case["read"], case["params"]):
         case["reply"] = database.ask(case["read"], case["params"])
     else:
         raise ValueError(f"no case: {', '.join(case)}")
     return json.dumps(case, ensure_ascii=False, separators=(",", ":"))
 
 
+def answers(database: Graph, cases: Path) -> Iterator[str]:
+    """The lines of the copy."""
+    given, number = lines(cases), 1
+    try:
+        number, line = next(given, (1, "{}"))
+        if json.loads(line) != {"cases": 1}:
+            raise ValueError('the first line isn\'t {"cases":1}')
+        yield line
+        for number, line in given:
+            yield answered(database, line)
+    except (ValueError, RecursionError) as wrong:
+        raise ValueError(f"{cases.name}:{number}: {wrong}") from None
+
+
 def copy(database: Graph, cases: Path, target: Path) -> None:
-    """Writes the copy. Raises ValueError with the number of the line that is wrong first."""
-    given = lines(cases)
+    """Writes the copy, or raises ValueError with the number of the line that is wrong first."""
     beside = target.with_name(target.name + ".part")
-    with open(beside, "w", encoding="utf-8", newline="\n") as file:
-        number, line = next(given, (1, ""))
-        try:
-            if json.loads(line) != {"cases": 1}:
-                raise ValueError("the first line isn't {\"cases\":1}")
-            file.write(line + "\n")
-            for number, line in given:
-                file.write(answered(database, line) + "\n")
-        except (ValueError, RecursionError) as wrong:
-            raise ValueError(f"{cases.name}:{number}: {wrong}") from None
-    os.replace(beside, target)
+    try:
+        with open(beside, "w", encoding="utf-8", newline="\n") as file:
+            for line in answers(database, cases):
+                file.write(line + "\n")
+        os.replace(beside, target)
+    finally:
+        beside.unlink(missing_ok=True)
 
 
 def main(words: list[str]) -> int:
@@ -65,6 +79,7 @@ def main(words: list[str]) -> int:
         return 2
     folder, cases, target = map(Path, words)
     try:
+        # Here, so that a Python without `sqlite3` says so in a line.
         from sqlite.database import Database
 
         copy(Database(folder), cases, target)
