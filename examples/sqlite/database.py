@@ -68,7 +68,6 @@ class Database:
             self.made.execute("PRAGMA foreign_keys = on")
             self.made.executescript(read_file(HERE / "schema.sql"))
             self.within(lambda: self.load(folder))
-            self.made.execute("ANALYZE")
         except BaseException:
             self.close()
             raise
@@ -99,7 +98,7 @@ class Database:
     def holds(self, table: str, row: list[Cell]) -> bool:
         """Whether a table of edges has just this row: a line may say it again."""
         marks = ", ".join("?" * len(row))
-        found = self.made.execute(f"SELECT 1 FROM {table} WHERE ({marks}) IN {table}", row)
+        found = self.made.execute(f"SELECT 1 WHERE ({marks}) IN (SELECT * FROM {table})", row)
         return found.fetchone() is not None
 
     def insert(self, line: str) -> None:
