@@ -1,11 +1,12 @@
 #!/usr/bin/env python3
-"""Asks a database the reads of a file of cases, and writes a copy of it with what the database answered.
+"""Asks a database the reads of a file of cases, and writes a copy with what the database answered.
 
 usage: adapter.py DIR CASES COPY
 
-The database here is the one of `sqlite/database.py`, over the dataset in DIR. Any class with the two calls of
-`Graph`, below, can stand in its place. Ends with 0; with 1 where a file or a line can't be read or applied,
-which a line on standard error says, and then COPY isn't written; with 2 where the words aren't as above.
+The database here is the one of `sqlite/database.py`, over the dataset in DIR. Any class with the
+two calls of `Graph`, below, can stand in its place. Ends with 0; with 1 where a file or a line
+can't be read or applied, which a line on standard error says, and then COPY isn't written; with 2
+where the words aren't as above.
 """
 
 import json
@@ -20,7 +21,7 @@ from sqlite.fields import lines
 
 class Graph(Protocol):
     def insert(self, line: str) -> None:
-        """Applies an insert, which is a line of an update stream. Raises ValueError where it can't."""
+        """Applies an insert, a line of an update stream. Raises ValueError where it can't."""
 
     def ask(self, kind: str, params: list[int | str]) -> list:
         """The reply to a read: its own answer, and then those of the short reads that follow.

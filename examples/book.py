@@ -1,9 +1,10 @@
-"""What may start when, and the log of it: the dependency rule, the lanes, and one lock round the events.
+"""What may start when, and the log of it: the dependency rule, the lanes, and one lock.
 
 usage: from book import Book
 
-A Start is noted in the same step in which a worker is given its operation, and a moment is read in the same step
-in which its event is noted. So the log is in one order, and what a line says was true when it was noted.
+A Start is noted in the same step in which a worker is given its operation, and a moment is read in
+the same step in which its event is noted. So the log is in one order, and what a line says was true
+when it was noted.
 """
 
 from threading import Condition

@@ -1,13 +1,15 @@
 #!/usr/bin/env python3
 """Drives a database by the plan of a folder, and writes a log that `snb audit` judges.
 
-usage: driver.py DIR --workers N [--ratio R] [--freq L] [--log FILE] [--cases FILE] [--database FILE] [--quiet]
+usage: driver.py DIR --workers N [--ratio R] [--freq L] [--log FILE] [--cases FILE]
+                 [--database FILE] [--quiet]
 
-Ratio and frequencies are those of `snb run`. The log, `driver.log` where none is given, is of version 2. The cases,
-`driver.cases`, have each insert and each read with the database's reply, in the order in which the database took
-them, so `snb validate DIR driver.cases` compares the replies. The database is in memory, or in a file made anew. A
-line a second on standard error says how far the run is, unless it is to be quiet. Ends with 0; with 1 where a file
-couldn't be read or the database failed, which a line on standard error says; with 2 where the words aren't as above.
+Ratio and frequencies are those of `snb run`. The log, `driver.log` where none is given, is of
+version 2. The cases, `driver.cases`, have each insert and each read with the database's reply, in
+the order in which the database took them, so `snb validate DIR driver.cases` compares the replies.
+The database is in memory, or in a file made anew. A line a second on standard error says how far
+the run is, unless it is to be quiet. Ends with 0; with 1 where a file couldn't be read or the
+database failed, which a line on standard error says; with 2 where the words aren't as above.
 """
 
 import argparse
@@ -76,7 +78,7 @@ class Driver:
             thread.join()
 
     def cases(self) -> str:
-        """A file of cases with the replies, in the order in which the database took the operations."""
+        """A file of cases with the replies, in the order in which the database took them."""
         found: list[dict] = [{"cases": 1}]
         for _, operation, reply in sorted(self.taken, key=lambda it: it[0]):
             if operation.line:
@@ -89,7 +91,7 @@ class Driver:
 
 
 def tell(book: Book, done: Event) -> None:
-    """A line a second: how many operations are done, how late the last one started, how many a second."""
+    """A line a second: operations done of all, how late the last one started, how many a second."""
     all_of, before, over = len(book.plan.operations), 0, False
     while not over:
         over = done.wait(1)

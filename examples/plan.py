@@ -1,8 +1,9 @@
-"""The plan of a run: the operations of a folder, numbered, with when each is due and what it waits for.
+"""The plan of a run: the operations of a folder, numbered, with when each is due.
 
 usage: from plan import frequencies, made_of, ratio
 
-The plan is the one of docs/FORMATS.md. The folder is one that `snb check` accepts with the same frequencies.
+The plan is the one of docs/FORMATS.md. The folder is one that `snb check` accepts with the same
+frequencies.
 """
 
 import re
@@ -30,7 +31,7 @@ PERSON, FORUM = "1", "4"
 
 @dataclass(frozen=True)
 class Operation:
-    """An insert, which has a line, or a read, which has a kind and parameters. Times are milliseconds."""
+    """An insert, which has a line, or a read, which has a kind. Times are milliseconds."""
 
     number: int
     t: int
@@ -153,9 +154,7 @@ def reads_of(folder: Path, updates: list[Step], every: dict[int, int], lane: int
         for query, often in every.items():
             if index % often == 0:
                 params = given[query][(index // often - 1) % len(given[query])]
-                found.append(
-                    Step(update.t, lane, len(found), kind=f"IC{query}", params=params)
-                )
+                found.append(Step(update.t, lane, len(found), kind=f"IC{query}", params=params))
     return found
 
 
@@ -163,9 +162,7 @@ def made_of(folder: Path, millionths: int, every: dict[int, int]) -> Plan:
     """The plan of a folder at a ratio in millionths, with reads after so many updates."""
     persons, forums = streams(folder, "person"), streams(folder, "forum")
     updates = [
-        step
-        for lane, path in enumerate(persons + forums)
-        for step in updates_of(path, lane)
+        step for lane, path in enumerate(persons + forums) for step in updates_of(path, lane)
     ]
     updates.sort(key=lambda it: (it.t, it.lane, it.place))
     last = len(persons) + len(forums)
@@ -173,8 +170,15 @@ def made_of(folder: Path, millionths: int, every: dict[int, int]) -> Plan:
     steps.sort(key=lambda it: (it.t, it.lane, it.place))
     operations = [
         Operation(
-            index, it.t, it.depends, (it.t - steps[0].t) * millionths // MILLION,
-            it.lane, it.place, it.line, it.kind, it.params,
+            number=index,
+            t=it.t,
+            depends=it.depends,
+            due=(it.t - steps[0].t) * millionths // MILLION,
+            lane=it.lane,
+            place=it.place,
+            line=it.line,
+            kind=it.kind,
+            params=it.params,
         )
         for index, it in enumerate(steps)
     ]

@@ -15,7 +15,7 @@ from sqlite.database import Database
 from trial import EACH, WALK, InAFolder, made, script, snb
 
 FIRST = '{"cases":1}'
-# Two friends of person 10 write of one date, and the friend with the greater id has the lower message.
+# Two friends of person 10 write at one date, and the greater friend has the lower message.
 TIES = [
     FIRST,
     '{"insert":"1|0|1|12|Cy|Fox|m|0|1|ip|br|0|||||"}',
@@ -31,7 +31,8 @@ class Untied(Database):
 
     def __init__(self, folder: Path) -> None:
         super().__init__(folder)
-        self.reads["IC2"] = self.reads["IC2"].replace("message.date DESC, message.id", "message.date DESC")
+        tied = "ORDER BY message.date DESC, message.id"
+        self.reads["IC2"] = self.reads["IC2"].replace(tied, "ORDER BY message.date DESC")
 
 
 class Forgetful(Database):
@@ -76,7 +77,8 @@ class Adapter(InAFolder):
         line = f"1|0|1|{2**63 - 1}|{odd}|{odd}|m|0|1|\r|br|0|{odd};b|{odd};b|||"
         given = [{"insert": line}, {"insert": f"1|0|8|10|{2**63 - 1}|5"}]
         given += [{"params": [10, odd], "read": "IC1", "reply": []}]
-        cases = self.write("odd.cases", FIRST, *(json.dumps(it, ensure_ascii=False) for it in given))
+        texts = [json.dumps(it, ensure_ascii=False) for it in given]
+        cases = self.write("odd.cases", FIRST, *texts)
         self.assertEqual(script(self.place, "adapter.py", WALK, cases, "copy.cases"), (0, "", ""))
         row = json.loads(self.text("copy.cases").split("\n")[3])["reply"][0][0]
         self.assertEqual((row[0], row[1], row[8]), (2**63 - 1, odd, sorted([odd, "b"])))

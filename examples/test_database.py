@@ -67,7 +67,8 @@ class Loading(OverWalk):
         self.assertEqual(self.loaded().ask("IS1", [15]), [[["E", "F", 0, "ip", "", 0, "x", 9]]])
 
     def test_that_dates_come_in_words_too(self) -> None:
-        self.write("person_1_0.csv", "|" * 7, "15|E|F|x|1970-01-02|2010-01-01T00:00:01.002+0000|i|b")
+        line = "15|E|F|x|1970-01-02|2010-01-01T00:00:01.002+0000|i|b"
+        self.write("person_1_0.csv", "|" * 7, line)
         self.write("person_isLocatedIn_place_1_0.csv", "|", "15|0")
         row = ["E", "F", 86400000, "i", "b", 0, "x", 1262304001002]
         self.assertEqual(self.loaded().ask("IS1", [15]), [[row]])
@@ -178,7 +179,8 @@ class Inserting(OverWalk):
 class Asking(OverWalk):
     def test_that_text_is_in_order_by_its_bytes(self) -> None:
         first, last = "\uffff", "\U00010000"  # in UTF-16 it would be the other way round
-        given = [person(50, last=last), person(51, last=first), person(52, last="a"), person(53, last="Z")]
+        lasts = {50: last, 51: first, 52: "a", 53: "Z"}
+        given = [person(key, last=it) for key, it in lasts.items()]
         given += [f"1|0|8|10|{it}|5" for it in range(50, 54)]
         found = self.loaded(*given).ask("IC1", [10, "A"])[0]
         self.assertEqual([it[1] for it in found], ["Z", "a", first, last])
@@ -218,8 +220,15 @@ class Asking(OverWalk):
     def test_that_what_is_no_read_is_an_error(self) -> None:
         database = self.loaded()
         for kind, params in [
-            ("IS8", [1]), ("IS1", []), ("IS1", ["1"]), ("IS1", [True]), ("IS1", [MOST + 1]),
-            ("IS1", [-1]), ("IC1", [1, 2]), ("IC2", [1, LATEST + 1]), ("IC11", [1, "x", 10000]),
+            ("IS8", [1]),
+            ("IS1", []),
+            ("IS1", ["1"]),
+            ("IS1", [True]),
+            ("IS1", [MOST + 1]),
+            ("IS1", [-1]),
+            ("IC1", [1, 2]),
+            ("IC2", [1, LATEST + 1]),
+            ("IC11", [1, "x", 10000]),
         ]:
             self.assertRaises(ValueError, database.ask, kind, params)
 

@@ -1,4 +1,4 @@
-"""Tests the plan and the driver: `snb audit` accepts its logs, and finds what is wrong in those of broken ones.
+"""Tests the plan and the driver: `snb audit` accepts its logs, and finds what broken drivers do.
 
 usage: python3 -m unittest discover examples
 
@@ -92,25 +92,26 @@ class Loose(Driver):
 
 class Plans(InAFolder):
     def test_that_operations_are_those_of_expect(self) -> None:
-        for folder, every in [(WALK, EACH), (WALK, "2:3,13:2"), (made(self.place, 400, 300), EACH)]:
+        small = made(self.place, 400, 300)
+        for folder, every in [(WALK, EACH), (WALK, "2:3,13:2"), (small, EACH)]:
             snb(self.place, "expect", folder, "--freq", every)
             wanted = [json.loads(it) for it in self.text("snb.cases").split("\n")[1:] if it]
             plan = made_of(folder, ratio("1"), frequencies(every))
             kinds = [(it.kind, list(it.params)) for it in plan.operations]
             self.assertEqual(kinds, [(it.get("read", ""), it.get("params", [])) for it in wanted])
             heads = [it.line.split("|")[:4] for it in plan.operations if it.line]
-            self.assertEqual(
-                heads, [it["insert"].split("|")[:4] for it in wanted if "insert" in it]
-            )
+            lines = [it["insert"] for it in wanted if "insert" in it]
+            self.assertEqual(heads, [it.split("|")[:4] for it in lines])
 
     def test_when_operations_are_due(self) -> None:
-        plan = made_of(WALK, ratio("0.0000015".removesuffix("5")), {})
+        plan = made_of(WALK, ratio(AT_ONCE), {})
         self.assertEqual([it.due for it in plan.operations], [0] * 8)
         plan = made_of(WALK, ratio("0.00015"), {})
         self.assertEqual([it.due for it in plan.operations], [0, 1, 3, 4, 6, 7, 9, 13])
 
     def test_ratios_and_frequencies(self) -> None:
-        self.assertEqual([ratio(it) for it in ["1", "0.01", "1000", AT_ONCE]], [10**6, 10**4, 10**9, 1])
+        found = [ratio(it) for it in ["1", "0.01", "1000", AT_ONCE]]
+        self.assertEqual(found, [10**6, 10**4, 10**9, 1])
         for word in ["", "0", "01", "1.", "0.0000001", "1000.000001", "-1", "1e3", "\u0661"]:
             self.assertRaises(ValueError, ratio, word)
         self.assertEqual(frequencies("1:2,13:1"), {1: 2, 13: 1})
@@ -120,8 +121,13 @@ class Plans(InAFolder):
 
 class Runs(InAFolder):
     def drive(
-        self, database: Database, workers: int, word: str, every: str = EACH,
-        kind: type[Driver] = Driver, book: type[Book] = Book,
+        self,
+        database: Database,
+        workers: int,
+        word: str,
+        every: str = EACH,
+        kind: type[Driver] = Driver,
+        book: type[Book] = Book,
     ) -> list[str]:
         """What `audit` prints of a run over the folder `walk`."""
         driver = kind(database, book(made_of(WALK, ratio(word), frequencies(every)), workers))
@@ -148,9 +154,7 @@ class Runs(InAFolder):
         snb(self.place, "expect", WALK, "--freq", EACH)
         wanted = [json.loads(it) for it in self.text("snb.cases").split("\n") if it]
         found = [json.loads(it) for it in self.text("driver.cases").split("\n") if it]
-        self.assertEqual(
-            [it for it in found if "read" in it], [it for it in wanted if "read" in it]
-        )
+        self.assertEqual(*([it for it in all_of if "read" in it] for all_of in (found, wanted)))
 
     def test_that_runs_over_ten_thousand_rows_are_accepted(self) -> None:
         folder = made(self.place, 10000, 1000)
@@ -201,9 +205,8 @@ class Runs(InAFolder):
         # A read of query 13 has one row, whatever friendships there are.
         self.assertEqual(self.drive(Forgetful(WALK), 1, AT_ONCE, "13:4"), ["accepted 10 of 10"])
         found = snb(self.place, "validate", WALK, "driver.cases")
-        self.assertEqual(
-            found, (1, ["differs line 6", "expected [[[-1]]]", "given [[[2]]]"])
-        )
+        wanted = ["differs line 6", "expected [[[-1]]]", "given [[[2]]]"]
+        self.assertEqual(found, (1, wanted))
 
     def test_that_a_database_in_a_file_is_driven(self) -> None:
         options = ["--ratio", AT_ONCE, "--freq", "13:4"]

@@ -1,11 +1,13 @@
 #!/usr/bin/env python3
-"""Times the database over `sqlite3` beside `snb`, over one folder: loading, inserts and each kind of read.
+"""Times the database over `sqlite3` beside `snb`: loading, inserts and each kind of read.
 
 usage: timing.py DIR [--program FILE] [--reads N] [--seed S]
 
-Prints a table of processor time, in microseconds for each: of SQLite from inside, and of the program, where one is given, as what `snb validate`
-takes for a file of cases beyond what it takes for one without cases. Both answer the same reads with the short reads
-that follow, of parameters drawn by the seed, and the program compares the replies. Each time is the least of three.
+Prints a table of processor time, in microseconds for each. That of SQLite is measured from inside,
+and that of the program, where one is given, is what `snb validate` takes for a file of cases beyond
+what it takes for one without cases. Both answer the same reads with the short reads that follow, of
+parameters drawn by the seed, and the program compares the replies. Each time is the least of three,
+but that of SQLite's inserts, which can't be repeated.
 """
 
 import argparse
@@ -49,7 +51,8 @@ class Drawn:
             "IC13": self.persons,
         }
         first = self.messages if kind in OF_A_MESSAGE else self.persons
-        drawn = [self.random.choice(it) for it in [first, *([second[kind]] if kind in second else [])]]
+        chosen = [first, second[kind]] if kind in second else [first]
+        drawn = [self.random.choice(it) for it in chosen]
         return [*drawn, self.random.randint(1990, 2013)] if kind == "IC11" else drawn
 
 

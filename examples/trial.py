@@ -1,8 +1,9 @@
-"""What the tests of adapter and driver share: the program, folders to run over, and what a call prints.
+"""What the tests of adapter and driver share: the program, folders, and what a call prints.
 
 usage: from trial import WALK, made, snb
 
-The program is the script `snb` at the top of the repository, or what the environment variable SNB names.
+The program is the script `snb` at the top of the repository, or what the environment variable SNB
+names.
 """
 
 import os
@@ -10,6 +11,7 @@ import subprocess
 import sys
 import tempfile
 import unittest
+from collections.abc import Sequence
 from pathlib import Path
 
 HERE = Path(__file__).resolve().parent
@@ -19,12 +21,23 @@ EACH = "1:1,2:1,7:1,8:1,9:1,11:1,13:1"
 SEED = "93"
 
 
+def called(
+    place: Path, words: Sequence[str | Path], around: dict[str, str]
+) -> subprocess.CompletedProcess[bytes]:
+    return subprocess.run(
+        words,
+        cwd=place,
+        env=around,
+        stdin=subprocess.DEVNULL,
+        capture_output=True,
+        timeout=600,
+    )
+
+
 def snb(place: Path, *words: str | Path) -> tuple[int, list[str]]:
     """The status of a call of the program in a folder, and the lines that it prints."""
     program = os.environ.get("SNB", str(HERE.parent / "snb"))
-    done = subprocess.run(
-        [program, *words], cwd=place, stdin=subprocess.DEVNULL, capture_output=True, timeout=600
-    )
+    done = called(place, [program, *words], dict(os.environ))
     return done.returncode, done.stdout.decode("utf-8").removesuffix("\n").split("\n")
 
 
@@ -32,10 +45,7 @@ def script(place: Path, name: str, *words: str | Path) -> tuple[int, str, str]:
     """The status of a call of an example in a folder, and what it writes on its two outputs."""
     # A locale that knows ASCII alone: what is read and written doesn't depend on it.
     plain = os.environ | {"LC_ALL": "C", "PYTHONUTF8": "0", "PYTHONCOERCECLOCALE": "0"}
-    done = subprocess.run(
-        [sys.executable, HERE / name, *words], cwd=place, env=plain, stdin=subprocess.DEVNULL,
-        capture_output=True, timeout=600,
-    )
+    done = called(place, [sys.executable, HERE / name, *words], plain)
     return done.returncode, done.stdout.decode("utf-8"), done.stderr.decode("utf-8")
 
 

@@ -1,12 +1,12 @@
-"""A graph database over Python's `sqlite3`: loads a folder, applies inserts and answers the fourteen reads.
+"""A graph database over Python's `sqlite3`: loads a folder, applies inserts and answers reads.
 
 usage: from sqlite.database import Database
        database = Database(Path("examples/walk"))
        database.insert("18000|8000|8|10|12|18000")
        database.ask("IS3", [10])
 
-Tables, indexes and triggers are in `schema.sql`, each read is a file in `reads`. The database is in memory, or
-in a file that is made anew. One connection serves all threads, one call at a time.
+Tables, indexes and triggers are in `schema.sql`, each read is a file in `reads`. The database is in
+memory, or in a file that is made anew. One connection serves all threads, one call at a time.
 """
 
 import json
@@ -102,7 +102,7 @@ class Database:
         return found.fetchone() is not None
 
     def insert(self, line: str) -> None:
-        """Applies an insert, which is a line of an update stream. What it can't apply raises ValueError."""
+        """Applies an insert, a line of an update stream. What it can't apply raises ValueError."""
         added = rows_of_insert(line)
 
         def add() -> None:

@@ -1,5 +1,6 @@
--- The 33 tables of a dataset, three tables that the reads want, and the triggers that keep these three.
--- An id goes up to 2^63 - 1, a date is its milliseconds since 1970, and text is in order by its UTF-8 bytes.
+-- The 33 tables of a dataset, three tables that the reads want, and the triggers that keep these.
+-- An id goes up to 2^63 - 1, a date is its milliseconds since 1970, and text is in order by its
+-- UTF-8 bytes.
 
 CREATE TABLE place (
     id INTEGER PRIMARY KEY,

@@ -1,4 +1,4 @@
--- The works since before the year ?3 of the persons within two steps of person ?1, in places named ?2.
+-- Who works since before the year ?3 in places named ?2, of those within two steps of person ?1.
 WITH near (person) AS (
     SELECT friend FROM friend WHERE person = ?1
     UNION

@@ -1,4 +1,4 @@
--- Who likes messages of person ?1: of each the latest like, and of one date that of the lower message.
+-- Who likes messages of person ?1: of each the latest like, of one date that of the lower message.
 WITH
 likes (person, message, date) AS (
     SELECT liked.person, liked.post, liked.date
