@@ -71,7 +71,9 @@ class Driver:
                 self.book.halt(worker)
 
     def run(self, workers: int) -> None:
-        threads = [Thread(target=self.work, args=(worker,)) for worker in range(workers)]
+        threads = [
+            Thread(target=self.work, args=(worker,), daemon=True) for worker in range(workers)
+        ]
         for thread in threads:
             thread.start()
         for thread in threads:

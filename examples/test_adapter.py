@@ -12,7 +12,7 @@ from pathlib import Path
 
 import adapter
 from sqlite.database import Database
-from trial import EACH, WALK, InAFolder, made, script, snb
+from support import EACH, WALK, InAFolder, made, script, snb
 
 FIRST = '{"cases":1}'
 # Two friends of person 10 write at one date, and the greater friend has the lower message.

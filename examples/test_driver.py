@@ -13,7 +13,7 @@ from book import Book
 from driver import Driver, write
 from plan import Operation, frequencies, made_of, ratio
 from sqlite.database import Database
-from trial import ALL, EACH, WALK, InAFolder, made, script, snb
+from support import ALL, EACH, WALK, InAFolder, made, script, snb
 
 AT_ONCE = "0.000001"
 

@@ -1,6 +1,6 @@
 """What the tests of adapter and driver share: the program, folders, and what a call prints.
 
-usage: from trial import WALK, made, snb
+usage: from support import WALK, made, snb
 
 The program is the script `snb` at the top of the repository, or what the environment variable SNB
 names.
