@@ -49,7 +49,7 @@ fn tell_replies(alloc: Global, replies: &[Answered], answer: &mut Lines) -> Resu
     for reply in replies {
         let op = reply.op;
         let front = reply.front;
-        let text = String::from_utf8_lossy(alloc, &reply.text)?;
+        let text = String::from_utf8_lossy(alloc, reply.text.as_slice())?;
         let text = text.as_str();
         let line = format!(in alloc; "{op}|{front}|{text}")?;
         answer.add(line.as_str())?;

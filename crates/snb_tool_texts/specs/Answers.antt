@@ -6,7 +6,7 @@ use Rattle.snb_workers.specs.declared.done.Answered.{Answered}
 
 -- the line of a reply: the number of the operation, its front, and the JSON text of the reply
 abbrev pub answer_line : Answered → List ℕ
-answer_line a = decimal a.op ++ codes "|" ++ decimal a.front ++ codes "|" ++ a.text.items ++ codes "\n"
+answer_line a = decimal a.op ++ codes "|" ++ decimal a.front ++ codes "|" ++ a.text ++ codes "\n"
 
 -- the answers: a first line with their version, and a line for each reply
 abbrev pub answers_text : List Answered → List ℕ

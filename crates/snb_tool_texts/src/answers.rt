@@ -60,18 +60,21 @@ fn end_line(alloc: Global, pieces: &mut Vec<Vec<u8>>, piece: &mut Vec<u8>) -> Re
 // Adds the line of a reply after the piece at hand.
 fn put_answer(
     alloc: Global,
-    mut one: Answered,
+    one: Answered,
     pieces: &mut Vec<Vec<u8>>,
     piece: &mut Vec<u8>,
 ) -> Result<(), AllocError>
     ensures { OnOk result (bytes_in pieces.new.items ++ piece.new.items ≡ (bytes_in pieces.old.items ++ piece.old.items) ++ answer_line one) }
 {
-    let op = one.op;
-    let front = one.front;
+    let Answered {
+        op,
+        front,
+        rows: _,
+        text,
+    } = one;
     let head = format!(in alloc; "{op}|{front}|")?;
     piece.extend_from_slice(head.as_bytes())?;
-    let text = mem::replace(&mut one.text, Vec::new(alloc));
-    put_text(alloc, text, pieces, piece)?;
+    put_text(alloc, text.into_vec(), pieces, piece)?;
     end_line(alloc, pieces, piece)
 }
 

@@ -1,5 +1,6 @@
 -- Facts on the counts that a log tells.
 use Rattle.std.proofs.Common.{◌≡◌, ◌≢◌, ◌∙◌, ℕ, ◌+◌, ◌<◌, ◌≤◌, ◌⊎◌, List, [], ◌∷◌, length, map, take, drop, Bool, true, cond, Some, inl, inr, refl, sym, ap, subst, arith}
+use Rattle.snb_base.specs.Moments.{Moments}
 use Rattle.std.specs.Prelude.{◌==◌, Contains, slice_get}
 use Rattle.std.specs.List.{count_by}
 use Rattle.std.proofs.lemmas.Bool.{cases_Bool, eq-eqb, eqb-true}
@@ -123,7 +124,7 @@ finishes_are_of_operations plan workers h (Start op worker at) legal c = tt
 finishes_are_of_operations plan workers h (Finish op worker at front) legal c = finish_within plan workers h op worker at front legal c
 finishes_are_of_operations plan workers h (Halt worker) legal c = tt
 
-module _ (base : List Row) (plan : Plan) (workers : ℕ) (h : List Event) (replies : List Answered) (each_once : OnceEach) (legal : IsLegal (schedule_of plan) workers h) (are : AreReplies base plan moments h h replies) where
+module _ (base : List Row) (plan : Plan) (moments : Moments) (workers : ℕ) (h : List Event) (replies : List Answered) (each_once : OnceEach) (legal : IsLegal (schedule_of plan) workers h) (are : AreReplies base plan moments h h replies) where
   -- the rows of an entry are the count of the Finish of its operation
   of_entry : (op worker at front : ℕ) (o : Operation) (b : Answered) → Contains h (Finish op worker at front) → slice_get plan.operations op ≡ Some o → Contains replies b → b.op ≡ op
       → IsCountOf base plan h front o.work b.rows
@@ -170,7 +171,7 @@ module _ (base : List Row) (plan : Plan) (workers : ℕ) (h : List Event) (repli
       }
 
 pub counts_of_a_run : OnceEach → CountsOfARun
-counts_of_a_run each_once workers plan moments base h replies graph run = tells_counts base plan workers h replies each_once run.legal run.answered
+counts_of_a_run each_once workers plan moments base h replies graph run = tells_counts base plan moments workers h replies each_once run.legal run.answered
 
 -- ---- one reply
 

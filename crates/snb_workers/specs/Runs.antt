@@ -60,12 +60,12 @@ pub record IsAnswered (base : List Row) (plan : Plan) (moments : Moments) (finis
   pub worker : ℕ
   pub at : ℕ
   pub finished : Contains finishes (Finish a.op worker at a.front)
-  pub later : ComesAfter moments a.text.items at
+  pub later : ComesAfter moments a.text at
   pub query : Query
   pub asks : Asks plan a.op query
   pub graph : List Row
   pub after : IsAfter base plan (take a.front h) graph
-  pub replies : IsReplied graph query a.rows a.text.items
+  pub replies : IsReplied graph query a.rows a.text
 
 -- these are the replies to the reads that these events finish, one for each, by rising operation, answered on fronts of the history; the
 -- events are those of the history, or those of one worker's part of it

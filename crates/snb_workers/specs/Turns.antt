@@ -19,8 +19,8 @@ IsBehind plan h r base = (g : List Event) × (rest : List Event) × (g ++ rest �
 pub record IsReplyNow (moments : Moments) (op : ℕ) (r : Taken) (query : Query) (now : ℕ) (a : Answered) : Type 0 where
   pub number : a.op ≡ op
   pub front : a.front ≡ r.front
-  pub reply : IsReplied r.graph query a.rows a.text.items
-  pub after : moments.tells_after a.text.items now ≡ true
+  pub reply : IsReplied r.graph query a.rows a.text
+  pub after : moments.tells_after a.text now ≡ true
 
 -- the front is that of the operation's Finish: the replica's for a read, whose reply is added, and 0 for an insert, which adds none; the clock was
 -- asked for the moment of the Finish when all else was done

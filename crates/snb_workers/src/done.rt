@@ -4,7 +4,7 @@ ghost use Rattle.std.specs.Prelude.{◌≡◌, ◌≢◌, ℕ, ◌<◌, ◌≤�
 ghost use Rattle.snb_workers.specs.declared.done.Answered.{Answered as AnyAnswered};
 ghost use Rattle.snb_workers.specs.Replies.{HasAdded, HasOne};
 
-use snb_base::{TryCopy, list_of};
+use snb_base::{OwnedList, TryCopy, list_of};
 use std::alloc::{AllocError, Global};
 use std::marker::Model;
 
@@ -15,7 +15,7 @@ pub struct Answered {
     pub op: u32,
     pub front: u32,
     pub rows: u32,
-    pub text: Vec<u8>,
+    pub text: OwnedList<u8>,
 }
 
 // Written out, so that letting one go is one call wherever it happens.
@@ -36,7 +36,7 @@ impl TryCopy for Answered {
             op: self.op,
             front: self.front,
             rows: self.rows,
-            text: Vec::from_slice(*self.text.allocator(), self.text.as_slice())?,
+            text: self.text.try_map(|byte| Ok(*byte))?,
         })
     }
 }

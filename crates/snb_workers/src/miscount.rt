@@ -160,7 +160,7 @@ pub fn first_miscount(
     requires legal { (workers : ℕ) × IsLegal (schedule_of plan.now) workers (events_of logged.now) }
     ensures { IfOk result (IsFirstMiscount base.now plan.now logged.now) }
 {
-    if u32::try_from(logged.len()).is_err() {
+    if logged.len() > u32::MAX as usize {
         return Err(AllocError);
     }
     let tallies = tallies_by_front(alloc, plan, logged)?;

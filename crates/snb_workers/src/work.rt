@@ -13,7 +13,7 @@ ghost use Rattle.snb_workers.specs.Works.{AreTimely, HasStopped, HasWorked, IsFo
 
 use crate::done::{Answered, Done};
 use crate::replica::Replica;
-use snb_base::{Clock, Gate, Phase};
+use snb_base::{Clock, Gate, OwnedList, Phase};
 use snb_board::{Board, Seat};
 use snb_book::{Claim, Ticket};
 use snb_history::law::{hand_is_own, prefix_is_legal};
@@ -64,6 +64,7 @@ fn serve<C: Clock>(
             let (rows, text) = replica
                 .answer_text(alloc, query, seat, ticket)?
                 .into_parts();
+            let text = OwnedList::from_vec(alloc, text);
             let now = clock.after(text.as_slice());
             replies.push(Answered {
                 op: ticket.op,

@@ -37,3 +37,8 @@ returns-clause-ok g c = λ first old holding.
     c.make_ready.ensures.followed holding)
     (λ query asks base f. c.in_ok-make_ready.ensures.ok query asks base (holding.come.follows base f)) c.serve.new.replies c.in_ok-served.served c.in_ok-served.ensures.served c.finish.new.seat c.finish.ensures c.in_ok-served.ensures.told
     c.in_ok-served.ensures.rise
+
+pub serve-requires-clause-held : goal.serve-requires-clause-held
+serve-requires-clause-held g c =
+    (holding_followed c.hand_is_own.ensures c.args.self.now.plan.now (g.C.Clock.moments c.args.self.now.clock.now) c.requires.holding.0 c.requires.holding.1 c.args.seat.now c.make_ready.new.seat c.args.replica.now c.make_ready.new.replica
+    c.args.replies.now c.args.ticket c.make_ready.ensures.followed c.requires.holding.2).held
