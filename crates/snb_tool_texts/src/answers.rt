@@ -3,6 +3,7 @@
 ghost use Rattle.std.specs.Prelude.{◌≡◌, ◌++◌, [], IfOk, OnOk, codes};
 ghost use Rattle.snb_tool_texts.specs.Answers.{answer_line, answers_text, bytes_in};
 
+use snb_base::OwnedList;
 use snb_workers::{Answered, Done};
 use std::alloc::{AllocError, Global};
 use std::mem;
@@ -60,20 +61,17 @@ fn end_line(alloc: Global, pieces: &mut Vec<Vec<u8>>, piece: &mut Vec<u8>) -> Re
 // Adds the line of a reply after the piece at hand.
 fn put_answer(
     alloc: Global,
-    one: Answered,
+    mut one: Answered,
     pieces: &mut Vec<Vec<u8>>,
     piece: &mut Vec<u8>,
 ) -> Result<(), AllocError>
     ensures { OnOk result (bytes_in pieces.new.items ++ piece.new.items ≡ (bytes_in pieces.old.items ++ piece.old.items) ++ answer_line one) }
 {
-    let Answered {
-        op,
-        front,
-        rows: _,
-        text,
-    } = one;
+    let op = one.op;
+    let front = one.front;
     let head = format!(in alloc; "{op}|{front}|")?;
     piece.extend_from_slice(head.as_bytes())?;
+    let text = mem::replace(&mut one.text, OwnedList::new(alloc));
     put_text(alloc, text.into_vec(), pieces, piece)?;
     end_line(alloc, pieces, piece)
 }
