@@ -198,7 +198,7 @@ added old new texts w = cc
 
 in_short : CountsOfARun → (given : Given) (files : Files) (moments : Moments) (folder : List ℕ) (workers ratio : ℕ) (table : FrequencyTable) (old new texts : Written) (found : Found)
     → IsFoundTold (Some files) given (Run folder workers ratio table) found → IsDone (Run folder workers ratio table) found moments 0 texts → new ≡ joined old texts
-    → IsRunInShort files folder workers ratio table old new
+    → IsRunInShort files moments folder workers ratio table old new
 in_short counts given files moments folder workers ratio table old new texts found told done e =
     let run : IsRun (held_in folder files) workers ratio table moments texts = subst (λ (h : Held). IsRun h workers ratio table moments texts) (told_files folder files found.held told.0) done.1 in
     record {
@@ -215,6 +215,7 @@ in_short counts given files moments folder workers ratio table old new texts fou
       log = ap (λ (w : Written). w.log) e ∙ ap (λ (w : Written). old.log ++ w.log) run.left.shown;
       read_back = run.left.read_back;
       replies = run.left.replies;
+      by_clock = run.left.ran.by_clock;
       answered = run.left.ran.answered;
       answers = ap (λ (w : Written). w.answers) e ∙ ap (λ (w : Written). old.answers ++ w.answers) run.left.shown;
       final = run.left.final;

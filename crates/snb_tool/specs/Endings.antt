@@ -158,7 +158,7 @@ pub record IsTrialInput (size : ℕ) (input : Input) : Type 0 where
 abbrev pub AreTexts : ℕ → Plan → RunOutcome → Written → Type 0
 AreTexts workers plan o texts = texts ≡ record {
   screen = summary_text (length plan.operations) (length (updates_in plan)) (length (queries_in plan)) (length o.graph);
-  log = log_text workers (length plan.operations) (logged_of o.replies o.events.items);
+  log = log_text workers (length plan.operations) (logged_of o.replies o.events);
   answers = answers_text o.replies;
   finals = final_text o.graph;
   cases = [];

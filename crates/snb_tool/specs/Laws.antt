@@ -48,7 +48,7 @@ use Rattle.snb_tool_words.specs.Commands.{IsLineOf}
 use Rattle.snb_workers.specs.Counts.{TellsCounts}
 use Rattle.snb_workers.specs.Miscounts.{events_of}
 use Rattle.snb_workers.specs.declared.done.Answered.{Answered}
-use Rattle.snb_workers.specs.Runs.{AreReplies}
+use Rattle.snb_workers.specs.Runs.{AreByClock, AreReplies}
 use Rattle.snb_tool.specs.Inputs.{Found, IsFine, IsInput, at_first, checks_of}
 use Rattle.snb_tool.specs.Outcome.{Asked, IsAnswer}
 use Rattle.snb_tool.specs.Output.{HasWritten}
@@ -70,8 +70,9 @@ AnswersHaveStatus =
 -- what a run that is done has added to the channels, where the files and the channels are told: the log of a legal, complete history of the plan
 -- of the files, in which no insert that waits starts before every insert of a person or a forum has finished whose t is at most its t_d, and at
 -- no time the completion time comes to the t of one that hasn't finished, with its count of rows at each Finish, and the log spells that alone;
--- the replies to its reads, each on the graph of its front; and the rows of the dataset and of each insert, each once
-pub record IsRunInShort (files : Files) (folder : List ℕ) (workers ratio : ℕ) (frequencies : FrequencyTable) (old new : Written) : Type 0 where
+-- each moment is one of the clock's; the replies to its reads, each on the graph of its front, and there before its Finish; and the rows of the
+-- dataset and of each insert, each once
+pub record IsRunInShort (files : Files) (moments : Moments) (folder : List ℕ) (workers ratio : ℕ) (frequencies : FrequencyTable) (old new : Written) : Type 0 where
   pub graph : List Row
   pub plan : Plan
   pub input : IsInput (held_in folder files) ratio frequencies graph plan
@@ -85,7 +86,8 @@ pub record IsRunInShort (files : Files) (folder : List ℕ) (workers ratio : ℕ
   pub log : new.log ≡ old.log ++ log_text workers (length plan.operations) logged
   pub read_back : ReadsBack (header_of workers (length plan.operations)) logged
   pub replies : List Answered
-  pub answered : AreReplies graph plan history history replies
+  pub by_clock : AreByClock moments history
+  pub answered : AreReplies graph plan moments history history replies
   pub answers : new.answers ≡ old.answers ++ answers_text replies
   pub final : List Row
   pub rows : IsFinal graph plan final
@@ -96,7 +98,7 @@ abbrev pub RunInShort : Type 0
 RunInShort =
     (asked : Asked) (files : Files) (moments : Moments) (folder : List ℕ) (workers ratio : ℕ) (frequencies : FrequencyTable) (old new : Written)
     → IsLineOf asked.words (Run folder workers ratio frequencies) → HasWritten (Some old) (Some new) (IsAnswer asked (Some files) moments 0)
-    → IsRunInShort files folder workers ratio frequencies old new
+    → IsRunInShort files moments folder workers ratio frequencies old new
 
 -- what an audit that is done says, where the files and the channels are told: the log of this name says one header and one list of events with
 -- their counts; the status is 0 exactly where its history is legal and complete on the plan of the files, at least 95 of 100 operations are on

@@ -177,7 +177,7 @@ fn answer<
     gate: &G,
     given: Option<(&Handlers, &Policy)>,
 ) -> u8
-    requires allowed { MayAskFor (S.may shelf.old) (asked_by words.now (given_by given.entry)) }
+    requires allowed { MayAskFor (S.may shelf.old) (asked_by words.now (given_by given)) }
     ensures ends { EndsAs (IsAnswer (asked_by words.now (given_by given.entry))) (seen S.Shelf O.Outbox C.Clock shelf.old shelf.new out.old out.new clock.now) result }
     ensures other_line { IsOther (asked_by words.now (given_by given.entry)) → ((result ≡ 2) ⊎ (result ≡ 5)) × (shelf.new ≡ shelf.old) }
     ensures unread { ReadsNothing (asked_by words.now (given_by given.entry)) → shelf.new ≡ shelf.old }
