@@ -161,17 +161,17 @@ trial_done contents size workers given moments input texts is left =
     (record { missing = None; pick = Modulo; held = λ file. None; beside = None }, (tt, tt, tt), tt, (refl, record { plan = input.plan; is_plan = is.is_plan; left = subst (λ (g : List Row). IsLeft workers g input.plan moments texts) is.same left }))
 
 -- the texts of what a run left, where the final graph has the rows of the dataset and of each insert
-pub run_shown : (workers : ℕ) (input : Input) (moments : Moments) (o : Outcome) (texts : Written) → HasRun workers input.plan moments input.graph o.events.items o.replies o.graph
-    → ReadsBack (header_of workers (length input.plan.operations)) (logged_of o.replies o.events.items) → AreTexts workers input.plan o texts → IsLeft workers input.graph input.plan moments texts
+pub run_shown : (workers : ℕ) (input : Input) (moments : Moments) (o : Outcome) (texts : Written) → HasRun workers input.plan moments input.graph o.events o.replies o.graph
+    → ReadsBack (header_of workers (length input.plan.operations)) (logged_of o.replies o.events) → AreTexts workers input.plan o texts → IsLeft workers input.graph input.plan moments texts
 run_shown workers input moments o texts ran back shown = record {
-  history = o.events.items;
+  history = o.events;
   replies = o.replies;
   final = o.graph;
   ran = ran;
   read_back = back;
   shown = shown ∙ (λ i. record {
     screen = summary_text (length input.plan.operations) (length (updates_in input.plan)) (length (queries_in input.plan)) (rows_after input.graph (all_rows input.plan) o.graph ran.final i);
-    log = log_text workers (length input.plan.operations) (logged_of o.replies o.events.items);
+    log = log_text workers (length input.plan.operations) (logged_of o.replies o.events);
     answers = answers_text o.replies;
     finals = final_text o.graph;
     cases = [];

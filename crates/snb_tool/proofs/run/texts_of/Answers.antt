@@ -11,7 +11,8 @@ pub returns : goal.returns
 returns c =
     let parts = c.into_parts-events.ensures in
     let plan = c.args.plan.now in
-    let log = c.in_ok-log.ensures ∙ (λ i. log_text c.args.workers (length plan.operations) (logged_of (parts.replies i) (parts.events i))) in
+    let events = c.into_vec.ensures ∙ parts.events in
+    let log = c.in_ok-log.ensures ∙ (λ i. log_text c.args.workers (length plan.operations) (logged_of (parts.replies i) (events i))) in
     let answers = c.in_ok-answers.ensures ∙ ap answers_text parts.replies in
     let finals = c.in_ok-finals.ensures.0 ∙ ap final_text parts.graph in
     let screen = c.in_ok-finals.ensures.1 ∙ (λ i. summary_text (length plan.operations) (length (updates_in plan)) (length (queries_in plan)) (length (parts.graph i))) in
