@@ -57,7 +57,7 @@ impl LogFileSink {
     }
 }
 
-/// The file_sink is one of the file of a log. A line says one thing at most, and is refused in one way at
+/// The sink is one of the file of a log. A line says one thing at most, and is refused in one way at
 /// most.
 pub(crate) fn log_is_lawful()
     ensures lawful { Lawful log_format }

@@ -81,10 +81,10 @@ fn end_file<G: Grammar + Drop, P: FileSink<G> + Drop>(
 /// begins with a byte order mark (`BadLine` in column 1); it isn't UTF-8; it should be the header and
 /// isn't one, or is a data line and spells no item (`BadLine` in its bad column); it is a data line too
 /// many, where there is a limit (`TooMany`); the file's own check. A line without a byte is counted, and
-/// refused only as too large. The other errors are a read that failed and want of memory. The file_sink is
+/// refused only as too large. The other errors are a read that failed and want of memory. The sink is
 /// gone with an error.
 ///
-/// The file_sink is one of the format (`right`), what was read before is within the limits on bytes
+/// The sink is one of the format (`right`), what was read before is within the limits on bytes
 /// (`bytes`) and on data lines (`rows`), and the shelf may be asked for the path (`allowed`).
 pub fn load_file<S: Shelf, G: Grammar + Drop, P: FileSink<G> + Drop>(
     alloc: Global,

@@ -10,7 +10,7 @@ use snb_schema::FileId;
 /// file is read, and what its items are refused for.
 ///
 /// What a sink does with an item is said from state to state. Here it is also said by what it was told.
-/// That both agree is `AreTakers`, which whoever calls with a file_sink shows. What the items are refused for may
+/// That both agree is `AreTakers`, which whoever calls with a sink shows. What the items are refused for may
 /// depend on the state in which the first file was begun, as on the graph of a dataset.
 pub trait FileSink<G: Grammar>: Sink<G::Item> {
     /// By which grammar each file is read, what its items are refused for, and what a state was told.

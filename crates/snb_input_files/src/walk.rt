@@ -157,11 +157,11 @@ fn walk_series<S: Shelf, G: Grammar + Drop, P: FileSink<G> + Drop>(
 ///
 /// `Refused` is the first thing wrong in this order: a file that is needed and isn't held (`Absent`),
 /// what `load_file` refuses a file for, or one file too many of a series (`TooMany`). The other errors
-/// are a read that failed and want of memory. The file_sink is gone with an error.
+/// are a read that failed and want of memory. The sink is gone with an error.
 ///
-/// The file_sink is one of the format (`right`), what was read before is within the limits on bytes
+/// The sink is one of the format (`right`), what was read before is within the limits on bytes
 /// (`bytes`) and on data lines (`rows`), and the series come in the order of files (`rising`). The shelf may be
-/// asked for each file of the series, and for the one too many of each (`allowed`). The answer is of a file_sink
+/// asked for each file of the series, and for the one too many of each (`allowed`). The answer is of a sink
 /// that was told nothing before.
 pub fn walk_stage<S: Shelf, G: Grammar + Drop, P: FileSink<G> + Drop>(
     alloc: Global,

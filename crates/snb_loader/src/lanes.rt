@@ -18,7 +18,7 @@ use snb_input_files::{Load, Used};
 use snb_schema::Lanes;
 use std::alloc::{AllocError, Global};
 
-// The lanes of what these file_sinks of person streams and of forum streams took.
+// The lanes of what these sinks of person streams and of forum streams took.
 fn lanes_of(
     alloc: Global,
     persons: StreamFileSink,

@@ -110,7 +110,7 @@ impl FileSink<QueryLines> for ParamFileSink {
     }
 }
 
-/// The file_sink is one of parameter files. A line says one query at most, and is refused in one way at most.
+/// The sink is one of parameter files. A line says one query at most, and is refused in one way at most.
 pub(crate) fn params_are_lawful()
     ensures lawful { Lawful params_format }
     ensures right { IsParamFileSink }
@@ -148,7 +148,7 @@ fn add_list(lists: &mut Lists, query: u32, list: Vec<Query>) -> Result<(), Alloc
     Ok(())
 }
 
-// The lists of the queries with a frequency, which are in turn what this file_sink took; the others are
+// The lists of the queries with a frequency, which are in turn what this sink took; the others are
 // empty.
 fn lists_of(
     alloc: Global,

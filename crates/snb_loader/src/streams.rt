@@ -97,7 +97,7 @@ fn inserts_of_fields_fit()
     own_line();
 }
 
-/// The file_sink is one of the files of streams. A line says one insert at most, which is that of some line,
+/// The sink is one of the files of streams. A line says one insert at most, which is that of some line,
 /// and is refused in one way at most.
 pub(crate) fn streams_are_lawful()
     ensures lawful { Lawful stream_format }

@@ -137,7 +137,7 @@ impl FileSink<TableLines> for TableGraph {
     }
 }
 
-/// The graph is a file_sink of the files of tables. A line says one row at most, which is one that tables can
+/// The graph is a sink of the files of tables. A line says one row at most, which is one that tables can
 /// have, and is refused in one way at most.
 pub(crate) fn tables_are_lawful()
     ensures lawful { Lawful table_format }

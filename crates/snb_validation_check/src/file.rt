@@ -155,7 +155,7 @@ impl<'h, R: Replier> FileSink<CaseLines> for CaseFileSink<'h, R> {
     }
 }
 
-// The file_sink is one of files of cases. A line says one case at most, and is refused in one way at most.
+// The sink is one of files of cases. A line says one case at most, and is refused in one way at most.
 pub(crate) fn cases_are_lawful()
     ensures lawful { CasesAreLawful }
     ensures right { AreCaseTakers }
