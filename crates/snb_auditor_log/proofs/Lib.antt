@@ -1,2 +1,3 @@
 mod LogFacts
 mod VerdictFacts
+mod Clean

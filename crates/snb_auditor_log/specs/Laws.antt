@@ -1,7 +1,8 @@
 -- Laws of what a log is refused for, of what it says, and of the verdict on it.
-use Rattle.std.specs.Prelude.{◌≡◌, ◌↔◌, ℕ, true, List, Option}
+use Rattle.std.specs.Prelude.{◌≡◌, ◌↔◌, ◌≤◌, ℕ, true, List, Option, Some, length}
 use Rattle.snb_history.specs.declared.logged.Header.{Header}
 use Rattle.snb_history.specs.declared.logged.Logged.{Logged}
+use Rattle.snb_schema.specs.declared.limits.TheConstants.{MAX_BYTES}
 use Rattle.snb_schema.specs.declared.refusal.Refusal.{Refusal}
 use Rattle.snb_schema.specs.declared.row.Row.{Row}
 use Rattle.snb_base.specs.FirstOf.{FirstOf, NoneOf}
@@ -25,6 +26,10 @@ RefusedOrNot = (held : Option (List ℕ)) (r : Refusal) → FirstOf (log_checks 
 -- a log says one header and one list of events with their counts at most
 abbrev pub LogSaysOne : Type 0
 LogSaysOne = (held : Option (List ℕ)) (a b : Header) (g h : List Logged) → IsLogOf held a g → IsLogOf held b h → (a ≡ b) × (g ≡ h)
+
+-- nothing is wrong with the bytes of a log that say something, where they are no more than there may be
+abbrev pub SaidLogIsClean : Type 0
+SaidLogIsClean = (bytes : List ℕ) (header : Header) (logged : List Logged) → length bytes ≤ MAX_BYTES → IsLogOf (Some bytes) header logged → NoneOf (log_checks (Some bytes))
 
 -- a log has one verdict at most, by a plan of streams that is closed over a sound graph
 abbrev pub AuditVerdictIsOne : Type 0

@@ -1,9 +1,10 @@
 //! Laws of what a log is refused for, of what it says and of the verdict on it, over every log.
 
-ghost use Rattle.snb_auditor_log.specs.Laws.{AcceptedInOrder, AuditVerdictIsOne, LogSaysOne, OneLogRefusal, RefusedOrNot, WholeExactly};
+ghost use Rattle.snb_auditor_log.specs.Laws.{AcceptedInOrder, AuditVerdictIsOne, LogSaysOne, OneLogRefusal, RefusedOrNot, SaidLogIsClean, WholeExactly};
 
 use crate::file_sink::log_is_lawful;
 use snb_auditor::law::{accepted_exactly, verdict_is_one};
+use snb_runlog::law::log_is_exact;
 use snb_workers::law::one_count;
 
 /// Something is wrong with a log in one first way, or nothing is, and it says one header and one list of
@@ -14,6 +15,13 @@ pub fn one_log_refusal()
     ensures says { LogSaysOne }
 {
     log_is_lawful();
+}
+
+/// Nothing is wrong with a log that says a header and a list of events, where it has no more bytes than are read.
+pub fn said_log_is_clean()
+    ensures { SaidLogIsClean }
+{
+    log_is_exact();
 }
 
 /// A log has one verdict at most, by a plan of streams whose updates are closed over a sound graph.

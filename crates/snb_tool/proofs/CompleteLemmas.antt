@@ -271,7 +271,7 @@ audit_in_short words_one in_order asked files moments folder log ratio table sta
 
 -- where a run is whole, or not, what is told of it
 module _ (whole : Bool) (status : ℕ) (texts : Written) (P Q : Written → Type 0) (told : MatchBool whole ((status ≡ 0) × P texts) ((status ≡ 1) × Q texts)) where
-  told_exactly : (status ≡ 0) ↔ (whole ≡ true)
+  pub told_exactly : (status ≡ 0) ↔ (whole ≡ true)
   told_exactly = by whole told
     where
       by : (b : Bool) → MatchBool b ((status ≡ 0) × P texts) ((status ≡ 1) × Q texts) → (status ≡ 0) ↔ (b ≡ true)

@@ -85,7 +85,7 @@ lane_tail ratio table held = lane_checks (after_dataset held) held ++ param_tail
 
 module _ (one : AreOne) (ratio : ℕ) (table : FrequencyTable) (held : Held) where
   -- files have one plan at most
-  planned_one : (p q : Plan) → ArePlanned held ratio table p → ArePlanned held ratio table q → p ≡ q
+  pub planned_one : (p q : Plan) → ArePlanned held ratio table p → ArePlanned held ratio table q → p ≡ q
   planned_one p q a b =
       let lanes : b.lanes ≡ a.lanes = one.lanes (after_dataset held) held b.lanes a.lanes b.streams a.streams in
       let lists : b.lists ≡ a.lists = one.params (after_streams held) held table b.lists a.lists b.params a.params in

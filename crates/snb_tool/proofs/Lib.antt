@@ -8,3 +8,6 @@ pub mod ExpectLemmas
 pub mod ValidLemmas
 pub mod ViaLemmas
 pub mod TrialLemmas
+pub mod Served
+pub mod WholeLemmas
+pub mod EachLine

@@ -21,9 +21,16 @@ use Rattle.snb_runlog.specs.declared.columns.TheConstants.{LAST_VERSION, MAX_NUM
 use Rattle.snb_runlog.specs.Columns.{CanBeLogged, HasCount}
 use Rattle.snb_runlog.specs.Laws.{ReadsBack, RunReadsBack}
 use Rattle.snb_runlog.specs.Writing.{AreCounted, logged_text}
-use Rattle.snb_workers.specs.Counts.{logged_by, logged_of, rows_by}
+use Rattle.snb_workers.specs.Counts.{HasRightCount, IsCount, TellsCounts, logged_by, logged_of, rows_by}
 use Rattle.snb_workers.specs.declared.done.Answered.{Answered}
-use Rattle.snb_workers.specs.Laws.{FinishesAreOfOperations}
+use Rattle.snb_workers.specs.Laws.{FinishesAreOfOperations, OneCount}
+use Rattle.snb_workers.specs.Miscounts.{IsFirstMiscount, IsMiscount}
+use Rattle.snb_workers_replay.specs.Laws.{IsReplayed}
+use Rattle.snb_graph_model.specs.Graphs.{IsGraph}
+use Rattle.snb_graph_model.specs.Soundness.{Sound}
+use Rattle.snb_schema.specs.declared.row.Row.{Row}
+use Rattle.snb_base.proofs.Laws.{at_contains}
+use Rattle.std.specs.Prelude.{Option, None, Some}
 use Rattle.snb_workers.specs.Replicas.{IfFinish}
 
 -- ---- what a log can tell of a run
@@ -131,3 +138,20 @@ one_more replies xs i d head old new logged lt was is more =
         ap (λ (ys : List Event). logged_text (logged_of replies ys)) taken ∙ ap logged_text (map-append (logged_by replies) (take i xs) (get_or xs i d ∷ []))
         ∙ flat_map-append logged_line (logged_of replies (take i xs)) (logged_by replies (get_or xs i d) ∷ [])
         ∙ ap (λ (l : Logged). logged_text (logged_of replies (take i xs)) ++ logged_text (l ∷ [])) (sym is)
+
+-- ---- its counts
+
+-- of the counts of a run none is wrong
+pub no_miscount : OneCount → (base : List Row) (plan : Plan) (workers : ℕ) (h : List Event) (logged : List Logged) → IsGraph base → Sound base → IsReplayed base plan
+    → IsLegal (schedule_of plan) workers h → TellsCounts base plan h logged → IsFirstMiscount base plan logged None
+no_miscount one base plan workers h logged graph sound replayed legal tells m miss =
+    let right : HasRightCount base plan h miss.one = All-contains (HasRightCount base plan h) logged miss.one tells.counts (at_contains logged m.event miss.one miss.there) in
+    let needs : IsCount base plan h miss.one.event m.needs = subst (λ (g : List Event). IsCount base plan g miss.one.event m.needs) tells.events miss.needs in
+    absurd (miss.differ (same miss.one.event miss.one.rows m.found m.needs right miss.found needs))
+  where
+    same : (e : Event) (rows : Option ℕ) (found needs : ℕ) → HasRightCount base plan h (record { event = e; rows = rows }) → rows ≡ Some found → IsCount base plan h e needs → found ≡ needs
+    same (Start op worker at) rows found needs right is count = absurd count
+    same (Finish op worker at front) rows found needs right is count =
+        let told : right.0 ≡ found = (let both : Some right.0 ≡ Some found = sym right.1 ∙ is in cc) in
+        sym told ∙ one base plan workers h (Finish op worker at front) right.0 needs graph sound replayed legal right.2 count
+    same (Halt worker) rows found needs right is count = absurd count

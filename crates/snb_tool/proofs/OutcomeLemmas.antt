@@ -37,7 +37,7 @@ use Rattle.snb_ratio.specs.Chances.{Falling}
 use Rattle.snb_walk.specs.declared.target.Pick.TheVariants.{Modulo}
 use Rattle.snb_workers.specs.Counts.{logged_of}
 use Rattle.snb_workers.specs.declared.run.Outcome.{Outcome}
-use Rattle.snb_workers.specs.Miscounts.{events_of}
+use Rattle.snb_workers.specs.Miscounts.{IsFirstMiscount, events_of}
 use Rattle.snb_workers.specs.Runs.{HasRun}
 use Rattle.snb_tool.specs.declared.audit.Judged.{Judged}
 use Rattle.snb_tool.specs.declared.deliver.Finished.{Finished}
@@ -162,12 +162,14 @@ trial_done contents size workers given moments input texts is left =
 
 -- the texts of what a run left, where the final graph has the rows of the dataset and of each insert
 pub run_shown : (workers : ℕ) (input : Input) (moments : Moments) (o : Outcome) (texts : Written) → HasRun workers input.plan moments input.graph o.events o.replies o.graph
+    → IsFirstMiscount input.graph input.plan (logged_of o.replies o.events) None
     → ReadsBack (header_of workers (length input.plan.operations)) (logged_of o.replies o.events) → AreTexts workers input.plan o texts → IsLeft workers input.graph input.plan moments texts
-run_shown workers input moments o texts ran back shown = record {
+run_shown workers input moments o texts ran counted back shown = record {
   history = o.events;
   replies = o.replies;
   final = o.graph;
   ran = ran;
+  counted = counted;
   read_back = back;
   shown = shown ∙ (λ i. record {
     screen = summary_text (length input.plan.operations) (length (updates_in input.plan)) (length (queries_in input.plan)) (rows_after input.graph (all_rows input.plan) o.graph ran.final i);

@@ -1,10 +1,10 @@
 -- Laws of what the commands answer.
-use Rattle.std.specs.Prelude.{◌≡◌, ◌≤◌, ℕ, ◌⊎◌, ◌↔◌, ◌++◌, List, length, Option, Some}
+use Rattle.std.specs.Prelude.{◌≡◌, ◌≤◌, ℕ, ◌-◌, ◌⊎◌, ◌↔◌, ◌++◌, true, List, Contains, length, slice_get, Option, Some}
 use Rattle.snb_base.specs.Moments.{Moments}
 use Rattle.snb_auditor_log.specs.LogFiles.{IsLogOf}
 use Rattle.snb_auditor_log.specs.declared.verdict.AuditVerdict.{AuditVerdict}
-use Rattle.snb_auditor_log.specs.AuditVerdicts.{IsAuditVerdict, IsInOrder, IsWhole}
-use Rattle.snb_auditor_log.specs.VerdictTexts.{audit_text}
+use Rattle.snb_auditor_log.specs.AuditVerdicts.{IsAuditVerdict, IsInOrder, IsWhole, is_whole}
+use Rattle.snb_auditor_log.specs.VerdictTexts.{audit_status, audit_text}
 use Rattle.std.specs.Option.{IsSomeAnd}
 use Rattle.snb_base.specs.Outbox.{Written}
 use Rattle.snb_handlers.specs.Table.{HasAll}
@@ -20,7 +20,15 @@ use Rattle.snb_loader.specs.Dataset.{IsDataset}
 use Rattle.snb_base.specs.Shelf.{Files}
 use Rattle.snb_input_files.specs.Files.{held_in}
 use Rattle.snb_base.specs.FirstOf.{FirstOf, NoneOf}
-use Rattle.snb_plan.specs.Plans.{Plan, schedule_of}
+use Rattle.snb_input_files.specs.Walk.{Held}
+use Rattle.snb_loader.specs.Lanes.{AreLanes}
+use Rattle.snb_loader.specs.Params.{AreParams}
+use Rattle.snb_plan.specs.declared.instances.Instance.{Instance}
+use Rattle.snb_plan.specs.Plans.{AreUpdates, IsInstance, IsLineOf as IsLineIn, Operation, Placed, Plan, first_t, read_operation, schedule_of, update_operation}
+use Rattle.snb_plan.specs.Plans as plans
+use Rattle.snb_schema.specs.declared.query.Query.{Query}
+use Rattle.snb_schema.specs.LineLanes.{LineLanes}
+use Rattle.snb_schema.specs.QueryLists.{QueryLists}
 use Rattle.snb_workers_replay.specs.Replay.{IsFinal}
 use Rattle.snb_workers_replay.specs.Waiting.{StaysBelow, WaitsForAll}
 use Rattle.snb_history.specs.declared.event.Event.{Event}
@@ -49,9 +57,9 @@ use Rattle.snb_workers.specs.Counts.{TellsCounts}
 use Rattle.snb_workers.specs.Miscounts.{events_of}
 use Rattle.snb_workers.specs.declared.done.Answered.{Answered}
 use Rattle.snb_workers.specs.Runs.{AreByClock, AreReplies}
-use Rattle.snb_tool.specs.Inputs.{Found, IsFine, IsInput, at_first, checks_of}
+use Rattle.snb_tool.specs.Inputs.{ArePlanned, Found, Given, IsFine, IsInput, after_dataset, after_streams, at_first, checks_of}
 use Rattle.snb_tool.specs.Outcome.{Asked, IsAnswer}
-use Rattle.snb_tool.specs.Output.{HasWritten}
+use Rattle.snb_tool.specs.Output.{HasWritten, on_screen}
 
 -- what a command finds is refused for one thing at most
 abbrev pub RefusalIsOne : Type 0
@@ -204,3 +212,66 @@ ViaTableIsTheSame =
     → IsLineOf asked.words (Validate folder name Graph) → IsAnswer asked (Some files) moments status texts
     → IsLineOf others.words (Validate folder name Table) → IsSomeAnd others.given (λ c. HasAll c.kinds) → IsAnswer others (Some files) later other shown
     → (other ≡ status) × (shown ≡ texts)
+
+-- a log is one of a whole run for `audit` and `latency`, by the files of a folder: nothing is wrong with what either finds; the verdict that `audit` shows is
+-- that the run is accepted or late; and `latency` is done with status 0
+pub record IsWholeRun (files : Files) (folder log : List ℕ) (ratio : ℕ) (frequencies : FrequencyTable) : Type 0 where
+  pub audit_fine : (given : Given) → IsFine (Some files) given (Audit folder log ratio frequencies)
+  pub audited :
+      (asked : Asked) (moments : Moments) (status : ℕ) (texts : Written)
+      → IsLineOf asked.words (Audit folder log ratio frequencies) → IsAnswer asked (Some files) moments status texts
+      → (verdict : AuditVerdict) × (is_whole verdict ≡ true) × (status ≡ audit_status verdict) × (texts ≡ on_screen (audit_text verdict))
+  pub latency_fine : (given : Given) → IsFine (Some files) given (Latency folder log ratio frequencies)
+  pub measured :
+      (asked : Asked) (moments : Moments) (status : ℕ) (texts : Written)
+      → IsLineOf asked.words (Latency folder log ratio frequencies) → IsAnswer asked (Some files) moments status texts
+      → status ≡ 0
+
+-- so is the log that `run` wrote of the folder, under the same ratio and frequencies: where the file of a name has it, at most `MAX_BYTES` bytes, and
+-- the folder's files are what they were
+abbrev pub RunIsWhole : Type 0
+RunIsWhole =
+    (asked : Asked) (files after : Files) (moments : Moments) (folder name : List ℕ) (workers ratio : ℕ) (frequencies : FrequencyTable) (texts : Written)
+    → IsLineOf asked.words (Run folder workers ratio frequencies) → IsAnswer asked (Some files) moments 0 texts → length texts.log ≤ MAX_BYTES
+    → after name ≡ Some texts.log → ((file : FileId) → held_in folder after file ≡ held_in folder files file)
+    → IsWholeRun after folder name ratio frequencies
+
+-- an element stands at one place of a list, and at no other
+pub record StandsOnce {X : Type 0} (xs : List X) (x : X) : Type 0 where
+  pub place : ℕ
+  pub there : slice_get xs place ≡ Some x
+  pub alone : (other : ℕ) → slice_get xs other ≡ Some x → other ≡ place
+
+-- the operation is a read that the frequencies ask: one goes with the update of a number that is so many times the frequency of its query, and takes its
+-- parameters from the list in turn
+pub record IsAskedRead (lanes : LineLanes) (lists : QueryLists) (ratio t0 : ℕ) (frequencies : FrequencyTable) (updates : List Placed) (o : Operation) : Type 0 where
+  pub place : ℕ
+  pub instance : Instance
+  pub with : Placed
+  pub query : Query
+  pub frequent : IsInstance frequencies (length updates) instance
+  pub goes_with : slice_get updates (instance.at - 1) ≡ Some with
+  pub asked : plans.IsAsked lists instance query
+  pub is : o ≡ read_operation lanes ratio t0 place with.line.t query
+
+-- the operations of a plan of files: the lines of the streams are its lanes; each line is one operation, no two lines are the same one, and each
+-- operation is that of a line, or a read that the frequencies ask
+pub record HasEachLine (held : Held) (ratio : ℕ) (frequencies : FrequencyTable) (plan : Plan) : Type 0 where
+  pub lanes : LineLanes
+  pub lists : QueryLists
+  pub streams : AreLanes (after_dataset held) held lanes
+  pub params : AreParams (after_streams held) held frequencies lists
+  pub updates : List Placed
+  pub merged : AreUpdates lanes updates
+  pub each_line : (p : Placed) → IsLineIn lanes p → StandsOnce plan.operations (update_operation lanes ratio (first_t plan.operations) p)
+  pub apart :
+      (p q : Placed) → IsLineIn lanes p → IsLineIn lanes q
+      → update_operation lanes ratio (first_t plan.operations) p ≡ update_operation lanes ratio (first_t plan.operations) q → p ≡ q
+  pub each_operation :
+      (o : Operation) → Contains plan.operations o
+      → ((p : Placed) × IsLineIn lanes p × (o ≡ update_operation lanes ratio (first_t plan.operations) p))
+      ⊎ IsAskedRead lanes lists ratio (first_t plan.operations) frequencies updates o
+
+-- so it is with each plan of files
+abbrev pub LinesAreOperations : Type 0
+LinesAreOperations = (held : Held) (ratio : ℕ) (frequencies : FrequencyTable) (plan : Plan) → ArePlanned held ratio frequencies plan → HasEachLine held ratio frequencies plan

@@ -1,17 +1,20 @@
 -- What a call of the program answers and writes.
-use Rattle.std.specs.Prelude.{◌≡◌, ℕ, ◌+◌, true, List, [], length, Option, None, Some, IfSome, IsSome, ◌⊎◌, MatchBool}
+use Rattle.std.specs.Prelude.{◌≡◌, ℕ, ◌+◌, Bool, true, List, [], length, nat_eq, Option, None, Some, IfSome, IsSome, ◌⊎◌, MatchBool}
 use Rattle.snb_base.specs.Moments.{Moments}
 use Rattle.std.specs.Borrow.{Bor}
 use Rattle.snb_auditor_log.specs.LogFiles.{IsLogOf}
 use Rattle.snb_auditor_log.specs.declared.verdict.AuditVerdict.{AuditVerdict}
 use Rattle.snb_auditor_log.specs.AuditVerdicts.{IsAuditVerdict, is_whole}
 use Rattle.snb_auditor_log.specs.VerdictTexts.{audit_status, audit_text}
+use Rattle.snb_base.specs.declared.outbox.Outbox.{Ghosts as Outboxes}
+use Rattle.snb_base.specs.declared.shelf.Shelf.{Ghosts as Shelves}
 use Rattle.snb_base.specs.Outbox.{Written}
+use Rattle.snb_base.specs.Reads.{IsRead as IsShelfRead}
 use Rattle.snb_validation_cases.specs.declared.case.Case.{Case}
 use Rattle.snb_validation_check.specs.declared.text.Tally.{Tally}
 use Rattle.snb_validation_check.specs.CasesFile.{IsTally}
 use Rattle.snb_validation_check.specs.CheckTexts.{tally_status, tally_text}
-use Rattle.snb_base.specs.Shelf.{Files}
+use Rattle.snb_base.specs.Shelf.{Files, HasCounted}
 use Rattle.snb_base.specs.FirstOf.{FirstOf, NoneOf}
 use Rattle.snb_input_files.specs.Walk.{Held}
 use Rattle.snb_loader.specs.Dataset.{IsDataset}
@@ -42,16 +45,16 @@ use Rattle.snb_tool_texts.specs.Answers.{answers_text}
 use Rattle.snb_tool_texts.specs.Counts.{check_text}
 use Rattle.snb_trial.specs.Trial.{dataset, lanes, least_ratio, lists, read_frequencies}
 use Rattle.snb_workers.specs.Counts.{logged_of}
-use Rattle.snb_workers.specs.Miscounts.{events_of}
+use Rattle.snb_workers.specs.Miscounts.{IsFirstMiscount, events_of}
 use Rattle.snb_workers.specs.declared.done.Answered.{Answered}
 use Rattle.snb_workers.specs.Runs.{HasRun}
 use Rattle.snb_tool_words.specs.declared.command.Command.{Command}
 use Rattle.snb_tool_words.specs.declared.command.Command.TheVariants.{Audit, Check, Expect, Latency, Run, Read, Trial, Validate, Walk}
-use Rattle.snb_tool_words.specs.Commands.{IsLineOf, folder_of, needs_table}
+use Rattle.snb_tool_words.specs.Commands.{IsLineOf, folder_of, needs_table, waits}
 use Rattle.snb_tool_words.specs.Words.{texts_of}
 use Rattle.snb_tool.specs.Inputs.{Found, Given, IsFine, IsFoundTold, IsInput, IsWrong, at_first, checks_of}
 use Rattle.snb_tool.specs.Output.{HasBegun, HasWritten, on_screen, usage_text}
-use Rattle.snb_tool.specs.Outside.{Call, EndsAs}
+use Rattle.snb_tool.specs.Outside.{Call, EndsAs, seen}
 use Rattle.snb_tool.specs.WalkTexts.{reply_line, walk_text}
 use Rattle.snb_ratio.specs.Chances.{Falling}
 use Rattle.snb_walk.specs.declared.target.Pick.{Pick}
@@ -87,12 +90,13 @@ pub record IsChecked (held : Held) (frequencies : FrequencyTable) (texts : Writt
 
 -- what a run of a plan by so many workers over a dataset leaves: the texts of a legal, complete history, of the replies to its reads, each on
 -- the dataset with what had finished in the read's front, and of the dataset with the rows of each insert once; each Start and Finish is at a moment
--- that the clock can answer. The log is read as what it was written of, and in no other way
+-- that the clock can answer. No count of rows in the log is wrong, and the log is read as what it was written of, and in no other way
 pub record IsLeft (workers : ℕ) (graph : List Row) (plan : Plan) (moments : Moments) (texts : Written) : Type 0 where
   pub history : List Event
   pub replies : List Answered
   pub final : List Row
   pub ran : HasRun workers plan moments graph history replies final
+  pub counted : IsFirstMiscount graph plan (logged_of replies history) None
   pub read_back : ReadsBack (header_of workers (length plan.operations)) (logged_of replies history)
   pub shown : texts ≡ run_texts workers graph plan history replies final
 
@@ -282,3 +286,29 @@ abbrev pub ReadsNothing : Asked → Type 0
 ReadsNothing asked =
     (command : Command) × IsAsked asked command
     × ((folder_of command ≡ None) ⊎ ((needs_table command ≡ true) × IfSome asked.given (λ c. ¬ HasAll c.kinds)))
+
+-- whatever command the words are the line of, it waits, or it doesn't
+abbrev pub AreWaiting : Bool → List (List ℕ) → Type 0
+AreWaiting waiting words = (command : Command) → IsLineOf words command → waits command ≡ waiting
+
+-- what a call of the program does that is asked this and ends with this status, where its clock can answer these moments: by the shelf and the
+-- outbox before it and after it
+pub record HasServed {S O : Type 0} (shelves : Shelves S) (outboxes : Outboxes O) (moments : Moments) (asked : Asked) (shelf shelf_after : S) (out out_after : O) (status : ℕ) : Type 0 where
+  -- texts that belong to the words and the status are on the channels, but with 4, 5 and 6
+  pub answered : IsAnswered asked (seen shelves outboxes moments shelf shelf_after out out_after) status
+  -- after a failed read and for want of memory nothing was written
+  pub unwritten : ((status ≡ 4) ⊎ (status ≡ 6)) → outboxes.written out_after ≡ outboxes.written out
+  -- after a failed write a front of texts is there that belong to the words and some status
+  pub cut : status ≡ 5 → IsCut asked (seen shelves outboxes moments shelf shelf_after out out_after)
+  -- where nothing is wrong with what the command finds, it is done
+  pub complete : Completes asked (seen shelves outboxes moments shelf shelf_after out out_after) status
+  -- where something is, what is wrong first is shown
+  pub refuses : Refuses asked (seen shelves outboxes moments shelf shelf_after out out_after) status
+  -- words that are no line of a command are answered with the usage, and nothing is read
+  pub other_line : IsOther asked → ((status ≡ 2) ⊎ (status ≡ 5)) × (shelf_after ≡ shelf)
+  -- nothing is read for a command that reads nothing
+  pub unread : ReadsNothing asked → shelf_after ≡ shelf
+  -- the status is 4 only where a read failed, and nothing but the count of these faults is another afterwards
+  pub read : IsShelfRead (nat_eq status 4) shelves shelf shelf_after
+  -- the status is 5 only where a write failed
+  pub counted : HasCounted (nat_eq status 5) (outboxes.faults out) (outboxes.faults out_after)

@@ -1,7 +1,6 @@
 -- What a call sees of the world outside it.
 use Rattle.std.specs.Prelude.{◌≡◌, ℕ, ◌≤◌, Option}
 use Rattle.snb_base.specs.Moments.{Moments}
-use Rattle.snb_base.specs.declared.clock.Clock.{Ghosts as Clocks}
 use Rattle.snb_base.specs.declared.outbox.Outbox.{Ghosts as Outboxes}
 use Rattle.snb_base.specs.declared.shelf.Shelf.{Ghosts as Shelves}
 use Rattle.snb_base.specs.Outbox.{Rooms, Written}
@@ -19,12 +18,12 @@ pub record Outside : Type 1 where
   pub written : Option Written
   pub ready : Rooms → Type 0
 
--- the world outside, as a shelf, an outbox and a clock tell it
-abbrev pub outside : {S O C : Type 0} → Shelves S → Outboxes O → Clocks C → S → O → C → Outside
-outside shelves outboxes clocks shelf out clock = record {
+-- the world outside, as a shelf and an outbox tell it, with a clock of these moments
+abbrev pub outside : {S O : Type 0} → Shelves S → Outboxes O → Moments → S → O → Outside
+outside shelves outboxes moments shelf out = record {
   contents = shelves.contents shelf;
   may = shelves.may shelf;
-  moments = clocks.moments clock;
+  moments = moments;
   read_faults = shelves.faults shelf;
   write_faults = outboxes.faults out;
   written = outboxes.written out;
@@ -36,10 +35,10 @@ pub record Call : Type 1 where
   pub before : Outside
   pub after : Outside
 
--- that of a call, by its shelf, its outbox and its clock
-abbrev pub seen : {S O C : Type 0} → Shelves S → Outboxes O → Clocks C → S → S → O → O → C → Call
-seen shelves outboxes clocks shelf shelf_after out out_after clock =
-    record { before = outside shelves outboxes clocks shelf out clock; after = outside shelves outboxes clocks shelf_after out_after clock }
+-- that of a call, by its shelf and its outbox, and the moments of its clock
+abbrev pub seen : {S O : Type 0} → Shelves S → Outboxes O → Moments → S → S → O → O → Call
+seen shelves outboxes moments shelf shelf_after out out_after =
+    record { before = outside shelves outboxes moments shelf out; after = outside shelves outboxes moments shelf_after out_after }
 
 -- the shelf was read and not changed: it tells what it told, may be asked for the same names, and forgets no fault
 abbrev pub IsReadOnly : {S : Type 0} → Shelves S → S → S → Type 0

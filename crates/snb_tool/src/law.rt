@@ -1,8 +1,8 @@
 //! Laws of what the program answers. The functions only cite other laws; their contracts are the laws.
 
-ghost use Rattle.snb_tool.specs.Laws.{AnswersHaveStatus, AuditInShort, ExpectInShort, ExpectedIsValid, LatencyInShort, RefusalIsOne, RefusedOrNot, RunInShort, ValidateInShort, ViaTableIsTheSame};
+ghost use Rattle.snb_tool.specs.Laws.{AnswersHaveStatus, AuditInShort, ExpectInShort, ExpectedIsValid, LatencyInShort, LinesAreOperations, RefusalIsOne, RefusedOrNot, RunInShort, RunIsWhole, ValidateInShort, ViaTableIsTheSame};
 
-use snb_auditor_log::law::{accepted_in_order, one_log_refusal, whole_exactly};
+use snb_auditor_log::law::{accepted_in_order, one_log_refusal, said_log_is_clean, whole_exactly};
 use snb_loader::law::{one_dataset, one_lanes, one_params};
 use snb_plan::law::plan_is_one;
 use snb_tool_words::law::one_command;
@@ -107,3 +107,29 @@ pub fn via_table_is_the_same()
     one_dataset();
     one_cases_refusal();
 }
+
+/// `audit` and `latency` find what `run` wrote a whole run: where the files are told, the text that status 0 of `run`
+/// adds to the log has at most `MAX_BYTES` bytes, and stands in a file while the folder's files are what they were,
+/// then nothing is wrong with what either finds of the folder and that file under the same ratio and frequencies;
+/// what `audit` answers shows the verdict that the run is accepted or late, and what `latency` answers has status 0.
+/// So by the contract of `snb_with`, where nothing fails and memory suffices, they end so.
+pub fn run_is_whole()
+    ensures { RunIsWhole }
+{
+    one_command();
+    refusal_is_one();
+    one_dataset();
+    one_lanes();
+    one_params();
+    plan_is_one();
+    one_log_refusal();
+    said_log_is_clean();
+    whole_exactly();
+    counts_of_a_run();
+}
+
+/// Each line of the streams is one operation of the plan of the files, no two lines are the same operation, and each
+/// operation is that of a line, or a read that the frequencies ask.
+pub fn lines_are_operations()
+    ensures { LinesAreOperations }
+{}

@@ -17,4 +17,4 @@ mod validate;
 mod walk;
 
 pub use snb_trial::trial_input;
-pub use tool::{snb, snb_with};
+pub use tool::{snb, snb_still, snb_with};

@@ -38,7 +38,7 @@ use snb_tool_texts::answers::answer_pieces;
 use snb_tool_texts::counts::summary_lines;
 use snb_tool_texts::final_lines::final_lines;
 use snb_workers::counts::Counts;
-use snb_workers::law::finishes_are_of_operations;
+use snb_workers::law::{counts_of_a_run, finishes_are_of_operations, one_count};
 use snb_workers::{Answered, Done, Outcome, run_workers};
 use std::alloc::{AllocError, Global};
 use std::sync::Wait;
@@ -147,6 +147,10 @@ pub fn run_output<R: Threads + Wait + Sync, C: Clock + Sync, G: Gate + Sync>(
 {
     legal_is_short();
     log_reads_back();
+    counts_of_a_run();
+    one_count();
+    input.graph.known();
+    input.plan.known();
     // The schedule's steps are no more than there may be.
     let _ = input.plan.schedule().steps();
     let outcome = run_workers(rt, alloc, &input.plan, &input.graph, workers, clock, gate)?;

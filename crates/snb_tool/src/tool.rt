@@ -1,15 +1,17 @@
 //! The one call that does all that the program does.
 
-ghost use Rattle.std.specs.Prelude.{◌≡◌, ◌≤◌, ◌⊎◌, None, ◌≢◌, nat_eq, true, IfOk, IfSome, IsSome, MatchOption, OnErr};
+ghost use Rattle.std.specs.Prelude.{◌≡◌, ◌≤◌, ◌⊎◌, None, ◌≢◌, false, true, IfOk, IfSome, IsSome, MatchOption, OnErr};
+ghost use Rattle.snb_base.specs.Moments.{Moments};
 ghost use Rattle.snb_base.specs.Reads.{IsRead};
-ghost use Rattle.snb_base.specs.Shelf.{HasCounted};
 ghost use Rattle.snb_handlers.specs.Table.{kinds};
 ghost use Rattle.snb_input_files.specs.Loading.{is_read_fault};
 ghost use Rattle.snb_input_files.specs.Names.{Allows};
-ghost use Rattle.snb_tool_words.specs.Commands.{IsRunnable, folder_of, needs_table};
+ghost use Rattle.snb_tool_words.specs.Commands.{IsRunnable, folder_of, needs_table, waits};
+ghost use Rattle.snb_tool_words.specs.Words.{texts_of};
 ghost use Rattle.snb_tool.specs.Endings.{IsFinished, LacksKind, asked_by, given_by};
+ghost use Rattle.snb_tool.specs.Inputs.{Given};
 ghost use Rattle.snb_tool.specs.Names.{IsNameOf, MayAskFor};
-ghost use Rattle.snb_tool.specs.Outcome.{Completes, IsAnswer, IsAnswered, IsAsked, IsCut, IsOther, ReadsNothing, Refuses, alone, with};
+ghost use Rattle.snb_tool.specs.Outcome.{AreWaiting, HasServed, IsAnswer, IsAsked, IsOther, ReadsNothing, alone, with};
 ghost use Rattle.snb_tool.specs.Outside.{EndsAs, IsReadOnly, seen};
 
 use crate::audit::audit;
@@ -28,7 +30,7 @@ use snb_base::{Clock, Gate, Outbox, Shelf};
 use snb_handlers::Handlers;
 use snb_input_files::Load;
 use snb_tool_words::law::one_command;
-use snb_tool_words::{Command, Via, asks_table, command_of};
+use snb_tool_words::{Command, Via, asks_table, command_of, waits};
 use snb_walk::Policy;
 use std::alloc::{AllocError, Global};
 use std::sync::Wait;
@@ -38,45 +40,27 @@ use std::thread::Threads;
 const USAGE: &str =
     "usage: snb COMMAND, where COMMAND is check, run, audit, latency, expect, validate, read, walk or trial\n";
 
-// Does what a command says, and answers it. The conditions: a command that asks a table is given one (`given`), and
-// the shelf may be asked for the names of the command (`allowed`).
-fn obey<R: AllocGlobal + Threads + Wait + Sync, S: Shelf, C: Clock + Sync, G: Gate + Sync>(
-    rt: &R,
+// Does what a command says that waits for nothing, and answers it. The conditions: it is such a command (`still`), one
+// that asks a table is given one (`given`), and the shelf may be asked for the names of the command (`allowed`).
+fn obey<S: Shelf>(
+    alloc: Global,
     command: &Command,
     shelf: &mut S,
-    clock: &C,
-    gate: &G,
     given: Option<(&Handlers, &Policy)>,
 ) -> Result<Finished, Load>
-    requires runnable { IsRunnable command.now }
+    requires still { waits command.now ≡ false }
     requires given { needs_table command.now ≡ true → IsSome given }
     requires allowed { Allows (S.may shelf.old) (IsNameOf command.now) }
-    ensures answer { IsFinished command.now (S.contents shelf.old) (given_by given.entry) (C.moments clock.now) result }
+    ensures answer { (moments : Moments) → IsFinished command.now (S.contents shelf.old) (given_by given.entry) moments result }
     ensures unread { folder_of command.now ≡ None → shelf.new ≡ shelf.old }
     ensures unasked { needs_table command.now ≡ true → LacksKind (given_by given.entry) → shelf.new ≡ shelf.old }
     ensures read { IsRead (is_read_fault result) S.Shelf shelf.old shelf.new }
 {
-    let alloc = rt.alloc();
     match command {
         Command::Check {
             folder,
             frequencies,
         } => check(alloc, shelf, folder.as_str(), *frequencies),
-        Command::Run {
-            folder,
-            workers,
-            ratio,
-            frequencies,
-        } => run(
-            rt,
-            shelf,
-            folder.as_str(),
-            *workers,
-            *ratio,
-            *frequencies,
-            clock,
-            gate,
-        ),
         Command::Audit {
             folder,
             log,
@@ -135,7 +119,49 @@ fn obey<R: AllocGlobal + Threads + Wait + Sync, S: Shelf, C: Clock + Sync, G: Ga
             ),
             None => unreachable!(),
         },
+        Command::Run { .. } | Command::Trial { .. } => unreachable!(),
+    }
+}
+
+// Does what a command says that runs a plan, and answers it. The conditions: it is such a command (`waiting`), and the
+// shelf may be asked for its names (`allowed`).
+fn obey_waiting<
+    R: AllocGlobal + Threads + Wait + Sync,
+    S: Shelf,
+    C: Clock + Sync,
+    G: Gate + Sync,
+>(
+    rt: &R,
+    command: &Command,
+    shelf: &mut S,
+    clock: &C,
+    gate: &G,
+) -> Result<Finished, Load>
+    requires runnable { IsRunnable command.now }
+    requires waiting { waits command.now ≡ true }
+    requires allowed { Allows (S.may shelf.old) (IsNameOf command.now) }
+    ensures answer { (given : Given) → IsFinished command.now (S.contents shelf.old) given (C.moments clock.now) result }
+    ensures unread { folder_of command.now ≡ None → shelf.new ≡ shelf.old }
+    ensures read { IsRead (is_read_fault result) S.Shelf shelf.old shelf.new }
+{
+    match command {
+        Command::Run {
+            folder,
+            workers,
+            ratio,
+            frequencies,
+        } => run(
+            rt,
+            shelf,
+            folder.as_str(),
+            *workers,
+            *ratio,
+            *frequencies,
+            clock,
+            gate,
+        ),
         Command::Trial { size, workers } => trial(rt, *size, *workers, clock, gate),
+        _ => unreachable!(),
     }
 }
 
@@ -146,7 +172,6 @@ fn asked_command(
     given: Option<(&Handlers, &Policy)>,
 ) -> Result<Option<Command>, AllocError>
     ensures is { IfOk result (λ found. MatchOption found (IsOther (asked_by words.now (given_by given.entry))) (IsAsked (asked_by words.now (given_by given.entry)))) }
-    ensures runnable { IfOk result (λ found. IfSome found IsRunnable) }
     ensures memory { OnErr result (¬ IsOther (asked_by words.now (given_by given.entry))) }
 {
     one_command();
@@ -161,8 +186,37 @@ fn asked_command(
     }
 }
 
-// Answers words, with a table of handlers and a policy or without them.
-fn answer<
+// Answers words that run no plan, with a table of handlers and a policy or without them.
+fn answer<S: Shelf, O: Outbox>(
+    alloc: Global,
+    words: &[&str],
+    shelf: &mut S,
+    out: &mut O,
+    given: Option<(&Handlers, &Policy)>,
+) -> u8
+    requires still { AreWaiting false (texts_of words.now) }
+    requires allowed { MayAskFor (S.may shelf.old) (asked_by words.now (given_by given)) }
+    ensures ends { (moments : Moments) → EndsAs (IsAnswer (asked_by words.now (given_by given.entry))) (seen S.Shelf O.Outbox moments shelf.old shelf.new out.old out.new) result }
+    ensures other_line { IsOther (asked_by words.now (given_by given.entry)) → ((result ≡ 2) ⊎ (result ≡ 5)) × (shelf.new ≡ shelf.old) }
+    ensures unread { ReadsNothing (asked_by words.now (given_by given.entry)) → shelf.new ≡ shelf.old }
+    ensures read_only { IsReadOnly S.Shelf shelf.old shelf.new }
+    ensures reads_calm { result ≢ 4 → S.faults shelf.new ≡ S.faults shelf.old }
+    ensures writes_later { O.faults out.old ≤ O.faults out.new }
+    ensures writes_calm { result ≢ 5 → O.faults out.new ≡ O.faults out.old }
+{
+    one_command();
+    match asked_command(alloc, words, given) {
+        Ok(Some(command)) => {
+            let answer = obey(alloc, &command, shelf, given);
+            finish(alloc, out, answer)
+        }
+        Ok(None) => show_as(out, USAGE.as_bytes(), 2),
+        Err(_) => 6,
+    }
+}
+
+// Answers words that run a plan, whatever is given beside them.
+fn answer_waiting<
     R: AllocGlobal + Threads + Wait + Sync,
     S: Shelf,
     O: Outbox,
@@ -175,26 +229,50 @@ fn answer<
     out: &mut O,
     clock: &C,
     gate: &G,
-    given: Option<(&Handlers, &Policy)>,
 ) -> u8
-    requires allowed { MayAskFor (S.may shelf.old) (asked_by words.now (given_by given)) }
-    ensures ends { EndsAs (IsAnswer (asked_by words.now (given_by given.entry))) (seen S.Shelf O.Outbox C.Clock shelf.old shelf.new out.old out.new clock.now) result }
-    ensures other_line { IsOther (asked_by words.now (given_by given.entry)) → ((result ≡ 2) ⊎ (result ≡ 5)) × (shelf.new ≡ shelf.old) }
-    ensures unread { ReadsNothing (asked_by words.now (given_by given.entry)) → shelf.new ≡ shelf.old }
+    requires waiting { AreWaiting true (texts_of words.now) }
+    requires allowed { (given : Given) → MayAskFor (S.may shelf.old) (asked_by words.now given) }
+    ensures ends { (given : Given) → EndsAs (IsAnswer (asked_by words.now given)) (seen S.Shelf O.Outbox (C.moments clock.now) shelf.old shelf.new out.old out.new) result }
+    ensures other_line { (given : Given) → IsOther (asked_by words.now given) → ((result ≡ 2) ⊎ (result ≡ 5)) × (shelf.new ≡ shelf.old) }
+    ensures unread { (given : Given) → ReadsNothing (asked_by words.now given) → shelf.new ≡ shelf.old }
     ensures read_only { IsReadOnly S.Shelf shelf.old shelf.new }
     ensures reads_calm { result ≢ 4 → S.faults shelf.new ≡ S.faults shelf.old }
     ensures writes_later { O.faults out.old ≤ O.faults out.new }
     ensures writes_calm { result ≢ 5 → O.faults out.new ≡ O.faults out.old }
 {
     one_command();
-    match asked_command(rt.alloc(), words, given) {
+    match command_of(rt.alloc(), words) {
         Ok(Some(command)) => {
-            let answer = obey(rt, &command, shelf, clock, gate, given);
+            let answer = obey_waiting(rt, &command, shelf, clock, gate);
             finish(rt.alloc(), out, answer)
         }
         Ok(None) => show_as(out, USAGE.as_bytes(), 2),
         Err(_) => 6,
     }
+}
+
+/// Does what `snb_with` does with words that run no plan: all commands but `run` and `trial`. It can neither wait nor
+/// start a thread, and so it returns.
+///
+/// The conditions: the words are no line of `run` nor of `trial` (`still`), as `snb_tool_words::waits` tells; and
+/// `allowed`, which is that of `snb_with`. What it promises is what `snb_with` does, whatever moments a clock could
+/// answer.
+pub fn snb_still<R: AllocGlobal, S: Shelf, O: Outbox>(
+    rt: &R,
+    words: &[&str],
+    shelf: &mut S,
+    out: &mut O,
+    handlers: &Handlers,
+    policy: &Policy,
+) -> u8
+    requires still { AreWaiting false (texts_of words.now) }
+    requires allowed { MayAskFor (S.may shelf.old) (with words.now (kinds handlers.now) policy.now.pick) }
+    ensures { (moments : Moments) → HasServed S.Shelf O.Outbox moments (with words.now (kinds handlers.now) policy.now.pick) shelf.old shelf.new out.old out.new result }
+{
+    one_command();
+    refusal_is_one();
+    answers_have_status();
+    answer(rt.alloc(), words, shelf, out, Some((handlers, policy)))
 }
 
 /// Does what a line of words says. The words are those after the program's name. `handlers` is a table of what
@@ -296,20 +374,15 @@ pub fn snb_with<
     policy: &Policy,
 ) -> u8
     requires allowed { MayAskFor (S.may shelf.old) (with words.now (kinds handlers.now) policy.now.pick) }
-    ensures answered { IsAnswered (with words.now (kinds handlers.now) policy.now.pick) (seen S.Shelf O.Outbox C.Clock shelf.old shelf.new out.old out.new clock.now) result }
-    ensures unwritten { ((result ≡ 4) ⊎ (result ≡ 6)) → O.written out.new ≡ O.written out.old }
-    ensures cut { result ≡ 5 → IsCut (with words.now (kinds handlers.now) policy.now.pick) (seen S.Shelf O.Outbox C.Clock shelf.old shelf.new out.old out.new clock.now) }
-    ensures complete { Completes (with words.now (kinds handlers.now) policy.now.pick) (seen S.Shelf O.Outbox C.Clock shelf.old shelf.new out.old out.new clock.now) result }
-    ensures refuses { Refuses (with words.now (kinds handlers.now) policy.now.pick) (seen S.Shelf O.Outbox C.Clock shelf.old shelf.new out.old out.new clock.now) result }
-    ensures other_line { IsOther (with words.now (kinds handlers.now) policy.now.pick) → ((result ≡ 2) ⊎ (result ≡ 5)) × (shelf.new ≡ shelf.old) }
-    ensures unread { ReadsNothing (with words.now (kinds handlers.now) policy.now.pick) → shelf.new ≡ shelf.old }
-    ensures read { IsRead (nat_eq result 4) S.Shelf shelf.old shelf.new }
-    ensures counted { HasCounted (nat_eq result 5) (O.faults out.old) (O.faults out.new) }
+    ensures { HasServed S.Shelf O.Outbox (C.moments clock.now) (with words.now (kinds handlers.now) policy.now.pick) shelf.old shelf.new out.old out.new result }
 {
     one_command();
     refusal_is_one();
     answers_have_status();
-    answer(rt, words, shelf, out, clock, gate, Some((handlers, policy)))
+    if waits(words) {
+        return answer_waiting(rt, words, shelf, out, clock, gate);
+    }
+    snb_still(rt, words, shelf, out, handlers, policy)
 }
 
 /// Does what `snb_with` does, without a table of handlers and a policy: a line that asks a table, which is one of
@@ -323,18 +396,13 @@ pub fn snb<
     G: Gate + Sync,
 >(rt: &R, words: &[&str], shelf: &mut S, out: &mut O, clock: &C, gate: &G) -> u8
     requires allowed { MayAskFor (S.may shelf.old) (alone words.now) }
-    ensures answered { IsAnswered (alone words.now) (seen S.Shelf O.Outbox C.Clock shelf.old shelf.new out.old out.new clock.now) result }
-    ensures unwritten { ((result ≡ 4) ⊎ (result ≡ 6)) → O.written out.new ≡ O.written out.old }
-    ensures cut { result ≡ 5 → IsCut (alone words.now) (seen S.Shelf O.Outbox C.Clock shelf.old shelf.new out.old out.new clock.now) }
-    ensures complete { Completes (alone words.now) (seen S.Shelf O.Outbox C.Clock shelf.old shelf.new out.old out.new clock.now) result }
-    ensures refuses { Refuses (alone words.now) (seen S.Shelf O.Outbox C.Clock shelf.old shelf.new out.old out.new clock.now) result }
-    ensures other_line { IsOther (alone words.now) → ((result ≡ 2) ⊎ (result ≡ 5)) × (shelf.new ≡ shelf.old) }
-    ensures unread { ReadsNothing (alone words.now) → shelf.new ≡ shelf.old }
-    ensures read { IsRead (nat_eq result 4) S.Shelf shelf.old shelf.new }
-    ensures counted { HasCounted (nat_eq result 5) (O.faults out.old) (O.faults out.new) }
+    ensures { HasServed S.Shelf O.Outbox (C.moments clock.now) (alone words.now) shelf.old shelf.new out.old out.new result }
 {
     one_command();
     refusal_is_one();
     answers_have_status();
-    answer(rt, words, shelf, out, clock, gate, None)
+    if waits(words) {
+        return answer_waiting(rt, words, shelf, out, clock, gate);
+    }
+    answer(rt.alloc(), words, shelf, out, None)
 }

@@ -121,3 +121,9 @@ abbrev pub needs_table : Command → Bool
 needs_table (Validate folder cases Table) = true
 needs_table (Walk folder query chance words) = true
 needs_table _ = false
+
+-- whether a command runs a plan: then it waits for a clock, and for its workers
+abbrev pub waits : Command → Bool
+waits (Run folder workers ratio frequencies) = true
+waits (Trial size workers) = true
+waits _ = false

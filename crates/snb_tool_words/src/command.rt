@@ -3,7 +3,7 @@
 ghost use Rattle.std.specs.Prelude.{◌≡◌, ◌↔◌, IfOk, IfSome, IsTrue, MatchOption, OnErr, codes, false, true};
 ghost use Rattle.clap.specs.Words.{first_value, found_of};
 ghost use Rattle.snb_tool_words.specs.declared.command.Command.{Command as AnyCommand};
-ghost use Rattle.snb_tool_words.specs.Commands.{AreOf, IsLineOf, IsOtherLine, IsRunnable, needs_table};
+ghost use Rattle.snb_tool_words.specs.Commands.{AreOf, IsLineOf, IsOtherLine, IsRunnable, form_of, needs_table, waits};
 ghost use Rattle.snb_tool_words.specs.Options.{AreSuited};
 ghost use Rattle.snb_tool_words.specs.Taken.{AreFoundOf, AreSome, AreValues, HaveRead, IsFoundBy, IsLineBy, given_of};
 ghost use Rattle.snb_tool_words.specs.Words.{texts_of};
@@ -421,6 +421,28 @@ pub fn asks_table(words: &[&str]) -> Option<bool>
         return None;
     }
     Some(asks(&line))
+}
+
+// Whether this is the name of a command that runs a plan.
+fn is_run(name: &str) -> bool
+    ensures { (command : AnyCommand) → name.now ≡ (form_of command).name → waits command ≡ result }
+{
+    match name {
+        "run" => true,
+        "trial" => true,
+        _ => false,
+    }
+}
+
+/// Whether the command that the words are the line of runs a plan, and so waits. Of words that are no command's line
+/// it says nothing. Takes no memory.
+pub fn waits(words: &[&str]) -> bool
+    ensures { (command : AnyCommand) → IsLineOf (texts_of words.now) command → waits command ≡ result }
+{
+    match words {
+        [name, ..] => is_run(name),
+        [] => false,
+    }
 }
 
 /// The command that the words are the line of, or None where they are no command's line. The error is

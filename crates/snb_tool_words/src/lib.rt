@@ -9,5 +9,5 @@ pub mod options;
 mod reads;
 mod taken;
 
-pub use command::{Command, asks_table, command_of};
+pub use command::{Command, asks_table, command_of, waits};
 pub use options::Via;

@@ -1,28 +1,32 @@
 use Rattle.snb_tool.specs.Outcome.{alone}
-use Rattle.snb_tool.proofs.CompleteLemmas.{complete, ends_answered, ends_counted, ends_cut, ends_read, ends_unwritten, refuses}
+use Rattle.snb_tool_words.specs.Words.{texts_of}
+use Rattle.std.proofs.Common.{None, ◌∙◌}
+use Rattle.snb_tool.proofs.Served.{may_anyhow, served}
 use Rattle.snb_tool.proofs.tool.snb.Goals as goal
 
-pub returns-clause-answered : goal.returns-clause-answered
-returns-clause-answered g c = ends_answered c.answers_have_status.ensures (alone c.args.words.now) _ _ c.answer.result c.answer.ensures.ends
+pub answer_waiting-requires : goal.answer_waiting-requires
+answer_waiting-requires g c = record {
+  waiting = λ command line. c.waits.ensures command line ∙ c.if-waits.true;
+  allowed = λ given. may_anyhow (texts_of c.args.words.now) (λ command line. c.waits.ensures command line ∙ c.if-waits.true) (g.S.Shelf.may c.args.shelf.now)
+      None given c.requires.allowed;
+}
 
-pub returns-clause-unwritten : goal.returns-clause-unwritten
-returns-clause-unwritten g c = ends_unwritten c.answers_have_status.ensures (alone c.args.words.now) _ _ c.answer.result c.answer.ensures.ends
+pub answer-requires : goal.answer-requires
+answer-requires g c = record {
+  still = λ command line. c.waits.ensures command line ∙ c.if-waits.false;
+  allowed = c.requires.allowed;
+}
 
-pub returns-clause-read : goal.returns-clause-read
-returns-clause-read g c =
-    ends_read c.answers_have_status.ensures (alone c.args.words.now) _ _ c.answer.result c.answer.ensures.ends c.answer.ensures.read_only c.answer.ensures.reads_calm
+pub returns-then-waits : goal.returns-then-waits
+returns-then-waits g c =
+    served g.S.Shelf g.O.Outbox (g.C.Clock.moments c.args.clock.now) (alone c.args.words.now) _ _ _ _ c.answer_waiting.result
+    c.answers_have_status.ensures c.one_command.ensures c.refusal_is_one.ensures.one c.refusal_is_one.ensures.or_not
+    (c.answer_waiting.ensures.ends None) (c.answer_waiting.ensures.other_line None) (c.answer_waiting.ensures.unread None)
+    c.answer_waiting.ensures.read_only c.answer_waiting.ensures.reads_calm c.answer_waiting.ensures.writes_later c.answer_waiting.ensures.writes_calm
 
-pub returns-clause-counted : goal.returns-clause-counted
-returns-clause-counted g c =
-    ends_counted c.answers_have_status.ensures (alone c.args.words.now) _ _ c.answer.result c.answer.ensures.ends c.answer.ensures.writes_later c.answer.ensures.writes_calm
-
-pub returns-clause-cut : goal.returns-clause-cut
-returns-clause-cut g c = λ e. (ends_cut c.answers_have_status.ensures (alone c.args.words.now) _ _ c.answer.result c.answer.ensures.ends e).1
-
-pub returns-clause-complete : goal.returns-clause-complete
-returns-clause-complete g c = λ command line.
-    complete c.one_command.ensures (alone c.args.words.now) _ _ c.answer.result command line c.refusal_is_one.ensures.or_not c.answer.ensures.ends
-
-pub returns-clause-refuses : goal.returns-clause-refuses
-returns-clause-refuses g c = λ command line.
-    refuses c.one_command.ensures (alone c.args.words.now) _ _ c.answer.result command line c.refusal_is_one.ensures.one c.refusal_is_one.ensures.or_not c.answer.ensures.ends
+pub returns-else-waits : goal.returns-else-waits
+returns-else-waits g c =
+    served g.S.Shelf g.O.Outbox (g.C.Clock.moments c.args.clock.now) (alone c.args.words.now) _ _ _ _ c.answer.result
+    c.answers_have_status.ensures c.one_command.ensures c.refusal_is_one.ensures.one c.refusal_is_one.ensures.or_not
+    (c.answer.ensures.ends (g.C.Clock.moments c.args.clock.now)) c.answer.ensures.other_line c.answer.ensures.unread
+    c.answer.ensures.read_only c.answer.ensures.reads_calm c.answer.ensures.writes_later c.answer.ensures.writes_calm

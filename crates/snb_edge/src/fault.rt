@@ -1,21 +1,16 @@
 //! What can fail outside the program's words and files.
 
 ghost use Rattle.std.specs.Prelude.{◌≡◌, ◌<◌, ◌↔◌, ◌⊎◌, IfSome, IsNone};
-ghost use Rattle.snb_main_exit.specs.Status.{status_of};
+ghost use Rattle.snb_edge.specs.Edge.{line_of, status_of};
 
-use thiserror::Error;
-
-/// A fault of the world around the program. Its text is the line on standard error.
-#[derive(Clone, Copy, Debug, PartialEq, Eq, Error)]
+/// A fault of the world around the program.
+#[derive(Clone, Copy, Debug, PartialEq, Eq)]
 pub enum Fault {
     /// A file couldn't be read.
-    #[error("snb: read fault")]
     Read,
     /// A file or standard output couldn't be written.
-    #[error("snb: write fault")]
     Write,
     /// Memory ran out.
-    #[error("snb: out of memory")]
     Memory,
 }
 
@@ -28,6 +23,17 @@ impl Fault {
             Fault::Read => 4,
             Fault::Write => 5,
             Fault::Memory => 6,
+        }
+    }
+
+    /// The line on standard error, without its end.
+    pub fn line(self) -> &'static str
+        ensures { result.now ≡ line_of self }
+    {
+        match self {
+            Fault::Read => "snb: read fault",
+            Fault::Write => "snb: write fault",
+            Fault::Memory => "snb: out of memory",
         }
     }
 

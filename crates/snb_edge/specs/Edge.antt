@@ -1,0 +1,55 @@
+-- What the program promises to whoever starts it.
+use Rattle.std.specs.Prelude.{◌≡◌, ◌++◌, ◌∷◌, ℕ, ◌==◌, ◌⊎◌, List, [], if◌then◌else◌, codes, IfSome, Option, Some}
+use Rattle.snb_base.specs.declared.outbox.Outbox.{Ghosts as Outboxes}
+use Rattle.snb_base.specs.declared.shelf.Shelf.{Ghosts as Shelves}
+use Rattle.snb_base.specs.Moments.{Moments}
+use Rattle.snb_edge.specs.declared.fault.Fault.{Fault}
+use Rattle.snb_edge.specs.declared.fault.Fault.TheVariants.{Read, Write, Memory}
+use Rattle.snb_schema.specs.declared.read_kind.ReadKind.{ReadKind}
+use Rattle.snb_schema.specs.declared.read_kind.ReadKind.TheVariants.{Is1, Is2, Is3, Is4, Is5, Is6, Is7, Ic1, Ic2, Ic7, Ic8, Ic9, Ic11, Ic13}
+use Rattle.snb_tool.specs.Outcome.{Asked, HasServed}
+use Rattle.snb_walk.specs.declared.target.Pick.TheVariants.{Modulo}
+
+-- the exit status of a fault
+abbrev pub status_of : Fault → ℕ
+status_of Read = 4
+status_of Write = 5
+status_of Memory = 6
+
+-- its line on standard error, without the end
+abbrev pub line_of : Fault → List ℕ
+line_of Read = codes "snb: read fault"
+line_of Write = codes "snb: write fault"
+line_of Memory = codes "snb: out of memory"
+
+-- what standard error shows for a status: a line where it tells of a fault
+abbrev pub shown_for : ℕ → List ℕ
+shown_for 4 = line_of Read ++ 10 ∷ []
+shown_for 5 = line_of Write ++ 10 ∷ []
+shown_for 6 = line_of Memory ++ 10 ∷ []
+shown_for status = []
+
+-- the words are those that are told, where any are
+abbrev pub AreTold : Option (List (List ℕ)) → List (List ℕ) → Type 0
+AreTold told texts = IfSome told (λ words. texts ≡ words)
+
+-- each kind of read
+abbrev pub all_kinds : List ReadKind
+all_kinds = Is1 ∷ Is2 ∷ Is3 ∷ Is4 ∷ Is5 ∷ Is6 ∷ Is7 ∷ Ic1 ∷ Ic2 ∷ Ic7 ∷ Ic8 ∷ Ic9 ∷ Ic11 ∷ Ic13 ∷ []
+
+-- what the program is asked that is started with these words: they come with a table in which each kind of read has a handler, and with a policy that
+-- picks by the word modulo the number of targets
+abbrev pub started_with : List (List ℕ) → Asked
+started_with texts = record { words = texts; given = Some (record { kinds = all_kinds; pick = Modulo }) }
+
+-- there are words, which are those that are told where any are, of which the call did all that it promises
+pub record HasObeyed {S O : Type 0} (shelves : Shelves S) (outboxes : Outboxes O) (told : Option (List (List ℕ))) (moments : Moments) (shelf shelf_after : S) (out out_after : O) (status : ℕ) : Type 0 where
+  pub texts : List (List ℕ)
+  pub words : AreTold told texts
+  pub served : HasServed shelves outboxes moments (started_with texts) shelf shelf_after out out_after status
+
+-- the program did so; or memory didn't suffice before the call, and nothing was read or written
+abbrev pub IsServed : {S O : Type 0} → Shelves S → Outboxes O → Option (List (List ℕ)) → Moments → S → S → O → O → ℕ → Type 0
+IsServed shelves outboxes told moments shelf shelf_after out out_after status =
+    HasObeyed shelves outboxes told moments shelf shelf_after out out_after status
+    ⊎ ((status ≡ 6) × (shelf_after ≡ shelf) × (out_after ≡ out))

@@ -1,0 +1,17 @@
+//! The edge of the program: the words that it is started with, its one call, how it ends, and the line that
+//! standard error then shows.
+#![tactic(auto)]
+
+pub mod error_lines;
+pub mod fault;
+pub mod host;
+pub mod serve;
+#[cfg(test)]
+mod tests;
+pub mod words;
+
+pub use error_lines::ErrorLines;
+pub use fault::Fault;
+pub use host::{HostErrorLines, HostWords};
+pub use serve::{ending, serve};
+pub use words::Words;

@@ -1,0 +1,1 @@
+use Rattle.snb_tool.proofs.tool.obey_waiting.Goals as goal
