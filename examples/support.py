@@ -50,9 +50,9 @@ def script(place: Path, name: str, *words: str | Path) -> tuple[int, str, str]:
 
 
 def made(folder: Path, rows: int, updates: int) -> Path:
-    """A folder that the script `dataset` writes."""
+    """A folder that the script `checks/dataset` writes."""
     numbers = ["--lines", str(rows), "--updates", str(updates), "--seed", SEED]
-    words = [sys.executable, HERE.parent / "dataset", folder / "made", *numbers]
+    words = [sys.executable, HERE.parent / "checks/dataset", folder / "made", *numbers]
     subprocess.run(words, check=True, stdout=subprocess.DEVNULL)
     return folder / "made"
 
