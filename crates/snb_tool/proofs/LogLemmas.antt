@@ -1,7 +1,10 @@
 -- Facts on the log of a run.
 use Rattle.std.proofs.Common.{◌≡◌, ◌∙◌, ◌≤◌, ◌<◌, ◌+◌, ◌*◌, ◌++◌, ◌∷◌, ◌==◌, ℕ, suc, List, [], All, length, get_or, take, refl, sym, ap, subst, inl, inr, arith, append_assoc, length-append}
 use Rattle.std.specs.Prelude.{Contains}
+use Rattle.std.specs.Fmt.{decimal}
+use Rattle.std.specs.Prelude.{codes}
 use Rattle.std.proofs.lemmas.Bool.{cases_Bool}
+use Rattle.std.proofs.lemmas.Fmt.{length-decimal-le}
 use Rattle.std.proofs.lemmas.List.{length-map, map-append}
 use Rattle.std.proofs.lemmas.Grind.{flat_map-append}
 use Rattle.std.proofs.lemmas.List.Elements.{All-cons, All-contains, All-head, All-map, All-nil, All-tail, Contains-get_or}
@@ -9,11 +12,11 @@ use Rattle.std.proofs.Math.Seq.{take-suc}
 use Rattle.snb_history.specs.declared.event.Event.{Event}
 use Rattle.snb_history.specs.declared.event.Event.TheVariants.{Start, Finish, Halt}
 use Rattle.snb_history.specs.declared.logged.Logged.{Logged}
-use Rattle.snb_schema.specs.declared.limits.TheConstants.{MAX_AT, MAX_WORKERS}
+use Rattle.snb_schema.specs.declared.limits.TheConstants.{MAX_AT, MAX_BYTES, MAX_WORKERS}
 use Rattle.snb_history.specs.History.{moment}
 use Rattle.snb_history.specs.Laws.{LegalIsShort}
 use Rattle.snb_history.specs.Rules.{IsLegal, V1, V8}
-use Rattle.snb_history.specs.RunTexts.{header_of, logged_line}
+use Rattle.snb_history.specs.RunTexts.{event_text, header_line, header_of, log_text, logged_line}
 use Rattle.snb_history.specs.declared.step.Step.{Step}
 use Rattle.snb_history.specs.Schedule.{IsPlanned, Schedule, max_steps, step_of}
 use Rattle.snb_plan.specs.Plans.{Plan, schedule_of}
@@ -87,6 +90,103 @@ run_back back is_short plan workers h replies legal some few planned small =
     (All-map (CanBeLogged LAST_VERSION) (logged_by replies) h
     (each_event (λ e. CanBeLogged LAST_VERSION (logged_by replies e)) [] h
     (can_be_logged (schedule_of plan) workers h replies legal few planned.few_steps (is_short (schedule_of plan) workers h legal) small)))
+
+-- ---- how long it is
+
+-- texts one after the other
+short_append : (a b : List ℕ) (m n : ℕ) → length a ≤ m → length b ≤ n → length (a ++ b) ≤ m + n
+short_append a b m n p q = omega (arith, length-append a b, p, q)
+
+-- a number of an event
+short_number : (n : ℕ) → n ≤ MAX_NUMBER → length (decimal n) ≤ 10
+short_number n low = length-decimal-le 10 n (omega arith) (omega (arith, low)) (omega (arith, low))
+
+short_worker : (n : ℕ) → n ≤ MAX_WORKERS → length (decimal n) ≤ 1
+short_worker n low = length-decimal-le 1 n (omega arith) (omega (arith, low)) (omega (arith, low))
+
+short_at : (n : ℕ) → n ≤ MAX_AT → length (decimal n) ≤ 18
+short_at n low = length-decimal-le 18 n (omega arith) (omega (arith, low)) (omega (arith, low))
+
+-- the line of an event
+short_start : (op worker at : ℕ) → op ≤ MAX_NUMBER → worker ≤ MAX_WORKERS → at ≤ MAX_AT → length (logged_line (record { event = Start op worker at; rows = None })) ≤ 56
+short_start op worker at a b c =
+    let moment = short_append (codes "|") (decimal at) 1 18 (omega arith) (short_at at c) in
+    let who = short_append (decimal worker) (codes "|" ++ decimal at) 1 19 (short_worker worker b) moment in
+    let then = short_append (codes "|") (decimal worker ++ codes "|" ++ decimal at) 1 20 (omega arith) who in
+    let number = short_append (decimal op) (codes "|" ++ decimal worker ++ codes "|" ++ decimal at) 10 21 (short_number op a) then in
+    let text = short_append (codes "S|") (decimal op ++ codes "|" ++ decimal worker ++ codes "|" ++ decimal at) 2 31 (omega arith) number in
+    omega (arith, short_append (event_text (Start op worker at)) (codes "\n") 33 1 text (omega arith))
+
+short_finish : (op worker at front rows : ℕ) → op ≤ MAX_NUMBER → worker ≤ MAX_WORKERS → at ≤ MAX_AT → front ≤ MAX_NUMBER → rows ≤ MAX_NUMBER
+    → length (logged_line (record { event = Finish op worker at front; rows = Some rows })) ≤ 56
+short_finish op worker at front rows a b c d e =
+    let last = short_append (codes "|") (decimal front) 1 10 (omega arith) (short_number front d) in
+    let moment = short_append (decimal at) (codes "|" ++ decimal front) 18 11 (short_at at c) last in
+    let before = short_append (codes "|") (decimal at ++ codes "|" ++ decimal front) 1 29 (omega arith) moment in
+    let who = short_append (decimal worker) (codes "|" ++ decimal at ++ codes "|" ++ decimal front) 1 30 (short_worker worker b) before in
+    let then = short_append (codes "|") (decimal worker ++ codes "|" ++ decimal at ++ codes "|" ++ decimal front) 1 31 (omega arith) who in
+    let number = short_append (decimal op) (codes "|" ++ decimal worker ++ codes "|" ++ decimal at ++ codes "|" ++ decimal front) 10 32 (short_number op a) then in
+    let text = short_append (codes "F|") (decimal op ++ codes "|" ++ decimal worker ++ codes "|" ++ decimal at ++ codes "|" ++ decimal front) 2 42 (omega arith) number in
+    let count = short_append (codes "|") (decimal rows) 1 10 (omega arith) (short_number rows e) in
+    let end = short_append (codes "|" ++ decimal rows) (codes "\n") 11 1 count (omega arith) in
+    short_append (event_text (Finish op worker at front)) ((codes "|" ++ decimal rows) ++ codes "\n") 44 12 text end
+
+short_halt : (worker : ℕ) → worker ≤ MAX_WORKERS → length (logged_line (record { event = Halt worker; rows = None })) ≤ 56
+short_halt worker b =
+    let text = short_append (codes "H|") (decimal worker) 2 1 (omega arith) (short_worker worker b) in
+    omega (arith, short_append (event_text (Halt worker)) (codes "\n") 3 1 text (omega arith))
+
+-- and lines together
+short_lines : (xs : List Logged) → All (λ l. length (logged_line l) ≤ 56) xs → length (logged_text xs) ≤ 56 * length xs
+short_lines [] short = omega arith
+short_lines (l ∷ xs) short =
+    let first = All-head (λ (x : Logged). length (logged_line x) ≤ 56) l xs short in
+    let later = short_lines xs (All-tail (λ (x : Logged). length (logged_line x) ≤ 56) l xs short) in
+    omega (arith, length-append (logged_line l) (logged_text xs), first, later)
+
+-- the header
+short_header : (workers operations : ℕ) → workers ≤ MAX_WORKERS → operations ≤ MAX_NUMBER → length (header_line (header_of workers operations)) ≤ 30
+short_header workers operations few low =
+    let count = short_append (codes "|") (decimal operations) 1 10 (omega arith) (short_number operations low) in
+    let end = short_append (codes "|" ++ decimal operations) (codes "\n") 11 1 count (omega arith) in
+    let who = short_append (decimal workers) ((codes "|" ++ decimal operations) ++ codes "\n") 1 12 (short_worker workers few) end in
+    let bar = short_append (codes "|") (decimal workers ++ (codes "|" ++ decimal operations) ++ codes "\n") 1 13 (omega arith) who in
+    let version = short_append (decimal LAST_VERSION) (codes "|" ++ decimal workers ++ (codes "|" ++ decimal operations) ++ codes "\n") 1 14 (short_worker LAST_VERSION (omega arith)) bar in
+    omega (arith, short_append (codes "snblog|") (decimal LAST_VERSION ++ codes "|" ++ decimal workers ++ (codes "|" ++ decimal operations) ++ codes "\n") 7 15 (omega arith) version)
+
+module _ (s : Schedule) (workers : ℕ) (h : List Event) (replies : List Answered) (legal : IsLegal s workers h) (few : workers ≤ MAX_WORKERS) (steps : length s.steps ≤ max_steps)
+    (short : length h ≤ 2 * length s.steps + workers) (small : All (λ a. a.rows ≤ MAX_NUMBER) replies) where
+  short_line : (g : List Event) (e : Event) (rest : List Event) → g ++ e ∷ rest ≡ h → length (logged_line (logged_by replies e)) ≤ 56
+  short_line g (Start op worker at) rest is =
+      let v1 = (legal.fits g (Start op worker at) rest is).obeys V1 in
+      let op_within = v1.0 in
+      let worker_within = v1.1.known in
+      short_start op worker at (omega arith) (omega arith) (legal.bounded g (Start op worker at) rest is)
+  short_line g (Finish op worker at front) rest is =
+      let v1 = (legal.fits g (Finish op worker at front) rest is).obeys V1 in
+      let op_within = v1.0 in
+      let worker_within = v1.1.known in
+      short_finish op worker at front (rows_by replies op) (omega arith) (omega arith) (legal.bounded g (Finish op worker at front) rest is)
+      (front_within s workers h replies legal few steps short small g op worker at front rest is) (small_rows replies op small)
+  short_line g (Halt worker) rest is =
+      let v1 = (legal.fits g (Halt worker) rest is).obeys V1 in
+      let worker_within = v1.known in
+      short_halt worker (omega arith)
+
+-- the log of a run is no longer than one that is read
+pub run_fits : LegalIsShort → (plan : Plan) (workers : ℕ) (h : List Event) (replies : List Answered) → IsLegal (schedule_of plan) workers h → workers ≤ MAX_WORKERS
+    → IsPlanned (schedule_of plan) → All (λ a. a.rows ≤ MAX_NUMBER) replies → length (log_text workers (length plan.operations) (logged_of replies h)) ≤ MAX_BYTES
+run_fits is_short plan workers h replies legal few planned small =
+    let s = schedule_of plan in
+    let many : length s.steps ≡ length plan.operations = length-map plan.operations _ in
+    let steps = planned.few_steps in
+    let short = is_short s workers h legal in
+    let each = each_event (λ e. length (logged_line (logged_by replies e)) ≤ 56) [] h (short_line s workers h replies legal few steps short small) in
+    let all : All (λ l. length (logged_line l) ≤ 56) (logged_of replies h) = All-map (λ (l : Logged). length (logged_line l) ≤ 56) (logged_by replies) h each in
+    let lines = short_lines (logged_of replies h) all in
+    let count : length (logged_of replies h) ≡ length h = length-map h (logged_by replies) in
+    let head = short_header workers (length plan.operations) few (omega arith) in
+    omega (arith, length-append (header_line (header_of workers (length plan.operations))) (logged_text (logged_of replies h)), lines, count, head, short, steps, few, many)
 
 -- ---- the writing of it, line by line
 

@@ -1,5 +1,5 @@
 -- Facts on how a call ends.
-use Rattle.std.proofs.Common.{◌≡◌, ℕ, ◌+◌, List, [], ◌++◌, length, length-append, Option, None, Some, Ok, Err, Vec, refl, sym, subst, ap, ◌∙◌, inl, inr}
+use Rattle.std.proofs.Common.{◌≡◌, ◌≤◌, ℕ, ◌+◌, List, [], ◌++◌, length, length-append, Option, None, Some, Ok, Err, Vec, refl, sym, subst, ap, ◌∙◌, inl, inr}
 use Rattle.snb_base.specs.Moments.{Moments}
 use Rattle.std.proofs.lemmas.List.Sorted.{length_permutation}
 use Rattle.std.specs.declared.alloc.Global.{Global}
@@ -7,6 +7,7 @@ use Rattle.snb_base.specs.declared.outbox.Outbox.{Ghosts as Outboxes}
 use Rattle.snb_base.specs.Outbox.{Rooms, Written}
 use Rattle.snb_base.specs.Shelf.{Counts, Files, Names}
 use Rattle.snb_runlog.specs.Laws.{ReadsBack}
+use Rattle.snb_schema.specs.declared.limits.TheConstants.{MAX_BYTES}
 use Rattle.snb_schema.specs.declared.query.Query.{Query}
 use Rattle.snb_input_files.specs.declared.load.Load.{Load}
 use Rattle.snb_input_files.specs.declared.load.Load.TheVariants as loads
@@ -163,14 +164,16 @@ trial_done contents size workers given moments input texts is left =
 -- the texts of what a run left, where the final graph has the rows of the dataset and of each insert
 pub run_shown : (workers : ℕ) (input : Input) (moments : Moments) (o : Outcome) (texts : Written) → HasRun workers input.plan moments input.graph o.events o.replies o.graph
     → IsFirstMiscount input.graph input.plan (logged_of o.replies o.events) None
-    → ReadsBack (header_of workers (length input.plan.operations)) (logged_of o.replies o.events) → AreTexts workers input.plan o texts → IsLeft workers input.graph input.plan moments texts
-run_shown workers input moments o texts ran counted back shown = record {
+    → ReadsBack (header_of workers (length input.plan.operations)) (logged_of o.replies o.events)
+    → length (log_text workers (length input.plan.operations) (logged_of o.replies o.events)) ≤ MAX_BYTES → AreTexts workers input.plan o texts → IsLeft workers input.graph input.plan moments texts
+run_shown workers input moments o texts ran counted back fits shown = record {
   history = o.events;
   replies = o.replies;
   final = o.graph;
   ran = ran;
   counted = counted;
   read_back = back;
+  fits = fits;
   shown = shown ∙ (λ i. record {
     screen = summary_text (length input.plan.operations) (length (updates_in input.plan)) (length (queries_in input.plan)) (rows_after input.graph (all_rows input.plan) o.graph ran.final i);
     log = log_text workers (length input.plan.operations) (logged_of o.replies o.events);

@@ -46,6 +46,7 @@ record IsWholeLog (held : Held) (ratio : ℕ) (table : FrequencyTable) (text : L
   logged : List Logged
   says : IsLogOf (Some text) header logged
   whole : IsWhole graph plan header logged
+  fits : length text ≤ MAX_BYTES
 
 -- so is the log of a run
 run_whole : CountsOfARun → (held : Held) (workers ratio : ℕ) (table : FrequencyTable) (moments : Moments) (texts : Written) → NoneOf (plan_checks ratio table held)
@@ -70,6 +71,7 @@ run_whole counts held workers ratio table moments texts clean r =
         counted = r.left.counted;
         matched = refl;
       };
+      fits = subst (λ (bytes : List ℕ). length bytes ≤ MAX_BYTES) (sym text) r.left.fits;
     }
 
 module _ (one : AreOne) (log_one : LogSaysOne) (exactly : WholeExactly) (held : Held) (ratio : ℕ) (table : FrequencyTable) (text : List ℕ) (w : IsWholeLog held ratio table text) where
@@ -110,9 +112,9 @@ module _ (files : Files) (folder name text : List ℕ) (ratio : ℕ) (table : Fr
     of_latency : (P : Held → Option (List ℕ) → Type 0) → IsFoundTold (Some files) given (Latency folder name ratio table) found → P found.held found.beside → P (held_in folder files) (Some text)
     of_latency P told p = of_audit P (told.0, (told.1, tt)) p
 
-  module _ (clean : SaidLogIsClean) (short : length text ≤ MAX_BYTES) (w : IsWholeLog (held_in folder files) ratio table text) where
+  module _ (clean : SaidLogIsClean) (w : IsWholeLog (held_in folder files) ratio table text) where
     fine_checks : NoneOf (plan_checks ratio table (held_in folder files) ++ log_checks (Some text))
-    fine_checks = none_append (plan_checks ratio table (held_in folder files)) (log_checks (Some text)) w.clean (clean text w.header w.logged short w.says)
+    fine_checks = none_append (plan_checks ratio table (held_in folder files)) (log_checks (Some text)) w.clean (clean text w.header w.logged w.fits w.says)
 
     audit_fine : (given : Given) → IsFine (Some files) given (Audit folder name ratio table)
     audit_fine given found told = as_audit given found (λ held beside. NoneOf (plan_checks ratio table held ++ log_checks beside)) told fine_checks
@@ -157,13 +159,13 @@ done_run counts one asked files moments folder workers ratio table texts line (i
     subst (λ (h : Held). IsWholeLog h ratio table texts.log) (told_files folder files found.held told_here.0) (run_whole counts found.held workers ratio table moments texts clean ran.1)
 
 pub run_is_whole : WordsAreOne → RefusedOrNot → AreOne → LogSaysOne → SaidLogIsClean → WholeExactly → CountsOfARun → RunIsWhole
-run_is_whole words_one law one log_one clean exactly counts asked files after moments folder name workers ratio table texts line answered short there kept =
+run_is_whole words_one law one log_one clean exactly counts asked files after moments folder name workers ratio table texts line answered there kept =
     let same : held_in folder after ≡ held_in folder files = (λ i file. kept file i) in
     let w : IsWholeLog (held_in folder after) ratio table texts.log =
     subst (λ (h : Held). IsWholeLog h ratio table texts.log) (sym same) (done_run counts words_one asked files moments folder workers ratio table texts line answered) in
     record {
-      audit_fine = audit_fine after folder name texts.log ratio table there clean short w;
-      audited = audited after folder name texts.log ratio table there clean short w words_one law one log_one exactly;
-      latency_fine = latency_fine after folder name texts.log ratio table there clean short w;
-      measured = measured after folder name texts.log ratio table there clean short w words_one law one log_one exactly;
+      audit_fine = audit_fine after folder name texts.log ratio table there clean w;
+      audited = audited after folder name texts.log ratio table there clean w words_one law one log_one exactly;
+      latency_fine = latency_fine after folder name texts.log ratio table there clean w;
+      measured = measured after folder name texts.log ratio table there clean w words_one law one log_one exactly;
     }

@@ -227,12 +227,12 @@ pub record IsWholeRun (files : Files) (folder log : List ℕ) (ratio : ℕ) (fre
       → IsLineOf asked.words (Latency folder log ratio frequencies) → IsAnswer asked (Some files) moments status texts
       → status ≡ 0
 
--- so is the log that `run` wrote of the folder, under the same ratio and frequencies: where the file of a name has it, at most `MAX_BYTES` bytes, and
--- the folder's files are what they were
+-- so is the log that `run` wrote of the folder, under the same ratio and frequencies: where the file of a name has it, and the folder's files are what
+-- they were
 abbrev pub RunIsWhole : Type 0
 RunIsWhole =
     (asked : Asked) (files after : Files) (moments : Moments) (folder name : List ℕ) (workers ratio : ℕ) (frequencies : FrequencyTable) (texts : Written)
-    → IsLineOf asked.words (Run folder workers ratio frequencies) → IsAnswer asked (Some files) moments 0 texts → length texts.log ≤ MAX_BYTES
+    → IsLineOf asked.words (Run folder workers ratio frequencies) → IsAnswer asked (Some files) moments 0 texts
     → after name ≡ Some texts.log → ((file : FileId) → held_in folder after file ≡ held_in folder files file)
     → IsWholeRun after folder name ratio frequencies
 

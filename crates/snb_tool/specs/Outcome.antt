@@ -1,5 +1,5 @@
 -- What a call of the program answers and writes.
-use Rattle.std.specs.Prelude.{◌≡◌, ℕ, ◌+◌, Bool, true, List, [], length, nat_eq, Option, None, Some, IfSome, IsSome, ◌⊎◌, MatchBool}
+use Rattle.std.specs.Prelude.{◌≡◌, ℕ, ◌+◌, ◌≤◌, Bool, true, List, [], length, nat_eq, Option, None, Some, IfSome, IsSome, ◌⊎◌, MatchBool}
 use Rattle.snb_base.specs.Moments.{Moments}
 use Rattle.std.specs.Borrow.{Bor}
 use Rattle.snb_auditor_log.specs.LogFiles.{IsLogOf}
@@ -28,6 +28,7 @@ use Rattle.snb_history.specs.declared.event.Event.{Event}
 use Rattle.snb_history.specs.declared.logged.Header.{Header}
 use Rattle.snb_history.specs.declared.logged.Logged.{Logged}
 use Rattle.snb_handlers.specs.Table.{HasAll}
+use Rattle.snb_schema.specs.declared.limits.TheConstants.{MAX_BYTES}
 use Rattle.snb_schema.specs.declared.query.Query.{Query}
 use Rattle.snb_schema.specs.declared.read_kind.ReadKind.{ReadKind}
 use Rattle.snb_schema.specs.declared.refusal.Refusal.{Refusal}
@@ -90,7 +91,8 @@ pub record IsChecked (held : Held) (frequencies : FrequencyTable) (texts : Writt
 
 -- what a run of a plan by so many workers over a dataset leaves: the texts of a legal, complete history, of the replies to its reads, each on
 -- the dataset with what had finished in the read's front, and of the dataset with the rows of each insert once; each Start and Finish is at a moment
--- that the clock can answer. No count of rows in the log is wrong, and the log is read as what it was written of, and in no other way
+-- that the clock can answer. No count of rows in the log is wrong; the log is read as what it was written of, and in no other way; and it is no longer than
+-- one may be that is read
 pub record IsLeft (workers : ℕ) (graph : List Row) (plan : Plan) (moments : Moments) (texts : Written) : Type 0 where
   pub history : List Event
   pub replies : List Answered
@@ -98,6 +100,7 @@ pub record IsLeft (workers : ℕ) (graph : List Row) (plan : Plan) (moments : Mo
   pub ran : HasRun workers plan moments graph history replies final
   pub counted : IsFirstMiscount graph plan (logged_of replies history) None
   pub read_back : ReadsBack (header_of workers (length plan.operations)) (logged_of replies history)
+  pub fits : length (log_text workers (length plan.operations) (logged_of replies history)) ≤ MAX_BYTES
   pub shown : texts ≡ run_texts workers graph plan history replies final
 
 -- nothing is wrong with the files, and the texts are what a run of their plan leaves

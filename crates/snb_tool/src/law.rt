@@ -108,10 +108,10 @@ pub fn via_table_is_the_same()
     one_cases_refusal();
 }
 
-/// `audit` and `latency` find what `run` wrote a whole run: where the files are told, the text that status 0 of `run`
-/// adds to the log has at most `MAX_BYTES` bytes, and stands in a file while the folder's files are what they were,
-/// then nothing is wrong with what either finds of the folder and that file under the same ratio and frequencies;
-/// what `audit` answers shows the verdict that the run is accepted or late, and what `latency` answers has status 0.
+/// `audit` and `latency` find what `run` wrote a whole run: where the files are told, and the text that status 0 of
+/// `run` adds to the log stands in a file while the folder's files are what they were, then nothing is wrong with what
+/// either finds of the folder and that file under the same ratio and frequencies; what `audit` answers shows the
+/// verdict that the run is accepted or late, and what `latency` answers has status 0.
 /// So by the contract of `snb_with`, where nothing fails and memory suffices, they end so.
 pub fn run_is_whole()
     ensures { RunIsWhole }
