@@ -1,12 +1,12 @@
 -- What a call of the program does, by how it ends.
-use Rattle.std.proofs.Common.{◌≡◌, ◌≢◌, ◌≤◌, ◌⊎◌, ℕ, Bool, List, Option, None, Some, false, true, subst, sym, ◌∙◌}
+use Rattle.std.proofs.Common.{◌≡◌, ◌≢◌, ◌≤◌, ◌⊎◌, ℕ, Bool, List, Option, None, Some, false, true, inl, inr, subst, sym, ◌∙◌}
 use Rattle.snb_base.specs.declared.outbox.Outbox.{Ghosts as Outboxes}
 use Rattle.snb_base.specs.declared.shelf.Shelf.{Ghosts as Shelves}
 use Rattle.snb_base.specs.Moments.{Moments}
 use Rattle.snb_base.specs.Shelf.{Names}
 use Rattle.snb_tool_words.specs.declared.command.Command.{Command}
 use Rattle.snb_tool_words.specs.declared.command.Command.TheVariants.{Audit, Check, Expect, Latency, Run, Read, Trial, Validate, Walk}
-use Rattle.snb_tool_words.specs.Commands.{IsLineOf, needs_table, waits}
+use Rattle.snb_tool_words.specs.Commands.{IsLineOf, folder_of, needs_table, waits}
 use Rattle.snb_tool_words.specs.Laws.{WordsAreOne}
 use Rattle.snb_tool.specs.Inputs.{Given}
 use Rattle.snb_tool.specs.Laws.{AnswersHaveStatus, RefusalIsOne, RefusedOrNot}
@@ -39,6 +39,11 @@ module _ (words : List (List ℕ)) (waiting : AreWaiting true words) where
 
   pub other_anyhow : (given : Given) → IsOther (asked_with given) → (command : Command) → ¬ IsLineOf words command
   other_anyhow given other command line = other command (asked_anyhow given command line)
+
+  -- it reads nothing only where it has no folder
+  pub run_reads : {P : Type 0} → WordsAreOne → (given : Given) (mine : Command) → IsLineOf words mine → (folder_of mine ≡ None → P) → ReadsNothing (asked_with given) → P
+  run_reads one given mine line unread (command, b, inl none) = unread (subst (λ (d : Command). folder_of d ≡ None) (one words command mine b.line line) none)
+  run_reads one given mine line unread (command, b, inr lacks) = absurd (needs_none command (waiting command b.line) lacks.0)
 
   pub may_anyhow : (may : Names) (given other : Given) → MayAskFor may (asked_with given) → MayAskFor may (asked_with other)
   may_anyhow may given other allowed command a = allowed command (asked_anyhow given command a.line)

@@ -3,20 +3,10 @@ use Rattle.snb_input_files.specs.Names.{Allows}
 use Rattle.snb_tool_words.specs.declared.command.Command.{Command}
 use Rattle.snb_tool.specs.Endings.{given_by}
 use Rattle.snb_tool.specs.Names.{IsNameOf}
-use Rattle.snb_tool_words.specs.Commands.{IsRunnable}
 use Rattle.snb_tool.proofs.tool.obey.Goals as goal
-
-pub run-requires-clause-workers : goal.run-requires-clause-workers
-run-requires-clause-workers g c = λ κs lives. (subst IsRunnable c.in-Run.is c.requires.runnable).0
-
-pub run-requires-clause-few : goal.run-requires-clause-few
-run-requires-clause-few g c = λ κs lives. (subst IsRunnable c.in-Run.is c.requires.runnable).1
 
 pub check-requires : goal.check-requires
 check-requires g c = record { allowed = rw c.as_str.ensures (subst (λ (z : Command). Allows (g.S.Shelf.may c.args.shelf.now) (IsNameOf z)) c.in-Check.is c.requires.allowed) }
-
-pub run-requires-clause-allowed : goal.run-requires-clause-allowed
-run-requires-clause-allowed g c = λ κs lives. rw c.as_str-in-Run.ensures (subst (λ (z : Command). Allows (g.S.Shelf.may c.args.shelf.now) (IsNameOf z)) c.in-Run.is c.requires.allowed)
 
 pub audit-requires : goal.audit-requires
 audit-requires g c = record { allowed = rw (c.as_str-in-Audit.ensures, c.as_str-in-Audit-2.ensures) (subst (λ (z : Command). Allows (g.S.Shelf.may c.args.shelf.now) (IsNameOf z)) c.in-Audit.is c.requires.allowed) }
@@ -39,50 +29,32 @@ validate_via-requires g c = record { allowed = rw (c.as_str-in-Some.ensures, c.a
 pub walk-requires : goal.walk-requires
 walk-requires g c = record { allowed = rw c.as_str-in-Some-given.ensures (subst (λ (z : Command). Allows (g.S.Shelf.may c.args.shelf.now) (IsNameOf z)) c.in-Walk.is c.requires.allowed) }
 
-pub trial-requires-clause-some : goal.trial-requires-clause-some
-trial-requires-clause-some g c = λ κs lives. (subst IsRunnable c.in-Trial.is c.requires.runnable).0
-
-pub trial-requires-clause-few : goal.trial-requires-clause-few
-trial-requires-clause-few g c = λ κs lives. (subst IsRunnable c.in-Trial.is c.requires.runnable).1
-
-pub trial-requires-clause-workers : goal.trial-requires-clause-workers
-trial-requires-clause-workers g c = λ κs lives. (subst IsRunnable c.in-Trial.is c.requires.runnable).2
-
-pub trial-requires-clause-crew : goal.trial-requires-clause-crew
-trial-requires-clause-crew g c = λ κs lives. (subst IsRunnable c.in-Trial.is c.requires.runnable).3
-
-pub returns-in-Trial-clause-answer : goal.returns-in-Trial-clause-answer
-returns-in-Trial-clause-answer g c = rw c.in-Trial.is (c.trial.ensures.answer (g.S.Shelf.contents c.args.shelf.now) (given_by c.args.given))
-
 pub returns-in-Check-clause-answer : goal.returns-in-Check-clause-answer
-returns-in-Check-clause-answer g c = rw (c.in-Check.is, ← c.as_str.ensures) (c.check.ensures.answer (given_by c.args.given) (g.C.Clock.moments c.args.clock.now))
-
-pub returns-in-Run-clause-answer : goal.returns-in-Run-clause-answer
-returns-in-Run-clause-answer g c = rw (c.in-Run.is, ← c.as_str-in-Run.ensures) (c.run.ensures.answer (given_by c.args.given))
+returns-in-Check-clause-answer g c = λ moments. rw (c.in-Check.is, ← c.as_str.ensures) (c.check.ensures.answer (given_by c.args.given) moments)
 
 pub returns-in-Read-clause-answer : goal.returns-in-Read-clause-answer
-returns-in-Read-clause-answer g c = rw (c.in-Read.is, ← c.as_str-in-Read.ensures) (c.read.ensures.answer (given_by c.args.given) (g.C.Clock.moments c.args.clock.now))
+returns-in-Read-clause-answer g c = λ moments. rw (c.in-Read.is, ← c.as_str-in-Read.ensures) (c.read.ensures.answer (given_by c.args.given) moments)
 
 pub returns-in-Audit-clause-answer : goal.returns-in-Audit-clause-answer
-returns-in-Audit-clause-answer g c = rw (c.in-Audit.is, ← c.as_str-in-Audit.ensures, ← c.as_str-in-Audit-2.ensures) (c.audit.ensures.answer (given_by c.args.given) (g.C.Clock.moments c.args.clock.now))
+returns-in-Audit-clause-answer g c = λ moments. rw (c.in-Audit.is, ← c.as_str-in-Audit.ensures, ← c.as_str-in-Audit-2.ensures) (c.audit.ensures.answer (given_by c.args.given) moments)
 
 pub returns-in-Expect-clause-answer : goal.returns-in-Expect-clause-answer
-returns-in-Expect-clause-answer g c = rw (c.in-Expect.is, ← c.as_str-in-Expect.ensures) (c.expect.ensures.answer (given_by c.args.given) (g.C.Clock.moments c.args.clock.now))
+returns-in-Expect-clause-answer g c = λ moments. rw (c.in-Expect.is, ← c.as_str-in-Expect.ensures) (c.expect.ensures.answer (given_by c.args.given) moments)
 
 pub returns-in-Latency-clause-answer : goal.returns-in-Latency-clause-answer
-returns-in-Latency-clause-answer g c = rw (c.in-Latency.is, ← c.as_str-in-Latency.ensures, ← c.as_str-in-Latency-2.ensures) (c.latency.ensures.answer (given_by c.args.given) (g.C.Clock.moments c.args.clock.now))
+returns-in-Latency-clause-answer g c = λ moments. rw (c.in-Latency.is, ← c.as_str-in-Latency.ensures, ← c.as_str-in-Latency-2.ensures) (c.latency.ensures.answer (given_by c.args.given) moments)
 
 pub returns-in-Graph-clause-answer : goal.returns-in-Graph-clause-answer
-returns-in-Graph-clause-answer g c =
-    rw (c.in-Validate.is, c.in-Graph.is, ← c.as_str-in-Graph.ensures, ← c.as_str-in-Graph-2.ensures) (c.validate.ensures.answer (given_by c.args.given) (g.C.Clock.moments c.args.clock.now))
+returns-in-Graph-clause-answer g c = λ moments.
+    rw (c.in-Validate.is, c.in-Graph.is, ← c.as_str-in-Graph.ensures, ← c.as_str-in-Graph-2.ensures) (c.validate.ensures.answer (given_by c.args.given) moments)
 
 pub returns-in-Some-clause-answer : goal.returns-in-Some-clause-answer
-returns-in-Some-clause-answer g c =
-    rw (c.in-Validate.is, c.in-Table.is, c.in-Some.is, ← c.as_str-in-Some.ensures, ← c.as_str-in-Some-2.ensures) (c.validate_via.ensures.answer c.in-Some.field-0-1.now.pick (g.C.Clock.moments c.args.clock.now))
+returns-in-Some-clause-answer g c = λ moments.
+    rw (c.in-Validate.is, c.in-Table.is, c.in-Some.is, ← c.as_str-in-Some.ensures, ← c.as_str-in-Some-2.ensures) (c.validate_via.ensures.answer c.in-Some.field-0-1.now.pick moments)
 
 pub returns-in-Some-clause-unasked : goal.returns-in-Some-clause-unasked
 returns-in-Some-clause-unasked g c = λ asks. rw c.in-Some.is c.validate_via.ensures.unread
 
 pub returns-in-Some-given-clause-answer : goal.returns-in-Some-given-clause-answer
-returns-in-Some-given-clause-answer g c =
-    rw (c.in-Walk.is, c.in-Some-given.is, ← c.as_str-in-Some-given.ensures, ← c.as_slice.ensures) (c.walk.ensures.answer (g.C.Clock.moments c.args.clock.now))
+returns-in-Some-given-clause-answer g c = λ moments.
+    rw (c.in-Walk.is, c.in-Some-given.is, ← c.as_str-in-Some-given.ensures, ← c.as_slice.ensures) (c.walk.ensures.answer moments)
