@@ -2,6 +2,7 @@
 
 use crate::books::{claim, complete, completion, events, finish, halt, make_book};
 use crate::plans::plan;
+use crate::sources::sources;
 use crate::state::State;
 use crate::times::{end, flags_of, global, initiated, local, make_times, start};
 use snb_test_script::{Files, Flaw};
@@ -56,6 +57,7 @@ pub fn answer(
 ) -> Result<Option<String>, Flaw> {
     let answered = match call {
         "schedule" => plan(alloc, state, files, rest),
+        "sources" => sources(alloc, files, rest),
         _ => answer_of_book(alloc, state, call, rest),
     };
     match answered {

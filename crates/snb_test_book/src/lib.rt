@@ -6,6 +6,7 @@ pub mod answer;
 pub mod books;
 mod events;
 pub mod plans;
+mod sources;
 pub mod state;
 mod times;
 

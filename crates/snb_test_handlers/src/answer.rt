@@ -2,6 +2,8 @@
 
 use crate::cases::graph_of;
 use crate::connector::{asked, checked};
+use crate::steps::stepped;
+use crate::walks::walked;
 use snb_test_script::words::{first_word, number_of};
 use snb_test_script::{Files, Flaw};
 use std::alloc::Global;
@@ -20,6 +22,20 @@ fn handlers(alloc: Global, files: &Files, rest: &str) -> Result<String, Flaw> {
     checked(alloc, graph, files.bytes(file)?)
 }
 
+// `steps_of FOLDER FILE`
+fn steps_of(alloc: Global, files: &Files, rest: &str) -> Result<String, Flaw> {
+    let (folder, file) = first_word(rest);
+    let graph = graph_of(alloc, files, folder)?;
+    stepped(alloc, graph, files.bytes(file)?)
+}
+
+// `walk_copied FOLDER PERSON CHANCE WORDS`
+fn walk_copied(alloc: Global, files: &Files, rest: &str) -> Result<String, Flaw> {
+    let (folder, rest) = first_word(rest);
+    let graph = graph_of(alloc, files, folder)?;
+    walked(alloc, &graph, rest)
+}
+
 /// Makes the call of this word, over the files as they are, and tells what it answers; None where there is
 /// no such call. Nothing is left of one call for the next.
 pub fn answer(
@@ -31,6 +47,8 @@ pub fn answer(
     match call {
         "handler" => Ok(Some(handler(alloc, files, rest)?)),
         "handlers" => Ok(Some(handlers(alloc, files, rest)?)),
+        "steps_of" => Ok(Some(steps_of(alloc, files, rest)?)),
+        "walk_copied" => Ok(Some(walk_copied(alloc, files, rest)?)),
         _ => Ok(None),
     }
 }

@@ -4,4 +4,6 @@
 pub mod answer;
 mod cases;
 mod connector;
+mod steps;
 mod told;
+mod walks;

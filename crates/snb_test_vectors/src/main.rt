@@ -66,6 +66,9 @@ impl Every {
         )? {
             return Ok(Some(answer));
         }
+        if let Some(answer) = snb_test_readers::answer::answer(alloc, files, word, rest)? {
+            return Ok(Some(answer));
+        }
         if let Some(answer) = snb_test_handlers::answer::answer(alloc, files, word, rest)? {
             return Ok(Some(answer));
         }

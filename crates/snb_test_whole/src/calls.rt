@@ -6,9 +6,9 @@ ghost use Rattle.snb_read_model.specs.Replies.{IsAnswer};
 ghost use Rattle.snb_walk.specs.declared.target.Pick.TheVariants as picks;
 ghost use Rattle.snb_walk.specs.Picks.{index_of};
 
-use crate::case_shelf::CaseShelf;
+use crate::case_shelf::{CaseShelf, Long};
 use crate::state::State;
-use crate::words::{LOG_PATH, audit_words, words_of};
+use crate::words::{LOG_PATH, audit_words, deeper_words, words_of};
 use snb_base::{Channel, MemoryOutbox, MemoryShelf, Text};
 use snb_graph::Graph;
 use snb_handlers::{Call, Handler, Handlers, KINDS};
@@ -34,10 +34,11 @@ fn call<R: AllocGlobal + Threads + Wait + Sync>(
     state: &mut State,
     words: &[String],
     shelf: MemoryShelf,
+    long: Option<Long>,
     mut out: MemoryOutbox,
 ) -> Result<String, Flaw> {
     let words: Vec<&str> = words.iter().map(|word| word.as_str()).collect(alloc)?;
-    let mut shelf = CaseShelf::new(shelf, state.steady, state.fading);
+    let mut shelf = CaseShelf::new(shelf, state.steady, state.fading, long);
     let count = Rc::new(alloc, Cell::new(0u64))?;
     let mut handlers = Handlers::new(alloc);
     for kind in KINDS {
@@ -104,7 +105,8 @@ pub(crate) fn call_alone<R: AllocGlobal + Threads + Wait + Sync>(
     state.end()?;
     let owned = words_of(alloc, rest)?;
     let words: Vec<&str> = owned.iter().map(|word| word.as_str()).collect(alloc)?;
-    let mut shelf = CaseShelf::new(state.shelf(files)?, state.steady, state.fading);
+    let long = state.long(files)?;
+    let mut shelf = CaseShelf::new(state.shelf(files)?, state.steady, state.fading, long);
     let mut out = state.outbox()?;
     let given = Given::new(alloc, &state.moments);
     let status = snb(rt, &words, &mut shelf, &mut out, &given, &given);
@@ -121,10 +123,11 @@ pub(crate) fn call_words<R: AllocGlobal + Threads + Wait + Sync>(
     rest: &str,
 ) -> Result<String, Flaw> {
     state.end()?;
-    let words = words_of(alloc, rest)?;
+    let words = deeper_words(alloc, state.depth, words_of(alloc, rest)?)?;
     let shelf = state.shelf(files)?;
+    let long = state.long(files)?;
     let out = state.outbox()?;
-    let answer = call(rt, alloc, state, &words, shelf, out)?;
+    let answer = call(rt, alloc, state, &words, shelf, long, out)?;
     state.words = words;
     Ok(answer)
 }
@@ -141,5 +144,5 @@ pub(crate) fn call_audit<R: AllocGlobal + Threads + Wait + Sync>(
     add_file(&mut shelf, LOG_PATH, state.bytes(Channel::Log)?)?;
     state.end()?;
     let words = audit_words(alloc, &state.words)?;
-    call(rt, alloc, state, &words, shelf, calm.outbox()?)
+    call(rt, alloc, state, &words, shelf, None, calm.outbox()?)
 }

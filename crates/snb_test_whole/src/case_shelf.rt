@@ -23,11 +23,55 @@ impl Drop for Kept {
     }
 }
 
+/// What follows the bytes of a file that is longer than what is kept of it: a line, again and again.
+pub struct Long {
+    /// The file.
+    pub(crate) name: String,
+    /// How many bytes of it are kept.
+    pub(crate) kept: u64,
+    /// How many bytes it has.
+    pub(crate) ends: u64,
+    /// The line, with its end.
+    pub(crate) line: Vec<u8>,
+}
+
+impl Drop for Long {
+    fn drop(self) {
+        let Long {
+            name: _,
+            kept: _,
+            ends: _,
+            line: _,
+        } = self;
+    }
+}
+
+impl Long {
+    // Makes the bytes from there on, which aren't kept.
+    fn make(&self, at: u64, into: &mut [u8]) -> Got {
+        let left = self.ends.saturating_sub(at).min(into.len() as u64) as usize;
+        let width = self.line.len();
+        if width == 0 {
+            return Got::Took { count: 0 };
+        }
+        let mut place = (at.saturating_sub(self.kept) % width as u64) as usize;
+        for count in 0..left {
+            if place >= width {
+                place = 0;
+            }
+            into[count] = self.line[place];
+            place += 1;
+        }
+        Got::Took { count: left }
+    }
+}
+
 /// A shelf that counts how often it is read, and tells no contents. One that is fading has each file at its
-/// first read alone.
+/// first read alone. One that has a long file makes what follows the bytes that are kept of it.
 pub struct CaseShelf {
     kept: Kept,
     fading: bool,
+    long: Option<Long>,
     reads: u64,
 }
 
@@ -36,6 +80,7 @@ impl Drop for CaseShelf {
         let CaseShelf {
             kept: _,
             fading: _,
+            long: _,
             reads: _,
         } = self;
     }
@@ -43,7 +88,12 @@ impl Drop for CaseShelf {
 
 impl CaseShelf {
     /// A shelf with the files of this one, which wasn't read yet.
-    pub(crate) fn new(shelf: MemoryShelf, steady: bool, fading: bool) -> CaseShelf {
+    pub(crate) fn new(
+        shelf: MemoryShelf,
+        steady: bool,
+        fading: bool,
+        long: Option<Long>,
+    ) -> CaseShelf {
         let kept = if steady {
             Kept::Steady {
                 shelf: SteadyShelf::new(shelf),
@@ -54,6 +104,7 @@ impl CaseShelf {
         CaseShelf {
             kept,
             fading,
+            long,
             reads: 0,
         }
     }
@@ -75,6 +126,11 @@ impl Shelf for CaseShelf {
         self.reads = self.reads.saturating_add(1);
         if self.fading && at > 0 {
             return Got::Absent;
+        }
+        if let Some(long) = &self.long {
+            if long.name.as_str() == name && at >= long.kept {
+                return long.make(at, into);
+            }
         }
         match &mut self.kept {
             Kept::Memory { shelf } => shelf.read(name, at, into),

@@ -2,6 +2,8 @@
 
 ghost use Rattle.std.specs.Prelude.{◌≤◌};
 
+use crate::case_shelf::Long;
+use crate::words::deeper;
 use snb_base::{Channel, MemoryOutbox, MemoryShelf, read_number};
 use snb_schema::ReadKind;
 use snb_test_script::escape::shown_lines;
@@ -11,6 +13,26 @@ use std::alloc::Global;
 
 // How many bytes each channel takes, where a case says nothing else.
 const ROOM: usize = 200_000;
+
+// How many it takes at most.
+const MOST_ROOM: usize = 8_000_000;
+
+// A file that is longer than what is kept of it.
+struct LongFile {
+    name: String,
+    ends: u64,
+    line: Vec<u8>,
+}
+
+impl Drop for LongFile {
+    fn drop(self) {
+        let LongFile {
+            name: _,
+            ends: _,
+            line: _,
+        } = self;
+    }
+}
 
 // Each channel and its name, in the order in which an answer names them.
 fn channels() -> [(Channel, &'static str); 5] {
@@ -40,6 +62,10 @@ pub struct State {
     pub(crate) steady: bool,
     /// The shelf has each file at its first read alone.
     pub(crate) fading: bool,
+    /// The file that goes on with a line, again and again.
+    long: Option<LongFile>,
+    /// In how many folders more the files stand than their names say, each of the name `d`.
+    pub(crate) depth: usize,
     /// The moments that the clock shows.
     pub(crate) moments: Vec<u64>,
     /// The calls of `read` and of `write` that fail, numbered from 0.
@@ -69,6 +95,8 @@ impl Drop for State {
             alloc: _,
             steady: _,
             fading: _,
+            long: _,
+            depth: _,
             moments: _,
             failing_reads: _,
             failing_writes: _,
@@ -92,6 +120,8 @@ impl State {
             alloc,
             steady: false,
             fading: false,
+            long: None,
+            depth: 0,
             moments: Vec::new(alloc),
             failing_reads: Vec::new(alloc),
             failing_writes: Vec::new(alloc),
@@ -124,6 +154,36 @@ impl State {
         Ok(())
     }
 
+    // `long NAME BYTES WIDTH LINE`
+    fn set_long(&mut self, rest: &str) -> Result<(), Flaw> {
+        let (name, rest) = first_word(rest);
+        let (ends, rest) = first_word(rest);
+        let (width, text) = first_word(rest);
+        let ends = number_of(ends)?;
+        let width = number_of(width)?;
+        let mut line = Vec::from_slice(self.alloc, text.as_bytes())?;
+        for _ in text.len() as u64 + 1..width {
+            line.push(b' ')?;
+        }
+        line.push(b'\n')?;
+        let name = String::from_str(self.alloc, name)?;
+        self.long = Some(LongFile { name, ends, line });
+        Ok(())
+    }
+
+    /// The long file, if there is one, and how much of it is kept.
+    pub(crate) fn long(&self, files: &Files) -> Result<Option<Long>, Flaw> {
+        let Some(long) = &self.long else {
+            return Ok(None);
+        };
+        Ok(Some(Long {
+            name: long.name.clone()?,
+            kept: files.bytes(long.name.as_str())?.len() as u64,
+            ends: long.ends,
+            line: long.line.clone()?,
+        }))
+    }
+
     // `table KIND KIND ..`
     fn set_kinds(&mut self, rest: &str) -> Result<(), Flaw> {
         let mut kinds = Vec::new(self.alloc);
@@ -151,9 +211,11 @@ impl State {
             ("fail", ("write", call)) => self.failing_writes.push(number_of(call)?)?,
             ("room", (name, room)) => {
                 let channel = channel_of(name).ok_or(Flaw::NoName)?;
-                let room = read_number(room.as_bytes(), ROOM as u64).ok_or(Flaw::NoNumber)?;
+                let room = read_number(room.as_bytes(), MOST_ROOM as u64).ok_or(Flaw::NoNumber)?;
                 self.rooms.push((channel, room as usize))?;
             }
+            ("long", _) => self.set_long(rest)?,
+            ("depth", _) => self.depth = number_of(rest)? as usize,
             ("policy", ("last", "")) => self.last = true,
             ("steady", ("", _)) => self.steady = true,
             ("fading", ("", _)) => self.fading = true,
@@ -164,7 +226,7 @@ impl State {
 
     /// A shelf with the files, on which the listed calls of `read` fail, numbered from here on.
     pub(crate) fn shelf(&self, files: &Files) -> Result<MemoryShelf, Flaw> {
-        let mut shelf = files.on_shelf(self.alloc, "")?;
+        let mut shelf = files.on_shelf(self.alloc, deeper(self.alloc, self.depth, "")?.as_str())?;
         let made = files.count() as u64;
         for call in &self.failing_reads {
             shelf.fail_at(call.saturating_add(made))?;
@@ -174,7 +236,7 @@ impl State {
 
     // The room of a channel.
     fn room(&self, channel: Channel) -> usize
-        ensures { result ≤ 200000 }
+        ensures { result ≤ 8000000 }
     {
         let mut room = ROOM;
         for (named, count) in &self.rooms {
@@ -182,12 +244,12 @@ impl State {
                 room = *count;
             }
         }
-        room.min(ROOM)
+        room.min(MOST_ROOM)
     }
 
     /// An empty outbox with the rooms, on which the listed calls of `write` fail.
     pub(crate) fn outbox(&self) -> Result<MemoryOutbox, Flaw> {
-        let mut out = MemoryOutbox::new(self.alloc, ROOM)?;
+        let mut out = MemoryOutbox::new(self.alloc, MOST_ROOM)?;
         out.limit(Channel::Log, self.room(Channel::Log));
         out.limit(Channel::Answers, self.room(Channel::Answers));
         out.limit(Channel::Final, self.room(Channel::Final));

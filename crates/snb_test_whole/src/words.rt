@@ -17,6 +17,32 @@ fn plain_word(alloc: Global, spelled: &str) -> Result<String, Flaw> {
     }
 }
 
+/// The path below so many folders of the name `d`.
+pub(crate) fn deeper(alloc: Global, depth: usize, path: &str) -> Result<String, AllocError> {
+    let mut deep = String::new(alloc);
+    for at in 0..depth {
+        deep.push_str(if at == 0 { "d" } else { "/d" })?;
+    }
+    if depth > 0 && !path.is_empty() {
+        deep.push('/')?;
+    }
+    deep.push_str(path)?;
+    Ok(deep)
+}
+
+/// The words of a call whose second one is a path below so many folders.
+pub(crate) fn deeper_words(
+    alloc: Global,
+    depth: usize,
+    words: Vec<String>,
+) -> Result<Vec<String>, AllocError> {
+    let mut deep = words;
+    if let Some(path) = deep.get_mut(1) {
+        *path = deeper(alloc, depth, path.as_str())?;
+    }
+    Ok(deep)
+}
+
 /// The words that the text has, with one space between two.
 pub(crate) fn words_of(alloc: Global, text: &str) -> Result<Vec<String>, Flaw> {
     let mut words = Vec::new(alloc);

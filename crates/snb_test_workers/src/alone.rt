@@ -1,4 +1,4 @@
-//! The calls in which one worker works on this thread, at a board of two or without a board.
+//! The calls in which one worker works on this thread, at a board of two or at one of its own.
 
 ghost use Rattle.snb_test_workers.specs.Wholes.{IsWhole};
 
