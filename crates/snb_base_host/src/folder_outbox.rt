@@ -11,8 +11,11 @@ use std::rt::Files;
 /// Standard output for the screen, and for each other channel a file of the current folder:
 /// `snb.log`, `snb.answers`, `snb.final` and `snb.cases`. It tells no bytes.
 ///
-/// A file is made anew at the first write to it.
-#[derive(Drop)]
+/// Log, answers and final graph are one run's. At the first write to one of them all three are made anew, in this
+/// order and before anything is written, so that none keeps bytes of an earlier run. Where one of them can't be
+/// made, that write is a fault, and the next write to one of the three makes those that are missing. The file
+/// of cases is made anew at the first write to it. A channel that is never written to leaves its file as it is,
+/// but for those of a run that has begun to write.
 pub struct FolderOutbox<R: Files> {
     rt: R,
     log: Option<R::File>,
@@ -20,6 +23,19 @@ pub struct FolderOutbox<R: Files> {
     finals: Option<R::File>,
     cases: Option<R::File>,
     faults: u64,
+}
+
+impl<R: Files + Drop> Drop for FolderOutbox<R> {
+    fn drop(self) {
+        let FolderOutbox {
+            rt: _,
+            log: _,
+            answers: _,
+            finals: _,
+            cases: _,
+            faults: _,
+        } = self;
+    }
 }
 
 impl<R: Files + Print> FolderOutbox<R> {
@@ -36,6 +52,41 @@ impl<R: Files + Print> FolderOutbox<R> {
             faults: 0,
         }
     }
+
+    // Writes once to the channel.
+    fn write_once(&mut self, channel: Channel, piece: &[u8]) -> io::Result<usize>
+        ensures count { IfOk result (λ count. count ≤ length piece.now) }
+        ensures faults { self.new.faults ≡ self.old.faults }
+    {
+        match channel {
+            Channel::Screen => self.rt.write_some(piece),
+            Channel::Log => {
+                self.make_run()?;
+                write_file(&mut self.log, piece)
+            }
+            Channel::Answers => {
+                self.make_run()?;
+                write_file(&mut self.answers, piece)
+            }
+            Channel::Final => {
+                self.make_run()?;
+                write_file(&mut self.finals, piece)
+            }
+            Channel::Cases => {
+                make_file(&self.rt, &mut self.cases, "snb.cases")?;
+                write_file(&mut self.cases, piece)
+            }
+        }
+    }
+
+    // Makes those files of a run that aren't open yet.
+    fn make_run(&mut self) -> io::Result<()>
+        ensures { self.new.faults ≡ self.old.faults }
+    {
+        make_file(&self.rt, &mut self.log, "snb.log")?;
+        make_file(&self.rt, &mut self.answers, "snb.answers")?;
+        make_file(&self.rt, &mut self.finals, "snb.final")
+    }
 }
 
 impl<R: Files + Print> Outbox for FolderOutbox<R> {
@@ -46,14 +97,7 @@ impl<R: Files + Print> Outbox for FolderOutbox<R> {
     ghost ready = { λ _ _. ⊥ };
 
     fn write(&mut self, channel: Channel, piece: &[u8]) -> Put {
-        let written = match channel {
-            Channel::Screen => self.rt.write_some(piece),
-            Channel::Log => write_file(&self.rt, &mut self.log, "snb.log", piece),
-            Channel::Answers => write_file(&self.rt, &mut self.answers, "snb.answers", piece),
-            Channel::Final => write_file(&self.rt, &mut self.finals, "snb.final", piece),
-            Channel::Cases => write_file(&self.rt, &mut self.cases, "snb.cases", piece),
-        };
-        let count = written.unwrap_or(0);
+        let count = self.write_once(channel, piece).unwrap_or(0);
         if count == 0 {
             self.faults = self.faults.saturating_add(1);
             return Put::Failed;
@@ -62,22 +106,20 @@ impl<R: Files + Print> Outbox for FolderOutbox<R> {
     }
 }
 
-// Writes once to the file, which it makes anew where none is open yet.
-fn write_file<R: Files>(
-    rt: &R,
-    open: &mut Option<R::File>,
-    name: &str,
-    piece: &[u8],
-) -> io::Result<usize>
+// Makes the file anew, unless it is open.
+fn make_file<R: Files>(rt: &R, open: &mut Option<R::File>, name: &str) -> io::Result<()> {
+    if open.is_none() {
+        *open = Some(File::create(rt, name)?);
+    }
+    Ok(())
+}
+
+// Writes once to the file, if it is open.
+fn write_file<F: Write>(open: &mut Option<F>, piece: &[u8]) -> io::Result<usize>
     ensures { IfOk result (λ count. count ≤ length piece.now) }
 {
     match open {
         Some(file) => file.write(piece),
-        None => {
-            let mut file = File::create(rt, name)?;
-            let count = file.write(piece);
-            *open = Some(file);
-            count
-        }
+        None => Ok(0),
     }
 }

@@ -2,8 +2,8 @@
 
 ghost use Rattle.std.specs.Prelude.{◌≤◌, length, IfOk};
 
-use std::alloc::Allocator;
-use std::cell::Cell;
+use std::alloc::{Allocator, Global};
+use std::cell::{Cell, RefCell};
 use std::fmt::Display;
 use std::fs::{Metadata, OpenFile, OpenOptions};
 use std::io;
@@ -41,32 +41,71 @@ impl Clock for FakeClock {
     }
 }
 
-// What the next writes answer: an error, or the count that they take at most. And how often a file was
-// opened, and how often anything was written.
+// How the system of a test answers, and what it was asked for.
 #[derive(Drop)]
-pub struct Writes {
+pub struct Calls {
+    // What a read or a write answers: an error, or the count of bytes that it takes at most.
     pub answer: Cell<Result<usize, ErrorKind>>,
+    // A path that can't be opened, and why.
+    pub closed: Cell<Option<(&'static str, ErrorKind)>>,
+    // How many bytes an open file says that it has, if it says so.
+    pub length: Cell<Option<u64>>,
+    // How often a file was to be opened, and how often one that can be written.
     pub opened: Cell<u32>,
-    pub written: Cell<u32>,
+    pub writable: Cell<u32>,
+    // How often a file was to be read or written at another place.
+    pub sought: Cell<u32>,
+    // How often anything was to be read or written, and what was written.
+    pub passed: Cell<u32>,
+    pub written: RefCell<Vec<u8>>,
 }
 
-// Standard output and files whose writes answer as they are told; each file that it opens is one.
-#[derive(Drop)]
-pub struct FakeSystem<'a> {
-    pub writes: &'a Writes,
-}
+impl Calls {
+    // Each file can be opened and tells no length, and no byte is taken.
+    pub fn new(alloc: Global) -> Calls {
+        Calls {
+            answer: Cell::new(Ok(0)),
+            closed: Cell::new(None),
+            length: Cell::new(None),
+            opened: Cell::new(0),
+            writable: Cell::new(0),
+            sought: Cell::new(0),
+            passed: Cell::new(0),
+            written: RefCell::new(Vec::new(alloc)),
+        }
+    }
 
-impl<'a> FakeSystem<'a> {
-    fn take_some(&self, piece: &[u8]) -> io::Result<usize>
-        ensures { IfOk result (λ count. count ≤ length piece.now) }
+    // How many bytes a call takes of as many as these.
+    fn take_some(&self, bytes: usize) -> io::Result<usize>
+        ensures { IfOk result (λ count. count ≤ bytes) }
     {
-        let written = &self.writes.written;
-        written.set(written.get().saturating_add(1));
-        match self.writes.answer.get() {
-            Ok(most) => Ok(piece.len().min(most)),
+        count_up(&self.passed);
+        match self.answer.get() {
+            Ok(most) => Ok(bytes.min(most)),
             Err(kind) => Err(io::Error::from(kind)),
         }
     }
+
+    // Writes as many bytes as are taken.
+    fn write_some(&self, piece: &[u8]) -> io::Result<usize>
+        ensures { IfOk result (λ count. count ≤ length piece.now) }
+    {
+        let count = self.take_some(piece.len())?;
+        if let Ok(mut written) = self.written.try_borrow_mut() {
+            written.extend_from_slice(&piece[..count])?;
+        }
+        Ok(count)
+    }
+}
+
+fn count_up(count: &Cell<u32>) {
+    count.set(count.get().saturating_add(1));
+}
+
+// Standard output and files, all of which answer as they are told.
+#[derive(Drop)]
+pub struct FakeSystem<'a> {
+    pub calls: &'a Calls,
 }
 
 impl<'a> Print for FakeSystem<'a> {
@@ -83,13 +122,13 @@ impl<'a> Print for FakeSystem<'a> {
     }
 
     fn write_some(&self, bytes: &[u8]) -> io::Result<usize> {
-        self.take_some(bytes)
+        self.calls.write_some(bytes)
     }
 }
 
 impl<'a> Write for FakeSystem<'a> {
     fn write(&mut self, piece: &[u8]) -> io::Result<usize> {
-        self.take_some(piece)
+        self.calls.write_some(piece)
     }
 
     fn flush(&mut self) -> io::Result<()> {
@@ -98,21 +137,28 @@ impl<'a> Write for FakeSystem<'a> {
 }
 
 impl<'a> Read for FakeSystem<'a> {
-    // Nobody reads what is written.
-    fn read(&mut self, _into: &mut [u8]) -> io::Result<usize> {
-        Ok(0)
+    // The bytes of the buffer stay as they are.
+    fn read(&mut self, into: &mut [u8]) -> io::Result<usize> {
+        self.calls.take_some(into.len())
     }
 }
 
 impl<'a> Seek for FakeSystem<'a> {
-    fn seek(&mut self, _to: SeekFrom) -> io::Result<u64> {
-        unsupported()
+    fn seek(&mut self, to: SeekFrom) -> io::Result<u64> {
+        count_up(&self.calls.sought);
+        match to {
+            SeekFrom::Start(at) => Ok(at),
+            _ => unsupported(),
+        }
     }
 }
 
 impl<'a> OpenFile for FakeSystem<'a> {
     fn metadata(&self) -> io::Result<Metadata> {
-        unsupported()
+        match self.calls.length.get() {
+            Some(length) => Ok(Metadata::of_file(length)),
+            None => unsupported(),
+        }
     }
 
     fn set_len(&self, _size: u64) -> io::Result<()> {
@@ -133,12 +179,16 @@ impl<'a> Files for FakeSystem<'a> {
 
     type Dir = FakeSystem<'a>;
 
-    fn open_file(&self, _how: &OpenOptions, _path: &str) -> io::Result<FakeSystem<'a>> {
-        let opened = &self.writes.opened;
-        opened.set(opened.get().saturating_add(1));
-        Ok(FakeSystem {
-            writes: self.writes,
-        })
+    fn open_file(&self, how: &OpenOptions, path: &str) -> io::Result<FakeSystem<'a>> {
+        let calls = self.calls;
+        count_up(&calls.opened);
+        if how.asks_write() || how.asks_append() {
+            count_up(&calls.writable);
+        }
+        match calls.closed.get() {
+            Some((closed, kind)) if closed == path => Err(io::Error::from(kind)),
+            _ => Ok(FakeSystem { calls }),
+        }
     }
 
     fn open_dir(&self, _path: &str) -> io::Result<FakeSystem<'a>> {
