@@ -35,6 +35,7 @@ fn reads_real_files(rt: HostRuntime) -> Result<(), Fail> {
     let bytes = many_bytes(rt.alloc(), 1_100_000)?;
     fs::write(&rt, name, &bytes)?;
     let mut shelf = FolderShelf::new(rt);
+    let mut right = 0;
     for (at, count) in [
         (0, 300),
         (1_048_577, 300),
@@ -44,20 +45,22 @@ fn reads_real_files(rt: HostRuntime) -> Result<(), Fail> {
     ] {
         let mut into = [0u8; 300];
         let got = shelf.read(name, at, &mut into);
-        assert_eq!(rt; got, Got::Took { count }, "at {at}");
         let rest = bytes.get(at as usize..).unwrap_or(&[]);
-        assert!(rt; rest.starts_with(&into[..count]), "at {at}");
+        if got == (Got::Took { count }) && rest.starts_with(&into[..count]) {
+            right += 1;
+        }
     }
     let mut into = [0u8; 4];
     let through_file = shelf.read("snb_host_shelf.tmp/inside", 0, &mut into);
     fs::remove_file(&rt, name)?;
-    assert_eq!(rt; through_file, Got::Failed);
-    assert_eq!(rt; shelf.read(name, 0, &mut into), Got::Absent);
-    assert_eq!(rt; shelf.read(".", 0, &mut into), Got::Failed);
-    assert_eq!(rt;
+    let others = [
+        through_file,
+        shelf.read(name, 0, &mut into),
+        shelf.read(".", 0, &mut into),
         shelf.read("./snb_host_inside.tmp", 0, &mut into),
-        Got::Absent
-    );
+    ];
+    assert_eq!(rt; right, 5);
+    assert_eq!(rt; others, [Got::Failed, Got::Absent, Got::Failed, Got::Absent]);
     Ok(())
 }
 
@@ -141,11 +144,12 @@ fn reads_one_file_to_its_end(rt: HostRuntime) -> Result<(), Fail> {
         let third = read_on(alloc, &mut shelf, name, 0)?;
         // It is gone already in the first case.
         let _ = fs::remove_file(&rt, name);
-        assert_eq!(rt; first, Got::Took { count: 5 }, "{change:?}");
-        assert_eq!(rt; &into, b"first", "{change:?}");
-        assert_eq!(rt; second.as_deref(), rest.map(str::as_bytes), "{change:?}");
-        assert_eq!(rt; other, Got::Absent, "{change:?}");
-        assert_eq!(rt; third.as_deref(), later.map(str::as_bytes), "{change:?}");
+        let right = first == (Got::Took { count: 5 })
+            && &into == b"first"
+            && second.as_deref() == rest.map(str::as_bytes)
+            && other == Got::Absent
+            && third.as_deref() == later.map(str::as_bytes);
+        assert!(rt; right, "{change:?}");
     }
     Ok(())
 }
@@ -166,12 +170,9 @@ fn tells_that_a_file_was_cut_short(rt: HostRuntime) -> Result<(), Fail> {
     let anew = shelf.read(name, 0, &mut into);
     let then = shelf.read(name, 6, &mut into);
     fs::remove_file(&rt, name)?;
-    assert_eq!(rt; first, Got::Took { count: 6 });
-    assert_eq!(rt; cut, Got::Failed);
-    assert_eq!(rt; again, Got::Failed);
-    assert_eq!(rt; past, Got::Failed);
-    assert_eq!(rt; anew, Got::Took { count: 6 });
-    assert_eq!(rt; then, Got::Took { count: 6 });
+    let took = Got::Took { count: 6 };
+    assert_eq!(rt; [first, anew, then], [took; 3]);
+    assert_eq!(rt; [cut, again, past], [Got::Failed; 3]);
     assert_eq!(rt; &into, b"second");
     Ok(())
 }
@@ -194,48 +195,58 @@ fn tells_that_a_file_has_gone(rt: HostRuntime) -> Result<(), Fail> {
     fs::remove_dir(&rt, name)?;
     let later = shelf.read(name, 5, &mut into);
     let anew = shelf.read(name, 0, &mut into);
-    assert_eq!(rt; first, Got::Took { count: 5 });
-    assert_eq!(rt; held, Got::Took { count: 5 });
+    assert_eq!(rt; [first, held], [Got::Took { count: 5 }; 2]);
     assert_eq!(rt; &into, b" and ");
-    assert_eq!(rt; other, Got::Absent);
-    assert_eq!(rt; folder, Got::Failed);
-    assert_eq!(rt; folder_anew, Got::Failed);
-    assert_eq!(rt; later, Got::Failed);
-    assert_eq!(rt; anew, Got::Absent);
+    assert_eq!(rt; [other, anew], [Got::Absent; 2]);
+    assert_eq!(rt; [folder, folder_anew, later], [Got::Failed; 3]);
     Ok(())
 }
 
-// A file of many pieces is opened once, and sought once. One that tells no length ends where it gives no byte.
+// Reads three bytes at most of a file, and tells how often files were opened and sought by then.
+fn read_three<'a>(
+    calls: &'a Calls,
+    shelf: &mut FolderShelf<(FakeSystem<'a>, Global)>,
+    name: &str,
+    at: u64,
+    answer: Result<usize, ErrorKind>,
+) -> (Got, u32, u32) {
+    calls.answer.set(answer);
+    let mut into = [0u8; 3];
+    let got = shelf.read(name, at, &mut into);
+    (got, calls.opened.get(), calls.sought.get())
+}
+
+// A file of many pieces is opened once, and sought once. One that tells no length ends where it gives no byte. Another
+// place is sought, and another name is opened.
 #[test]
 fn opens_and_seeks_once(rt: HostRuntime) -> Result<(), Fail> {
-    for length in [Some(1000), None] {
+    let took = Got::Took { count: 3 };
+    for length in [Some(30), None] {
         let calls = Calls::new(rt.alloc());
         calls.length.set(length);
         let mut shelf = FolderShelf::new((FakeSystem { calls: &calls }, rt.alloc()));
-        let mut into = [0u8; 100];
-        for piece in 0..11 {
-            calls.answer.set(Ok(if piece < 10 { 100 } else { 0 }));
-            let count = if piece < 10 { 100 } else { 0 };
-            let got = shelf.read("file", piece * 100, &mut into);
-            assert_eq!(rt; got, Got::Took { count }, "{piece} of {length:?}");
+        let mut right = 0;
+        for piece in 0..10 {
+            if read_three(&calls, &mut shelf, "file", piece * 3, Ok(3)) == (took, 1, 1) {
+                right += 1;
+            }
         }
-        assert_eq!(rt; calls.opened.get(), 1);
-        assert_eq!(rt; calls.sought.get(), 1);
-        assert_eq!(rt; calls.passed.get(), 11);
-        assert_eq!(rt; calls.writable.get(), 0);
-        // Another place is sought, and another name is opened.
-        calls.answer.set(Ok(100));
-        for (name, at, opened, sought) in [
-            ("file", 700, 1, 2),
-            ("file", 800, 1, 2),
-            ("other", 0, 2, 3),
-            ("file", 0, 3, 4),
-        ] {
-            let got = shelf.read(name, at, &mut into);
-            assert_eq!(rt; got, Got::Took { count: 100 }, "{name} {at}");
-            assert_eq!(rt; calls.opened.get(), opened, "{name} {at}");
-            assert_eq!(rt; calls.sought.get(), sought, "{name} {at}");
-        }
+        let seen = [
+            read_three(&calls, &mut shelf, "file", 30, Ok(0)),
+            read_three(&calls, &mut shelf, "file", 21, Ok(3)),
+            read_three(&calls, &mut shelf, "file", 24, Ok(3)),
+            read_three(&calls, &mut shelf, "other", 0, Ok(3)),
+            read_three(&calls, &mut shelf, "file", 0, Ok(3)),
+        ];
+        let wanted = [
+            (Got::Took { count: 0 }, 1, 1),
+            (took, 1, 2),
+            (took, 1, 2),
+            (took, 2, 3),
+            (took, 3, 4),
+        ];
+        let whole = right == 10 && calls.writable.get() == 0;
+        assert!(rt; whole && seen == wanted, "{length:?}");
     }
     Ok(())
 }
@@ -244,39 +255,37 @@ fn opens_and_seeks_once(rt: HostRuntime) -> Result<(), Fail> {
 // is one too. The file is opened again at its first byte alone.
 #[test]
 fn tells_that_a_later_read_failed(rt: HostRuntime) -> Result<(), Fail> {
-    for (answer, length) in [
-        (Err(ErrorKind::Other), Some(9)),
-        (Err(ErrorKind::Interrupted), None),
-        (Ok(0), Some(4)),
+    let took = Got::Took { count: 3 };
+    for (answer, length, last) in [
+        (Err(ErrorKind::Other), Some(9), Got::Failed),
+        (Err(ErrorKind::Interrupted), None, Got::Failed),
+        (Ok(0), Some(4), Got::Took { count: 0 }),
     ] {
         let calls = Calls::new(rt.alloc());
         calls.length.set(length);
         let mut shelf = FolderShelf::new((FakeSystem { calls: &calls }, rt.alloc()));
-        let mut into = [0u8; 3];
-        for (at, answer, wanted, opened) in [
-            (0, Ok(3), Got::Took { count: 3 }, 1),
-            (3, answer, Got::Failed, 1),
-            (3, Ok(3), Got::Failed, 1),
-            (3, Ok(0), Got::Failed, 1),
-            (9, Ok(0), Got::Failed, 1),
-            (0, Ok(3), Got::Took { count: 3 }, 2),
-            (3, Ok(3), Got::Took { count: 3 }, 2),
-            (
-                6,
-                answer,
-                if answer == Ok(0) {
-                    Got::Took { count: 0 }
-                } else {
-                    Got::Failed
-                },
-                2,
-            ),
-        ] {
-            calls.answer.set(answer);
-            let got = shelf.read("file", at, &mut into);
-            assert_eq!(rt; got, wanted, "{answer:?} at {at}");
-            assert_eq!(rt; calls.opened.get(), opened, "{answer:?} at {at}");
-        }
+        let seen = [
+            read_three(&calls, &mut shelf, "file", 0, Ok(3)),
+            read_three(&calls, &mut shelf, "file", 3, answer),
+            read_three(&calls, &mut shelf, "file", 3, Ok(3)),
+            read_three(&calls, &mut shelf, "file", 3, Ok(0)),
+            read_three(&calls, &mut shelf, "file", 9, Ok(0)),
+            read_three(&calls, &mut shelf, "file", 0, Ok(3)),
+            read_three(&calls, &mut shelf, "file", 3, Ok(3)),
+            read_three(&calls, &mut shelf, "file", 6, answer),
+        ];
+        let wanted = [
+            (took, 1),
+            (Got::Failed, 1),
+            (Got::Failed, 1),
+            (Got::Failed, 1),
+            (Got::Failed, 1),
+            (took, 2),
+            (took, 2),
+            (last, 2),
+        ];
+        let right = seen.iter().map(|one| (one.0, one.1)).eq(wanted);
+        assert!(rt; right, "{answer:?}");
     }
     Ok(())
 }
@@ -284,22 +293,22 @@ fn tells_that_a_later_read_failed(rt: HostRuntime) -> Result<(), Fail> {
 // A file is absent only where it isn't found at its first byte.
 #[test]
 fn tells_why_a_file_cannot_be_opened(rt: HostRuntime) -> Result<(), Fail> {
-    for (kind, first, later) in [
-        (ErrorKind::NotFound, Got::Absent, Got::Failed),
-        (ErrorKind::PermissionDenied, Got::Failed, Got::Failed),
-        (ErrorKind::NotADirectory, Got::Failed, Got::Failed),
-        (ErrorKind::Other, Got::Failed, Got::Failed),
+    for (kind, first) in [
+        (ErrorKind::NotFound, Got::Absent),
+        (ErrorKind::PermissionDenied, Got::Failed),
+        (ErrorKind::NotADirectory, Got::Failed),
+        (ErrorKind::Other, Got::Failed),
     ] {
         let calls = Calls::new(rt.alloc());
-        calls.answer.set(Ok(3));
         calls.closed.set(Some(("file", kind)));
         let mut shelf = FolderShelf::new((FakeSystem { calls: &calls }, rt.alloc()));
-        let mut into = [0u8; 3];
-        assert_eq!(rt; shelf.read("file", 0, &mut into), first, "{kind:?}");
-        assert_eq!(rt; shelf.read("file", 3, &mut into), later, "{kind:?}");
-        let took = Got::Took { count: 3 };
-        assert_eq!(rt; shelf.read("other", 0, &mut into), took, "{kind:?}");
-        assert_eq!(rt; calls.opened.get(), 3, "{kind:?}");
+        let seen = [
+            read_three(&calls, &mut shelf, "file", 0, Ok(3)).0,
+            read_three(&calls, &mut shelf, "file", 3, Ok(3)).0,
+            read_three(&calls, &mut shelf, "other", 0, Ok(3)).0,
+        ];
+        let right = seen == [first, Got::Failed, Got::Took { count: 3 }];
+        assert!(rt; right && calls.opened.get() == 3, "{kind:?}");
     }
     Ok(())
 }
@@ -310,6 +319,14 @@ const RUN: [(Channel, &str); 3] = [
     (Channel::Answers, "snb.answers"),
     (Channel::Final, "snb.final"),
 ];
+
+// Whether the file has just these bytes.
+fn has(rt: &impl Files, alloc: Global, file: &str, bytes: &str) -> bool {
+    match fs::read(&(rt, alloc), file) {
+        Ok(found) => found.as_slice() == bytes.as_bytes(),
+        Err(_) => false,
+    }
+}
 
 // The first byte of a run makes all its files anew, and the first byte of the cases theirs alone. Nothing does before,
 // and a later write makes none anew that is open.
@@ -322,16 +339,12 @@ fn makes_the_files_of_a_run_together(rt: HostRuntime) -> Result<(), Fail> {
             fs::write(&rt, file, "old bytes")?;
         }
         let mut out = FolderOutbox::new(&rt);
-        let shown = out.write(Channel::Screen, b"\n");
-        assert_eq!(rt; shown, Put::Took { count: 1 });
+        let mut right = out.write(Channel::Screen, b"\n") == Put::Took { count: 1 };
         for (_, file) in files {
-            let bytes = fs::read(&rt, file)?;
-            assert_eq!(rt; bytes.as_slice(), b"old bytes".as_slice(), "{file}");
+            right = right && has(&rt, rt.alloc(), file, "old bytes");
         }
-        let first = out.write(channel, b"xy");
-        assert_eq!(rt; first, Put::Took { count: 2 }, "to {name}");
+        right = right && out.write(channel, b"xy") == (Put::Took { count: 2 });
         for (_, file) in files {
-            let bytes = fs::read(&rt, file)?;
             let wanted = if file == name {
                 "xy"
             } else if file == cases.1 || name == cases.1 {
@@ -339,18 +352,15 @@ fn makes_the_files_of_a_run_together(rt: HostRuntime) -> Result<(), Fail> {
             } else {
                 ""
             };
-            assert_eq!(rt; bytes.as_slice(), wanted.as_bytes(), "{file} after {name}");
+            right = right && has(&rt, rt.alloc(), file, wanted);
         }
         for (each, file) in files {
-            let put = out.write(each, b"z");
-            assert_eq!(rt; put, Put::Took { count: 1 }, "{file} after {name}");
-        }
-        for (_, file) in files {
-            let bytes = fs::read(&rt, file)?;
-            fs::remove_file(&rt, file)?;
             let wanted = if file == name { "xyz" } else { "z" };
-            assert_eq!(rt; bytes.as_slice(), wanted.as_bytes(), "{file} after {name}");
+            right = right && out.write(each, b"z") == (Put::Took { count: 1 });
+            right = right && has(&rt, rt.alloc(), file, wanted);
+            fs::remove_file(&rt, file)?;
         }
+        assert!(rt; right, "{name}");
     }
     Ok(())
 }
@@ -359,12 +369,13 @@ fn makes_the_files_of_a_run_together(rt: HostRuntime) -> Result<(), Fail> {
 // is missing, and nothing again.
 #[test]
 fn tells_that_a_file_of_a_run_cannot_be_made(rt: HostRuntime) -> Result<(), Fail> {
+    let took = Put::Took { count: 2 };
     for (channel, name) in RUN {
-        for (count, (_, file)) in RUN.into_iter().enumerate() {
+        for (count, (_, file)) in [(0, RUN[0]), (1, RUN[1]), (2, RUN[2])] {
             let calls = Calls::new(rt.alloc());
             calls.answer.set(Ok(9));
-            calls.closed.set(Some((file, ErrorKind::PermissionDenied)));
             let mut out = FolderOutbox::new(FakeSystem { calls: &calls });
+            let mut right = true;
             for (closed, wanted, opened, passed) in [
                 (
                     Some((file, ErrorKind::PermissionDenied)),
@@ -373,18 +384,17 @@ fn tells_that_a_file_of_a_run_cannot_be_made(rt: HostRuntime) -> Result<(), Fail
                     0,
                 ),
                 (Some((file, ErrorKind::NotFound)), Put::Failed, count + 2, 0),
-                (None, Put::Took { count: 2 }, 5, 1),
-                (None, Put::Took { count: 2 }, 5, 2),
+                (None, took, 5, 1),
+                (None, took, 5, 2),
             ] {
                 calls.closed.set(closed);
-                assert_eq!(rt; out.write(channel, b"xy"), wanted, "{name} without {file}");
-                assert_eq!(rt;
-                    calls.opened.get() as usize,
-                    opened,
-                    "{name} without {file}"
-                );
-                assert_eq!(rt; calls.passed.get(), passed, "{name} without {file}");
+                let put = out.write(channel, b"xy");
+                right = right
+                    && put == wanted
+                    && calls.opened.get() == opened
+                    && calls.passed.get() == passed;
             }
+            assert!(rt; right, "{name} without {file}");
         }
     }
     Ok(())
@@ -405,10 +415,13 @@ const CHANNELS: [(Channel, u32); 5] = [
 #[test]
 fn tells_what_a_write_took(rt: HostRuntime) -> Result<(), Fail> {
     for (channel, files) in CHANNELS {
-        for first in [Ok(2), Err(ErrorKind::Interrupted)] {
+        for (first, wanted) in [
+            (Ok(2), b"abaabc".as_slice()),
+            (Err(ErrorKind::Interrupted), b"aabc".as_slice()),
+        ] {
             let calls = Calls::new(rt.alloc());
             let mut out = FolderOutbox::new(FakeSystem { calls: &calls });
-            let mut wanted = Vec::new(rt.alloc());
+            let mut right = true;
             for (count, answer) in [
                 (1, first),
                 (2, Ok(1)),
@@ -417,21 +430,22 @@ fn tells_what_a_write_took(rt: HostRuntime) -> Result<(), Fail> {
                 (5, Err(ErrorKind::BrokenPipe)),
                 (6, Ok(9)),
             ] {
-                let taken = b"abc".len().min(answer.unwrap_or(0));
-                wanted.extend_from_slice(&b"abc"[..taken])?;
-                let put = if taken == 0 {
-                    Put::Failed
-                } else {
-                    Put::Took { count: taken }
-                };
                 calls.answer.set(answer);
-                assert_eq!(rt; out.write(channel, b"abc"), put, "{channel:?} {count}");
-                assert_eq!(rt; calls.passed.get(), count, "{channel:?}");
-                assert_eq!(rt; calls.opened.get(), files, "{channel:?} {count}");
-                assert_eq!(rt; calls.writable.get(), files, "{channel:?} {count}");
+                let put = out.write(channel, b"abc");
+                let wanted = match answer {
+                    Ok(0) => Put::Failed,
+                    Ok(most) => Put::Took { count: most.min(3) },
+                    Err(_) => Put::Failed,
+                };
+                right = right
+                    && put == wanted
+                    && calls.passed.get() == count
+                    && calls.opened.get() == files
+                    && calls.writable.get() == files;
             }
             let written = calls.written.try_borrow()?;
-            assert_eq!(rt; written.as_slice(), wanted.as_slice(), "{channel:?}");
+            right = right && written.as_slice() == wanted;
+            assert!(rt; right, "{channel:?}");
         }
     }
     Ok(())
@@ -444,9 +458,8 @@ fn holds_files_that_cannot_be_written(rt: HostRuntime) -> Result<(), Fail> {
         let calls = Calls::new(rt.alloc());
         calls.closed.set(closed);
         let held = StandardStreams::hold(&FakeSystem { calls: &calls });
-        assert!(rt; held.is_ok());
-        assert_eq!(rt; calls.opened.get(), opened);
-        assert_eq!(rt; calls.writable.get(), 0);
+        let right = held.is_ok() && calls.opened.get() == opened && calls.writable.get() == 0;
+        assert!(rt; right, "{closed:?}");
     }
     Ok(())
 }
