@@ -360,7 +360,7 @@ fn makes_the_files_of_a_run_together(rt: HostRuntime) -> Result<(), Fail> {
             right = right && has(&rt, rt.alloc(), file, wanted);
             fs::remove_file(&rt, file)?;
         }
-        assert!(rt; right, "{name}");
+        assert!(rt; right, "{channel:?}");
     }
     Ok(())
 }
@@ -370,7 +370,7 @@ fn makes_the_files_of_a_run_together(rt: HostRuntime) -> Result<(), Fail> {
 #[test]
 fn tells_that_a_file_of_a_run_cannot_be_made(rt: HostRuntime) -> Result<(), Fail> {
     let took = Put::Took { count: 2 };
-    for (channel, name) in RUN {
+    for (channel, _) in RUN {
         for (count, (_, file)) in [(0, RUN[0]), (1, RUN[1]), (2, RUN[2])] {
             let calls = Calls::new(rt.alloc());
             calls.answer.set(Ok(9));
@@ -394,7 +394,7 @@ fn tells_that_a_file_of_a_run_cannot_be_made(rt: HostRuntime) -> Result<(), Fail
                     && calls.opened.get() == opened
                     && calls.passed.get() == passed;
             }
-            assert!(rt; right, "{name} without {file}");
+            assert!(rt; right, "{channel:?} {count}");
         }
     }
     Ok(())
