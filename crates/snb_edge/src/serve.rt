@@ -6,6 +6,7 @@ ghost use Rattle.std.specs.Process.{exit_status};
 ghost use Rattle.snb_graph_model.specs.Soundness.{Sound};
 ghost use Rattle.snb_read_model.specs.Replies.{IsAnswer};
 ghost use Rattle.snb_tool.specs.Names.{MayAskFor};
+ghost use Rattle.snb_tool_words.specs.Words.{texts_of};
 ghost use Rattle.snb_walk.specs.declared.target.Pick.TheVariants as picks;
 ghost use Rattle.snb_walk.specs.Picks.{index_of};
 ghost use Rattle.snb_edge.specs.Edge.{AreTold, HasObeyed, IsServed, shown_for, started_with};
@@ -13,7 +14,7 @@ ghost use Rattle.snb_edge.specs.Edge.{AreTold, HasObeyed, IsServed, shown_for, s
 use crate::error_lines::ErrorLines;
 use crate::fault::Fault;
 use crate::words::Words;
-use snb_base::{Clock, Gate, Outbox, Shelf, Text};
+use snb_base::{Clock, Gate, Outbox, Shelf, Text, Texts};
 use snb_graph::Graph;
 use snb_handlers::{Call, Handler, Handlers, KINDS};
 use snb_read_model::{Answer, copy_answer};
@@ -21,7 +22,7 @@ use snb_read_replies::reply::own_answer;
 use snb_schema::Query;
 use snb_tool::snb_with;
 use snb_walk::{Call as PickCall, Pick, Policy, Target};
-use std::alloc::AllocError;
+use std::alloc::{AllocError, Global};
 use std::process::ExitCode;
 use std::sync::Wait;
 use std::thread::Threads;
@@ -35,6 +36,13 @@ pub fn ending<E: ErrorLines>(errors: &mut E, status: u8) -> ExitCode
         errors.show(fault.line());
     }
     ExitCode::from(status)
+}
+
+// The texts, lent.
+fn lend(alloc: Global, texts: &Texts) -> Result<Vec<&str>, AllocError>
+    ensures { IfOk result (λ words. texts_of words.items ≡ texts.now) }
+{
+    texts.as_slice().iter().map(|text| text.as_str()).collect(alloc)
 }
 
 // The status of the call that these words ask for. An error says that memory didn't suffice before the call. The
@@ -60,7 +68,7 @@ fn obey<
 {
     let alloc = rt.alloc();
     let texts = words.read(alloc)?;
-    let words: Vec<&str> = texts.as_slice().iter().map(|text| text.as_str()).collect(alloc)?;
+    let words = lend(alloc, &texts)?;
     let mut handlers = Handlers::new(alloc);
     for kind in KINDS {
         let call: Call = Box::new(

@@ -93,6 +93,10 @@ run_back back is_short plan workers h replies legal some few planned small =
 
 -- ---- how long it is
 
+-- what is no greater than less
+widen : (a b c : ℕ) → a ≤ b → b ≤ c → a ≤ c
+widen a b c p q = omega (arith, p, q)
+
 -- texts one after the other
 short_append : (a b : List ℕ) (m n : ℕ) → length a ≤ m → length b ≤ n → length (a ++ b) ≤ m + n
 short_append a b m n p q = omega (arith, length-append a b, p, q)
@@ -115,7 +119,7 @@ short_start op worker at a b c =
     let then = short_append (codes "|") (decimal worker ++ codes "|" ++ decimal at) 1 20 (omega arith) who in
     let number = short_append (decimal op) (codes "|" ++ decimal worker ++ codes "|" ++ decimal at) 10 21 (short_number op a) then in
     let text = short_append (codes "S|") (decimal op ++ codes "|" ++ decimal worker ++ codes "|" ++ decimal at) 2 31 (omega arith) number in
-    omega (arith, short_append (event_text (Start op worker at)) (codes "\n") 33 1 text (omega arith))
+    widen _ 34 56 (short_append (event_text (Start op worker at)) (codes "\n") 33 1 text (omega arith)) (omega arith)
 
 short_finish : (op worker at front rows : ℕ) → op ≤ MAX_NUMBER → worker ≤ MAX_WORKERS → at ≤ MAX_AT → front ≤ MAX_NUMBER → rows ≤ MAX_NUMBER
     → length (logged_line (record { event = Finish op worker at front; rows = Some rows })) ≤ 56
@@ -134,7 +138,7 @@ short_finish op worker at front rows a b c d e =
 short_halt : (worker : ℕ) → worker ≤ MAX_WORKERS → length (logged_line (record { event = Halt worker; rows = None })) ≤ 56
 short_halt worker b =
     let text = short_append (codes "H|") (decimal worker) 2 1 (omega arith) (short_worker worker b) in
-    omega (arith, short_append (event_text (Halt worker)) (codes "\n") 3 1 text (omega arith))
+    widen _ 4 56 (short_append (event_text (Halt worker)) (codes "\n") 3 1 text (omega arith)) (omega arith)
 
 -- and lines together
 short_lines : (xs : List Logged) → All (λ l. length (logged_line l) ≤ 56) xs → length (logged_text xs) ≤ 56 * length xs
@@ -142,7 +146,8 @@ short_lines [] short = omega arith
 short_lines (l ∷ xs) short =
     let first = All-head (λ (x : Logged). length (logged_line x) ≤ 56) l xs short in
     let later = short_lines xs (All-tail (λ (x : Logged). length (logged_line x) ≤ 56) l xs short) in
-    omega (arith, length-append (logged_line l) (logged_text xs), first, later)
+    let both : length (logged_text (l ∷ xs)) ≡ length (logged_line l) + length (logged_text xs) = length-append (logged_line l) (logged_text xs) in
+    omega (arith, both, first, later)
 
 -- the header
 short_header : (workers operations : ℕ) → workers ≤ MAX_WORKERS → operations ≤ MAX_NUMBER → length (header_line (header_of workers operations)) ≤ 30
@@ -151,8 +156,8 @@ short_header workers operations few low =
     let end = short_append (codes "|" ++ decimal operations) (codes "\n") 11 1 count (omega arith) in
     let who = short_append (decimal workers) ((codes "|" ++ decimal operations) ++ codes "\n") 1 12 (short_worker workers few) end in
     let bar = short_append (codes "|") (decimal workers ++ (codes "|" ++ decimal operations) ++ codes "\n") 1 13 (omega arith) who in
-    let version = short_append (decimal LAST_VERSION) (codes "|" ++ decimal workers ++ (codes "|" ++ decimal operations) ++ codes "\n") 1 14 (short_worker LAST_VERSION (omega arith)) bar in
-    omega (arith, short_append (codes "snblog|") (decimal LAST_VERSION ++ codes "|" ++ decimal workers ++ (codes "|" ++ decimal operations) ++ codes "\n") 7 15 (omega arith) version)
+    let version = short_append (decimal 2) (codes "|" ++ decimal workers ++ (codes "|" ++ decimal operations) ++ codes "\n") 1 14 (short_worker 2 (omega arith)) bar in
+    widen _ 22 30 (short_append (codes "snblog|") (decimal 2 ++ codes "|" ++ decimal workers ++ (codes "|" ++ decimal operations) ++ codes "\n") 7 15 (omega arith) version) (omega arith)
 
 module _ (s : Schedule) (workers : ℕ) (h : List Event) (replies : List Answered) (legal : IsLegal s workers h) (few : workers ≤ MAX_WORKERS) (steps : length s.steps ≤ max_steps)
     (short : length h ≤ 2 * length s.steps + workers) (small : All (λ a. a.rows ≤ MAX_NUMBER) replies) where
@@ -186,7 +191,9 @@ run_fits is_short plan workers h replies legal few planned small =
     let lines = short_lines (logged_of replies h) all in
     let count : length (logged_of replies h) ≡ length h = length-map h (logged_by replies) in
     let head = short_header workers (length plan.operations) few (omega arith) in
-    omega (arith, length-append (header_line (header_of workers (length plan.operations))) (logged_text (logged_of replies h)), lines, count, head, short, steps, few, many)
+    let whole : length (log_text workers (length plan.operations) (logged_of replies h)) ≡ length (header_line (header_of workers (length plan.operations))) + length (logged_text (logged_of replies h)) =
+    length-append (header_line (header_of workers (length plan.operations))) (logged_text (logged_of replies h)) in
+    omega (arith, whole, lines, count, head, short, steps, few, many)
 
 -- ---- the writing of it, line by line
 

@@ -1,6 +1,6 @@
 use Rattle.std.proofs.Common.{inl, inr, refl, ap}
 use Rattle.snb_tool.specs.Endings.{asked_by, given_by}
-use Rattle.snb_tool.specs.Outcome.{IsAnswer, IsCommandAnswer}
+use Rattle.snb_tool.specs.Outcome.{IsAnswer, IsAsked, IsCommandAnswer}
 use Rattle.snb_tool.specs.Output.{on_screen}
 use Rattle.snb_tool.specs.Outside.{GivenUp}
 use Rattle.snb_tool.proofs.AskedLemmas.{reads_nothing}
@@ -8,7 +8,9 @@ use Rattle.snb_tool.proofs.OutcomeLemmas.{delivers_ends, ends_weaker, finished_c
 use Rattle.snb_tool.proofs.tool.answer.Goals as goal
 
 pub obey-answer-requires-clause-still : goal.obey-answer-requires-clause-still
-obey-answer-requires-clause-still g c = λ κs lives. c.requires.still c.in-Ok-Some.command (rw c.in-Ok-Some.field-0-is at c.in-Ok-Some.ensures.is).line
+obey-answer-requires-clause-still g c = λ κs lives.
+    let asked : IsAsked (asked_by c.args.words.now (given_by c.args.given)) c.in-Ok-Some.command = rw c.in-Ok-Some.field-0-is at c.in-Ok-Some.ensures.is in
+    c.requires.still c.in-Ok-Some.command asked.line
 
 pub obey-answer-requires-clause-allowed : goal.obey-answer-requires-clause-allowed
 obey-answer-requires-clause-allowed g c = λ κs lives. c.requires.allowed c.in-Ok-Some.command (rw c.in-Ok-Some.field-0-is at c.in-Ok-Some.ensures.is)

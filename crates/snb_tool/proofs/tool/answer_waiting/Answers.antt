@@ -3,6 +3,7 @@ use Rattle.snb_tool.specs.Endings.{asked_by}
 use Rattle.snb_tool.specs.Outcome.{IsAnswer, IsCommandAnswer}
 use Rattle.snb_tool.specs.Output.{on_screen}
 use Rattle.snb_tool.specs.Outside.{GivenUp}
+use Rattle.snb_tool_words.specs.Commands.{IsLineOf, IsOtherLine}
 use Rattle.snb_tool_words.specs.Words.{texts_of}
 use Rattle.snb_tool.proofs.OutcomeLemmas.{delivers_ends, ends_weaker, finished_calm, finished_ends}
 use Rattle.snb_tool.proofs.Served.{asked_anyhow, other_anyhow, run_reads}
@@ -10,7 +11,7 @@ use Rattle.snb_tool.proofs.tool.answer_waiting.Goals as goal
 
 pub obey_waiting-answer-requires : goal.obey_waiting-answer-requires
 obey_waiting-answer-requires g c =
-    let line = rw c.in-Ok-Some.field-0-is at c.in-Ok-Some.ensures.is_line in
+    let line : IsLineOf (texts_of c.args.words.now) c.in-Ok-Some.command = rw c.in-Ok-Some.field-0-is at c.in-Ok-Some.ensures.is_line in
     record {
       runnable = (rw c.in-Ok-Some.field-0-is at c.in-Ok-Some.ensures.runnable);
       waiting = c.requires.waiting c.in-Ok-Some.command line;
@@ -37,7 +38,7 @@ returns-in-Ok-Some-clause-reads_calm g c = finished_calm g.O.Outbox c.args.out.n
 
 pub returns-in-Ok-None-clause-ends : goal.returns-in-Ok-None-clause-ends
 returns-in-Ok-None-clause-ends g c = λ given.
-    let none = rw c.in-Ok-None.field-0-is at c.in-Ok-None.ensures.is_line in
+    let none : IsOtherLine (texts_of c.args.words.now) = rw c.in-Ok-None.field-0-is at c.in-Ok-None.ensures.is_line in
     delivers_ends g.O.Outbox c.args.out.now c.show_as.new.out _ _ _ _ _ _ _ (IsAnswer (asked_by c.args.words.now given)) 2 (on_screen c.as_bytes.result.now) _
     (inl (refl, (λ command a. none command a.line), ap on_screen c.as_bytes.ensures.value)) c.show_as.ensures.shown
 
