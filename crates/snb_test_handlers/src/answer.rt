@@ -1,8 +1,10 @@
 //! The calls of this crate by their words. To add one, write a function for it, and name it here.
 
+use crate::applied::apply_to_copy;
 use crate::cases::graph_of;
 use crate::connector::{asked, checked};
 use crate::steps::stepped;
+use crate::summaries::summary_copied;
 use crate::walks::walked;
 use snb_test_script::words::{first_word, number_of};
 use snb_test_script::{Files, Flaw};
@@ -49,6 +51,8 @@ pub fn answer(
         "handlers" => Ok(Some(handlers(alloc, files, rest)?)),
         "steps_of" => Ok(Some(steps_of(alloc, files, rest)?)),
         "walk_copied" => Ok(Some(walk_copied(alloc, files, rest)?)),
+        "apply_to_copy" => Ok(Some(apply_to_copy(alloc, files, rest)?)),
+        "summary_copied" => Ok(Some(summary_copied(alloc, files, rest)?)),
         _ => Ok(None),
     }
 }

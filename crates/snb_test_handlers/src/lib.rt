@@ -1,9 +1,12 @@
-//! The calls of a script on handlers that answer from the graph. `answer` makes a call.
+//! The calls of a script on handlers that answer from the graph, on what takes inserts, and on copies. `answer` makes a
+//! call.
 #![tactic(auto)]
 
 pub mod answer;
+mod applied;
 mod cases;
 mod connector;
 mod steps;
+mod summaries;
 mod told;
 mod walks;

@@ -1,12 +1,10 @@
 //! The calls of this crate by their words. To add one, write a function for it, and name it here.
 
-use crate::applied::apply_to_copy;
 use crate::inserts::insert_line;
 use crate::logs::{log_again, log_events};
 use crate::outbox::null_outbox;
 use crate::parameters::parameter_file;
 use crate::streams::stream;
-use crate::summaries::summary_copied;
 use crate::tables::table_rows;
 use snb_test_script::{Files, Flaw};
 use std::alloc::Global;
@@ -26,8 +24,6 @@ pub fn answer(
         "parameter_file" => parameter_file(alloc, files, rest)?,
         "log_events" => log_events(alloc, files, rest)?,
         "log_again" => log_again(alloc, files, rest)?,
-        "apply_to_copy" => apply_to_copy(alloc, files, rest)?,
-        "summary_copied" => summary_copied(alloc, files, rest)?,
         "null_outbox" => null_outbox(alloc, rest)?,
         _ => return Ok(None),
     };

@@ -1,6 +1,6 @@
 //! The calls that read a log, and write again what was read.
 
-ghost use Rattle.std.specs.Prelude.{◌≡◌, ◌×◌, ◌+◌, ◌≤◌, IsTrue, false, length};
+ghost use Rattle.std.specs.Prelude.{◌≡◌, ◌≤◌, IsTrue, false};
 ghost use Rattle.snb_schema.specs.declared.limits.TheConstants.{MAX_AT, MAX_BYTES};
 ghost use Rattle.snb_history.specs.History.{moment};
 ghost use Rattle.snb_runlog.specs.declared.columns.TheConstants.{LAST_VERSION};

@@ -5,8 +5,8 @@ ghost use Rattle.snb_schema.specs.declared.limits.TheConstants.{MAX_BYTES};
 
 use crate::feeding::{Feeds, told_fed};
 use crate::pieces::{Reads, told_cut};
-use snb_csv::write::write_row;
 use snb_csv::Rows;
+use snb_csv::write::write_row;
 use snb_graph_model::order::tables_in_order;
 use snb_schema::file::table_name;
 use snb_schema::{Fault, FileId, FileKind, Placed, Table};

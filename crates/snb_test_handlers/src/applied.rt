@@ -1,28 +1,15 @@
 //! The call that applies inserts to a copy of a graph.
 
+use crate::cases::graph_of;
 use snb_graph::{Graph, Links};
-use snb_input_files::{Load, Used};
 use snb_inserts::Applied;
 use snb_inserts::apply::apply;
-use snb_loader::load_dataset;
 use snb_schema::file::table_name;
 use snb_schema::{Kind, LineFault, Missing, Table};
 use snb_streams::read_line;
 use snb_test_script::words::{first_word, number_of};
 use snb_test_script::{Files, Flaw, Lines, List};
 use std::alloc::{AllocError, Global};
-
-// The dataset of a folder, whose rows are frozen.
-fn graph_of(alloc: Global, files: &Files, folder: &str) -> Result<Graph, Flaw> {
-    let mut shelf = files.on_shelf(alloc, "")?;
-    let mut used = Used { bytes: 0, rows: 0 };
-    match load_dataset(alloc, &mut shelf, folder, &mut used) {
-        Ok(graph) => Ok(graph),
-        Err(Load::Memory) => Err(Flaw::Memory),
-        Err(Load::ReadFault) => Err(Flaw::ReadFault),
-        Err(Load::Refused { .. }) => Err(Flaw::Unsound),
-    }
-}
 
 // The table of the nodes of this kind.
 fn table_of(kind: Kind) -> Table {
