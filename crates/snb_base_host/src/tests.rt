@@ -60,7 +60,10 @@ fn reads_real_files(rt: HostRuntime) -> Result<(), Fail> {
         shelf.read("./snb_host_inside.tmp", 0, &mut into),
     ];
     assert_eq!(rt; right, 5);
-    assert_eq!(rt; others, [Got::Failed, Got::Absent, Got::Failed, Got::Absent]);
+    assert_eq!(rt;
+        others,
+        [Got::Failed, Got::Absent, Got::Failed, Got::Absent]
+    );
     Ok(())
 }
 

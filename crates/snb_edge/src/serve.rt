@@ -42,7 +42,11 @@ pub fn ending<E: ErrorLines>(errors: &mut E, status: u8) -> ExitCode
 fn lend(alloc: Global, texts: &Texts) -> Result<Vec<&str>, AllocError>
     ensures { IfOk result (λ words. texts_of words.items ≡ texts.now) }
 {
-    texts.as_slice().iter().map(|text| text.as_str()).collect(alloc)
+    texts
+        .as_slice()
+        .iter()
+        .map(|text| text.as_str())
+        .collect(alloc)
 }
 
 // The status of the call that these words ask for. An error says that memory didn't suffice before the call. The
@@ -54,14 +58,7 @@ fn obey<
     O: Outbox,
     C: Clock + Sync,
     G: Gate + Sync,
->(
-    rt: &R,
-    words: &W,
-    shelf: &mut S,
-    out: &mut O,
-    clock: &C,
-    gate: &G,
-) -> Result<u8, AllocError>
+>(rt: &R, words: &W, shelf: &mut S, out: &mut O, clock: &C, gate: &G) -> Result<u8, AllocError>
     requires allowed { (texts : List (List ℕ)) → AreTold (W.told words.now) texts → MayAskFor (S.may shelf.old) (started_with texts) }
     ensures ok { IfOk result (HasObeyed S.Shelf O.Outbox (W.told words.now) (C.moments clock.now) shelf.old shelf.new out.old out.new) }
     ensures err { OnErr result ((shelf.new ≡ shelf.old) × (out.new ≡ out.old)) }
@@ -90,9 +87,7 @@ fn obey<
         { (word % targets.len() as u64) as usize },
     )?;
     let policy = Policy::new(Pick::Modulo, pick);
-    Ok(snb_with(
-        rt, &words, shelf, out, clock, gate, &handlers, &policy,
-    ))
+    Ok(snb_with(rt, &words, shelf, out, clock, gate, &handlers, &policy))
 }
 
 /// Does all that the program does: reads the words that it is started with, does what they say by `snb_with`, with a
@@ -113,15 +108,7 @@ pub fn serve<
     O: Outbox,
     C: Clock + Sync,
     G: Gate + Sync,
->(
-    rt: &R,
-    words: &W,
-    errors: &mut E,
-    shelf: &mut S,
-    out: &mut O,
-    clock: &C,
-    gate: &G,
-) -> ExitCode
+>(rt: &R, words: &W, errors: &mut E, shelf: &mut S, out: &mut O, clock: &C, gate: &G) -> ExitCode
     requires allowed { (texts : List (List ℕ)) → AreTold (W.told words.now) texts → MayAskFor (S.may shelf.old) (started_with texts) }
     ensures served { IsServed S.Shelf O.Outbox (W.told words.now) (C.moments clock.now) shelf.old shelf.new out.old out.new (exit_status result) }
     ensures shown { E.given errors.new ≡ option_map (λ text. text ++ shown_for (exit_status result)) (E.given errors.old) }

@@ -18,6 +18,12 @@ fn main(rt: HostRuntime) -> ExitCode {
     let mut out = FolderOutbox::new(&rt);
     let clock = HostClock::new(&rt);
     serve(
-        &rt, &words, &mut errors, &mut shelf, &mut out, &clock, &OpenGate,
+        &rt,
+        &words,
+        &mut errors,
+        &mut shelf,
+        &mut out,
+        &clock,
+        &OpenGate,
     )
 }

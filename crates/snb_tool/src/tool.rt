@@ -125,12 +125,7 @@ fn obey<S: Shelf>(
 
 // Does what a command says that runs a plan, and answers it. The conditions: it is such a command (`waiting`), and the
 // shelf may be asked for its names (`allowed`).
-fn obey_waiting<
-    R: AllocGlobal + Threads + Wait + Sync,
-    S: Shelf,
-    C: Clock + Sync,
-    G: Gate + Sync,
->(
+fn obey_waiting<R: AllocGlobal + Threads + Wait + Sync, S: Shelf, C: Clock + Sync, G: Gate + Sync>(
     rt: &R,
     command: &Command,
     shelf: &mut S,
@@ -222,14 +217,7 @@ fn answer_waiting<
     O: Outbox,
     C: Clock + Sync,
     G: Gate + Sync,
->(
-    rt: &R,
-    words: &[&str],
-    shelf: &mut S,
-    out: &mut O,
-    clock: &C,
-    gate: &G,
-) -> u8
+>(rt: &R, words: &[&str], shelf: &mut S, out: &mut O, clock: &C, gate: &G) -> u8
     requires waiting { AreWaiting true (texts_of words.now) }
     requires allowed { (given : Given) → MayAskFor (S.may shelf.old) (asked_by words.now given) }
     ensures ends { (given : Given) → EndsAs (IsAnswer (asked_by words.now given)) (seen S.Shelf O.Outbox (C.moments clock.now) shelf.old shelf.new out.old out.new) result }
