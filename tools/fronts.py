@@ -27,6 +27,10 @@ class Reach(NamedTuple):
     adds: int
 
 
+def shown_of(reach: Reach) -> str:
+    return f"{reach.least}" if reach.least == reach.most else f"{reach.least} to {reach.most}"
+
+
 def inserts_before(told: Told, event: int) -> list[int]:
     """The inserts that finished before an event, in this order."""
     schedule, finish = told.schedule, told.history.finish
@@ -95,7 +99,7 @@ def say_fronts(told: Told, folder: Path, event: Event) -> None:
     all_of = reaches(told, event, inserts)
     found = replies(told, folder, event, inserts, len(all_of))
     rows = [
-        [f"{reach.least} to {reach.most}", len(reply[0]), added(told, reach)]
+        [shown_of(reach), len(reply[0]), added(told, reach)]
         for reach, reply in zip(all_of, found)
     ]
     told.say("rows that are due at its legal fronts:")
@@ -108,11 +112,11 @@ def say_fronts(told: Told, folder: Path, event: Event) -> None:
         for row in here[0]:
             told.say(f"  {json_of(row)}")
     fits = [it for it, reply in zip(all_of, found) if len(reply[0]) == event.rows]
-    shown = ", ".join(f"{it.least} to {it.most}" for it in fits)
+    shown = ", ".join(map(shown_of, fits))
     if fits:
-        told.say(f"{event.rows} rows are due at the fronts {shown}: the front may be wrong")
+        told.say(f"the count {event.rows} is due at front {shown}: the front may be wrong")
     elif len(found) == len(all_of):
-        told.say(f"no legal front gives {event.rows} rows: the database's answer is wrong, or its count")
+        told.say(f"no legal front gives the count {event.rows}: the database answers or counts wrong")
     told.values["fits"] = [[it.least, it.most] for it in fits]
 
 

@@ -104,6 +104,8 @@ def table(heads: Sequence[str], rows: Sequence[Sequence[Value]]) -> list[str]:
 
 
 def show(value: Value) -> str:
+    if isinstance(value, float):
+        return f"{value:,.1f}"
     return f"{value:,}" if isinstance(value, int) else "" if value is None else str(value)
 
 
@@ -112,6 +114,6 @@ def span(milliseconds: int) -> str:
     if milliseconds < 60_000:
         return f"{milliseconds / 1000:g} s"
     seconds = milliseconds // 1000
-    days, hours = divmod(seconds // 3600, 24)
-    shown = f"{hours}:{seconds // 60 % 60:02}:{seconds % 60:02} h"
-    return f"{days} days {shown}" if days else shown
+    parts = [(seconds // 86400, "days"), (seconds // 3600 % 24, "h")]
+    parts += [(seconds // 60 % 60, "min"), (seconds % 60, "s")]
+    return " ".join(f"{count} {unit}" for count, unit in parts if count)

@@ -7,6 +7,8 @@ It is not proved.
 
 import re
 import tempfile
+from collections import Counter
+from collections.abc import Iterator
 from pathlib import Path
 
 from fronts import say_at_hand, say_fronts
@@ -14,6 +16,7 @@ from history import Event, History, events
 from holds import ON_TIME, Waits, held, said, worst
 from reach import accepted
 from rules import broken
+from schedule import Schedule
 from shared import Wrong, called, json_of
 from told import MOST, Told
 
@@ -79,7 +82,7 @@ def miscounted(told: Told, folder: Path, log: Path, every: str, found: re.Match[
     event = event_at(log, int(found["counted"]))
     told.event(str(log), event, line_at(log, event.line))
     say_operation(told, folder, every, event.operation)
-    told.say(f"the log says {found['rows']} rows, and {found['due']} are due at front {event.front}")
+    told.say(f"rows: the log says {found['rows']}, due at front {event.front}: {found['due']}")
     if told.schedule.is_read(event.operation):
         say_at_hand(told, event)
         say_fronts(told, folder, event)
@@ -139,7 +142,27 @@ def late(told: Told) -> None:
         rows.append([number, schedule.name(number), due, started, started - due, why])
     told.say(f"on time is a Start up to {ON_TIME} ms after the due moment; the latest, in ms:")
     told.table(["operation", "kind", "due", "started", "late", "held back by"], rows, "worst")
+    found = Counter(
+        held(schedule, history, waits, it).why.split(",")[0] for it in late_ones(schedule, history)
+    )
+    shown = ", ".join(f"{what} {count:,}" for what, count in found.most_common())
+    told.say(f"what held back all that weren't on time: {shown}", held=found)
     told.say(f"the last is due at {schedule.due(len(schedule) - 1):,} ms, the log ends at {history.last:,} ms")
+
+
+def refused(log: Path, said: str) -> Wrong:
+    """Why a log is refused, in words where a line of it is."""
+    if said.startswith("refused: log:") and not said.endswith(("absent", "no header", "too large")):
+        for _ in events(log):
+            pass
+    return Wrong(said.replace("refused: log", f"refused: {log}", 1))
+
+
+def late_ones(schedule: Schedule, history: History) -> Iterator[int]:
+    """The operations that weren't on time."""
+    for number in range(len(schedule)):
+        if history.started[number] - schedule.due(number) > ON_TIME:
+            yield number
 
 
 def explain(told: Told, folder: Path, log: Path, every: str, verdict: str) -> None:
