@@ -81,6 +81,16 @@ class Schedule:
         self.files: dict[int, BinaryIO] = {}
         self.fill()
 
+    def close(self) -> None:
+        for file in self.files.values():
+            file.close()
+
+    def __enter__(self) -> "Schedule":
+        return self
+
+    def __exit__(self, *_: object) -> None:
+        self.close()
+
     def __len__(self) -> int:
         return len(self.t)
 
