@@ -18,6 +18,7 @@ from typing import NoReturn
 TOP = Path(__file__).resolve().parents[1]
 # The plan and the fields of files are those of the examples.
 sys.path.append(str(TOP / "examples"))
+from plan import frequencies, ratio  # noqa: E402
 
 Value = str | int | float | bool | None
 
@@ -47,6 +48,9 @@ def of_a_run(made: Parser) -> None:
 
 
 def options(given: argparse.Namespace) -> list[str]:
+    # Here, so that what is wrong with them is said in words.
+    ratio(given.ratio)
+    frequencies(given.freq)
     return ["--ratio", given.ratio, *(["--freq", given.freq] if given.freq else [])]
 
 

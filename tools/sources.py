@@ -14,6 +14,7 @@ from collections import defaultdict
 from pathlib import Path
 from typing import NamedTuple
 
+import shared  # noqa: F401, since it makes the examples known
 from plan import PARAMETERS
 from shared import Wrong
 from sqlite.tables import TABLES

@@ -173,17 +173,17 @@ class Verdicts(Tried):
         return self.explained([*BESIDE, *last], ASKED)[1]
 
     def test_which_fronts_would_give_a_count(self) -> None:
-        found = self.counted(15, 2)
-        self.assertEqual(found.split("\n")[0], "miscounted event 16 needs 1 found 2")
+        found = self.counted(14, 2)
+        self.assertEqual(found.split("\n")[0], "miscounted event 15 needs 1 found 2")
         self.assertIn("inserts at hand between its Start and its Finish: 1\n  operation 6 (AddComment)", found)
-        self.assertIn("\n  15        1  the inserts that finished before its Start\n", found)
-        self.assertIn("\n  16        2  operation 6 (AddComment), started at event 13", found)
-        self.assertIn("the answer at its front 15:\n  [11,\"Bob\",\"Ray\",31,\"Yo\",6000]\n", found)
-        self.assertIn("the count 2 is due at front 16: the front may be wrong", found)
-        found = self.counted(16, 1)
-        self.assertEqual(found.split("\n")[0], "miscounted event 16 needs 2 found 1")
-        self.assertIn("the count 1 is due at front 15: the front may be wrong", found)
-        found = self.counted(16, 3)
+        self.assertIn("\n  14        1  the inserts that finished before its Start\n", found)
+        self.assertIn("\n  15        2  operation 6 (AddComment), started at event 12", found)
+        self.assertIn("the answer at its front 14:\n  [11,\"Bob\",\"Ray\",31,\"Yo\",6000]\n", found)
+        self.assertIn("the count 2 is due at front 15: the front may be wrong", found)
+        found = self.counted(15, 1)
+        self.assertEqual(found.split("\n")[0], "miscounted event 15 needs 2 found 1")
+        self.assertIn("the count 1 is due at front 14: the front may be wrong", found)
+        found = self.counted(15, 3)
         self.assertIn("no legal front gives the count 3: the database answers or counts wrong", found)
 
     def test_what_held_late_operations_back(self) -> None:
@@ -212,7 +212,7 @@ class Verdicts(Tried):
             "0 of 8 inserts are of a kind",
         ]:
             self.assertIn(f"  {text}", printed)
-        last = ["F|7|1|610|16|2", "S|8|0|900", "F|8|0|901|0|0"]
+        last = ["F|7|1|610|15|2", "S|8|0|900", "F|8|0|901|0|0"]
         printed = self.explained([*BESIDE, *last], ASKED)[1]
         self.assertIn("0 of 1 reads gave their most rows", printed)
         # Two friendships and a comment.
@@ -266,7 +266,7 @@ class Words(Tried):
         self.assertIn("place_0_0.csv: absent", self.fails("explain", self.place, log))
         self.assertIn("no header", self.fails("explain", WALK, self.write("no.log", ""), *RUN))
         self.fails("explain", WALK)
-        self.assertIn("status 2", self.fails("explain", WALK, log, "--ratio", "0"))
+        self.assertIn("no ratio", self.fails("explain", WALK, log, "--ratio", "0"))
         self.assertEqual(tool(self.place, "explain", "--help")[0], 0)
 
 
