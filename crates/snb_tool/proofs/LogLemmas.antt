@@ -108,60 +108,62 @@ short_number n low = length-decimal-le 10 n (omega arith) (omega (arith, low)) (
 short_worker : (n : ℕ) → n ≤ MAX_WORKERS → length (decimal n) ≤ 1
 short_worker n low = length-decimal-le 1 n (omega arith) (omega (arith, low)) (omega (arith, low))
 
-short_at : (n : ℕ) → n ≤ MAX_AT → length (decimal n) ≤ 18
-short_at n low = length-decimal-le 18 n (omega arith) (omega (arith, low)) (omega (arith, low))
+short_at : (n : ℕ) → n ≤ MAX_AT → length (decimal n) ≤ 19
+short_at n low = length-decimal-le 19 n (omega arith) (omega (arith, low)) (omega (arith, low))
 
 -- the line of an event
-short_start : (op worker at : ℕ) → op ≤ MAX_NUMBER → worker ≤ MAX_WORKERS → at ≤ MAX_AT → length (logged_line (record { event = Start op worker at; rows = None })) ≤ 56
+short_start : (op worker at : ℕ) → op ≤ MAX_NUMBER → worker ≤ MAX_WORKERS → at ≤ MAX_AT → length (logged_line (record { event = Start op worker at; rows = None })) ≤ 57
 short_start op worker at a b c =
-    let moment = short_append (codes "|") (decimal at) 1 18 (omega arith) (short_at at c) in
-    let who = short_append (decimal worker) (codes "|" ++ decimal at) 1 19 (short_worker worker b) moment in
-    let then = short_append (codes "|") (decimal worker ++ codes "|" ++ decimal at) 1 20 (omega arith) who in
-    let number = short_append (decimal op) (codes "|" ++ decimal worker ++ codes "|" ++ decimal at) 10 21 (short_number op a) then in
-    let text = short_append (codes "S|") (decimal op ++ codes "|" ++ decimal worker ++ codes "|" ++ decimal at) 2 31 (omega arith) number in
-    widen _ 34 56 (short_append (event_text (Start op worker at)) (codes "\n") 33 1 text (omega arith)) (omega arith)
+    let number = short_append (codes "S|") (decimal op) 2 10 (omega arith) (short_number op a) in
+    let first = short_append (codes "S|" ++ decimal op) (codes "|") 12 1 number (omega arith) in
+    let who = short_append (codes "S|" ++ decimal op ++ codes "|") (decimal worker) 13 1 first (short_worker worker b) in
+    let second = short_append (codes "S|" ++ decimal op ++ codes "|" ++ decimal worker) (codes "|") 14 1 who (omega arith) in
+    let text = short_append (codes "S|" ++ decimal op ++ codes "|" ++ decimal worker ++ codes "|") (decimal at) 15 19 second (short_at at c) in
+    let bare = short_append (event_text (Start op worker at)) [] 34 0 text (omega arith) in
+    widen _ 35 57 (short_append (event_text (Start op worker at) ++ []) (codes "\n") 34 1 bare (omega arith)) (omega arith)
 
 short_finish : (op worker at front rows : ℕ) → op ≤ MAX_NUMBER → worker ≤ MAX_WORKERS → at ≤ MAX_AT → front ≤ MAX_NUMBER → rows ≤ MAX_NUMBER
-    → length (logged_line (record { event = Finish op worker at front; rows = Some rows })) ≤ 56
+    → length (logged_line (record { event = Finish op worker at front; rows = Some rows })) ≤ 57
 short_finish op worker at front rows a b c d e =
-    let last = short_append (codes "|") (decimal front) 1 10 (omega arith) (short_number front d) in
-    let moment = short_append (decimal at) (codes "|" ++ decimal front) 18 11 (short_at at c) last in
-    let before = short_append (codes "|") (decimal at ++ codes "|" ++ decimal front) 1 29 (omega arith) moment in
-    let who = short_append (decimal worker) (codes "|" ++ decimal at ++ codes "|" ++ decimal front) 1 30 (short_worker worker b) before in
-    let then = short_append (codes "|") (decimal worker ++ codes "|" ++ decimal at ++ codes "|" ++ decimal front) 1 31 (omega arith) who in
-    let number = short_append (decimal op) (codes "|" ++ decimal worker ++ codes "|" ++ decimal at ++ codes "|" ++ decimal front) 10 32 (short_number op a) then in
-    let text = short_append (codes "F|") (decimal op ++ codes "|" ++ decimal worker ++ codes "|" ++ decimal at ++ codes "|" ++ decimal front) 2 42 (omega arith) number in
+    let number = short_append (codes "F|") (decimal op) 2 10 (omega arith) (short_number op a) in
+    let first = short_append (codes "F|" ++ decimal op) (codes "|") 12 1 number (omega arith) in
+    let who = short_append (codes "F|" ++ decimal op ++ codes "|") (decimal worker) 13 1 first (short_worker worker b) in
+    let second = short_append (codes "F|" ++ decimal op ++ codes "|" ++ decimal worker) (codes "|") 14 1 who (omega arith) in
+    let moment = short_append (codes "F|" ++ decimal op ++ codes "|" ++ decimal worker ++ codes "|") (decimal at) 15 19 second (short_at at c) in
+    let third = short_append (codes "F|" ++ decimal op ++ codes "|" ++ decimal worker ++ codes "|" ++ decimal at) (codes "|") 34 1 moment (omega arith) in
+    let text = short_append (codes "F|" ++ decimal op ++ codes "|" ++ decimal worker ++ codes "|" ++ decimal at ++ codes "|") (decimal front) 35 10 third (short_number front d) in
     let count = short_append (codes "|") (decimal rows) 1 10 (omega arith) (short_number rows e) in
-    let end = short_append (codes "|" ++ decimal rows) (codes "\n") 11 1 count (omega arith) in
-    short_append (event_text (Finish op worker at front)) ((codes "|" ++ decimal rows) ++ codes "\n") 44 12 text end
+    let counted = short_append (event_text (Finish op worker at front)) (codes "|" ++ decimal rows) 45 11 text count in
+    short_append (event_text (Finish op worker at front) ++ (codes "|" ++ decimal rows)) (codes "\n") 56 1 counted (omega arith)
 
-short_halt : (worker : ℕ) → worker ≤ MAX_WORKERS → length (logged_line (record { event = Halt worker; rows = None })) ≤ 56
+short_halt : (worker : ℕ) → worker ≤ MAX_WORKERS → length (logged_line (record { event = Halt worker; rows = None })) ≤ 57
 short_halt worker b =
     let text = short_append (codes "H|") (decimal worker) 2 1 (omega arith) (short_worker worker b) in
-    widen _ 4 56 (short_append (event_text (Halt worker)) (codes "\n") 3 1 text (omega arith)) (omega arith)
+    let bare = short_append (event_text (Halt worker)) [] 3 0 text (omega arith) in
+    widen _ 4 57 (short_append (event_text (Halt worker) ++ []) (codes "\n") 3 1 bare (omega arith)) (omega arith)
 
 -- and lines together
-short_lines : (xs : List Logged) → All (λ l. length (logged_line l) ≤ 56) xs → length (logged_text xs) ≤ 56 * length xs
+short_lines : (xs : List Logged) → All (λ l. length (logged_line l) ≤ 57) xs → length (logged_text xs) ≤ 57 * length xs
 short_lines [] short = omega arith
 short_lines (l ∷ xs) short =
-    let first = All-head (λ (x : Logged). length (logged_line x) ≤ 56) l xs short in
-    let later = short_lines xs (All-tail (λ (x : Logged). length (logged_line x) ≤ 56) l xs short) in
+    let first = All-head (λ (x : Logged). length (logged_line x) ≤ 57) l xs short in
+    let later = short_lines xs (All-tail (λ (x : Logged). length (logged_line x) ≤ 57) l xs short) in
     let both : length (logged_text (l ∷ xs)) ≡ length (logged_line l) + length (logged_text xs) = length-append (logged_line l) (logged_text xs) in
     omega (arith, both, first, later)
 
 -- the header
 short_header : (workers operations : ℕ) → workers ≤ MAX_WORKERS → operations ≤ MAX_NUMBER → length (header_line (header_of workers operations)) ≤ 30
 short_header workers operations few low =
+    let version = short_append (codes "snblog|") (decimal 2) 7 1 (omega arith) (short_worker 2 (omega arith)) in
+    let bar = short_append (codes "snblog|" ++ decimal 2) (codes "|") 8 1 version (omega arith) in
+    let who = short_append (codes "snblog|" ++ decimal 2 ++ codes "|") (decimal workers) 9 1 bar (short_worker workers few) in
     let count = short_append (codes "|") (decimal operations) 1 10 (omega arith) (short_number operations low) in
-    let end = short_append (codes "|" ++ decimal operations) (codes "\n") 11 1 count (omega arith) in
-    let who = short_append (decimal workers) ((codes "|" ++ decimal operations) ++ codes "\n") 1 12 (short_worker workers few) end in
-    let bar = short_append (codes "|") (decimal workers ++ (codes "|" ++ decimal operations) ++ codes "\n") 1 13 (omega arith) who in
-    let version = short_append (decimal 2) (codes "|" ++ decimal workers ++ (codes "|" ++ decimal operations) ++ codes "\n") 1 14 (short_worker 2 (omega arith)) bar in
-    widen _ 22 30 (short_append (codes "snblog|") (decimal 2 ++ codes "|" ++ decimal workers ++ (codes "|" ++ decimal operations) ++ codes "\n") 7 15 (omega arith) version) (omega arith)
+    let counted = short_append (codes "snblog|" ++ decimal 2 ++ codes "|" ++ decimal workers) (codes "|" ++ decimal operations) 10 11 who count in
+    widen _ 22 30 (short_append (codes "snblog|" ++ decimal 2 ++ codes "|" ++ decimal workers ++ (codes "|" ++ decimal operations)) (codes "\n") 21 1 counted (omega arith)) (omega arith)
 
 module _ (s : Schedule) (workers : ℕ) (h : List Event) (replies : List Answered) (legal : IsLegal s workers h) (few : workers ≤ MAX_WORKERS) (steps : length s.steps ≤ max_steps)
     (short : length h ≤ 2 * length s.steps + workers) (small : All (λ a. a.rows ≤ MAX_NUMBER) replies) where
-  short_line : (g : List Event) (e : Event) (rest : List Event) → g ++ e ∷ rest ≡ h → length (logged_line (logged_by replies e)) ≤ 56
+  short_line : (g : List Event) (e : Event) (rest : List Event) → g ++ e ∷ rest ≡ h → length (logged_line (logged_by replies e)) ≤ 57
   short_line g (Start op worker at) rest is =
       let v1 = (legal.fits g (Start op worker at) rest is).obeys V1 in
       let op_within = v1.0 in
@@ -186,8 +188,8 @@ run_fits is_short plan workers h replies legal few planned small =
     let many : length s.steps ≡ length plan.operations = length-map plan.operations _ in
     let steps = planned.few_steps in
     let short = is_short s workers h legal in
-    let each = each_event (λ e. length (logged_line (logged_by replies e)) ≤ 56) [] h (short_line s workers h replies legal few steps short small) in
-    let all : All (λ l. length (logged_line l) ≤ 56) (logged_of replies h) = All-map (λ (l : Logged). length (logged_line l) ≤ 56) (logged_by replies) h each in
+    let each = each_event (λ e. length (logged_line (logged_by replies e)) ≤ 57) [] h (short_line s workers h replies legal few steps short small) in
+    let all : All (λ l. length (logged_line l) ≤ 57) (logged_of replies h) = All-map (λ (l : Logged). length (logged_line l) ≤ 57) (logged_by replies) h each in
     let lines = short_lines (logged_of replies h) all in
     let count : length (logged_of replies h) ≡ length h = length-map h (logged_by replies) in
     let head = short_header workers (length plan.operations) few (omega arith) in

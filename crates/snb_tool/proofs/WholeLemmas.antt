@@ -107,10 +107,10 @@ module _ (files : Files) (folder name text : List ℕ) (ratio : ℕ) (table : Fr
 
     -- and of what `latency` finds
     as_latency : (P : Held → Option (List ℕ) → Type 0) → IsFoundTold (Some files) given (Latency folder name ratio table) found → P (held_in folder files) (Some text) → P found.held found.beside
-    as_latency P told p = as_audit P (told.0, (told.1, tt)) p
+    as_latency P told p = as_audit P (told.0, told.1, tt) p
 
     of_latency : (P : Held → Option (List ℕ) → Type 0) → IsFoundTold (Some files) given (Latency folder name ratio table) found → P found.held found.beside → P (held_in folder files) (Some text)
-    of_latency P told p = of_audit P (told.0, (told.1, tt)) p
+    of_latency P told p = of_audit P (told.0, told.1, tt) p
 
   module _ (clean : SaidLogIsClean) (w : IsWholeLog (held_in folder files) ratio table text) where
     fine_checks : NoneOf (plan_checks ratio table (held_in folder files) ++ log_checks (Some text))

@@ -8,12 +8,12 @@ use Rattle.snb_tool.proofs.OutcomeLemmas.{delivers_ends, ends_weaker, finished_c
 use Rattle.snb_tool.proofs.tool.answer.Goals as goal
 
 pub obey-answer-requires-clause-still : goal.obey-answer-requires-clause-still
-obey-answer-requires-clause-still g c = λ κs lives.
+obey-answer-requires-clause-still g c =
     let asked : IsAsked (asked_by c.args.words.now (given_by c.args.given)) c.in-Ok-Some.command = rw c.in-Ok-Some.field-0-is at c.in-Ok-Some.ensures.is in
     c.requires.still c.in-Ok-Some.command asked.line
 
 pub obey-answer-requires-clause-allowed : goal.obey-answer-requires-clause-allowed
-obey-answer-requires-clause-allowed g c = λ κs lives. c.requires.allowed c.in-Ok-Some.command (rw c.in-Ok-Some.field-0-is at c.in-Ok-Some.ensures.is)
+obey-answer-requires-clause-allowed g c = c.requires.allowed c.in-Ok-Some.command (rw c.in-Ok-Some.field-0-is at c.in-Ok-Some.ensures.is)
 
 pub returns-in-Ok-Some-clause-ends : goal.returns-in-Ok-Some-clause-ends
 returns-in-Ok-Some-clause-ends g c = λ moments.

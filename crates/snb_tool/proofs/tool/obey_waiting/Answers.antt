@@ -12,7 +12,7 @@ pub run-requires-clause-few : goal.run-requires-clause-few
 run-requires-clause-few g c = λ κs lives. (subst IsRunnable c.in-Run.is c.requires.runnable).1
 
 pub run-requires-clause-allowed : goal.run-requires-clause-allowed
-run-requires-clause-allowed g c = λ κs lives. rw c.as_str-in-Run.ensures (subst (λ (z : Command). Allows (g.S.Shelf.may c.args.shelf.now) (IsNameOf z)) c.in-Run.is c.requires.allowed)
+run-requires-clause-allowed g c = λ κs lives. rw c.as_str.ensures (subst (λ (z : Command). Allows (g.S.Shelf.may c.args.shelf.now) (IsNameOf z)) c.in-Run.is c.requires.allowed)
 
 pub trial-requires-clause-some : goal.trial-requires-clause-some
 trial-requires-clause-some g c = λ κs lives. (subst IsRunnable c.in-Trial.is c.requires.runnable).0
@@ -30,4 +30,4 @@ pub returns-in-Trial-clause-answer : goal.returns-in-Trial-clause-answer
 returns-in-Trial-clause-answer g c = λ given. rw c.in-Trial.is (c.trial.ensures.answer (g.S.Shelf.contents c.args.shelf.now) given)
 
 pub returns-in-Run-clause-answer : goal.returns-in-Run-clause-answer
-returns-in-Run-clause-answer g c = λ given. rw (c.in-Run.is, ← c.as_str-in-Run.ensures) (c.run.ensures.answer given)
+returns-in-Run-clause-answer g c = λ given. rw (c.in-Run.is, ← c.as_str.ensures) (c.run.ensures.answer given)
