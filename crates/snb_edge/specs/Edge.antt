@@ -24,10 +24,10 @@ line_of Memory = codes "snb: out of memory"
 
 -- what standard error shows for a status: a line where it tells of a fault
 abbrev pub shown_for : ℕ → List ℕ
-shown_for 4 = line_of Read ++ 10 ∷ []
-shown_for 5 = line_of Write ++ 10 ∷ []
-shown_for 6 = line_of Memory ++ 10 ∷ []
-shown_for status = []
+shown_for status =
+    if status == 4 then line_of Read ++ 10 ∷ []
+    else (if status == 5 then line_of Write ++ 10 ∷ []
+    else (if status == 6 then line_of Memory ++ 10 ∷ [] else []))
 
 -- the words are those that are told, where any are
 abbrev pub AreTold : Option (List (List ℕ)) → List (List ℕ) → Type 0

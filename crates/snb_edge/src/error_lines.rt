@@ -13,5 +13,5 @@ pub trait ErrorLines {
 
     /// Shows a line, which comes without its end, as far as it can be shown.
     fn show(&mut self, line: &str)
-        ensures { given self.new ≡ option_map (λ text. text ++ line.now ++ 10 ∷ []) (given self.old) };
+        ensures { given self.new ≡ option_map (λ text. text ++ (line.now ++ 10 ∷ [])) (given self.old) };
 }

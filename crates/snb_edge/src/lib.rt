@@ -5,7 +5,7 @@
 pub mod error_lines;
 pub mod fault;
 pub mod host;
-pub mod serve;
+pub mod program;
 #[cfg(test)]
 mod tests;
 pub mod words;
@@ -13,5 +13,5 @@ pub mod words;
 pub use error_lines::ErrorLines;
 pub use fault::Fault;
 pub use host::{HostErrorLines, HostWords};
-pub use serve::{ending, serve};
+pub use program::{ending, serve};
 pub use words::Words;

@@ -5,7 +5,7 @@ ghost use Rattle.std.specs.Io.{WritesAtMost};
 
 use crate::error_lines::ErrorLines;
 use crate::host::{HostErrorLines, HostWords};
-use crate::serve::ending;
+use crate::program::ending;
 use crate::words::Words;
 use std::alloc::Global;
 use std::cell::Cell;

@@ -1,18 +1,13 @@
 -- Each line of the streams is one operation.
-use Rattle.std.proofs.Common.{◌≡◌, ◌≢◌, ◌<◌, ◌+◌, ◌⊎◌, ◌∙◌, ◌↔◌, ℕ, List, [], ◌∷◌, AllPairs, Contains, get_or, length, slice_get, Option, Some, None, refl, inl, inr, sym, ap, subst, arith}
+use Rattle.std.proofs.Common.{◌≡◌, ◌<◌, ◌⊎◌, ◌∙◌, ℕ, List, AllPairs, Contains, get_or, slice_get, Some, refl, inl, inr, sym, ap, subst, arith}
 use Rattle.std.proofs.lemmas.Bool.{cases_lt}
 use Rattle.std.proofs.lemmas.Option.{get_or_from_slice_get, slice_get_within}
 use Rattle.snb_base.proofs.Laws.{at_contains, contains_at}
 use Rattle.snb_history.specs.declared.step.Step.{Step}
 use Rattle.snb_history.specs.Schedule.{ComesBefore}
-use Rattle.snb_input_files.specs.Walk.{Held}
-use Rattle.snb_schema.specs.declared.op.Line.{Line}
-use Rattle.snb_schema.specs.Frequencies.{FrequencyTable}
 use Rattle.snb_schema.specs.LineLanes.{LineLanes}
-use Rattle.snb_schema.specs.QueryLists.{QueryLists}
-use Rattle.snb_plan.specs.Plans.{AreInOrder, IsLineOf, IsPlan, IsRead, IsUpdate, Operation, Placed, Plan, first_t, lane_of, update_operation}
-use Rattle.snb_tool.specs.Inputs.{ArePlanned}
-use Rattle.snb_tool.specs.Laws.{HasEachLine, IsAskedRead, LinesAreOperations, StandsOnce}
+use Rattle.snb_plan.specs.Plans.{IsLineOf, IsRead, IsUpdate, Operation, Placed, first_t, lane_of, update_operation}
+use Rattle.snb_tool.specs.Laws.{IsAskedRead, LinesAreOperations, StandsOnce}
 
 -- no step comes before itself
 not_before : (s : Step) → ComesBefore s s → ⊥

@@ -27,7 +27,7 @@ use Rattle.snb_runlog.specs.Writing.{AreCounted, logged_text}
 use Rattle.snb_workers.specs.Counts.{HasRightCount, IsCount, TellsCounts, logged_by, logged_of, rows_by}
 use Rattle.snb_workers.specs.declared.done.Answered.{Answered}
 use Rattle.snb_workers.specs.Laws.{FinishesAreOfOperations, OneCount}
-use Rattle.snb_workers.specs.Miscounts.{IsFirstMiscount, IsMiscount}
+use Rattle.snb_workers.specs.Miscounts.{IsFirstMiscount}
 use Rattle.snb_workers_replay.specs.Laws.{IsReplayed}
 use Rattle.snb_graph_model.specs.Graphs.{IsGraph}
 use Rattle.snb_graph_model.specs.Soundness.{Sound}

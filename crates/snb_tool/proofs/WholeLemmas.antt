@@ -1,8 +1,7 @@
 -- What `run` wrote is a whole run.
-use Rattle.std.specs.Prelude.{MatchBool}
-use Rattle.std.proofs.Common.{◌≡◌, ◌≤◌, ◌∙◌, ℕ, Bool, true, ◌++◌, List, [], ◌∷◌, length, map, Option, Some, None, refl, inl, inr, sym, ap, subst, arith}
+use Rattle.std.proofs.Common.{◌≡◌, ◌≤◌, ◌∙◌, ℕ, true, ◌++◌, List, length, Option, Some, refl, inl, inr, sym, ap, subst, arith}
 use Rattle.snb_auditor_log.specs.declared.verdict.AuditVerdict.{AuditVerdict}
-use Rattle.snb_auditor_log.specs.AuditVerdicts.{IsAuditVerdict, IsWhole, is_whole}
+use Rattle.snb_auditor_log.specs.AuditVerdicts.{IsWhole, is_whole}
 use Rattle.snb_auditor_log.specs.Laws.{LogSaysOne, SaidLogIsClean, WholeExactly}
 use Rattle.snb_auditor_log.specs.LogFiles.{IsLogOf, log_checks}
 use Rattle.snb_auditor_log.specs.VerdictTexts.{audit_status, audit_text}
@@ -28,9 +27,9 @@ use Rattle.snb_tool_words.specs.Commands.{IsLineOf}
 use Rattle.snb_tool_words.specs.Laws.{WordsAreOne}
 use Rattle.snb_workers.specs.Counts.{logged_of}
 use Rattle.snb_workers.specs.Laws.{CountsOfARun}
-use Rattle.snb_workers.specs.Miscounts.{IsFirstMiscount, events_of}
+use Rattle.snb_workers.specs.Miscounts.{events_of}
 use Rattle.snb_tool.specs.Inputs.{Found, Given, IsFine, IsFoundTold, IsInput, checks_of, plan_checks}
-use Rattle.snb_tool.specs.Laws.{IsWholeRun, RefusedOrNot, RunIsWhole}
+use Rattle.snb_tool.specs.Laws.{RefusedOrNot, RunIsWhole}
 use Rattle.snb_tool.specs.Outcome.{Asked, IsAnswer, IsDone, IsJudged, IsRun, ShowsSummary, TellsLatencies, TellsVerdict}
 use Rattle.snb_tool.specs.Output.{on_screen}
 use Rattle.snb_tool.proofs.CompleteLemmas.{told_exactly, told_files}

@@ -30,7 +30,7 @@ use std::thread::Threads;
 /// Ends with this status: with one line on standard error, where the status tells of a fault.
 pub fn ending<E: ErrorLines>(errors: &mut E, status: u8) -> ExitCode
     ensures status { exit_status result ≡ status }
-    ensures shown { E.given errors.new ≡ option_map (λ text. text ++ shown_for status) (E.given errors.old) }
+    ensures shown { E.given errors.new ≡ option_map (λ text. text ++ shown_for (exit_status result)) (E.given errors.old) }
 {
     if let Some(fault) = Fault::of_status(status) {
         errors.show(fault.line());
@@ -42,11 +42,11 @@ pub fn ending<E: ErrorLines>(errors: &mut E, status: u8) -> ExitCode
 fn lend(alloc: Global, texts: &Texts) -> Result<Vec<&str>, AllocError>
     ensures { IfOk result (λ words. texts_of words.items ≡ texts.now) }
 {
-    texts
-        .as_slice()
-        .iter()
-        .map(|text| text.as_str())
-        .collect(alloc)
+    let mut words = Vec::new(alloc);
+    for text in texts.as_slice() {
+        words.push(text.as_str())?;
+    }
+    Ok(words)
 }
 
 // The status of the call that these words ask for. An error says that memory didn't suffice before the call. The
