@@ -62,9 +62,7 @@ pub(crate) fn walked(alloc: Global, graph: &Graph, rest: &str) -> Result<String,
             move |graph: &Graph, query: &Query| -> Result<Answer<Text>, AllocError>
                 requires { Sound graph.now }
                 ensures { IfOk result (IsAnswer graph.now query.now) }
-            {
-                copy_answer(&own_answer(alloc, graph, query)?)
-            },
+            { copy_answer(&own_answer(alloc, graph, query)?) },
         )?;
         if let Err(why) = handlers.register(Handler::new(kind, call)) {
             return Err(flaw_of(why));
@@ -75,9 +73,7 @@ pub(crate) fn walked(alloc: Global, graph: &Graph, rest: &str) -> Result<String,
         move |targets: &[Target], word: u64| -> usize
             requires { 0 < length targets.now }
             ensures { result ≡ index_of Modulo (length targets.now) word }
-        {
-            (word % targets.len() as u64) as usize
-        },
+        { (word % targets.len() as u64) as usize },
     )?;
     let policy = Policy::new(Pick::Modulo, pick);
     match handlers.missing() {

@@ -1,5 +1,5 @@
 -- All so far may stand in a log of version 2.
-use Rattle.std.proofs.Common.{◌×◌, ◌≤◌, All, take}
+use Rattle.std.proofs.Common.{◌≤◌, All, take}
 use Rattle.snb_history.specs.History.{moment}
 use Rattle.snb_history.specs.declared.logged.Logged.{Logged}
 use Rattle.snb_schema.specs.declared.limits.TheConstants.{MAX_AT}
