@@ -88,13 +88,16 @@ def ticks_of_log(most: int) -> list[int]:
     if len(decades) <= 3:
         found = [one * it for it in decades for one in (1, 2, 5) if one * it <= most]
     else:
-        found = decades[:: (len(decades) - 1) // 7 + 1]
+        step = (len(decades) - 1) // 7 + 1
+        # Where decades are narrow, 1 is too near to 0.
+        found = decades if step == 1 else decades[step :: step]
     return [0, *found]
 
 
 def short(value: float) -> str:
     """A number on an axis."""
-    for scale, unit in ((10**9, "G"), (10**6, "M"), (10**3, "k")):
+    units = ((10**18, "E"), (10**15, "P"), (10**12, "T"), (10**9, "G"), (10**6, "M"), (10**3, "k"))
+    for scale, unit in units:
         if value >= scale:
             return f"{value / scale:g}{unit}"
     return f"{value:g}"
@@ -102,7 +105,8 @@ def short(value: float) -> str:
 
 def time_axis(most: int) -> tuple[int, str]:
     """How many milliseconds the unit of a time axis has, and its name."""
-    for scale, name in ((86_400_000, "days"), (3_600_000, "hours"), (60_000, "minutes"), (1000, "seconds")):
+    units = ((86_400_000, "days"), (3_600_000, "hours"), (60_000, "minutes"), (1000, "seconds"))
+    for scale, name in units:
         if most >= 2 * scale:
             return scale, name
     return 1, "milliseconds"

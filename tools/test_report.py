@@ -58,7 +58,7 @@ class Page(HTMLParser):
             self.texts.append((self.given, data))
 
 
-class Reports(Tried):
+class Paged(Tried):
     def reported(self, log: Path, options: list[str], folder: Path = WALK) -> tuple[int, str, Page]:
         status, printed, told = tool(self.place, "report", folder, log, "out.html", *options)
         self.assertEqual(told, "")
@@ -84,6 +84,8 @@ class Reports(Tried):
             for x, width in re.findall(r' x="([0-9.]+)" y="[0-9.]+" width="([0-9.]+)"', inside):
                 self.assertLessEqual(float(x) + float(width), charts.WIDE + 1)
 
+
+class Reports(Paged):
     def test_that_the_numbers_are_those_of_latency(self) -> None:
         log = HERE / "logs/accepted.log"
         status, printed, page = self.reported(log, RUN)
@@ -160,7 +162,7 @@ class Pictures(unittest.TestCase):
 
 
 @unittest.skipUnless(has_sqlite(), "this Python has no sqlite3")
-class Driven(Reports):
+class Driven(Paged):
     """The run of the driver of the examples: compared, explained and reported on."""
 
     def test_a_run_of_the_driver(self) -> None:
