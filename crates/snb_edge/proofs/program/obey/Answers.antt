@@ -1,7 +1,6 @@
-use Rattle.std.proofs.Common.{◌≡◌, ◌∙◌, ap, arith, take}
+use Rattle.std.proofs.Common.{◌∙◌, ap, arith}
 use Rattle.snb_handlers.specs.Table.{kinds}
 use Rattle.snb_tool_words.specs.Words.{texts_of}
-use Rattle.snb_edge.specs.Edge.{all_kinds}
 use Rattle.snb_edge.proofs.Started.{as_started, grown, may_ask, registered, whole}
 use Rattle.snb_edge.proofs.program.obey.Goals as goal
 
