@@ -1,6 +1,6 @@
 //! The shelf of a case.
 
-ghost use Rattle.std.specs.Prelude.{None};
+ghost use Rattle.std.specs.Prelude.{◌≤◌, None, length};
 ghost use Rattle.snb_base.specs.Shelf.{any_name};
 ghost use Rattle.snb_test_whole.specs.Kept.{faults_of};
 
@@ -47,22 +47,24 @@ impl Drop for Long {
 }
 
 impl Long {
-    // Makes the bytes from there on, which aren't kept.
-    fn make(&self, at: u64, into: &mut [u8]) -> Got {
+    // Fills the buffer with the bytes from there on, which aren't kept, and tells how many of them the file has.
+    fn make(&self, at: u64, into: &mut [u8]) -> usize
+        ensures { result ≤ length into.old }
+    {
         let left = self.ends.saturating_sub(at).min(into.len() as u64) as usize;
         let width = self.line.len();
         if width == 0 {
-            return Got::Took { count: 0 };
+            return 0;
         }
         let mut place = (at.saturating_sub(self.kept) % width as u64) as usize;
-        for count in 0..left {
+        for byte in into.iter_mut() {
             if place >= width {
                 place = 0;
             }
-            into[count] = self.line[place];
+            *byte = self.line[place];
             place += 1;
         }
-        Got::Took { count: left }
+        left
     }
 }
 
@@ -129,7 +131,9 @@ impl Shelf for CaseShelf {
         }
         if let Some(long) = &self.long {
             if long.name.as_str() == name && at >= long.kept {
-                return long.make(at, into);
+                return Got::Took {
+                    count: long.make(at, into),
+                };
             }
         }
         match &mut self.kept {
