@@ -24,7 +24,8 @@ use snb_graph::Graph;
 use snb_history::{Logged, Schedule};
 use snb_input_files::Load;
 use snb_plan::Plan;
-use snb_workers::miscount::first_miscount;
+use snb_replies::Replies;
+use snb_workers::first_miscount_via;
 use std::alloc::{AllocError, Global};
 
 /// A log, and the verdict on it.
@@ -63,13 +64,15 @@ fn judge(
 
 // The verdict on a log whose history has this one and whose count of operations is the plan's, where it has
 // one.
-fn after_judging(
+fn after_judging<A: Replies>(
     alloc: Global,
+    answers: &A,
     plan: &Plan,
     base: &Graph,
     log: &Log,
     verdict: Verdict,
 ) -> Result<AuditVerdict, AllocError>
+    requires ready { A.ready answers.now }
     requires auditable { IsAuditable log.now }
     requires sound { Sound base.now }
     requires closed { IsClosed (HoldsKey base.now) (updates_in plan.now) }
@@ -85,19 +88,21 @@ fn after_judging(
     if log.header.operations.is_none() {
         return Ok(judged);
     }
-    match first_miscount(alloc, plan, base, &log.logged)? {
+    match first_miscount_via(alloc, answers, plan, base, &log.logged)? {
         Some(miscount) => Ok(AuditVerdict::Miscounted { miscount }),
         None => Ok(judged),
     }
 }
 
 // The verdict on a log.
-fn verdict_on(
+fn verdict_on<A: Replies>(
     alloc: Global,
+    answers: &A,
     plan: &Plan,
     base: &Graph,
     log: &Log,
 ) -> Result<AuditVerdict, AllocError>
+    requires ready { A.ready answers.now }
     requires auditable { IsAuditable log.now }
     requires sound { Sound base.now }
     requires closed { IsClosed (HoldsKey base.now) (updates_in plan.now) }
@@ -110,20 +115,23 @@ fn verdict_on(
         }
     }
     let verdict = judge(alloc, plan.schedule(), log.header.workers, &log.logged)?;
-    after_judging(alloc, plan, base, log, verdict)
+    after_judging(alloc, answers, plan, base, log, verdict)
 }
 
 /// What the log of this path says, of version 1 or 2, and the verdict on it by a plan that is closed over a sound
 /// dataset. The whole log is read before any verdict: with a log that is refused there is none. A log of version 2 is
 /// judged by its counts too: that of operations comes before anything else, and those of rows are looked at
-/// where the history is legal. The errors are those of `load_log`. The shelf may be asked for the path (`allowed`).
-pub fn audit_log<S: Shelf>(
+/// where the history is legal, by what answers reads, which is ready. The errors are those of `load_log`. The shelf may be
+/// asked for the path (`allowed`).
+pub fn audit_log<S: Shelf, A: Replies>(
     alloc: Global,
+    answers: &A,
     shelf: &mut S,
     plan: &Plan,
     base: &Graph,
     path: &str,
 ) -> Result<Audited, Load>
+    requires ready { A.ready answers.now }
     requires sound { Sound base.now }
     requires closed { IsClosed (HoldsKey base.now) (updates_in plan.now) }
     requires allowed { S.may shelf.old path.now ≡ true }
@@ -131,6 +139,6 @@ pub fn audit_log<S: Shelf>(
     ensures read { IsRead (is_read_fault result) S.Shelf shelf.old shelf.new }
 {
     let log = load_log(alloc, shelf, path)?;
-    let verdict = verdict_on(alloc, plan, base, &log)?;
+    let verdict = verdict_on(alloc, answers, plan, base, &log)?;
     Ok(Audited { log, verdict })
 }

@@ -13,7 +13,8 @@ use crate::kinds::{KINDS, place_of};
 use snb_base::Text;
 use snb_graph::Graph;
 use snb_read_model::tail::tail_of;
-use snb_read_model::{Answer, Reply, lend_answer, reply_with_tail};
+use snb_read_model::{Answer, CowText, Reply, cow_answer, cow_reply, lend_answer, reply_with_tail};
+use snb_replies::Replies;
 use snb_schema::{Query, ReadKind};
 use std::alloc::{AllocError, Global};
 
@@ -128,5 +129,28 @@ impl Handlers {
         let follow = tail_of(query, &lend_answer(&own)?).queries(self.alloc)?;
         let tail = self.answers(graph, &follow)?;
         reply_with_tail(self.alloc, own, tail)
+    }
+}
+
+// A table answers by its handlers, where each kind of read has one.
+impl Replies for Handlers {
+    ghost ready = { λ table. HasAll (kinds table) };
+
+    fn answer_to<'a>(
+        &self,
+        _alloc: Global,
+        graph: &'a Graph,
+        query: &Query,
+    ) -> Result<Answer<CowText<'a>>, AllocError> {
+        cow_answer(self.answer(graph, query)?)
+    }
+
+    fn reply_to<'a>(
+        &self,
+        _alloc: Global,
+        graph: &'a Graph,
+        query: &Query,
+    ) -> Result<Reply<CowText<'a>>, AllocError> {
+        cow_reply(self.reply(graph, query)?)
     }
 }

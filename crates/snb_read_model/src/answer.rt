@@ -30,11 +30,18 @@ pub fn lend_answer(answer: &Answer<Text>) -> Result<Answer<CowText<'_>>, AllocEr
     answer.try_map(|row| row.try_map(|cell| cell.lend()))
 }
 
-// The answer with the same texts, none of them copied.
-fn cow_answer<'a>(answer: Answer<Text>) -> Result<Answer<CowText<'a>>, AllocError>
+/// The answer with the same texts, none of them copied.
+pub fn cow_answer<'a>(answer: Answer<Text>) -> Result<Answer<CowText<'a>>, AllocError>
     ensures { IfOk result (λ cow. cow ≡ answer) }
 {
     answer.into_map(|row| row.into_map(|cell| cell.into_cow()))
+}
+
+/// The answer with texts of its own: those that are its own already, and copies of those that are lent.
+pub fn owned_answer(answer: Answer<CowText<'_>>) -> Result<Answer<Text>, AllocError>
+    ensures { IfOk result (λ own. own ≡ answer) }
+{
+    answer.into_map(|row| row.into_map(|cell| cell.into_texts()))
 }
 
 /// An equal reply, with texts of its own.

@@ -14,6 +14,7 @@ use snb_graph::Graph;
 use snb_reach::reach::ic13;
 use snb_read_model::tail::tail_of;
 use snb_read_model::{Answer, CowText, Reply, reply_with_tail};
+use snb_replies::Replies;
 use snb_schema::Query;
 use snb_short_reads::messages::{is4, is5, is6, is7};
 use snb_short_reads::persons::{is1, is2, is3};
@@ -81,4 +82,30 @@ pub fn answer<'a>(
     let follow = tail_of(query, &own).queries(alloc)?;
     let tail = own_answers(alloc, graph, &follow)?;
     reply_with_tail(alloc, own, tail)
+}
+
+/// The graph's own reads.
+#[derive(Clone, Copy)]
+pub struct OwnReads;
+
+impl Replies for OwnReads {
+    ghost ready = { λ _. Unit {0} };
+
+    fn answer_to<'a>(
+        &self,
+        alloc: Global,
+        graph: &'a Graph,
+        query: &Query,
+    ) -> Result<Answer<CowText<'a>>, AllocError> {
+        own_answer(alloc, graph, query)
+    }
+
+    fn reply_to<'a>(
+        &self,
+        alloc: Global,
+        graph: &'a Graph,
+        query: &Query,
+    ) -> Result<Reply<CowText<'a>>, AllocError> {
+        answer(alloc, graph, query)
+    }
 }

@@ -3,6 +3,7 @@
 ghost use Rattle.snb_graph_model.specs.Soundness.{Sound};
 
 use snb_graph::Graph;
+use snb_own_reads::OwnChecker;
 use snb_read_model::lend_reply;
 use snb_schema::{Kind, Missing};
 use snb_test_script::escape::shown;

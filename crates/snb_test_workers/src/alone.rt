@@ -9,7 +9,7 @@ use snb_test_board::boards::board_of_two;
 use snb_test_book::books::told_events;
 use snb_test_script::words::{first_word, number_of};
 use snb_test_script::{Files, Flaw, Given, Lines};
-use snb_workers::run_alone;
+use snb_own_reads::run_alone;
 use std::alloc::Global;
 use std::sync::Wait;
 

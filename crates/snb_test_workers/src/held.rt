@@ -10,7 +10,7 @@ use snb_base::{Gate, Phase};
 use snb_test_board::boards::board_of_two;
 use snb_test_script::words::{first_word, number_of, small_number_of};
 use snb_test_script::{Files, Flaw, Given, Lines};
-use snb_workers::Answered;
+use snb_answered::Answered;
 use std::alloc::Global;
 use std::sync::{Mutex, Wait};
 

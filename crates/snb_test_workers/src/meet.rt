@@ -9,7 +9,7 @@ use snb_history::Event;
 use snb_plan::Plan;
 use snb_test_script::words::{first_word, number_of};
 use snb_test_script::{Files, Flaw};
-use snb_workers::run_workers;
+use snb_own_reads::run_workers;
 use std::alloc::Global;
 use std::sync::Wait;
 use std::thread::Threads;

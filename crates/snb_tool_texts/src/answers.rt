@@ -4,7 +4,7 @@ ghost use Rattle.std.specs.Prelude.{◌≡◌, ◌++◌, [], IfOk, OnOk, codes};
 ghost use Rattle.snb_tool_texts.specs.Answers.{answer_line, answers_text, bytes_in};
 
 use snb_base::OwnedList;
-use snb_workers::{Answered, Done};
+use snb_answered::{Answered, Done};
 use std::alloc::{AllocError, Global};
 use std::mem;
 

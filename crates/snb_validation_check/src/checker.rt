@@ -8,18 +8,16 @@ ghost use Rattle.snb_schema.specs.References.{refs_of};
 ghost use Rattle.snb_graph_model.specs.Graphs.{HasGained};
 ghost use Rattle.snb_graph_model.specs.Soundness.{Sound};
 ghost use Rattle.snb_inserts.specs.Applying.{HasLine, IsDuplicate, IsFirstMissing};
-ghost use Rattle.snb_handlers.specs.Table.{HasAll, kinds};
 ghost use Rattle.snb_validation_check.specs.Steps.{HasCompared, HasText, IsTaken, IsUnmet, Steps};
 
 use crate::difference::Difference;
-use crate::replier::{OwnReads, Replier};
 use crate::same::same_reply;
 use snb_base::Text;
 use snb_graph::Graph;
-use snb_handlers::Handlers;
 use snb_inserts::Applied;
 use snb_inserts::apply::apply;
 use snb_read_model::{Reply, copy_reply};
+use snb_replies::Replies;
 use snb_schema::{Missing, Op, Query};
 use snb_validation_cases::Case;
 use std::alloc::{AllocError, Global};
@@ -66,18 +64,19 @@ impl Model for Checker {
 }
 
 // What is kept of a read on the graph, where nothing is kept yet.
-fn compared<R: Replier>(
-    replier: &R,
+fn compared<A: Replies>(
+    alloc: Global,
+    answers: &A,
     graph: &Graph,
     line: u32,
     query: &Query,
     due: &Reply<Text>,
 ) -> Result<Option<Difference>, AllocError>
-    requires ready { R.ready replier.now }
+    requires ready { A.ready answers.now }
     requires sound { Sound graph.now }
     ensures { IfOk result (HasCompared graph.now line query.now due.now None) }
 {
-    let given = replier.reply_to(graph, query)?;
+    let given = answers.reply_to(alloc, graph, query)?;
     if same_reply(&given, due) {
         return Ok(None);
     }
@@ -111,20 +110,20 @@ impl Checker {
     }
 
     // Takes a read.
-    fn ask<R: Replier>(
+    fn ask<A: Replies>(
         &mut self,
-        replier: &R,
+        answers: &A,
         query: &Query,
         due: &Reply<Text>,
         number: u32,
     ) -> Result<(), AllocError>
-        requires ready { R.ready replier.now }
+        requires ready { A.ready answers.now }
         ensures graph { self.new.graph ≡ self.old.graph }
         ensures ok { OnOk result (HasCompared self.old.graph number query.now due.now self.old.first self.new.first) }
         ensures err { OnErr result (self.new ≡ self.old) }
     {
         if self.first.is_none() {
-            self.first = compared(replier, &self.graph, number, query, due)?;
+            self.first = compared(self.alloc, answers, &self.graph, number, query, due)?;
         }
         Ok(())
     }
@@ -141,14 +140,23 @@ impl Checker {
         apply(self.alloc, &mut self.graph, op)
     }
 
-    // Takes the case of this line, where this one replies to reads.
-    pub(crate) fn step_by<R: Replier>(
+    /// Takes the case of this line, by what answers reads. The rows of an insert go into the graph, also after a
+    /// difference. A read leaves the graph; where nothing is kept yet and its reply on the graph isn't the one that
+    /// the case has, the line and both replies are kept.
+    ///
+    /// `Missing` names the first node that the insert refers to and that the graph doesn't hold.
+    /// `Duplicate` says that all of these are held, and so is a key that the insert takes. `Memory` says
+    /// that memory doesn't suffice, or is an error of what answers. After each of them the checker is as it was.
+    ///
+    /// The conditions: what answers reads is ready, as a table is in which each kind of read has a handler, and some
+    /// line of an update stream is the insert's.
+    pub fn step_via<A: Replies>(
         &mut self,
-        replier: &R,
+        answers: &A,
         case: &Case,
         number: u32,
     ) -> Result<(), StepFault>
-        requires ready { R.ready replier.now }
+        requires ready { A.ready answers.now }
         requires text { HasText case.now }
         ensures ok { OnOk result (Steps self.old case.now number self.new) }
         ensures missing { (missing : MissingNode) → (result ≡ Err (StepFault.Missing missing)) ↔ IsUnmet self.old.graph case.now missing }
@@ -162,50 +170,11 @@ impl Checker {
                 Err(Applied::Duplicate) => Err(StepFault::Duplicate),
                 Err(Applied::Memory) => Err(StepFault::Memory),
             },
-            Case::Ask { query, reply } => match self.ask(replier, query, reply, number) {
+            Case::Ask { query, reply } => match self.ask(answers, query, reply, number) {
                 Ok(()) => Ok(()),
                 Err(_) => Err(StepFault::Memory),
             },
         }
-    }
-
-    /// Takes the case of this line. The rows of an insert go into the graph, also after a difference. A
-    /// read leaves the graph; where nothing is kept yet and its reply on the graph isn't the one that
-    /// the case has, the line and both replies are kept.
-    ///
-    /// `Missing` names the first node that the insert refers to and that the graph doesn't hold.
-    /// `Duplicate` says that all of these are held, and so is a key that the insert takes. `Memory` says
-    /// that memory doesn't suffice. After each of them the checker is as it was.
-    ///
-    /// The condition: some line of an update stream is the insert's.
-    pub fn step(&mut self, case: &Case, number: u32) -> Result<(), StepFault>
-        requires text { HasText case.now }
-        ensures ok { OnOk result (Steps self.old case.now number self.new) }
-        ensures missing { (missing : MissingNode) → (result ≡ Err (StepFault.Missing missing)) ↔ IsUnmet self.old.graph case.now missing }
-        ensures duplicate { (result ≡ Err StepFault.Duplicate) ↔ IsTaken self.old.graph case.now }
-        ensures err { OnErr result (self.new ≡ self.old) }
-    {
-        let alloc = self.alloc;
-        self.step_by(&OwnReads { alloc }, case, number)
-    }
-
-    /// Takes the case of this line as `step` does, but asks the handlers for the replies to reads. An error of a
-    /// handler is `Memory` here too.
-    /// The conditions: some line of an update stream is the insert's, and each kind of read has a handler.
-    pub fn step_via(
-        &mut self,
-        handlers: &Handlers,
-        case: &Case,
-        number: u32,
-    ) -> Result<(), StepFault>
-        requires all { HasAll (kinds handlers.now) }
-        requires text { HasText case.now }
-        ensures ok { OnOk result (Steps self.old case.now number self.new) }
-        ensures missing { (missing : MissingNode) → (result ≡ Err (StepFault.Missing missing)) ↔ IsUnmet self.old.graph case.now missing }
-        ensures duplicate { (result ≡ Err StepFault.Duplicate) ↔ IsTaken self.old.graph case.now }
-        ensures err { OnErr result (self.new ≡ self.old) }
-    {
-        self.step_by(handlers, case, number)
     }
 
     /// The first case whose reply differs from the graph's, if there is one. Takes no memory.

@@ -4,20 +4,18 @@ ghost use Rattle.std.specs.Prelude.{◌≡◌, [], ◌∷◌, None, true};
 ghost use Rattle.snb_base.specs.Reads.{IsRead};
 ghost use Rattle.snb_input_files.specs.Loading.{is_read_fault};
 ghost use Rattle.snb_graph_model.specs.Soundness.{Sound};
-ghost use Rattle.snb_handlers.specs.Table.{HasAll, kinds};
 ghost use Rattle.snb_validation_check.specs.CaseTakers.{AreCaseTakers, CasesAreLawful};
 ghost use Rattle.snb_validation_check.specs.CasesFile.{IsCasesAnswer};
 ghost use Rattle.snb_validation_check.specs.Checks.{count_reads};
 
 use crate::checker::{Checker, StepFault};
-use crate::replier::{OwnReads, Replier};
 use crate::text::Tally;
 use snb_base::Shelf;
 use snb_graph::Graph;
 use snb_graph_model::law::graphs_are_their_rows;
-use snb_handlers::Handlers;
 use snb_input_files::{FileSink, Found, Load, Used, load_file};
 use snb_input_lines::Sink;
+use snb_replies::Replies;
 use snb_schema::{Fault, FileId, FileKind, Refusal};
 use snb_validation_cases::law::one_case_line;
 use snb_validation_cases::{Case, CaseAt, CaseLines};
@@ -25,32 +23,32 @@ use std::alloc::{AllocError, Global};
 use std::marker::Model;
 
 // A checker that takes the cases of a file, whoever replies to their reads, and how many reads it took.
-pub(crate) struct CaseFileSink<'h, R: Replier> {
+pub(crate) struct CaseFileSink<'h, A: Replies> {
     alloc: Global,
-    replier: &'h R,
+    answers: &'h A,
     checker: Checker,
     reads: u64,
 }
 
-impl<'h, R: Replier> Drop for CaseFileSink<'h, R> {
+impl<'h, A: Replies> Drop for CaseFileSink<'h, A> {
     fn drop(self) {
         let CaseFileSink {
             alloc: _,
-            replier: _,
+            answers: _,
             checker: _,
             reads: _,
         } = self;
     }
 }
 
-impl<'h, R: Replier> Model for CaseFileSink<'h, R> {
+impl<'h, A: Replies> Model for CaseFileSink<'h, A> {
     ghost use Rattle.snb_validation_check.specs.CaseTakers.{Counted};
 
     ghost Value = { Counted };
 
     ghost view = { λ t. record { checked = t.checker; reads = t.reads } };
 
-    ghost invariant = { λ t. R.ready t.replier.now };
+    ghost invariant = { λ t. A.ready t.answers.now };
 }
 
 // How many reads a case is.
@@ -63,16 +61,16 @@ fn reads_in(item: &CaseAt) -> u64
     }
 }
 
-impl<'h, R: Replier> CaseFileSink<'h, R> {
+impl<'h, A: Replies> CaseFileSink<'h, A> {
     // It has taken no case, and begins with this graph. Takes no memory.
-    fn new(alloc: Global, replier: &'h R, graph: Graph) -> CaseFileSink<'h, R>
-        requires ready { R.ready replier.now }
+    fn new(alloc: Global, answers: &'h A, graph: Graph) -> CaseFileSink<'h, A>
+        requires ready { A.ready answers.now }
         requires sound { Sound graph }
         ensures { result ≡ record { checked = record { graph = graph; first = None }; reads = 0 } }
     {
         CaseFileSink {
             alloc,
-            replier,
+            answers,
             checker: Checker::new(alloc, graph),
             reads: 0,
         }
@@ -84,7 +82,7 @@ impl<'h, R: Replier> CaseFileSink<'h, R> {
     {
         let CaseFileSink {
             alloc: _,
-            replier: _,
+            answers: _,
             checker,
             reads,
         } = self;
@@ -95,7 +93,7 @@ impl<'h, R: Replier> CaseFileSink<'h, R> {
     }
 }
 
-impl<'h, R: Replier> Sink<CaseAt> for CaseFileSink<'h, R> {
+impl<'h, A: Replies> Sink<CaseAt> for CaseFileSink<'h, A> {
     ghost use Rattle.std.specs.Prelude.{refl};
     ghost use Rattle.snb_validation_check.specs.CaseTakers.{case_sink};
 
@@ -107,7 +105,7 @@ impl<'h, R: Replier> Sink<CaseAt> for CaseFileSink<'h, R> {
             return Err(Fault::Memory);
         };
         let line = item.line;
-        match self.checker.step_by(self.replier, &item.case, line) {
+        match self.checker.step_via(self.answers, &item.case, line) {
             Ok(()) => {}
             Err(StepFault::Missing { missing }) => {
                 return Err(Fault::Bad {
@@ -141,7 +139,7 @@ impl<'h, R: Replier> Sink<CaseAt> for CaseFileSink<'h, R> {
     ghost same_self = { λ _. refl };
 }
 
-impl<'h, R: Replier> FileSink<CaseLines> for CaseFileSink<'h, R> {
+impl<'h, A: Replies> FileSink<CaseLines> for CaseFileSink<'h, A> {
     ghost use Rattle.snb_validation_check.specs.CaseTakers.{case_stage};
 
     ghost stage = { case_stage };
@@ -164,15 +162,26 @@ pub(crate) fn cases_are_lawful()
     graphs_are_their_rows();
 }
 
-// Checks the cases of a file, where this one replies to reads.
-fn check_cases_by<S: Shelf, R: Replier>(
+/// Checks the cases of a file against a graph, by what answers reads: each reply that a case has against the one on
+/// the graph with the inserts of the cases before it. The file is looked up by its path, is read in
+/// pieces, and may have any number of lines and `MAX_BYTES` bytes.
+///
+/// `Refused` is the first thing wrong with the file: it isn't held (`Absent`); else the first of its
+/// lines that is refused, as of any file, or because its insert refers to a node that isn't held
+/// (`Unmet`), or else takes a key that is held (`Duplicate`); else it has no header (`NoHeader`). The
+/// other errors are a read that failed and want of memory, as which an error of what answers counts too. The graph is
+/// gone after the call.
+///
+/// The conditions: what answers reads is ready (`ready`), as a table is in which each kind of read has a handler; the
+/// graph is sound (`sound`); and the shelf may be asked for the path (`allowed`).
+pub fn check_cases_via<S: Shelf, A: Replies>(
     alloc: Global,
     shelf: &mut S,
     path: &str,
     graph: Graph,
-    replier: &R,
+    answers: &A,
 ) -> Result<Tally, Load>
-    requires ready { R.ready replier.now }
+    requires ready { A.ready answers.now }
     requires sound { Sound graph }
     requires allowed { S.may shelf.old path.now ≡ true }
     ensures answer { IsCasesAnswer (S.contents shelf.old) path.now graph result }
@@ -185,8 +194,8 @@ fn check_cases_by<S: Shelf, R: Replier>(
         part: 0,
     };
     let used = Used { bytes: 0, rows: 0 };
-    let file_sink = CaseFileSink::new(alloc, replier, graph);
-    match load_file::<S, CaseLines, CaseFileSink<'_, R>>(
+    let file_sink = CaseFileSink::new(alloc, answers, graph);
+    match load_file::<S, CaseLines, CaseFileSink<'_, A>>(
         alloc, shelf, path, file, used, file_sink,
     ) {
         Ok(Found::Whole { file_sink, used: _ }) => Ok(file_sink.into_tally()),
@@ -195,49 +204,4 @@ fn check_cases_by<S: Shelf, R: Replier>(
         }),
         Err(load) => Err(load),
     }
-}
-
-/// Checks the cases of a file against a graph: each reply that a case has against the one that the
-/// graph gives with the inserts of the cases before it. The file is looked up by its path, is read in
-/// pieces, and may have any number of lines and `MAX_BYTES` bytes.
-///
-/// `Refused` is the first thing wrong with the file: it isn't held (`Absent`); else the first of its
-/// lines that is refused, as of any file, or because its insert refers to a node that isn't held
-/// (`Unmet`), or else takes a key that is held (`Duplicate`); else it has no header (`NoHeader`). The
-/// other errors are a read that failed and want of memory. The graph is gone after the call.
-///
-/// The conditions: the graph is sound (`sound`), and the shelf may be asked for the path (`allowed`).
-pub fn check_cases<S: Shelf>(
-    alloc: Global,
-    shelf: &mut S,
-    path: &str,
-    graph: Graph,
-) -> Result<Tally, Load>
-    requires sound { Sound graph }
-    requires allowed { S.may shelf.old path.now ≡ true }
-    ensures answer { IsCasesAnswer (S.contents shelf.old) path.now graph result }
-    ensures read { IsRead (is_read_fault result) S.Shelf shelf.old shelf.new }
-{
-    check_cases_by(alloc, shelf, path, graph, &OwnReads { alloc })
-}
-
-/// Checks the cases of a file as `check_cases` does, but asks the handlers for the replies to reads. An error of a
-/// handler is `Memory` here too.
-///
-/// The conditions: each kind of read has a handler (`all`), the graph is sound (`sound`), and the shelf may be
-/// asked for the path (`allowed`).
-pub fn check_cases_via<S: Shelf>(
-    alloc: Global,
-    shelf: &mut S,
-    path: &str,
-    graph: Graph,
-    handlers: &Handlers,
-) -> Result<Tally, Load>
-    requires all { HasAll (kinds handlers.now) }
-    requires sound { Sound graph }
-    requires allowed { S.may shelf.old path.now ≡ true }
-    ensures answer { IsCasesAnswer (S.contents shelf.old) path.now graph result }
-    ensures read { IsRead (is_read_fault result) S.Shelf shelf.old shelf.new }
-{
-    check_cases_by(alloc, shelf, path, graph, handlers)
 }

@@ -6,9 +6,8 @@ pub mod checker;
 pub mod difference;
 pub mod file;
 pub mod law;
-mod replier;
 mod same;
 pub mod text;
 
-pub use file::{check_cases, check_cases_via};
+pub use file::check_cases_via;
 pub use text::Tally;

@@ -17,7 +17,7 @@ use snb_graph::Graph;
 use snb_inserts::apply_welcome;
 use snb_plan::{Plan, Task};
 use snb_read_laws::law::answers_have_columns;
-use snb_read_replies::reply::answer;
+use snb_replies::Replies;
 use snb_schema::{Line, Query};
 use snb_workers_replay::law::order_is_welcome;
 use std::alloc::{AllocError, Global};
@@ -42,30 +42,34 @@ fn expect_insert(
 }
 
 // Appends the case of a read, with the reply on the graph.
-fn expect_ask(
+fn expect_ask<A: Replies>(
     alloc: Global,
+    answers: &A,
     query: &Query,
     graph: &Graph,
     to: &mut Vec<u8>,
 ) -> Result<(), AllocError>
+    requires ready { A.ready answers.now }
     requires sound { Sound graph.now }
     ensures put { OnOk result (HasPutAsk graph.now query.now to.old.items to.new.items) }
     ensures err { OnErr result ((front : List ℕ) × (to.new.items ≡ to.old.items ++ front)) }
 {
     answers_have_columns();
     graph.known();
-    let reply = answer(alloc, graph, query)?;
+    let reply = answers.reply_to(alloc, graph, query)?;
     put_ask(alloc, query, &reply, to)
 }
 
 // Appends the case of the operation of this number, and adds its rows to the graph where it is an insert.
-fn expect_one(
+fn expect_one<A: Replies>(
     alloc: Global,
+    answers: &A,
     plan: &Plan,
     op: u32,
     graph: &mut Graph,
     to: &mut Vec<u8>,
 ) -> Result<(), AllocError>
+    requires ready { A.ready answers.now }
     requires there { op < length plan.now.operations }
     requires at { (base : List Row) × IsAt base plan.now op graph.old }
     ensures ok { OnOk result ((base : List Row) → IsAt base plan.now op graph.old → HasPut base plan.now op to.old.items to.new.items graph.new) }
@@ -75,35 +79,44 @@ fn expect_one(
     plan.known();
     match plan.task(op) {
         Task::Insert { line } => expect_insert(alloc, line, graph, to),
-        Task::Ask { query } => expect_ask(alloc, query, graph, to),
+        Task::Ask { query } => expect_ask(alloc, answers, query, graph, to),
     }
 }
 
 // Appends the cases of all operations.
-fn expect_all(
+fn expect_all<A: Replies>(
     alloc: Global,
+    answers: &A,
     plan: &Plan,
     mut graph: Graph,
     to: &mut Vec<u8>,
 ) -> Result<(), AllocError>
+    requires ready { A.ready answers.now }
     requires at { IsAt graph plan.now 0 graph }
     ensures ok { OnOk result ((last : List Row) × HavePut graph plan.now (length plan.now.operations) to.old.items to.new.items last) }
     ensures err { OnErr result ((front : List ℕ) × (to.new.items ≡ to.old.items ++ front)) }
 {
     let operations = plan.schedule().steps().len();
     for op in 0..operations {
-        expect_one(alloc, plan, op as u32, &mut graph, to)?;
+        expect_one(alloc, answers, plan, op as u32, &mut graph, to)?;
     }
     Ok(())
 }
 
-/// Appends the text of the cases of a plan over a graph: a header, and for each operation, in the order of
+/// Appends the text of the cases of a plan over a graph, by what answers reads: a header, and for each operation, in the order of
 /// their numbers, a line with its insert, or with its query and the reply to it on the graph with the
 /// inserts of smaller number. Each line is read as its case, by `read_case` of `snb_validation_cases`. Want of
 /// memory leaves the bytes as they were.
 ///
-/// The conditions: the graph is sound, and the plan's updates are closed over it.
-pub fn expect(alloc: Global, plan: &Plan, graph: Graph, to: &mut Vec<u8>) -> Result<(), AllocError>
+/// The conditions: what answers reads is ready, the graph is sound, and the plan's updates are closed over it.
+pub fn expect_via<A: Replies>(
+    alloc: Global,
+    answers: &A,
+    plan: &Plan,
+    graph: Graph,
+    to: &mut Vec<u8>,
+) -> Result<(), AllocError>
+    requires ready { A.ready answers.now }
     requires sound { Sound graph }
     requires closed { IsClosed (HoldsKey graph) (updates_in plan.now) }
     ensures ok { OnOk result (HasExpected graph plan.now to.old.items to.new.items) }
@@ -113,7 +126,7 @@ pub fn expect(alloc: Global, plan: &Plan, graph: Graph, to: &mut Vec<u8>) -> Res
     graph.known();
     let start = to.len();
     to.extend_from_slice(b"{\"cases\":1}\n")?;
-    match expect_all(alloc, plan, graph, to) {
+    match expect_all(alloc, answers, plan, graph, to) {
         Ok(()) => Ok(()),
         Err(error) => {
             to.truncate(start);

@@ -6,3 +6,5 @@ pub mod expect;
 pub mod law;
 mod lines;
 mod params;
+
+pub use expect::expect_via;

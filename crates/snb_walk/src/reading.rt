@@ -2,16 +2,15 @@
 
 ghost use Rattle.std.specs.Prelude.{◌≡◌, IfOk};
 ghost use Rattle.snb_graph_model.specs.Soundness.{Sound};
-ghost use Rattle.snb_handlers.specs.Table.{HasAll, kinds};
 ghost use Rattle.snb_walk.specs.Targets.{HaveAnswers, reads_of};
 
 use crate::target::Target;
 use crate::targets::push_targets;
 use snb_base::Text;
 use snb_graph::Graph;
-use snb_handlers::Handlers;
 use snb_read_laws::law::answers_have_columns;
-use snb_read_model::Reply;
+use snb_read_model::{Reply, owned_answer};
+use snb_replies::Replies;
 use snb_schema::Query;
 use std::alloc::{AllocError, Global};
 
@@ -37,40 +36,40 @@ fn reads_of(alloc: Global, target: Target) -> Result<Vec<Query>, AllocError>
 }
 
 // The answers to reads, and their targets.
-fn answers_to(
+fn answers_to<A: Replies>(
     alloc: Global,
-    handlers: &Handlers,
+    answers: &A,
     graph: &Graph,
     reads: &[Query],
 ) -> Result<(Reply<Text>, Vec<Target>), AllocError>
     requires sound { Sound graph.now }
-    requires all { HasAll (kinds handlers.now) }
+    requires ready { A.ready answers.now }
     ensures { IfOk result (λ came. HaveAnswers graph.now reads.now came.0 came.1.items) }
 {
     answers_have_columns();
     let mut reply = Reply::new(alloc);
     let mut targets = Vec::new(alloc);
     for read in reads {
-        let answer = handlers.answer(graph, read)?;
+        let answer = owned_answer(answers.answer_to(alloc, graph, read)?)?;
         push_targets(&mut targets, read, &answer)?;
         reply.push(answer)?;
     }
     Ok((reply, targets))
 }
 
-// The reply of a step to a target, and the targets of its answers. An error is that of a handler, or says that
+// The reply of a step to a target, and the targets of its answers. An error is that of what answers, or says that
 // memory doesn't suffice.
-// The conditions: the graph is sound, and each kind of read has a handler.
-pub(crate) fn step_to(
+// The conditions: the graph is sound, and what answers reads is ready.
+pub(crate) fn step_to<A: Replies>(
     alloc: Global,
-    handlers: &Handlers,
+    answers: &A,
     graph: &Graph,
     target: Target,
 ) -> Result<(Reply<Text>, Vec<Target>), AllocError>
     requires sound { Sound graph.now }
-    requires all { HasAll (kinds handlers.now) }
+    requires ready { A.ready answers.now }
     ensures { IfOk result (λ came. HaveAnswers graph.now (reads_of target) came.0 came.1.items) }
 {
     let reads = reads_of(alloc, target)?;
-    answers_to(alloc, handlers, graph, &reads)
+    answers_to(alloc, answers, graph, &reads)
 }

@@ -2,7 +2,6 @@
 
 ghost use Rattle.std.specs.Prelude.{◌≤◌, IfOk, MatchOption, length};
 ghost use Rattle.snb_graph_model.specs.Soundness.{Sound};
-ghost use Rattle.snb_handlers.specs.Table.{HasAll, kinds};
 ghost use Rattle.snb_walk.specs.Walks.{IsWalk, MayGo, Stops};
 
 use crate::policy::Policy;
@@ -11,10 +10,11 @@ use crate::target::{Stop, Target};
 use crate::targets::push_targets;
 use crate::trace::{Steps, Trace};
 use snb_graph::Graph;
-use snb_handlers::Handlers;
 use snb_ratio::Chance;
 use snb_ratio::chance::CERTAIN;
 use snb_read_laws::law::answers_have_columns;
+use snb_read_model::owned_answer;
+use snb_replies::Replies;
 use snb_schema::Query;
 use std::alloc::{AllocError, Global};
 
@@ -46,11 +46,12 @@ fn reason(left: u32, step: usize, words: &[u64], targets: &[Target]) -> Option<S
 /// before have no targets. Else the policy picks the target by the second word, and the reply of the step is the
 /// answers to IS1, IS2 and IS3 of a person, or to IS4, IS5, IS6 and IS7 of a message, in this order.
 ///
-/// An error is that of a handler, or says that memory doesn't suffice.
-/// The conditions: the graph is sound, and each kind of read has a handler.
-pub fn walk(
+/// An error is that of what answers reads, or says that memory doesn't suffice.
+/// The conditions: the graph is sound, and what answers reads is ready, as a table is in which each kind of read has a
+/// handler.
+pub fn walk<A: Replies>(
     alloc: Global,
-    handlers: &Handlers,
+    answers: &A,
     policy: &Policy,
     graph: &Graph,
     query: &Query,
@@ -58,11 +59,11 @@ pub fn walk(
     words: &[u64],
 ) -> Result<Trace, AllocError>
     requires sound { Sound graph.now }
-    requires all { HasAll (kinds handlers.now) }
+    requires ready { A.ready answers.now }
     ensures { IfOk result (λ trace. IsWalk graph.now policy.now.pick chance words.now query.now trace.start trace.steps trace.stop) }
 {
     answers_have_columns();
-    let start = handlers.answer(graph, query)?;
+    let start = owned_answer(answers.answer_to(alloc, graph, query)?)?;
     let mut targets = Vec::new(alloc);
     push_targets(&mut targets, query, &start)?;
     let mut steps = Steps::new(alloc);
@@ -76,7 +77,7 @@ pub fn walk(
         }
         let at = policy.index(&targets, words[2 * step + 1]);
         let target = targets[at];
-        let (reply, next) = step_to(alloc, handlers, graph, target)?;
+        let (reply, next) = step_to(alloc, answers, graph, target)?;
         steps.push((target, reply))?;
         targets = next;
         left = left.saturating_sub(down);

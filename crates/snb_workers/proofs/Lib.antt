@@ -6,7 +6,6 @@ pub mod WorkCalls
 pub mod WorkEvents
 pub mod WorkFollow
 pub mod WorkLemmas
-pub mod Gathered
 pub mod CrewEvents
 pub mod CrewRuns
 pub mod CountLemmas

@@ -17,8 +17,9 @@ use Rattle.snb_history.specs.History.{started, starts}
 use Rattle.snb_history.specs.Rules.{IsFront, IsLegal}
 use Rattle.snb_plan.specs.Plans.{Ask, Insert, IsOfStreams, Operation, Plan, Work, schedule_of}
 use Rattle.snb_workers_replay.specs.Replay.{IsAfter}
-use Rattle.snb_workers.specs.declared.done.Answered.{Answered}
-use Rattle.snb_workers.specs.Replies.{HasAdded}
+use Rattle.snb_answered.specs.declared.done.Answered.{Answered}
+use Rattle.snb_answered.specs.Replies.{HasAdded}
+use Rattle.snb_answered.proofs.Laws.{added_there, still_there}
 use Rattle.snb_workers.specs.Replicas.{StandsFor, Taken}
 use Rattle.snb_workers.specs.Runs.{AreReplies, Asks, IsAnswered, IsReplied}
 use Rattle.snb_workers.specs.declared.work.Served.{Served}
@@ -27,20 +28,6 @@ use Rattle.snb_workers.proofs.PlanSteps.{ask_is_query, insert_is_no_query}
 use Rattle.snb_workers.proofs.TurnEvents.{was_started}
 
 -- ---- one reply more
-
--- the replies that were there are there
-pub still_there : (one : Answered) (old new : List Answered) (a : Answered) → HasAdded one old new → Contains old a → Contains new a
-still_there one old new a added c =
-    subst (λ (xs : List Answered). Contains xs a) (sym added.are)
-    (elim (Contains-append_cases added.before added.after a (subst (λ (xs : List Answered). Contains xs a) added.were c)) [
-      | inl early ↦ Contains-append_left added.before (one ∷ added.after) a early
-      | inr late ↦ Contains-append_right added.before (one ∷ added.after) a (contains_there one added.after a late)
-    ])
-
--- and so is the one that was added
-pub added_there : (one : Answered) (old new : List Answered) → HasAdded one old new → Contains new one
-added_there one old new added =
-    subst (λ (xs : List Answered). Contains xs one) (sym added.are) (Contains-append_right added.before (one ∷ added.after) one (contains_here one added.after))
 
 -- what is true of those that were there and of the one that was added is true of all
 all_added : (P : Answered → Type 0) (one : Answered) (old new : List Answered) → HasAdded one old new → All P old → P one → All P new

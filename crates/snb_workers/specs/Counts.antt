@@ -8,7 +8,7 @@ use Rattle.snb_plan.specs.Plans.{Ask, Insert, Operation, Plan, Work}
 use Rattle.snb_read_model.specs.Cells.{Cell}
 use Rattle.snb_read_model.specs.Replies.{IsReply}
 use Rattle.snb_workers_replay.specs.Replay.{IsAfter}
-use Rattle.snb_workers.specs.declared.done.Answered.{Answered}
+use Rattle.snb_answered.specs.declared.done.Answered.{Answered}
 
 -- how many rows the first answer of a reply has
 abbrev pub first_rows : List (List (List Cell)) → ℕ

@@ -15,7 +15,7 @@ use Rattle.snb_read_model.specs.Replies.{IsReply}
 use Rattle.snb_validation.specs.ReplyData.{reply_data}
 use Rattle.snb_workers_replay.specs.Laws.{IsReplayed}
 use Rattle.snb_workers.specs.Counts.{IsCount, TellsCounts, first_rows, logged_of}
-use Rattle.snb_workers.specs.declared.done.Answered.{Answered}
+use Rattle.snb_answered.specs.declared.done.Answered.{Answered}
 use Rattle.snb_workers.specs.Replicas.{IfFinish}
 use Rattle.snb_workers.specs.Runs.{AreByClock, HasRun, IsAt, IsReplied}
 

@@ -2,7 +2,6 @@ pub mod Counts
 pub mod Laws
 pub mod Miscounts
 pub mod Replicas
-pub mod Replies
 pub mod Runs
 pub mod Tallies
 pub mod Turns

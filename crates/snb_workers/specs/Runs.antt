@@ -16,7 +16,7 @@ use Rattle.snb_workers_replay.specs.Replay.{IsAfter, IsFinal}
 use Rattle.snb_workers_replay.specs.Waiting.{StaysBelow, WaitsForAll}
 use Rattle.snb_validation.specs.ReplyData.{reply_data}
 use Rattle.snb_workers.specs.Counts.{first_rows}
-use Rattle.snb_workers.specs.declared.done.Answered.{Answered}
+use Rattle.snb_answered.specs.declared.done.Answered.{Answered}
 
 -- an event's moment, if it has one, is this
 abbrev pub IsAt : ℕ → Event → Type 0

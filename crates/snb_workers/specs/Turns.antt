@@ -5,9 +5,9 @@ use Rattle.snb_history.specs.declared.event.Event.{Event}
 use Rattle.snb_schema.specs.declared.query.Query.{Query}
 use Rattle.snb_schema.specs.declared.row.Row.{Row}
 use Rattle.snb_plan.specs.Plans.{Ask, Insert, Operation, Plan, Work}
-use Rattle.snb_workers.specs.declared.done.Answered.{Answered}
+use Rattle.snb_answered.specs.declared.done.Answered.{Answered}
 use Rattle.snb_workers.specs.declared.work.Served.{Served}
-use Rattle.snb_workers.specs.Replies.{HasAdded}
+use Rattle.snb_answered.specs.Replies.{HasAdded}
 use Rattle.snb_workers.specs.Replicas.{MayTake, Taken}
 use Rattle.snb_workers.specs.Runs.{IsReplied}
 

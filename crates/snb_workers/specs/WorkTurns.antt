@@ -10,7 +10,7 @@ use Rattle.snb_book.specs.declared.claim.Ticket.{Ticket}
 use Rattle.snb_book.specs.Kept.{IsInHand}
 use Rattle.snb_board.specs.Boards.{HasLooked, Sitting, mine}
 use Rattle.snb_plan.specs.Plans.{Plan, schedule_of}
-use Rattle.snb_workers.specs.declared.done.Answered.{Answered}
+use Rattle.snb_answered.specs.declared.done.Answered.{Answered}
 use Rattle.snb_workers.specs.declared.work.Turn.{Turn}
 use Rattle.snb_workers.specs.declared.work.Turn.TheVariants.{More, Over}
 use Rattle.snb_workers.specs.Replicas.{StandsFor, Taken}

@@ -1,11 +1,11 @@
 //! How many rows the reads of a run gave.
 
 ghost use Rattle.std.specs.Prelude.{◌≡◌, ◌<◌, List, IfOk, length};
-ghost use Rattle.snb_workers.specs.declared.done.Answered.{Answered as AnyAnswered};
+ghost use Rattle.snb_answered.specs.declared.done.Answered.{Answered as AnyAnswered};
 ghost use Rattle.snb_workers.specs.Counts.{AreCountsOf, logged_by};
 ghost use Rattle.snb_workers.specs.Replicas.{IfFinish};
 
-use crate::done::Done;
+use snb_answered::Done;
 use snb_history::{Event, Logged};
 use std::alloc::{AllocError, Global};
 use std::marker::Model;

@@ -12,16 +12,17 @@ ghost use Rattle.snb_workers.specs.Replicas.{StandsFor};
 ghost use Rattle.snb_workers.specs.Runs.{HasRun};
 ghost use Rattle.snb_workers.specs.Turns.{IsBehind};
 
-use crate::done::{Answered, Done};
 use crate::replica::Replica;
 use crate::run::{Events, Outcome};
-use crate::work::work;
+use crate::work::work_via;
+use snb_answered::{Answered, Done};
 use snb_base::{Clock, Gate};
 use snb_board::{Board, Seat};
 use snb_book::Book;
 use snb_graph::Graph;
 use snb_history::law::{hand_is_own, prefix_is_legal};
 use snb_plan::Plan;
+use snb_replies::Replies;
 use snb_workers_replay::law::{replay_is_welcome, runs_wait};
 use std::alloc::{AllocError, Global};
 use std::sync::Wait;
@@ -45,9 +46,10 @@ impl Drop for Worker {
 
 impl Worker {
     /// Works at a seat, with a replica of the base. Where there is no memory, the worker halts.
-    pub(crate) fn run<R: Wait, C: Clock, G: Gate>(
+    pub(crate) fn run<R: Wait, A: Replies, C: Clock, G: Gate>(
         rt: &R,
         alloc: Global,
+        answers: &A,
         board: &Board,
         mut seat: Seat,
         plan: &Plan,
@@ -55,6 +57,7 @@ impl Worker {
         clock: &C,
         gate: &G,
     ) -> Result<Worker, AllocError>
+        requires answers { A.ready answers.now }
         requires board { board.now.schedule ≡ schedule_of plan.now }
         requires ready { IsReady board.now seat }
         requires sound { Sound base.now }
@@ -69,7 +72,9 @@ impl Worker {
                 return Err(error);
             }
         };
-        let replies = work(rt, alloc, board, &mut seat, plan, &mut replica, clock, gate)?;
+        let replies = work_via(
+            rt, alloc, answers, board, &mut seat, plan, &mut replica, clock, gate,
+        )?;
         Ok(Worker {
             seat,
             replica,

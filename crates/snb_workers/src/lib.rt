@@ -4,7 +4,6 @@
 
 pub mod counts;
 mod crew;
-pub mod done;
 pub mod law;
 pub mod miscount;
 pub mod replica;
@@ -14,8 +13,7 @@ pub mod threads;
 pub mod work;
 
 pub use counts::Counts;
-pub use done::{Answered, Done};
-pub use miscount::{Miscount, first_miscount};
+pub use miscount::{Miscount, first_miscount_via};
 pub use replica::{Replica, ReplyText};
-pub use run::{Events, Outcome, run_alone};
-pub use threads::run_workers;
+pub use run::{Events, Outcome, run_alone_via};
+pub use threads::run_workers_via;

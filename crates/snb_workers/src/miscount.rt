@@ -12,7 +12,7 @@ ghost use Rattle.snb_workers.specs.Miscounts.{IsFirstMiscount, events_of};
 ghost use Rattle.snb_workers.specs.Replicas.{IsCountable};
 ghost use Rattle.snb_workers.specs.Tallies.{CountsRows, HasGone, IsAlong, IsEarlier, IsLeastAmong, IsTally, IsWeighed};
 
-use crate::replica::{Replica, count_first_rows};
+use crate::replica::{Replica, count_rows};
 use crate::tally::{Tally, tallies_by_front};
 use snb_graph::Graph;
 use snb_graph_model::law::graphs_are_their_rows;
@@ -20,7 +20,7 @@ use snb_history::law::prefix_is_legal;
 use snb_history::{Event, Logged};
 use snb_plan::{Plan, Task};
 use snb_read_laws::law::one_reply;
-use snb_read_replies::reply::answer;
+use snb_replies::Replies;
 use snb_workers_replay::law::replay_is_welcome;
 use std::alloc::{AllocError, Global};
 
@@ -37,7 +37,14 @@ pub struct Miscount {
 
 // How many rows the first answer of a read has on the graph, and 0 for an insert. The operation is in the
 // plan.
-fn rows_at(alloc: Global, plan: &Plan, graph: &Graph, op: u32) -> Result<u32, AllocError>
+fn rows_at<A: Replies>(
+    alloc: Global,
+    answers: &A,
+    plan: &Plan,
+    graph: &Graph,
+    op: u32,
+) -> Result<u32, AllocError>
+    requires ready { A.ready answers.now }
     requires sound { Sound graph.now }
     requires there { op < length plan.now.operations }
     ensures { IfOk result (CountsRows plan.now graph.now op) }
@@ -45,8 +52,8 @@ fn rows_at(alloc: Global, plan: &Plan, graph: &Graph, op: u32) -> Result<u32, Al
     match plan.task(op) {
         Task::Insert { .. } => Ok(0),
         Task::Ask { query } => {
-            let reply = answer(alloc, graph, query)?;
-            count_first_rows(&reply)
+            let own = answers.answer_to(alloc, graph, query)?;
+            count_rows(&own)
         }
     }
 }
@@ -107,13 +114,15 @@ fn weighed(best: Option<Miscount>, one: &Tally, needs: u32) -> Option<Miscount>
 }
 
 // The first wrong count among those of the tallies, whose fronts don't fall.
-fn least_among(
+fn least_among<A: Replies>(
     alloc: Global,
+    answers: &A,
     plan: &Plan,
     base: &Graph,
     logged: &[Logged],
     tallies: &[Tally],
 ) -> Result<Option<Miscount>, AllocError>
+    requires ready { A.ready answers.now }
     requires sound { Sound base.now }
     requires closed { IsClosed (HoldsKey base.now) (updates_in plan.now) }
     requires legal { (workers : ℕ) × IsCountable workers (events_of logged.now) × IsLegal (schedule_of plan.now) workers (events_of logged.now) }
@@ -133,7 +142,7 @@ fn least_among(
     let mut best = None;
     for one in tallies {
         go_to(alloc, plan, logged, &mut replica, one.front)?;
-        let needs = rows_at(alloc, plan, replica.graph(), one.op)?;
+        let needs = rows_at(alloc, answers, plan, replica.graph(), one.op)?;
         best = weighed(best, one, needs);
     }
     Ok(best)
@@ -142,19 +151,21 @@ fn least_among(
 /// The first event of a log that is a Finish with a wrong count of rows, if there is one. A log that has no
 /// counts has none.
 ///
-/// The conditions: the base is sound, the plan's updates are closed over it, and the events that are logged
-/// are a legal history of the plan by some number of workers.
+/// The conditions: what answers reads is ready, the base is sound, the plan's updates are closed over it, and the
+/// events that are logged are a legal history of the plan by some number of workers.
 ///
-/// One replica of the base takes the history once, and each read with a count is answered once, in the order
-/// of the fronts. There is no replica where no count has to be looked at: those of a log without counts, and
+/// One replica of the base takes the history once, and each read with a count is answered once, without the
+/// reads that follow it, in the order of the fronts. There is no replica where no count has to be looked at: those of a log without counts, and
 /// the 0 of each insert. An answer of more rows than the greatest u32 is want of memory too, and so is a log of
 /// more events.
-pub fn first_miscount(
+pub fn first_miscount_via<A: Replies>(
     alloc: Global,
+    answers: &A,
     plan: &Plan,
     base: &Graph,
     logged: &[Logged],
 ) -> Result<Option<Miscount>, AllocError>
+    requires ready { A.ready answers.now }
     requires sound { Sound base.now }
     requires closed { IsClosed (HoldsKey base.now) (updates_in plan.now) }
     requires legal { (workers : ℕ) × IsLegal (schedule_of plan.now) workers (events_of logged.now) }
@@ -164,5 +175,5 @@ pub fn first_miscount(
         return Err(AllocError);
     }
     let tallies = tallies_by_front(alloc, plan, logged)?;
-    least_among(alloc, plan, base, logged, &tallies)
+    least_among(alloc, answers, plan, base, logged, &tallies)
 }

@@ -20,8 +20,8 @@ use snb_history::Event;
 use snb_history::law::{legal_is_short, prefix_is_legal};
 use snb_inserts::apply_welcome;
 use snb_plan::{Plan, Task};
-use snb_read_model::{CowText, Reply};
-use snb_read_replies::reply::answer;
+use snb_read_model::{Answer, CowText, Reply};
+use snb_replies::Replies;
 use snb_schema::{Line, Query};
 use snb_validation::reply_text;
 use snb_workers_replay::law::replay_is_welcome;
@@ -75,6 +75,14 @@ impl ReplyText {
     }
 }
 
+/// How many rows an answer has. Takes no memory; 2^32 rows or more count as want of it.
+pub fn count_rows(answer: &Answer<CowText<'_>>) -> Result<u32, AllocError>
+    ensures ok { IfOk result (λ rows. rows ≡ length answer.now) }
+    ensures err { OnErr result (2 ^ 32 ≤ length answer.now) }
+{
+    u32::try_from(answer.as_slice().len()).map_err(|_| AllocError)
+}
+
 /// How many rows the first answer of a reply has. Takes no memory; 2^32 rows or more count as want of it.
 pub fn count_first_rows(reply: &Reply<CowText<'_>>) -> Result<u32, AllocError>
     ensures ok { IfOk result (λ rows. rows ≡ first_rows reply.now) }
@@ -82,7 +90,7 @@ pub fn count_first_rows(reply: &Reply<CowText<'_>>) -> Result<u32, AllocError>
 {
     match reply.as_slice() {
         [] => Ok(0),
-        [first, ..] => u32::try_from(first.as_slice().len()).map_err(|_| AllocError),
+        [first, ..] => count_rows(first),
     }
 }
 
@@ -178,29 +186,37 @@ impl Replica {
         Ok(())
     }
 
-    /// The reply to a query on its graph.
-    pub fn answer(&self, alloc: Global, query: &Query) -> Result<Reply<CowText<'_>>, AllocError>
+    /// The reply to a query on its graph, by what answers reads, which is ready.
+    pub fn answer_via<A: Replies>(
+        &self,
+        alloc: Global,
+        answers: &A,
+        query: &Query,
+    ) -> Result<Reply<CowText<'_>>, AllocError>
+        requires ready { A.ready answers.now }
         ensures { IfOk result (IsReply self.now.graph query.now) }
     {
-        answer(alloc, &self.graph, query)
+        answers.reply_to(alloc, &self.graph, query)
     }
 
     /// How many rows the first answer of the reply to a query on its graph has, and the reply's compact JSON
     /// text, in no more memory than its length. An answer of 2^32 rows or more counts as want of memory.
     ///
-    /// The condition: `begun`, the ticket's operation is in the hand of the seat's worker, so that nobody answers
-    /// a read before its Start.
-    pub fn answer_text(
+    /// The conditions: `begun`, the ticket's operation is in the hand of the seat's worker, so that nobody answers
+    /// a read before its Start; `ready`, what answers reads is ready.
+    pub fn answer_text<A: Replies>(
         &self,
         alloc: Global,
+        answers: &A,
         query: &Query,
         _seat: &Seat,
         _ticket: Ticket,
     ) -> Result<ReplyText, AllocError>
+        requires ready { A.ready answers.now }
         requires begun { IsInHand _seat.now.seen _ticket }
         ensures { IfOk result (λ r. IsReplied self.now.graph query.now r.rows r.text.items) }
     {
-        let reply = self.answer(alloc, query)?;
+        let reply = self.answer_via(alloc, answers, query)?;
         let rows = count_first_rows(&reply)?;
         // Most replies are of some thousand bytes.
         let mut text = Vec::with_capacity(alloc, 4096)?;

@@ -8,12 +8,13 @@ ghost use Rattle.snb_plan.specs.Plans.{updates_in};
 ghost use Rattle.snb_workers.specs.Runs.{HasRun};
 
 use crate::crew::{Worker, outcome_of};
-use crate::done::Done;
+use snb_answered::Done;
 use snb_base::{Clock, Gate, OwnedList};
 use snb_board::Board;
 use snb_graph::Graph;
 use snb_history::Event;
 use snb_plan::Plan;
+use snb_replies::Replies;
 use std::alloc::{AllocError, Global};
 use std::sync::Wait;
 
@@ -56,16 +57,18 @@ impl Outcome {
 /// Runs the plan on this thread, by one worker: each operation is claimed, done and finished. An insert is
 /// in the graph from its Finish on. A read is answered from the graph of all that has finished.
 ///
-/// The conditions: `sound`, the base is sound; `closed`, the plan is closed over it. The history is one of
+/// The conditions: `ready`, what answers reads is ready; `sound`, the base is sound; `closed`, the plan is closed over it. The history is one of
 /// one worker, and so of any number of them.
-pub fn run_alone<R: Wait, C: Clock, G: Gate>(
+pub fn run_alone_via<R: Wait, A: Replies, C: Clock, G: Gate>(
     rt: &R,
     alloc: Global,
+    answers: &A,
     plan: &Plan,
     base: &Graph,
     clock: &C,
     gate: &G,
 ) -> Result<Outcome, AllocError>
+    requires ready { A.ready answers.now }
     requires sound { Sound base.now }
     requires closed { IsClosed (HoldsKey base.now) (updates_in plan.now) }
     ensures ran { IfOk result (λ o. (workers : ℕ) → 1 ≤ workers →
@@ -77,6 +80,6 @@ pub fn run_alone<R: Wait, C: Clock, G: Gate>(
         unreachable!()
     };
     let mut crew = Vec::with_capacity(alloc, 1)?;
-    crew.push(Worker::run(rt, alloc, &board, seat, plan, base, clock, gate))?;
+    crew.push(Worker::run(rt, alloc, answers, &board, seat, plan, base, clock, gate))?;
     outcome_of(alloc, plan, board, crew)
 }

@@ -15,6 +15,7 @@ use snb_base::{Clock, Gate};
 use snb_board::{Board, Seat};
 use snb_graph::Graph;
 use snb_plan::Plan;
+use snb_replies::Replies;
 use std::alloc::{AllocError, Global};
 use std::sync::Wait;
 use std::thread;
@@ -30,9 +31,10 @@ fn frozen_copy(graph: &Graph) -> Result<Graph, AllocError>
 }
 
 // Lets a worker work at each seat, in a thread of its own where one can be made, else one after another.
-fn work_all<R: Threads + Wait + Sync, C: Clock + Sync, G: Gate + Sync>(
+fn work_all<R: Threads + Wait + Sync, A: Replies + Sync, C: Clock + Sync, G: Gate + Sync>(
     rt: &R,
     alloc: Global,
+    answers: &A,
     board: &Board,
     seats: Vec<Seat>,
     plan: &Plan,
@@ -40,6 +42,7 @@ fn work_all<R: Threads + Wait + Sync, C: Clock + Sync, G: Gate + Sync>(
     clock: &C,
     gate: &G,
 ) -> Result<Vec<Result<Worker, AllocError>>, AllocError>
+    requires ready { A.ready answers.now }
     requires board { board.now.schedule ≡ schedule_of plan.now }
     requires seats { AreReady board.now seats.items }
     requires sound { Sound base.now }
@@ -49,24 +52,26 @@ fn work_all<R: Threads + Wait + Sync, C: Clock + Sync, G: Gate + Sync>(
     thread::map_vec(
         rt,
         seats,
-        &|seat: Seat| { Worker::run(rt, alloc, board, seat, plan, base, clock, gate) },
+        &|seat: Seat| { Worker::run(rt, alloc, answers, board, seat, plan, base, clock, gate) },
     )
 }
 
 /// Runs the plan by so many workers, 1 to 8, each in a thread of its own where one can be made, else one
 /// after another: they share a board, and each brings a replica of its own forward when it answers a read.
 ///
-/// The conditions: `some` and `few`, the number of workers; `sound`, the base is sound; `closed`, the plan
+/// The conditions: `ready`, what answers reads is ready; `some` and `few`, the number of workers; `sound`, the base is sound; `closed`, the plan
 /// is closed over it. Where a worker has no memory it halts, and the answer is Err once all have returned.
-pub fn run_workers<R: Threads + Wait + Sync, C: Clock + Sync, G: Gate + Sync>(
+pub fn run_workers_via<R: Threads + Wait + Sync, A: Replies + Sync, C: Clock + Sync, G: Gate + Sync>(
     rt: &R,
     alloc: Global,
+    answers: &A,
     plan: &Plan,
     base: &Graph,
     workers: u32,
     clock: &C,
     gate: &G,
 ) -> Result<Outcome, AllocError>
+    requires ready { A.ready answers.now }
     requires some { 1 ≤ workers }
     requires few { workers ≤ MAX_WORKERS }
     requires sound { Sound base.now }
@@ -76,6 +81,6 @@ pub fn run_workers<R: Threads + Wait + Sync, C: Clock + Sync, G: Gate + Sync>(
     base.known();
     let (board, seats) = Board::make(alloc, plan.schedule(), workers)?;
     let base = frozen_copy(base)?;
-    let crew = work_all(rt, alloc, &board, seats, plan, &base, clock, gate)?;
+    let crew = work_all(rt, alloc, answers, &board, seats, plan, &base, clock, gate)?;
     outcome_of(alloc, plan, board, crew)
 }

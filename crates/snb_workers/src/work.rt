@@ -11,13 +11,14 @@ ghost use Rattle.snb_workers.specs.Turns.{IsServed};
 ghost use Rattle.snb_workers.specs.WorkTurns.{HasCome, HasFollowed, IsAbreast, IsAtWork, IsHolding, IsReadyFor, TurnsOn};
 ghost use Rattle.snb_workers.specs.Works.{AreTimely, HasStopped, HasWorked, IsFollowing, IsFree, IsLater};
 
-use crate::done::{Answered, Done};
 use crate::replica::Replica;
+use snb_answered::{Answered, Done};
 use snb_base::{Clock, Gate, OwnedList, Phase};
 use snb_board::{Board, Seat};
 use snb_book::{Claim, Ticket};
 use snb_history::law::{hand_is_own, prefix_is_legal};
 use snb_plan::{Plan, Task};
+use snb_replies::Replies;
 use std::alloc::{AllocError, Global};
 use std::sync::Wait;
 
@@ -38,8 +39,9 @@ pub struct Served {
 
 // Answers the operation that the seat has in hand from the replica, if it is a read, and keeps the text of its
 // reply and how many rows that has. The clock is asked when the reply is there.
-fn serve<C: Clock>(
+fn serve<A: Replies, C: Clock>(
     alloc: Global,
+    answers: &A,
     plan: &Plan,
     replica: &Replica,
     replies: &mut Done,
@@ -47,6 +49,7 @@ fn serve<C: Clock>(
     ticket: Ticket,
     clock: &C,
 ) -> Result<Served, AllocError>
+    requires ready { A.ready answers.now }
     requires there { IsOperation (schedule_of plan.now) ticket.op }
     requires held { IsInHand seat.now.seen ticket }
     requires new { All (λ other. other.op ≢ ticket.op) replies.old }
@@ -62,7 +65,7 @@ fn serve<C: Clock>(
         Task::Ask { query } => {
             let front = replica.front();
             let (rows, text) = replica
-                .answer_text(alloc, query, seat, ticket)?
+                .answer_text(alloc, answers, query, seat, ticket)?
                 .into_parts();
             let text = OwnedList::from_vec(alloc, text);
             let now = clock.after(text.as_slice());
@@ -81,16 +84,17 @@ fn serve<C: Clock>(
 
 // What the workers at a board share.
 #[derive(Drop)]
-struct Shared<'a, R, C, G> {
+struct Shared<'a, R, A, C, G> {
     rt: &'a R,
     alloc: Global,
+    answers: &'a A,
     board: &'a Board,
     plan: &'a Plan,
     clock: &'a C,
     gate: &'a G,
 }
 
-impl<'a, R: Wait, C: Clock, G: Gate> Shared<'a, R, C, G> {
+impl<'a, R: Wait, A: Replies, C: Clock, G: Gate> Shared<'a, R, A, C, G> {
     // The replica takes what has happened at the board since.
     fn follow(&self, seat: &mut Seat, replica: &mut Replica) -> Result<(), AllocError>
         requires board { seat.old.site ≡ self.now.board.now }
@@ -130,6 +134,7 @@ impl<'a, R: Wait, C: Clock, G: Gate> Shared<'a, R, C, G> {
         replies: &mut Done,
         ticket: Ticket,
     ) -> Result<(), AllocError>
+        requires ready { A.ready self.now.answers.now }
         requires board { seat.old.site ≡ self.now.board.now }
         requires holding { (first : Sitting) × (old : Taken) × IsHolding self.now.plan.now (C.moments self.now.clock.now) first old seat.old replica.old replies.old ticket }
         ensures ok { OnOk result ((first : Sitting) (old : Taken) → IsHolding self.now.plan.now (C.moments self.now.clock.now) first old seat.old replica.old replies.old ticket →
@@ -143,7 +148,14 @@ impl<'a, R: Wait, C: Clock, G: Gate> Shared<'a, R, C, G> {
             .pass(self.rt, ticket.worker, ticket.op, Phase::Held);
         self.make_ready(seat, replica, ticket.op)?;
         let served = serve(
-            self.alloc, self.plan, replica, replies, seat, ticket, self.clock,
+            self.alloc,
+            self.answers,
+            self.plan,
+            replica,
+            replies,
+            seat,
+            ticket,
+            self.clock,
         )?;
         self.board
             .finish(self.rt, seat, ticket, served.now, served.front);
@@ -171,6 +183,7 @@ impl<'a, R: Wait, C: Clock, G: Gate> Shared<'a, R, C, G> {
         replica: &mut Replica,
         replies: &mut Done,
     ) -> Result<Turn, AllocError>
+        requires ready { A.ready self.now.answers.now }
         requires board { seat.old.site ≡ self.now.board.now }
         requires at_work { (first : Sitting) × (old : Taken) × IsAtWork self.now.plan.now (C.moments self.now.clock.now) first old seat.old replica.old replies.old }
         ensures ok { IfOk result (λ turn. (first : Sitting) (old : Taken) → IsAtWork self.now.plan.now (C.moments self.now.clock.now) first old seat.old replica.old replies.old →
@@ -210,12 +223,13 @@ impl<'a, R: Wait, C: Clock, G: Gate> Shared<'a, R, C, G> {
 /// hand. Where there is no memory, the worker halts, what it has in hand stays
 /// unfinished, and the answer is Err.
 ///
-/// The conditions: `board`, the board is one of the plan's schedule; `seat`, the seat is one of the board's;
+/// The conditions: `ready`, what answers reads is ready; `board`, the board is one of the plan's schedule; `seat`, the seat is one of the board's;
 /// `free`, its worker has nothing in hand and hasn't halted; `following`, the replica stands for a
 /// beginning of what the seat has seen, over a base over which the plan is closed.
-pub fn work<R: Wait, C: Clock, G: Gate>(
+pub fn work_via<R: Wait, A: Replies, C: Clock, G: Gate>(
     rt: &R,
     alloc: Global,
+    answers: &A,
     board: &Board,
     seat: &mut Seat,
     plan: &Plan,
@@ -223,6 +237,7 @@ pub fn work<R: Wait, C: Clock, G: Gate>(
     clock: &C,
     gate: &G,
 ) -> Result<Done, AllocError>
+    requires ready { A.ready answers.now }
     requires board { board.now.schedule ≡ schedule_of plan.now }
     requires seat { seat.old.site ≡ board.now }
     requires free { IsFree seat.old }
@@ -236,6 +251,7 @@ pub fn work<R: Wait, C: Clock, G: Gate>(
     let shared = Shared {
         rt,
         alloc,
+        answers,
         board,
         plan,
         clock,

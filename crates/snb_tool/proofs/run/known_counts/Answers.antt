@@ -2,7 +2,7 @@ use Rattle.std.proofs.Common.{◌≤◌, All, arith, subst}
 use Rattle.std.proofs.lemmas.List.Elements.{All-more}
 use Rattle.std.proofs.lemmas.List.{take_all}
 use Rattle.snb_runlog.specs.declared.columns.TheConstants.{MAX_NUMBER}
-use Rattle.snb_workers.specs.declared.done.Answered.{Answered}
+use Rattle.snb_answered.specs.declared.done.Answered.{Answered}
 use Rattle.snb_tool.proofs.run.known_counts.Goals as goal
 
 pub loop-one-preserved : goal.loop-one-preserved

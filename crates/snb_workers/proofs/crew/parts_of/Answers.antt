@@ -6,7 +6,7 @@ use Rattle.std.proofs.lemmas.List.Elements.{Contains-append_left, Contains-appen
 use Rattle.snb_workers.specs.declared.crew.Worker.{Worker}
 use Rattle.snb_workers.specs.Replicas.{Taken}
 use Rattle.snb_base.proofs.Laws.{contains_here}
-use Rattle.snb_workers.proofs.Gathered.{contained_any}
+use Rattle.snb_answered.proofs.Laws.{contained_any}
 use Rattle.snb_workers.proofs.crew.parts_of.Goals as goal
 
 -- the replica that was kept, or the new one, is that of one of those so far

@@ -8,6 +8,6 @@ returns-in-Err-Missing-clause-bad g c =
     let at = c.in-Err-Missing in
     inl (
       at.missing,
-      subst (λ (s : Counted). IsUnmet s.checked.graph c.args.item.case at.missing) c.self.view_is ((c.step_by.ensures.missing at.missing).0 (at.is ∙ ap Err at.field-0-is)),
+      subst (λ (s : Counted). IsUnmet s.checked.graph c.args.item.case at.missing) c.self.view_is ((c.step_via.ensures.missing at.missing).0 (at.is ∙ ap Err at.field-0-is)),
       refl,
     )
