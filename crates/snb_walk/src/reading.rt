@@ -10,7 +10,7 @@ use crate::targets::push_targets;
 use snb_base::Text;
 use snb_graph::Graph;
 use snb_read_laws::law::answers_have_columns;
-use snb_read_model::{Answer, Reply, owned_answer};
+use snb_read_model::{Answer, Reply, copy_answer};
 use snb_replies::Replies;
 use snb_schema::Query;
 use std::alloc::{AllocError, Global};
@@ -47,7 +47,7 @@ pub(crate) fn answer_of<A: Replies>(
     requires sound { Sound graph.now }
     ensures { IfOk result (IsAnswer graph.now query.now) }
 {
-    owned_answer(answers.answer_to(alloc, graph, query)?)
+    copy_answer(&answers.answer_to(alloc, graph, query)?)
 }
 
 // The answers to reads, and their targets.
