@@ -1,6 +1,6 @@
 //! The commands that ask a table of handlers.
 
-ghost use Rattle.std.specs.Prelude.{◌≡◌, Option, Some};
+ghost use Rattle.std.specs.Prelude.{◌≡◌, Some};
 ghost use Rattle.snb_base.specs.Moments.{Moments};
 ghost use Rattle.snb_base.specs.Reads.{IsRead};
 ghost use Rattle.snb_handlers.specs.Table.{HasAll, kinds};
@@ -17,7 +17,8 @@ use snb_base::Shelf;
 use snb_handlers::Handlers;
 use snb_input_files::Load;
 use snb_schema::{Query, Refusal};
-use snb_tool_dataset::{validate, walk};
+use snb_tool_dataset::validate::validate;
+use snb_tool_dataset::walk::walk;
 use snb_tool_outcome::Finished;
 use snb_walk::{Chance, Policy};
 use std::alloc::Global;

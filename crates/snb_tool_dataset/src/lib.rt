@@ -7,9 +7,3 @@ pub mod expect;
 pub mod read;
 pub mod validate;
 pub mod walk;
-
-pub use check::check;
-pub use expect::expect;
-pub use read::read;
-pub use validate::validate;
-pub use walk::walk;

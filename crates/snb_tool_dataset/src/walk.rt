@@ -1,12 +1,11 @@
 //! The command `walk`.
 
-ghost use Rattle.std.specs.Prelude.{◌≡◌, ◌++◌, ℕ, IfOk, List, OnOk, Option, Some};
+ghost use Rattle.std.specs.Prelude.{◌≡◌, ◌++◌, IfOk, List, OnOk, Some};
 ghost use Rattle.snb_base.specs.Moments.{Moments};
 ghost use Rattle.snb_base.specs.Reads.{IsRead};
 ghost use Rattle.snb_handlers.specs.Table.{HasAll};
 ghost use Rattle.snb_input_files.specs.Loading.{is_read_fault};
 ghost use Rattle.snb_input_files.specs.Names.{Allows, IsNameIn};
-ghost use Rattle.snb_graph_model.specs.Soundness.{Sound};
 ghost use Rattle.snb_loader.specs.Order.{table_series};
 ghost use Rattle.snb_schema.specs.declared.read_kind.ReadKind.{ReadKind};
 ghost use Rattle.snb_tool_words.specs.declared.command.Command.TheVariants.{Walk};
@@ -15,7 +14,6 @@ ghost use Rattle.snb_tool_outcome.specs.Names.{IsNameOf};
 ghost use Rattle.snb_tool_outcome.specs.WalkTexts.{reply_line, step_line, stop_line, walk_text};
 
 use snb_base::{Shelf, Text};
-use snb_graph::Graph;
 use snb_input_files::{Load, Used};
 use snb_loader::load_dataset;
 use snb_read_model::{CowText, Reply, lend_answer, lend_reply, reply_with_tail};

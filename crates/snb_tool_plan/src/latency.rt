@@ -1,6 +1,6 @@
 //! The command `latency`.
 
-ghost use Rattle.std.specs.Prelude.{◌≡◌, ℕ, IfOk, Option};
+ghost use Rattle.std.specs.Prelude.{◌≡◌, ℕ, IfOk};
 ghost use Rattle.snb_base.specs.Moments.{Moments};
 ghost use Rattle.snb_base.specs.Reads.{IsRead};
 ghost use Rattle.snb_history.specs.Rules.{IsComplete, IsLegal};

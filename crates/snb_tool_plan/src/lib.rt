@@ -7,7 +7,3 @@ pub mod latency;
 pub mod run;
 pub mod trial;
 pub mod waiting;
-
-pub use audit::audit;
-pub use latency::latency;
-pub use waiting::obey_waiting;
