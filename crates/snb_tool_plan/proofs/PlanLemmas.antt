@@ -22,9 +22,9 @@ use Rattle.snb_tool_texts.specs.Answers.{answers_text}
 use Rattle.snb_tool_words.specs.declared.command.Command.TheVariants.{Audit, Latency, Run, Trial}
 use Rattle.snb_tool_outcome.specs.Inputs.{Given, plan_checks}
 use Rattle.snb_walk.specs.declared.target.Pick.TheVariants.{Modulo}
-use Rattle.snb_workers.specs.Counts.{logged_of}
+use Rattle.snb_replica.specs.Counts.{logged_of}
 use Rattle.snb_workers.specs.declared.run.Outcome.{Outcome}
-use Rattle.snb_workers.specs.Miscounts.{IsFirstMiscount, events_of}
+use Rattle.snb_miscount.specs.Miscounts.{IsFirstMiscount, events_of}
 use Rattle.snb_workers.specs.Runs.{HasRun}
 use Rattle.snb_tool_outcome.specs.declared.judged.Judged.{Judged}
 use Rattle.snb_tool_outcome.specs.declared.input.Input.{Input}
