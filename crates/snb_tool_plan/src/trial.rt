@@ -48,14 +48,7 @@ pub fn trial<
     A: Replies + Sync,
     C: Clock + Sync,
     G: Gate + Sync,
->(
-    rt: &R,
-    answers: &A,
-    size: u32,
-    workers: u32,
-    clock: &C,
-    gate: &G,
-) -> Result<Finished, Load>
+>(rt: &R, answers: &A, size: u32, workers: u32, clock: &C, gate: &G) -> Result<Finished, Load>
     requires ready { A.ready answers.now }
     requires some { 1 ≤ size }
     requires few { size ≤ MAX_TRIAL }
