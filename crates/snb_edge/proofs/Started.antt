@@ -10,8 +10,8 @@ use Rattle.snb_base.specs.declared.shelf.Shelf.{Ghosts as Shelves}
 use Rattle.snb_base.specs.Moments.{Moments}
 use Rattle.snb_base.specs.Shelf.{Names}
 use Rattle.snb_schema.specs.declared.read_kind.ReadKind.{ReadKind}
-use Rattle.snb_tool.specs.Names.{MayAskFor}
-use Rattle.snb_tool.specs.Outcome.{Asked, HasServed, with}
+use Rattle.snb_tool_outcome.specs.Names.{MayAskFor}
+use Rattle.snb_tool_outcome.specs.Outcome.{Asked, HasServed, with}
 use Rattle.snb_tool_words.specs.Words.{texts_of}
 use Rattle.snb_walk.specs.declared.target.Pick.{Pick}
 use Rattle.snb_walk.specs.declared.target.Pick.TheVariants.{Modulo}

@@ -7,7 +7,7 @@ use Rattle.snb_edge.specs.declared.fault.Fault.{Fault}
 use Rattle.snb_edge.specs.declared.fault.Fault.TheVariants.{Read, Write, Memory}
 use Rattle.snb_schema.specs.declared.read_kind.ReadKind.{ReadKind}
 use Rattle.snb_schema.specs.declared.read_kind.ReadKind.TheVariants.{Is1, Is2, Is3, Is4, Is5, Is6, Is7, Ic1, Ic2, Ic7, Ic8, Ic9, Ic11, Ic13}
-use Rattle.snb_tool.specs.Outcome.{Asked, HasServed}
+use Rattle.snb_tool_outcome.specs.Outcome.{Asked, HasServed}
 use Rattle.snb_walk.specs.declared.target.Pick.TheVariants.{Modulo}
 
 -- the exit status of a fault

@@ -5,7 +5,7 @@ ghost use Rattle.std.specs.Option.{option_map};
 ghost use Rattle.std.specs.Process.{exit_status};
 ghost use Rattle.snb_graph_model.specs.Soundness.{Sound};
 ghost use Rattle.snb_read_model.specs.Replies.{IsAnswer};
-ghost use Rattle.snb_tool.specs.Names.{MayAskFor};
+ghost use Rattle.snb_tool_outcome.specs.Names.{MayAskFor};
 ghost use Rattle.snb_tool_words.specs.Words.{texts_of};
 ghost use Rattle.snb_walk.specs.declared.target.Pick.TheVariants as picks;
 ghost use Rattle.snb_walk.specs.Picks.{index_of};

@@ -13,7 +13,7 @@ use Rattle.snb_tool_words.specs.declared.command.Command.{Command}
 use Rattle.snb_tool_words.specs.declared.command.Command.TheVariants.{Audit, Check, Expect, Latency, Run, Read, Trial, Validate, Walk}
 use Rattle.snb_tool_words.specs.declared.options.Via.{Via}
 use Rattle.snb_tool_words.specs.Laws.{WordsAreOne}
-use Rattle.snb_tool.specs.Inputs.{at_first, Found, Given, IsFine, IsFoundTold, IsWrong}
+use Rattle.snb_tool_outcome.specs.Inputs.{at_first, Found, Given, IsFine, IsFoundTold, IsWrong}
 use Rattle.snb_auditor_log.specs.LogFiles.{IsLogOf}
 use Rattle.snb_validation_cases.specs.declared.case.CaseAt.{CaseAt}
 use Rattle.snb_validation_check.specs.declared.difference.Difference.{Difference}
@@ -34,9 +34,9 @@ use Rattle.snb_workers.specs.Laws.{CountsOfARun}
 use Rattle.snb_miscount.specs.Miscounts.{events_of}
 use Rattle.snb_schema.specs.declared.row.Row.{Row}
 use Rattle.snb_tool.specs.Laws.{AnswersHaveStatus, AuditInShort, IsAuditInShort, IsLatencyInShort, IsRunInShort, IsValidateInShort, LatencyInShort, RefusalIsOne, RefusedOrNot, RunInShort, ValidateInShort}
-use Rattle.snb_tool.specs.Outcome.{Asked, IsAnswer, IsAsked, ShowsSummary, TellsLatencies, TellsVerdict, IsDone, IsDoneAnswer, IsJudged, IsRefused, IsRun, IsValidated}
-use Rattle.snb_tool.specs.Output.{HasBegun, HasWritten, Wrote, on_screen}
-use Rattle.snb_tool.specs.Outside.{Ends, GivenUp, Outside, ReadFault, Whole, WriteFault}
+use Rattle.snb_tool_outcome.specs.Outcome.{Asked, IsAnswer, IsAsked, ShowsSummary, TellsLatencies, TellsVerdict, IsDone, IsDoneAnswer, IsJudged, IsRefused, IsRun, IsValidated}
+use Rattle.snb_tool_outcome.specs.Output.{HasBegun, HasWritten, Wrote, on_screen}
+use Rattle.snb_tool_outcome.specs.Outside.{Ends, GivenUp, Outside, ReadFault, Whole, WriteFault}
 use Rattle.snb_tool.proofs.OutcomeLemmas.{ends_weaker}
 
 -- ---- statuses

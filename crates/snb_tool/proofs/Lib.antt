@@ -1,13 +1,9 @@
 pub mod AskedLemmas
 pub mod CompleteLemmas
-pub mod InputLemmas
-pub mod LogLemmas
+pub mod OnceLemmas
 pub mod OutcomeLemmas
-pub mod Writing
-pub mod ExpectLemmas
 pub mod ValidLemmas
 pub mod ViaLemmas
-pub mod TrialLemmas
 pub mod Served
 pub mod WholeLemmas
 pub mod EachLine

@@ -8,11 +8,11 @@ use Rattle.snb_tool_words.specs.declared.command.Command.{Command}
 use Rattle.snb_tool_words.specs.declared.command.Command.TheVariants.{Audit, Check, Expect, Latency, Run, Read, Trial, Validate, Walk}
 use Rattle.snb_tool_words.specs.Commands.{IsLineOf, folder_of, needs_table, waits}
 use Rattle.snb_tool_words.specs.Laws.{WordsAreOne}
-use Rattle.snb_tool.specs.Inputs.{Given}
+use Rattle.snb_tool_outcome.specs.Inputs.{Given}
 use Rattle.snb_tool.specs.Laws.{AnswersHaveStatus, RefusalIsOne, RefusedOrNot}
-use Rattle.snb_tool.specs.Names.{MayAskFor}
-use Rattle.snb_tool.specs.Outcome.{AreWaiting, Asked, HasServed, IsAnswer, IsAsked, IsOther, ReadsNothing}
-use Rattle.snb_tool.specs.Outside.{EndsAs, IsReadOnly, seen}
+use Rattle.snb_tool_outcome.specs.Names.{MayAskFor}
+use Rattle.snb_tool_outcome.specs.Outcome.{AreWaiting, Asked, HasServed, IsAnswer, IsAsked, IsOther, ReadsNothing}
+use Rattle.snb_tool_outcome.specs.Outside.{EndsAs, IsReadOnly, seen}
 use Rattle.snb_tool.proofs.CompleteLemmas.{complete, ends_answered, ends_counted, ends_cut, ends_read, ends_unwritten, refuses}
 
 -- ---- words that run a plan

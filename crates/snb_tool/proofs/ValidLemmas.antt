@@ -23,11 +23,11 @@ use Rattle.snb_tool_words.specs.declared.command.Command.TheVariants.{Expect, Va
 use Rattle.snb_tool_words.specs.declared.options.Via.TheVariants.{Graph}
 use Rattle.snb_tool_words.specs.Commands.{IsLineOf}
 use Rattle.snb_tool_words.specs.Laws.{WordsAreOne}
-use Rattle.snb_tool.specs.Inputs.{AreBadCases, Found, Given, IsFine, IsFoundTold, at_first, checks_of}
+use Rattle.snb_tool_outcome.specs.Inputs.{AreBadCases, Found, Given, IsFine, IsFoundTold, at_first, checks_of}
 use Rattle.snb_tool.specs.Laws.{ExpectInShort, ExpectedIsValid, RefusedOrNot}
-use Rattle.snb_tool.specs.Outcome.{Asked, IsAnswer, IsDone, IsExpected, IsValidated}
+use Rattle.snb_tool_outcome.specs.Outcome.{Asked, IsAnswer, IsDone, IsExpected, IsValidated}
 use Rattle.snb_tool.proofs.CompleteLemmas.{added, told_files}
-use Rattle.snb_tool.proofs.InputLemmas.{not_bad}
+use Rattle.snb_tool_dataset.proofs.Laws.{not_bad}
 
 -- the tables of a folder have this graph, and over it nothing is wrong with this file of cases and no reply differs
 record IsRight (held : Held) (text : List ℕ) : Type 0 where

@@ -25,10 +25,10 @@ use Rattle.snb_validation_check.specs.CasesFile.{IsTally}
 use Rattle.snb_validation_check.specs.CheckTexts.{tally_status, tally_text}
 use Rattle.snb_validation_check.specs.Laws.{TallyIsOne}
 use Rattle.snb_walk.specs.declared.target.Pick.TheVariants.{Modulo}
-use Rattle.snb_tool.specs.Inputs.{AreBadCases, Found, Given, IsFoundTold, IsUnregistered, at_first}
+use Rattle.snb_tool_outcome.specs.Inputs.{AreBadCases, Found, Given, IsFoundTold, IsUnregistered, at_first}
 use Rattle.snb_tool.specs.Laws.{RefusalIsOne, RefusedOrNot, ViaTableIsTheSame}
-use Rattle.snb_tool.specs.Outcome.{Asked, Belongs, IsAnswer, IsRefused, IsValidated}
-use Rattle.snb_tool.specs.Output.{on_screen}
+use Rattle.snb_tool_outcome.specs.Outcome.{Asked, Belongs, IsAnswer, IsRefused, IsValidated}
+use Rattle.snb_tool_outcome.specs.Output.{on_screen}
 use Rattle.snb_tool.proofs.CompleteLemmas.{told_files}
 
 -- over the same tables and cases one status and one text are told

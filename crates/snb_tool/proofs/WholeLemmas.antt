@@ -28,12 +28,12 @@ use Rattle.snb_tool_words.specs.Laws.{WordsAreOne}
 use Rattle.snb_replica.specs.Counts.{logged_of}
 use Rattle.snb_workers.specs.Laws.{CountsOfARun}
 use Rattle.snb_miscount.specs.Miscounts.{events_of}
-use Rattle.snb_tool.specs.Inputs.{Found, Given, IsFine, IsFoundTold, IsInput, checks_of, plan_checks}
+use Rattle.snb_tool_outcome.specs.Inputs.{Found, Given, IsFine, IsFoundTold, IsInput, checks_of, plan_checks}
 use Rattle.snb_tool.specs.Laws.{RefusedOrNot, RunIsWhole}
-use Rattle.snb_tool.specs.Outcome.{Asked, IsAnswer, IsDone, IsJudged, IsRun, ShowsSummary, TellsLatencies, TellsVerdict}
-use Rattle.snb_tool.specs.Output.{on_screen}
+use Rattle.snb_tool_outcome.specs.Outcome.{Asked, IsAnswer, IsDone, IsJudged, IsRun, ShowsSummary, TellsLatencies, TellsVerdict}
+use Rattle.snb_tool_outcome.specs.Output.{on_screen}
 use Rattle.snb_tool.proofs.CompleteLemmas.{told_exactly, told_files}
-use Rattle.snb_tool.proofs.InputLemmas.{AreOne, planned_one}
+use Rattle.snb_tool_outcome.proofs.Laws.{AreOne, planned_one}
 
 -- nothing is wrong with the files of a plan, and the text is a log that says a whole run of it
 record IsWholeLog (held : Held) (ratio : ℕ) (table : FrequencyTable) (text : List ℕ) : Type 0 where

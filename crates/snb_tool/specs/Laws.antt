@@ -57,9 +57,9 @@ use Rattle.snb_replica.specs.Counts.{TellsCounts}
 use Rattle.snb_miscount.specs.Miscounts.{events_of}
 use Rattle.snb_answered.specs.declared.done.Answered.{Answered}
 use Rattle.snb_workers.specs.Runs.{AreByClock, AreReplies}
-use Rattle.snb_tool.specs.Inputs.{ArePlanned, Found, Given, IsFine, IsInput, after_dataset, after_streams, at_first, checks_of}
-use Rattle.snb_tool.specs.Outcome.{Asked, IsAnswer}
-use Rattle.snb_tool.specs.Output.{HasWritten, on_screen}
+use Rattle.snb_tool_outcome.specs.Inputs.{ArePlanned, Found, Given, IsFine, IsInput, after_dataset, after_streams, at_first, checks_of}
+use Rattle.snb_tool_outcome.specs.Outcome.{Asked, IsAnswer}
+use Rattle.snb_tool_outcome.specs.Output.{HasWritten, on_screen}
 
 -- what a command finds is refused for one thing at most
 abbrev pub RefusalIsOne : Type 0

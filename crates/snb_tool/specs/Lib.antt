@@ -1,8 +1,2 @@
-pub mod Endings
-pub mod Inputs
+pub mod Connectors
 pub mod Laws
-pub mod Names
-pub mod Outcome
-pub mod Output
-pub mod Outside
-pub mod WalkTexts

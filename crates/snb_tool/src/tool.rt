@@ -1,34 +1,35 @@
 //! The one call that does all that the program does.
 
-ghost use Rattle.std.specs.Prelude.{◌≡◌, ◌≤◌, ◌⊎◌, None, ◌≢◌, false, true, IfOk, IfSome, IsSome, MatchOption, OnErr};
+ghost use Rattle.std.specs.Prelude.{◌≡◌, ◌≤◌, ◌⊎◌, None, ◌≢◌, false, true, IfOk, IsSome, MatchOption, OnErr};
 ghost use Rattle.snb_base.specs.Moments.{Moments};
 ghost use Rattle.snb_base.specs.Reads.{IsRead};
 ghost use Rattle.snb_handlers.specs.Table.{kinds};
 ghost use Rattle.snb_input_files.specs.Loading.{is_read_fault};
 ghost use Rattle.snb_input_files.specs.Names.{Allows};
-ghost use Rattle.snb_tool_words.specs.Commands.{IsRunnable, folder_of, needs_table, waits};
+ghost use Rattle.snb_tool_words.specs.Commands.{folder_of, needs_table, waits};
 ghost use Rattle.snb_tool_words.specs.Words.{texts_of};
-ghost use Rattle.snb_tool.specs.Endings.{IsFinished, LacksKind, asked_by, given_by};
-ghost use Rattle.snb_tool.specs.Inputs.{Given};
-ghost use Rattle.snb_tool.specs.Names.{IsNameOf, MayAskFor};
-ghost use Rattle.snb_tool.specs.Outcome.{AreWaiting, HasServed, IsAnswer, IsAsked, IsOther, ReadsNothing, alone, with};
-ghost use Rattle.snb_tool.specs.Outside.{EndsAs, IsReadOnly, seen};
+ghost use Rattle.snb_tool.specs.Connectors.{given_by};
+ghost use Rattle.snb_tool_outcome.specs.Endings.{IsFinished, LacksKind, asked_by};
+ghost use Rattle.snb_tool_outcome.specs.Inputs.{Given};
+ghost use Rattle.snb_tool_outcome.specs.Names.{IsNameOf, MayAskFor};
+ghost use Rattle.snb_tool_outcome.specs.Outcome.{AreWaiting, HasServed, IsAnswer, IsAsked, IsOther, ReadsNothing, alone, with};
+ghost use Rattle.snb_tool_outcome.specs.Outside.{EndsAs, IsReadOnly, seen};
 
-use crate::audit::audit;
-use crate::check::check;
-use crate::deliver::Finished;
-use crate::expect::expect;
-use crate::finish::{finish, show_as};
-use crate::latency::latency;
 use crate::law::{answers_have_status, refusal_is_one};
-use crate::read::read;
-use crate::run::run;
-use crate::trial::trial;
-use crate::validate::{validate, validate_via};
-use crate::walk::walk;
+use crate::table::{validate_via, walk_via};
 use snb_base::{Clock, Gate, Outbox, Shelf};
 use snb_handlers::Handlers;
 use snb_input_files::Load;
+use snb_read_replies::OwnReads;
+use snb_tool_dataset::check::check;
+use snb_tool_dataset::expect::expect;
+use snb_tool_dataset::read::read;
+use snb_tool_dataset::validate::validate;
+use snb_tool_outcome::Finished;
+use snb_tool_outcome::finish::{finish, show_as};
+use snb_tool_plan::audit::audit;
+use snb_tool_plan::latency::latency;
+use snb_tool_plan::waiting::obey_waiting;
 use snb_tool_words::law::one_command;
 use snb_tool_words::{Command, Via, asks_table, command_of, waits};
 use snb_walk::Policy;
@@ -68,6 +69,7 @@ fn obey<S: Shelf>(
             frequencies,
         } => audit(
             alloc,
+            &OwnReads,
             shelf,
             folder.as_str(),
             log.as_str(),
@@ -81,6 +83,7 @@ fn obey<S: Shelf>(
             frequencies,
         } => latency(
             alloc,
+            &OwnReads,
             shelf,
             folder.as_str(),
             log.as_str(),
@@ -90,73 +93,36 @@ fn obey<S: Shelf>(
         Command::Expect {
             folder,
             frequencies,
-        } => expect(alloc, shelf, folder.as_str(), *frequencies),
+        } => expect(alloc, &OwnReads, shelf, folder.as_str(), *frequencies),
         Command::Validate { folder, cases, via } => match via {
-            Via::Graph => validate(alloc, shelf, folder.as_str(), cases.as_str()),
+            Via::Graph => validate(alloc, &OwnReads, shelf, folder.as_str(), cases.as_str()),
             Via::Table => match given {
                 Some((handlers, _)) => {
-                    validate_via(alloc, shelf, folder.as_str(), cases.as_str(), handlers)
+                    validate_via(alloc, handlers, shelf, folder.as_str(), cases.as_str())
                 }
                 None => unreachable!(),
             },
         },
-        Command::Read { folder, query } => read(alloc, shelf, folder.as_str(), query),
+        Command::Read { folder, query } => read(alloc, &OwnReads, shelf, folder.as_str(), query),
         Command::Walk {
             folder,
             query,
             chance,
             words,
         } => match given {
-            Some((handlers, policy)) => walk(
+            Some((handlers, policy)) => walk_via(
                 alloc,
+                handlers,
+                policy,
                 shelf,
                 folder.as_str(),
                 query,
                 *chance,
                 words.as_slice(),
-                handlers,
-                policy,
             ),
             None => unreachable!(),
         },
         Command::Run { .. } | Command::Trial { .. } => unreachable!(),
-    }
-}
-
-// Does what a command says that runs a plan, and answers it. The conditions: it is such a command (`waiting`), and the
-// shelf may be asked for its names (`allowed`).
-fn obey_waiting<R: AllocGlobal + Threads + Wait + Sync, S: Shelf, C: Clock + Sync, G: Gate + Sync>(
-    rt: &R,
-    command: &Command,
-    shelf: &mut S,
-    clock: &C,
-    gate: &G,
-) -> Result<Finished, Load>
-    requires runnable { IsRunnable command.now }
-    requires waiting { waits command.now ≡ true }
-    requires allowed { Allows (S.may shelf.old) (IsNameOf command.now) }
-    ensures answer { (given : Given) → IsFinished command.now (S.contents shelf.old) given (C.moments clock.now) result }
-    ensures unread { folder_of command.now ≡ None → shelf.new ≡ shelf.old }
-    ensures read { IsRead (is_read_fault result) S.Shelf shelf.old shelf.new }
-{
-    match command {
-        Command::Run {
-            folder,
-            workers,
-            ratio,
-            frequencies,
-        } => run(
-            rt,
-            shelf,
-            folder.as_str(),
-            *workers,
-            *ratio,
-            *frequencies,
-            clock,
-            gate,
-        ),
-        Command::Trial { size, workers } => trial(rt, *size, *workers, clock, gate),
-        _ => unreachable!(),
     }
 }
 
@@ -231,7 +197,7 @@ fn answer_waiting<
     one_command();
     match command_of(rt.alloc(), words) {
         Ok(Some(command)) => {
-            let answer = obey_waiting(rt, &command, shelf, clock, gate);
+            let answer = obey_waiting(rt, &OwnReads, &command, shelf, clock, gate);
             finish(rt.alloc(), out, answer)
         }
         Ok(None) => show_as(out, USAGE.as_bytes(), 2),

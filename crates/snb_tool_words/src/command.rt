@@ -158,30 +158,6 @@ impl Drop for Command {
     }
 }
 
-impl Command {
-    ghost use Rattle.snb_tool_words.specs.Commands.{needs_table};
-
-    /// Whether it asks a table of handlers.
-    pub fn needs_table(&self) -> bool
-        ensures { result ≡ needs_table self.now }
-    {
-        match self {
-            Command::Validate {
-                folder: _,
-                cases: _,
-                via: Via::Table,
-            } => true,
-            Command::Walk {
-                folder: _,
-                query: _,
-                chance: _,
-                words: _,
-            } => true,
-            _ => false,
-        }
-    }
-}
-
 // The options of `check` and `expect`, of `run`, of `audit` and `latency`, of `validate`, and of `walk`,
 // which needs them all, and those that `run` needs.
 const OF_CHECK: [OptionName; 1] = [OptionName::Frequencies];

@@ -1,4 +1,5 @@
-use Rattle.snb_tool.proofs.InputLemmas.{AreOne, RefuseEachOnce, once}
+use Rattle.snb_tool_outcome.proofs.Laws.{AreOne}
+use Rattle.snb_tool.proofs.OnceLemmas.{RefuseEachOnce, once}
 use Rattle.snb_tool.proofs.law.refusal_is_one.Goals as goal
 
 pub returns-clause-one : goal.returns-clause-one

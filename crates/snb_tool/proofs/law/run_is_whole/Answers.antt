@@ -1,4 +1,4 @@
-use Rattle.snb_tool.proofs.InputLemmas.{AreOne}
+use Rattle.snb_tool_outcome.proofs.Laws.{AreOne}
 use Rattle.snb_tool.proofs.WholeLemmas.{run_is_whole}
 use Rattle.snb_tool.proofs.law.run_is_whole.Goals as goal
 

@@ -1,8 +1,9 @@
 use Rattle.std.proofs.Common.{inl, inr, refl, ap}
-use Rattle.snb_tool.specs.Endings.{asked_by, given_by}
-use Rattle.snb_tool.specs.Outcome.{IsAnswer, IsAsked, IsCommandAnswer}
-use Rattle.snb_tool.specs.Output.{on_screen}
-use Rattle.snb_tool.specs.Outside.{GivenUp}
+use Rattle.snb_tool_outcome.specs.Endings.{asked_by}
+use Rattle.snb_tool.specs.Connectors.{given_by}
+use Rattle.snb_tool_outcome.specs.Outcome.{IsAnswer, IsAsked, IsCommandAnswer}
+use Rattle.snb_tool_outcome.specs.Output.{on_screen}
+use Rattle.snb_tool_outcome.specs.Outside.{GivenUp}
 use Rattle.snb_tool.proofs.AskedLemmas.{reads_nothing}
 use Rattle.snb_tool.proofs.OutcomeLemmas.{delivers_ends, ends_weaker, finished_calm, finished_ends}
 use Rattle.snb_tool.proofs.tool.answer.Goals as goal

@@ -1,8 +1,8 @@
 use Rattle.std.proofs.Common.{None, inl, inr, refl, ap}
-use Rattle.snb_tool.specs.Endings.{asked_by}
-use Rattle.snb_tool.specs.Outcome.{IsAnswer, IsCommandAnswer}
-use Rattle.snb_tool.specs.Output.{on_screen}
-use Rattle.snb_tool.specs.Outside.{GivenUp}
+use Rattle.snb_tool_outcome.specs.Endings.{asked_by}
+use Rattle.snb_tool_outcome.specs.Outcome.{IsAnswer, IsCommandAnswer}
+use Rattle.snb_tool_outcome.specs.Output.{on_screen}
+use Rattle.snb_tool_outcome.specs.Outside.{GivenUp}
 use Rattle.snb_tool_words.specs.Commands.{IsOtherLine}
 use Rattle.snb_tool_words.specs.Words.{texts_of}
 use Rattle.snb_tool.proofs.OutcomeLemmas.{delivers_ends, ends_weaker, finished_calm, finished_ends}

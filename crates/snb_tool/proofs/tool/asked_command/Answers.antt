@@ -1,5 +1,6 @@
 use Rattle.std.proofs.Common.{sym, ◌∙◌}
-use Rattle.snb_tool.specs.Endings.{asked_by, given_by}
+use Rattle.snb_tool_outcome.specs.Endings.{asked_by}
+use Rattle.snb_tool.specs.Connectors.{given_by}
 use Rattle.snb_tool.proofs.AskedLemmas.{asked_of, no_table, none_given, some_given, true_false}
 use Rattle.snb_tool.proofs.tool.asked_command.Goals as goal
 use Rattle.snb_tool.proofs.tool.asked_command.Goals.{else-asks-via-then-asks+else-is_none, else-asks-via-else-asks}

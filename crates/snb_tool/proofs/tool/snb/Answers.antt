@@ -1,4 +1,4 @@
-use Rattle.snb_tool.specs.Outcome.{alone}
+use Rattle.snb_tool_outcome.specs.Outcome.{alone}
 use Rattle.snb_tool_words.specs.Words.{texts_of}
 use Rattle.std.proofs.Common.{None, ◌∙◌}
 use Rattle.snb_tool.proofs.Served.{may_anyhow, served}

@@ -1,5 +1,5 @@
 use Rattle.snb_handlers.specs.Table.{kinds}
-use Rattle.snb_tool.specs.Outcome.{with}
+use Rattle.snb_tool_outcome.specs.Outcome.{with}
 use Rattle.snb_tool.proofs.Served.{served}
 use Rattle.snb_tool.proofs.tool.snb_still.Goals as goal
 

@@ -1,6 +1,6 @@
 use Rattle.snb_handlers.specs.Table.{kinds}
-use Rattle.snb_tool.specs.Endings.{connector_of}
-use Rattle.snb_tool.specs.Outcome.{with}
+use Rattle.snb_tool.specs.Connectors.{connector_of}
+use Rattle.snb_tool_outcome.specs.Outcome.{with}
 use Rattle.snb_tool_words.specs.Words.{texts_of}
 use Rattle.std.proofs.Common.{Some, ◌∙◌}
 use Rattle.snb_tool.proofs.Served.{may_anyhow, served}

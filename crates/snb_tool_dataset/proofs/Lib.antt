@@ -1,0 +1,3 @@
+pub mod DatasetLemmas
+pub mod ExpectLemmas
+pub mod Laws

@@ -1,0 +1,4 @@
+pub mod InputLemmas
+pub mod Laws
+pub mod Told
+pub mod Writing

@@ -1,0 +1,3 @@
+pub mod LogLemmas
+pub mod PlanLemmas
+pub mod TrialLemmas
