@@ -9,9 +9,9 @@ use Rattle.snb_graph_integrity.specs.SoundLaws.{NumbersFit}
 use Rattle.snb_graph_model.proofs.Laws.{friend_there, sent_there}
 use Rattle.snb_graph_model.specs.Around.{friends, messages}
 use Rattle.snb_read_model.specs.Distance.{IsPerson, IsWithin, Walk}
-use Rattle.snb_short_reads.proofs.Laws.{found_person, friend_found, message_found, person_at}
-use Rattle.snb_short_reads.specs.Found.{IsMessageFound}
-use Rattle.snb_short_reads.specs.Lookups.{IsCellNumber}
+use Rattle.snb_read_lookups.proofs.Laws.{found_person, friend_found, message_found, person_at}
+use Rattle.snb_read_lookups.specs.Found.{IsMessageFound}
+use Rattle.snb_read_lookups.specs.Lookups.{IsCellNumber}
 
 module _ (g : List Row) (graph : IsGraph g) (fit : NumbersFit) where
   -- a person who is held, and a number that fits a cell

@@ -26,7 +26,7 @@ use Rattle.snb_read_model.specs.Cells.{Cell, cell_cmp, number}
 use Rattle.snb_graph_model.specs.Around.{ends, organisations, places, work}
 use Rattle.snb_read_model.specs.ComplexReads.{IsAt, IsJob, is_in}
 use Rattle.snb_read_model.specs.Order.{Answers, Falling, First, FirstOf, Rising, by}
-use Rattle.snb_short_reads.proofs.Laws.{found_person, person_at}
+use Rattle.snb_read_lookups.proofs.Laws.{found_person, person_at}
 use Rattle.snb_complex_reads.proofs.Columns.{any_one, words_cmp}
 use Rattle.snb_complex_reads.proofs.Moves.{joined_push}
 use Rattle.snb_complex_reads.specs.Found.{IsStayFound}

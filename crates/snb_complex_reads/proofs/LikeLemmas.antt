@@ -23,9 +23,9 @@ use Rattle.snb_graph_model.specs.Around.{likes, messages}
 use Rattle.snb_read_model.specs.ComplexReads.{IsLiked, beats, best_likes, liked}
 use Rattle.snb_read_model.specs.Distance.{IsPerson}
 use Rattle.snb_read_model.specs.Order.{Answers, Falling, First, FirstOf, Rising, by}
-use Rattle.snb_short_reads.proofs.Laws.{any, found_person, person_at, shows}
-use Rattle.snb_short_reads.specs.Found.{IsMessageFound}
-use Rattle.snb_short_reads.specs.Lookups.{IsCellNumber}
+use Rattle.snb_read_lookups.proofs.Laws.{any, found_person, person_at, shows}
+use Rattle.snb_read_lookups.specs.Found.{IsMessageFound}
+use Rattle.snb_read_lookups.specs.Lookups.{IsCellNumber}
 use Rattle.snb_complex_reads.proofs.FoundLemmas.{messages_found, person_fits}
 use Rattle.snb_complex_reads.proofs.Moves.{All-flat_map, filter_moved}
 use Rattle.snb_complex_reads.specs.Found.{IsLikeFound, like_of}

@@ -29,7 +29,7 @@ use Rattle.snb_graph_model.specs.Around.{ends, persons, study, words, work}
 use Rattle.snb_read_model.specs.ComplexReads.{AreStays, IsNamesake, IsStay, Stay, is_named, stay_cmp}
 use Rattle.snb_read_model.specs.Distance.{IsPerson, IsWithin}
 use Rattle.snb_read_model.specs.Order.{Answers, First, FirstOf, Rising, Whole, by}
-use Rattle.snb_short_reads.proofs.Laws.{any, edge_key_held}
+use Rattle.snb_read_lookups.proofs.Laws.{any, edge_key_held}
 use Rattle.snb_complex_reads.proofs.Columns.{any_one, words_cmp}
 use Rattle.snb_complex_reads.proofs.FoundLemmas.{walk_held}
 use Rattle.snb_complex_reads.proofs.Moves.{filter_push}

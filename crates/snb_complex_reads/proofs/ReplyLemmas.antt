@@ -18,8 +18,8 @@ use Rattle.snb_read_model.specs.Cells.{Cell}
 use Rattle.snb_graph_model.specs.Around.{comment_shown, comments, replies}
 use Rattle.snb_read_model.specs.ComplexReads.{IsAnswered}
 use Rattle.snb_read_model.specs.Order.{Answers, Falling, First, FirstOf, Rising, by}
-use Rattle.snb_short_reads.proofs.Laws.{comment_at, found_person, person_at, recent_first, written}
-use Rattle.snb_short_reads.specs.Lookups.{IsCellNumber}
+use Rattle.snb_read_lookups.proofs.Laws.{comment_at, found_person, person_at, recent_first, written}
+use Rattle.snb_read_lookups.specs.Lookups.{IsCellNumber}
 use Rattle.snb_complex_reads.proofs.Moves.{All-flat_map}
 use Rattle.snb_complex_reads.specs.Found.{IsCommentFound}
 

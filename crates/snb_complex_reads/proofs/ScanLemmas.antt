@@ -21,8 +21,8 @@ use Rattle.snb_graph_model.proofs.Laws.{friend_here, friend_tells, friend_there,
 use Rattle.snb_read_model.specs.ComplexReads.{is_named}
 use Rattle.snb_read_model.specs.Distance.{IsDistance, IsPerson, IsWithin, Walk}
 use Rattle.snb_read_laws.proofs.Laws.{Rises, same_rising, some_within}
-use Rattle.snb_short_reads.proofs.Laws.{person_at}
-use Rattle.snb_short_reads.specs.Lookups.{IsOnlyPerson}
+use Rattle.snb_read_lookups.proofs.Laws.{person_at}
+use Rattle.snb_read_lookups.specs.Lookups.{IsOnlyPerson}
 use Rattle.snb_reach.specs.Distances.{AreDistances}
 use Rattle.snb_reach.proofs.Laws.{friend_turned, last_step, one_distance}
 use Rattle.snb_complex_reads.proofs.FoundLemmas.{walk_held}

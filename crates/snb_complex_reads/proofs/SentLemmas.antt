@@ -16,8 +16,8 @@ use Rattle.snb_graph_model.specs.Around.{messages}
 use Rattle.snb_read_model.specs.ComplexReads.{IsSent, latest, messages_of}
 use Rattle.snb_read_model.specs.Distance.{IsPerson}
 use Rattle.snb_read_model.specs.Order.{Answers, First, FirstOf, by}
-use Rattle.snb_short_reads.proofs.Laws.{found_person, person_at, shows}
-use Rattle.snb_short_reads.specs.Found.{IsMessageFound}
+use Rattle.snb_read_lookups.proofs.Laws.{found_person, person_at, shows}
+use Rattle.snb_read_lookups.specs.Found.{IsMessageFound}
 use Rattle.snb_complex_reads.proofs.FoundLemmas.{messages_found, person_fits}
 use Rattle.snb_complex_reads.proofs.Moves.{All-flat_map}
 use Rattle.snb_complex_reads.specs.Found.{IsSentFound, sent_by, sent_first}

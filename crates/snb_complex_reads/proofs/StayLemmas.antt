@@ -24,7 +24,7 @@ use Rattle.snb_graph_model.specs.Soundness.{Held, Sound}
 use Rattle.snb_graph_model.proofs.Laws.{end_only, in_rows, one_chosen, organisation_row, place_row, rows_apart, stay_there}
 use Rattle.snb_graph_model.specs.Around.{ends, organisation_in, organisations, place_in, places, study, word_in, words, work}
 use Rattle.snb_read_model.specs.ComplexReads.{IsAt}
-use Rattle.snb_short_reads.proofs.Laws.{any, edge_key_held}
+use Rattle.snb_read_lookups.proofs.Laws.{any, edge_key_held}
 use Rattle.snb_complex_reads.specs.Found.{IsStayFound}
 
 -- ---- organisations and places

@@ -12,8 +12,8 @@ use Rattle.snb_read_model.specs.declared.sent.Sent.{Sent}
 use Rattle.snb_graph_model.specs.Around.{messages}
 use Rattle.snb_read_model.specs.Distance.{IsPerson}
 use Rattle.snb_read_order.specs.TopK.{IsTopK, Kept}
-use Rattle.snb_short_reads.specs.Found.{IsMessageFound}
-use Rattle.snb_short_reads.specs.Lookups.{IsCellNumber}
+use Rattle.snb_read_lookups.specs.Found.{IsMessageFound}
+use Rattle.snb_read_lookups.specs.Lookups.{IsCellNumber}
 
 -- these things, in any order, after what was there
 pub record HasAppended {X : Type 0} (all old new : List X) : Type 0 where

@@ -6,7 +6,7 @@ use Rattle.snb_schema.specs.declared.row.Row.{Row}
 use Rattle.snb_graph_model.specs.Around.{organisations, work}
 use Rattle.snb_read_model.specs.ComplexReads.{is_in}
 use Rattle.snb_read_model.specs.Distance.{IsPerson}
-use Rattle.snb_short_reads.specs.Lookups.{IsCellNumber}
+use Rattle.snb_read_lookups.specs.Lookups.{IsCellNumber}
 use denote.Ref.{Bor}
 
 -- a work row as (person, organisation, year), and the organisation's name

@@ -5,7 +5,7 @@ use Rattle.snb_schema.specs.declared.person.Person.{Person}
 use Rattle.snb_schema.specs.declared.row.Row.{Row}
 use Rattle.snb_read_model.specs.ComplexReads.{is_named}
 use Rattle.snb_read_model.specs.Distance.{IsPerson, IsWithin}
-use Rattle.snb_short_reads.specs.Lookups.{IsCellNumber, IsOnlyPerson}
+use Rattle.snb_read_lookups.specs.Lookups.{IsCellNumber, IsOnlyPerson}
 use denote.Ref.{Bor}
 
 -- a person, and the distance

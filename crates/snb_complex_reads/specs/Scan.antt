@@ -5,7 +5,7 @@ use Rattle.snb_schema.specs.declared.row.Row.{Row}
 use Rattle.snb_schema.specs.declared.row.Row.TheVariants as row
 use Rattle.snb_graph_model.specs.Around.{friends}
 use Rattle.snb_read_model.specs.ComplexReads.{is_named}
-use Rattle.snb_short_reads.specs.Lookups.{IsOnlyPerson}
+use Rattle.snb_read_lookups.specs.Lookups.{IsOnlyPerson}
 use Rattle.snb_complex_reads.specs.Namesakes.{Namesake, namesake_of}
 
 -- the id in a person's row

@@ -17,9 +17,9 @@ use snb_base::{Text, list_of};
 use snb_graph::Graph;
 use snb_graph_integrity::law::sound_graphs;
 use snb_reach::reach::within;
+use snb_read_lookups::lookups::{known, words};
 use snb_read_model::{Answer, AnswerRow, Cell, CowText};
 use snb_read_order::first_of;
-use snb_short_reads::lookups::{known, words};
 use std::alloc::{AllocError, Global};
 use std::collections::HashMap;
 

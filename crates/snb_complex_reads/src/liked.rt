@@ -7,15 +7,15 @@ ghost use Rattle.snb_complex_reads.specs.Found.{HasAppended, IsLikeFound, like_o
 ghost use Rattle.snb_graph_model.specs.Around.{likes};
 ghost use Rattle.snb_read_model.specs.ComplexReads.{Ic7, IsLiked, beats, minutes};
 ghost use Rattle.snb_read_model.specs.Order.{Answers, Falling, First, Rising};
-ghost use Rattle.snb_short_reads.specs.Lookups.{IsCellNumber};
+ghost use Rattle.snb_read_lookups.specs.Lookups.{IsCellNumber};
 ghost use Rattle.snb_graph_model.specs.Soundness.{Sound};
 
 use snb_base::list_of;
 use snb_graph::Graph;
 use snb_graph_integrity::law::sound_graphs;
+use snb_read_lookups::lookups::{are_friends, known, shown, words};
 use snb_read_model::{Answer, AnswerRow, Cell, CowText, Like};
 use snb_read_order::{first_of, in_order};
-use snb_short_reads::lookups::{are_friends, known, shown, words};
 use std::alloc::{AllocError, Global};
 
 // Whole minutes from a message to a like, rounded down, also below zero.

@@ -20,11 +20,11 @@ use snb_graph::{Graph, Links};
 use snb_graph_integrity::law::sound_graphs;
 use snb_graph_tables::Words;
 use snb_reach::reach::{distances, listed, within};
+use snb_read_lookups::lookups::{city, known, words};
 use snb_read_model::{Answer, AnswerRow, Cell, CellTexts, CowText, Stays};
 use snb_read_order::law::first_is_some;
 use snb_read_order::{first_of, in_order};
 use snb_schema::{Person, Table};
-use snb_short_reads::lookups::{city, known, words};
 use std::alloc::{AllocError, Global};
 use std::collections::HashMap;
 

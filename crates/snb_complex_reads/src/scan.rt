@@ -6,7 +6,7 @@ ghost use Rattle.snb_schema.specs.declared.row.Row.TheVariants as row;
 ghost use Rattle.snb_complex_reads.specs.Namesakes.{AreNamesakesWithin};
 ghost use Rattle.snb_complex_reads.specs.Scan.{IsScanned, distance_by, has_second, is_wanted, placed};
 ghost use Rattle.snb_reach.specs.Distances.{AreDistances};
-ghost use Rattle.snb_short_reads.specs.Lookups.{IsOnlyPerson};
+ghost use Rattle.snb_read_lookups.specs.Lookups.{IsOnlyPerson};
 
 use snb_graph::Graph;
 use snb_graph_integrity::law::sound_graphs;

@@ -12,9 +12,9 @@ use snb_base::list_of;
 use snb_graph::Graph;
 use snb_graph_integrity::law::sound_graphs;
 use snb_reach::reach::within;
+use snb_read_lookups::lookups::{known, shown, words};
 use snb_read_model::{Answer, AnswerRow, Cell, CowText, Sent};
 use snb_read_order::TopK;
-use snb_short_reads::lookups::{known, shown, words};
 use std::alloc::{AllocError, Global};
 use std::cmp::Ordering;
 

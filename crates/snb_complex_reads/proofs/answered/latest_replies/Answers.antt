@@ -8,7 +8,7 @@ use Rattle.snb_complex_reads.specs.Found.{IsCommentFound}
 use Rattle.snb_read_model.specs.ComplexReads.{IsAnswered}
 use Rattle.snb_complex_reads.proofs.answered.latest_replies.Goals as goal
 use Rattle.snb_base.proofs.Laws.{each_at, each_made}
-use Rattle.snb_short_reads.proofs.Laws.{recent_first, recent_total}
+use Rattle.snb_read_lookups.proofs.Laws.{recent_first, recent_total}
 
 pub list_of-requires : goal.list_of-requires
 list_of-requires c =

@@ -4,7 +4,7 @@ use Rattle.std.specs.List.{filter}
 use Rattle.std.specs.Str.{bytes_eq}
 use Rattle.snb_read_model.specs.ComplexReads.{is_named}
 use Rattle.snb_read_model.specs.Distance.{IsPerson}
-use Rattle.snb_short_reads.specs.Lookups.{IsOnlyPerson}
+use Rattle.snb_read_lookups.specs.Lookups.{IsOnlyPerson}
 use Rattle.snb_complex_reads.proofs.NamesakeLemmas.{named_all, named_is, named_next, named_over}
 use Rattle.snb_complex_reads.specs.Namesakes.{AreNamesakes, IsNearFound}
 use Rattle.snb_complex_reads.proofs.namesakes.named.Goals as goal

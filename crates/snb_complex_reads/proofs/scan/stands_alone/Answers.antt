@@ -1,5 +1,5 @@
 use Rattle.std.proofs.Common.{refl}
-use Rattle.snb_short_reads.proofs.Laws.{found_person}
+use Rattle.snb_read_lookups.proofs.Laws.{found_person}
 use Rattle.snb_complex_reads.proofs.scan.stands_alone.Goals as goal
 
 pub returns : goal.returns

@@ -3,8 +3,8 @@ use Rattle.snb_schema.specs.declared.table.Table.TheVariants as table
 use Rattle.snb_schema.specs.RowKeys.{RowKey}
 use Rattle.snb_graph_model.specs.Graphs.{HasKey}
 use Rattle.snb_graph_model.specs.Around.{is_friend}
-use Rattle.snb_short_reads.proofs.Laws.{befriends_key, key_befriends, same_test}
-use Rattle.snb_short_reads.proofs.lookups.are_friends.Goals as goal
+use Rattle.snb_read_lookups.proofs.Laws.{befriends_key, key_befriends, same_test}
+use Rattle.snb_read_lookups.proofs.lookups.are_friends.Goals as goal
 
 pub returns : goal.returns
 returns c =

@@ -7,7 +7,7 @@ ghost use Rattle.snb_graph_links.specs.Pairs.{rest};
 ghost use Rattle.snb_read_model.specs.declared.cell.Cell.TheVariants.{Words};
 ghost use Rattle.snb_graph_model.specs.Around.{containers, is_friend, or_else, with_id};
 ghost use Rattle.snb_read_model.specs.Distance.{IsPerson};
-ghost use Rattle.snb_short_reads.specs.Lookups.{IsOnlyAuthor, IsOnlyCity, IsOnlyForum, IsOnlyMessage, IsOnlyModerator, IsOnlyPerson};
+ghost use Rattle.snb_read_lookups.specs.Lookups.{IsOnlyAuthor, IsOnlyCity, IsOnlyForum, IsOnlyMessage, IsOnlyModerator, IsOnlyPerson};
 ghost use Rattle.snb_graph_model.specs.Graphs.{HasKey};
 ghost use Rattle.snb_graph_model.specs.Messages.{HasMessage};
 ghost use Rattle.snb_graph_model.specs.Soundness.{Sound};

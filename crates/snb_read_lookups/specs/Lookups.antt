@@ -7,7 +7,7 @@ use Rattle.snb_schema.specs.declared.table.Kind.TheVariants as kinds
 use Rattle.snb_schema.specs.declared.table.Table.TheVariants as table
 use Rattle.snb_schema.specs.RowKeys.{node_key}
 use Rattle.snb_graph_model.specs.Graphs.{HasKey}
-use Rattle.snb_graph_model.specs.Messages.{HasMessage, IsRoot}
+use Rattle.snb_graph_model.specs.Messages.{HasMessage}
 use Rattle.snb_graph_model.specs.Around.{authors, containers, ends, forums, persons, with_id}
 use Rattle.snb_read_model.specs.Distance.{IsPerson}
 
@@ -35,12 +35,6 @@ module _ (g : List Row) where
   pub record IsOnlyAuthor (message author : ℕ) : Type 0 where
     pub only : authors g message ≡ author ∷ []
     pub held : IsPerson g author
-
-  -- the post at a message's root
-  pub record IsOnlyRoot (message post : ℕ) : Type 0 where
-    pub root : IsRoot g message post
-    pub held : HasKey g (node_key kinds.Post post)
-    pub fits : IsCellNumber post
 
   -- the city where a person lives
   pub record IsOnlyCity (person city : ℕ) : Type 0 where

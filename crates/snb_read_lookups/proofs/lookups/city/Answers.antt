@@ -1,7 +1,7 @@
 use Rattle.std.proofs.Common.{refl, arith}
 use Rattle.snb_schema.specs.declared.table.Table.TheVariants as table
-use Rattle.snb_short_reads.proofs.Laws.{edge_key_held, found_city}
-use Rattle.snb_short_reads.proofs.lookups.city.Goals as goal
+use Rattle.snb_read_lookups.proofs.Laws.{edge_key_held, found_city}
+use Rattle.snb_read_lookups.proofs.lookups.city.Goals as goal
 use Rattle.snb_graph_model.proofs.Laws.{city_alone}
 
 pub unreachable-requires : goal.unreachable-requires

@@ -1,8 +1,8 @@
 use Rattle.std.proofs.Common.{refl, inl, inr}
 use Rattle.snb_schema.specs.declared.row.Row.TheVariants as row
 use Rattle.snb_schema.specs.declared.table.Table.TheVariants as table
-use Rattle.snb_short_reads.proofs.Laws.{comment_written, post_written}
-use Rattle.snb_short_reads.proofs.lookups.author_id.Goals as goal
+use Rattle.snb_read_lookups.proofs.Laws.{comment_written, post_written}
+use Rattle.snb_read_lookups.proofs.lookups.author_id.Goals as goal
 
 pub returns-in-Some : goal.returns-in-Some
 returns-in-Some c = post_written c.args.graph.now c.known.ensures c.sound_graphs.ensures.kinds c.requires.sound.held c.args.message c.in-Some.person c.in-Some.ensures.found

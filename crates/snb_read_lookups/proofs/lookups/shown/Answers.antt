@@ -1,8 +1,8 @@
 use Rattle.std.proofs.Common.{ℕ, List, sym, subst, inl, inr}
 use Rattle.snb_graph_model.proofs.Laws.{no_message}
-use Rattle.snb_short_reads.proofs.Laws.{found_comment, found_post}
-use Rattle.snb_short_reads.specs.Lookups.{IsOnlyMessage}
-use Rattle.snb_short_reads.proofs.lookups.shown.Goals as goal
+use Rattle.snb_read_lookups.proofs.Laws.{found_comment, found_post}
+use Rattle.snb_read_lookups.specs.Lookups.{IsOnlyMessage}
+use Rattle.snb_read_lookups.proofs.lookups.shown.Goals as goal
 
 pub returns-in-Some : goal.returns-in-Some
 returns-in-Some c =
