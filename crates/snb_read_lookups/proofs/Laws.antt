@@ -1,8 +1,9 @@
 -- What other crates may cite of this one: what a read looks up in a graph, and what it finds along a walk.
+pub use Rattle.snb_read_lookups.proofs.Moves.{answers_moved, filter_push, joined_push}
 use Rattle.std.proofs.Common.{◌≡◌, ◌⊎◌, ℕ, min, max, Bool, true, false, List, [], ◌∷◌, refl, sym, ap, ◌∙◌, subst, inl, inr, arith}
 use Rattle.std.proofs.lemmas.Bool.{cases_lt}
-use Rattle.std.proofs.lemmas.List.Elements.{All-contains}
-use Rattle.std.specs.List.{Contains}
+use Rattle.std.proofs.lemmas.List.Elements.{All-contains, All-contains_itself, All-weaker}
+use Rattle.std.specs.List.{All, Contains}
 use Rattle.snb_schema.specs.declared.column.Value.TheVariants.{NoId}
 use Rattle.snb_schema.specs.declared.layout.Shape.TheVariants as shapes
 use Rattle.snb_schema.specs.declared.nodes.Comment.{Comment}
@@ -24,9 +25,9 @@ use Rattle.snb_graph_integrity.specs.SoundLaws.{HasOneEdge, MessagesAreOfOneKind
 use Rattle.snb_graph_model.specs.Graphs.{HasKey, IsGraph}
 use Rattle.snb_graph_model.specs.Messages.{Wrote, HasMessage}
 use Rattle.snb_graph_model.specs.Soundness.{Held}
-use Rattle.snb_graph_model.proofs.Laws.{comment_author, comment_only, container_only, end_only, forum_only, friend_tells, friend_told, Friendship, friendship_rises, person_only, post_author, post_only, Sent}
-use Rattle.snb_graph_model.specs.Around.{Message, authors, containers, is_friend, or_else, persons, with_id}
-use Rattle.snb_read_model.specs.Distance.{IsPerson}
+use Rattle.snb_graph_model.proofs.Laws.{comment_author, comment_only, container_only, end_only, forum_only, friend_tells, friend_there, friend_told, Friendship, friendship_rises, person_only, post_author, post_only, Sent, sent_there}
+use Rattle.snb_graph_model.specs.Around.{Message, authors, containers, friends, is_friend, messages, or_else, persons, with_id}
+use Rattle.snb_read_model.specs.Distance.{IsPerson, IsWithin, Walk}
 use Rattle.snb_read_lookups.specs.Lookups.{IsCellNumber, IsOnlyAuthor, IsOnlyCity, IsOnlyForum, IsOnlyMessage, IsOnlyModerator, IsOnlyPerson}
 use Rattle.snb_read_lookups.specs.Found.{IsFriendFound, IsMessageFound}
 use Rattle.std.specs.Ordering.{flip_args, nat_cmp, on, then_cmp}
@@ -225,6 +226,37 @@ friend_found g graph fit held p id date (inl c) =
 friend_found g graph fit held p id date (inr c) =
     let all = fit g graph (row.Dated table.PersonKnowsPerson id p date) c in
     record { held = held (row.Dated table.PersonKnowsPerson id p date) c 0 any (omega arith); id_fits = all 0 NoId (omega arith); date_fits = all 2 NoId (omega arith) }
+
+-- ---- all that walks find
+
+module _ (g : List Row) (graph : IsGraph g) (fit : NumbersFit) where
+  -- a person who is held, and a number that fits a cell
+  pub person_fits : (id : ℕ) → IsPerson g id → IsCellNumber id
+  person_fits id h =
+      let (p, c, named) = person_at g graph id h in
+      subst IsCellNumber named (found_person g graph fit id p (named, c)).id_fits
+
+  -- the messages of a person
+  pub messages_found : (p : ℕ) → All (IsMessageFound g) (messages g p)
+  messages_found p =
+      All-weaker (Contains (messages g p)) (IsMessageFound g) (λ m c. message_found g graph fit p m.0 m.1 (sent_there g p m.0 m.1 c)) (messages g p) (All-contains_itself (messages g p))
+
+  -- the friends of a person
+  pub friends_found : Held g → (p : ℕ) → All (λ f. IsPerson g f.0) (friends g p)
+  friends_found held p =
+      All-weaker (Contains (friends g p)) (λ f. IsPerson g f.0) (λ f c. (friend_found g graph fit held p f.0 f.1 (friend_there g p f.0 f.1 c)).held) (friends g p) (All-contains_itself (friends g p))
+
+-- where a walk ends a person is held
+pub walk_held : (g : List Row) (a b n : ℕ) → Walk g a b n → IsPerson g b
+walk_held g _ _ _ (Walk.stay a h) = h
+walk_held g _ _ _ (Walk.step a b c n w e h) = h
+
+-- the persons near one
+pub near_found : (g : List Row) (start steps : ℕ) (near : List (ℕ × ℕ)) → IsWithin g start steps near → All (λ p. IsPerson g p.0) near
+near_found g start steps near is =
+    All-weaker (Contains near) (λ p. IsPerson g p.0) (λ p c. walk_held g start p.0 p.1 ((is.exact p.0 p.1).0 c).0.walk) near (All-contains_itself near)
+
+-- ---- an order
 
 -- dates falling, ids rising
 abbrev pub recent_first : ℕ × ℕ → ℕ × ℕ → Ordering
