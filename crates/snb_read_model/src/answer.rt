@@ -37,13 +37,6 @@ pub fn cow_answer<'a>(answer: Answer<Text>) -> Result<Answer<CowText<'a>>, Alloc
     answer.into_map(|row| row.into_map(|cell| cell.into_cow()))
 }
 
-/// The answer with texts of its own: those that are its own already, and copies of those that are lent.
-pub fn owned_answer(answer: Answer<CowText<'_>>) -> Result<Answer<Text>, AllocError>
-    ensures { IfOk result (λ own. own ≡ answer) }
-{
-    answer.into_map(|row| row.into_map(|cell| cell.into_texts()))
-}
-
 /// An equal reply, with texts of its own.
 pub fn copy_reply(reply: &Reply<CowText<'_>>) -> Result<Reply<Text>, AllocError>
     ensures { IfOk result (λ copy. copy ≡ reply.now) }

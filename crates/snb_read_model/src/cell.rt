@@ -73,14 +73,6 @@ impl<T: TryCopy> TryCopy for Cell<T> {
     }
 }
 
-// The stay with texts of its own.
-fn own_stay(stay: (CowText<'_>, u32, CowText<'_>)) -> Result<(Text, u32, Text), AllocError>
-    ensures { IfOk result (λ own. own ≡ stay) }
-{
-    let (name, year, place) = stay;
-    Ok((name.into_text()?, year, place.into_text()?))
-}
-
 // An equal stay, with texts of its own.
 fn copy_stay(stay: &(CowText<'_>, u32, CowText<'_>)) -> Result<(Text, u32, Text), AllocError>
     ensures { IfOk result (λ copy. copy ≡ stay.now) }
@@ -104,27 +96,6 @@ impl<'a> Cell<CowText<'a>> {
             }),
             Cell::Stays { stays } => Ok(Cell::Stays {
                 stays: stays.try_map(|stay| copy_stay(stay))?,
-            }),
-        }
-    }
-}
-
-impl<'a> Cell<CowText<'a>> {
-    /// The cell with texts of its own, of which those that are lent are copied.
-    pub fn into_texts(self) -> Result<Cell<Text>, AllocError>
-        ensures { IfOk result (λ c. c ≡ self) }
-    {
-        match self {
-            Cell::Number { value } => Ok(Cell::Number { value }),
-            Cell::Flag { value } => Ok(Cell::Flag { value }),
-            Cell::Words { text } => Ok(Cell::Words {
-                text: text.into_text()?,
-            }),
-            Cell::List { texts } => Ok(Cell::List {
-                texts: texts.into_map(|text| text.into_text())?,
-            }),
-            Cell::Stays { stays } => Ok(Cell::Stays {
-                stays: stays.into_map(|stay| own_stay(stay))?,
             }),
         }
     }

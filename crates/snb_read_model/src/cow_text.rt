@@ -3,7 +3,6 @@
 ghost use Rattle.std.specs.Prelude.{◌≡◌, ◌↔◌, IfOk, IsTrue};
 ghost use Rattle.std.specs.Cmp.Lexicographic.{slice_cmp};
 ghost use Rattle.std.specs.Ordering.{nat_cmp};
-ghost use Rattle.snb_read_model.specs.CowTexts.{bytes_of};
 
 use snb_base::{Text, TryCopy};
 use std::alloc::AllocError;
@@ -101,26 +100,6 @@ impl<'a> CowText<'a> {
         ensures { IfOk result (λ w. w ≡ self.now) }
     {
         self.text().try_copy()
-    }
-
-    /// The text as one's own, which is copied where it is lent.
-    pub fn into_text(self) -> Result<Text, AllocError>
-        ensures { IfOk result (λ w. w ≡ self.entry) }
-    {
-        let CowText { source } = self;
-        source.into_text()
-    }
-}
-
-impl<'a> Source<'a> {
-    // The text, copied where it is lent.
-    fn into_text(self) -> Result<Text, AllocError>
-        ensures { IfOk result (λ w. w ≡ bytes_of self.entry) }
-    {
-        match self {
-            Source::Lent { text } => text.try_copy(),
-            Source::Own { text } => Ok(text),
-        }
     }
 }
 

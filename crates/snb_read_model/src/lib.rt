@@ -12,7 +12,7 @@ pub mod worked;
 
 pub use answer::{
     Answer, AnswerRow, Reply, copy_answer, copy_reply, cow_answer, cow_reply, lend_answer,
-    lend_reply, owned_answer, reply_with_tail,
+    lend_reply, reply_with_tail,
 };
 pub use cell::{Cell, CellTexts, Stays};
 pub use cow_text::CowText;

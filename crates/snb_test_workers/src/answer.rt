@@ -4,6 +4,7 @@ use crate::alone::{alone, by_itself};
 use crate::behind::alone_behind;
 use crate::held::alone_held;
 use crate::meet::meet;
+use crate::own::own;
 use crate::pair::pair;
 use crate::steps::steps;
 use snb_test_script::{Files, Flaw};
@@ -25,6 +26,7 @@ fn answer_of<R: Threads + Wait + Sync>(
         "alone_behind" => alone_behind(rt, alloc, files, rest),
         "alone_held" => alone_held(rt, alloc, files, rest),
         "meet" => meet(rt, alloc, files, rest),
+        "own" => own(rt, alloc, files, rest),
         "pair" => pair(rt, alloc, files, rest),
         "steps" => steps(rt, alloc, rest),
         _ => Err(Flaw::NoWord),

@@ -10,5 +10,6 @@ mod held;
 mod holder;
 mod meet;
 mod meeting;
+mod own;
 mod pair;
 mod steps;

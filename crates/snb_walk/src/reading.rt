@@ -2,6 +2,7 @@
 
 ghost use Rattle.std.specs.Prelude.{◌≡◌, IfOk};
 ghost use Rattle.snb_graph_model.specs.Soundness.{Sound};
+ghost use Rattle.snb_read_model.specs.Replies.{IsAnswer};
 ghost use Rattle.snb_walk.specs.Targets.{HaveAnswers, reads_of};
 
 use crate::target::Target;
@@ -9,7 +10,7 @@ use crate::targets::push_targets;
 use snb_base::Text;
 use snb_graph::Graph;
 use snb_read_laws::law::answers_have_columns;
-use snb_read_model::{Reply, owned_answer};
+use snb_read_model::{Answer, Reply, copy_answer};
 use snb_replies::Replies;
 use snb_schema::Query;
 use std::alloc::{AllocError, Global};
@@ -35,6 +36,20 @@ fn reads_of(alloc: Global, target: Target) -> Result<Vec<Query>, AllocError>
     Ok(reads)
 }
 
+// The answer to a read, with texts of its own.
+pub(crate) fn answer_of<A: Replies>(
+    alloc: Global,
+    answers: &A,
+    graph: &Graph,
+    query: &Query,
+) -> Result<Answer<Text>, AllocError>
+    requires ready { A.ready answers.now }
+    requires sound { Sound graph.now }
+    ensures { IfOk result (IsAnswer graph.now query.now) }
+{
+    copy_answer(&answers.answer_to(alloc, graph, query)?)
+}
+
 // The answers to reads, and their targets.
 fn answers_to<A: Replies>(
     alloc: Global,
@@ -50,7 +65,7 @@ fn answers_to<A: Replies>(
     let mut reply = Reply::new(alloc);
     let mut targets = Vec::new(alloc);
     for read in reads {
-        let answer = owned_answer(answers.answer_to(alloc, graph, read)?)?;
+        let answer = answer_of(alloc, answers, graph, read)?;
         push_targets(&mut targets, read, &answer)?;
         reply.push(answer)?;
     }

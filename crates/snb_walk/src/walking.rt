@@ -5,7 +5,7 @@ ghost use Rattle.snb_graph_model.specs.Soundness.{Sound};
 ghost use Rattle.snb_walk.specs.Walks.{IsWalk, MayGo, Stops};
 
 use crate::policy::Policy;
-use crate::reading::step_to;
+use crate::reading::{answer_of, step_to};
 use crate::target::{Stop, Target};
 use crate::targets::push_targets;
 use crate::trace::{Steps, Trace};
@@ -13,7 +13,6 @@ use snb_graph::Graph;
 use snb_ratio::Chance;
 use snb_ratio::chance::CERTAIN;
 use snb_read_laws::law::answers_have_columns;
-use snb_read_model::owned_answer;
 use snb_replies::Replies;
 use snb_schema::Query;
 use std::alloc::{AllocError, Global};
@@ -63,7 +62,7 @@ pub fn walk<A: Replies>(
     ensures { IfOk result (λ trace. IsWalk graph.now policy.now.pick chance words.now query.now trace.start trace.steps trace.stop) }
 {
     answers_have_columns();
-    let start = owned_answer(answers.answer_to(alloc, graph, query)?)?;
+    let start = answer_of(alloc, answers, graph, query)?;
     let mut targets = Vec::new(alloc);
     push_targets(&mut targets, query, &start)?;
     let mut steps = Steps::new(alloc);

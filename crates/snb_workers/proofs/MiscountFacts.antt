@@ -7,11 +7,13 @@ use Rattle.std.proofs.lemmas.List.{drop-map, drop-take, get_or_default, take-app
 use Rattle.std.proofs.lemmas.List.Elements.{Contains-push_cases}
 use Rattle.std.proofs.lemmas.List.Sorted.{IsPermutation-refl}
 use Rattle.std.proofs.lemmas.Option.{same_Some}
-use Rattle.snb_read_model.specs.Replies.{IsReply}
+use Rattle.snb_read_model.specs.Cells.{Cell}
+use Rattle.snb_read_model.specs.Replies.{IsAnswer, IsReply}
 use Rattle.snb_history.specs.declared.event.Event.{Event}
 use Rattle.snb_history.specs.declared.event.Event.TheVariants.{Start, Finish, Halt}
 use Rattle.snb_history.specs.declared.logged.Logged.{Logged}
 use Rattle.snb_schema.specs.declared.limits.TheConstants.{MAX_WORKERS}
+use Rattle.snb_schema.specs.declared.query.Query.{Query}
 use Rattle.snb_schema.specs.declared.row.Row.{Row}
 use Rattle.snb_history.specs.Laws.{PrefixIsLegal}
 use Rattle.snb_history.specs.Rules.{IsLegal}
@@ -20,7 +22,7 @@ use Rattle.snb_graph_model.specs.Laws.{GraphsAreTheirRows}
 use Rattle.snb_graph_model.specs.Soundness.{Sound}
 use Rattle.snb_plan.specs.Closed.{IsClosed}
 use Rattle.snb_plan.specs.Plans.{Ask, Insert, Operation, Plan, Work, schedule_of, updates_in}
-use Rattle.snb_read_laws.specs.Laws.{OneReply}
+use Rattle.snb_read_laws.specs.Laws.{OneAnswer, OneReply, SomeReply}
 use Rattle.snb_workers_replay.specs.Laws.{IsReplayed, PrefixesAreSound}
 use Rattle.snb_workers_replay.specs.Replay.{IsAfter}
 use Rattle.snb_workers.specs.declared.miscount.Miscount.{Miscount}
@@ -66,6 +68,12 @@ module _ (base : List Row) (plan : Plan) (h : List Event) (laws : HasLaws base p
   one_count (Halt worker) n m a b = absurd a
 
 -- ---- the count of a tally
+
+-- the rows of a read's own answer are those of the first answer of its reply
+pub rows_of_own : OneAnswer → SomeReply → (graph : List Row) → IsGraph graph → Sound graph → (query : Query) (own : List (List Cell)) (n : ℕ) → IsAnswer graph query own → n ≡ length own → HasRows graph (Ask query) n
+rows_of_own one some graph is sound query own n answer size =
+    let (reply, replied) = some graph query is sound in
+    (reply, replied, size ∙ (ap length (one graph query own replied.own is sound answer replied.answer) ∙ ap first_rows (sym replied.is)))
 
 -- what is counted on the graph after a front is the count there
 rows_counted : (base : List Row) (plan : Plan) (h : List Event) (front : ℕ) (graph : List Row) → IsAfter base plan (take front h) graph → (work : Work) (n : ℕ) → HasRows graph work n → IsCountOf base plan h front work n

@@ -19,7 +19,7 @@ use snb_graph_model::law::graphs_are_their_rows;
 use snb_history::law::prefix_is_legal;
 use snb_history::{Event, Logged};
 use snb_plan::{Plan, Task};
-use snb_read_laws::law::one_reply;
+use snb_read_laws::law::{one_reply, some_reply};
 use snb_replies::Replies;
 use snb_workers_replay::law::replay_is_welcome;
 use std::alloc::{AllocError, Global};
@@ -52,6 +52,9 @@ fn rows_at<A: Replies>(
     match plan.task(op) {
         Task::Insert { .. } => Ok(0),
         Task::Ask { query } => {
+            graph.known();
+            one_reply();
+            some_reply();
             let own = answers.answer_to(alloc, graph, query)?;
             count_rows(&own)
         }

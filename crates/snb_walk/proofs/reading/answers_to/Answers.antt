@@ -1,9 +1,6 @@
 use Rattle.snb_walk.proofs.Answering.{one_more}
 use Rattle.snb_walk.proofs.reading.answers_to.Goals as goal
 
-pub answer-requires-clause-kind : goal.answer-requires-clause-kind
-answer-requires-clause-kind g c = c.requires.all _
-
 pub loop-read-preserved : goal.loop-read-preserved
 loop-read-preserved g c =
     one_more c.args.graph.now c.args.reads.now c.loop-read.read-index c.read-item.result c.in_ok-answer.answer _ _ _ _ c.loop-read-test.true c.read-item.is

@@ -3,9 +3,6 @@ use Rattle.snb_walk.specs.Targets.{Step, targets_of}
 use Rattle.snb_walk.proofs.Going.{falls_on, few_on, is_step, leads_on, leads_out}
 use Rattle.snb_walk.proofs.walking.walk.Goals as goal
 
-pub answer-requires-clause-kind : goal.answer-requires-clause-kind
-answer-requires-clause-kind g c = c.requires.all _
-
 pub returns-in-Some : goal.returns-in-Some
 returns-in-Some g c = record {
   begins = c.in_ok-start.ensures;

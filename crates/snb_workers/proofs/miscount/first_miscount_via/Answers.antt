@@ -8,7 +8,7 @@ use Rattle.snb_workers.proofs.MiscountFacts.{first_of_least}
 use Rattle.snb_workers.proofs.miscount.first_miscount_via.Goals as goal
 
 pub returns : goal.returns
-returns c =
+returns g c =
     IfOk-weaker c.least_among.result _ _
     (λ best least.
     first_of_least c.args.base.now c.args.plan.now c.args.logged.now c.in_ok-tallies.tallies.items c.in_ok-tallies.ensures.all best
@@ -16,7 +16,7 @@ returns c =
     c.least_among.ensures
 
 pub least_among-requires-clause-legal : goal.least_among-requires-clause-legal
-least_among-requires-clause-legal c = (
+least_among-requires-clause-legal g c = (
   c.requires.legal.0,
   inr (let size = length-map c.args.logged.now (λ (l : Logged). l.event) in omega (arith, size)),
   c.requires.legal.1,

@@ -13,7 +13,7 @@ abbrev nothing : Tally
 nothing = record { event = 0; op = 0; front = 0; found = 0 }
 
 pub loop-one-init : goal.loop-one-init
-loop-one-init c =
+loop-one-init g c =
     let is : c.in_ok-replica.replica ≡ record { graph = c.args.base.now; front = 0 } = c.in_ok-replica.ensures in
     record {
       along = along_start c.args.base.now c.args.plan.now (events_of c.args.logged.now) c.requires.legal.0 c.in_ok-replica.replica is c.known.ensures c.requires.closed c.requires.legal.1 c.requires.legal.2;
@@ -22,15 +22,15 @@ loop-one-init c =
     }
 
 pub go_to-requires-clause-within : goal.go_to-requires-clause-within
-go_to-requires-clause-within c =
+go_to-requires-clause-within g c =
     tally_front c.args.plan.now c.requires.legal.0 c.args.logged.now c.requires.legal.2 (get_or c.args.tallies.now c.loop-one.one-index nothing) (c.requires.each c.loop-one.one-index nothing c.loop-one-test.true)
 
 pub rows_at-requires-clause-there : goal.rows_at-requires-clause-there
-rows_at-requires-clause-there c =
+rows_at-requires-clause-there g c =
     tally_op c.args.plan.now c.requires.legal.0 c.args.logged.now c.requires.legal.2 (get_or c.args.tallies.now c.loop-one.one-index nothing) (c.requires.each c.loop-one.one-index nothing c.loop-one-test.true)
 
 pub loop-one-preserved : goal.loop-one-preserved
-loop-one-preserved c =
+loop-one-preserved g c =
     let i : ℕ = c.loop-one.one-index in
     let tallies : List Tally = c.args.tallies.now in
     let t : Tally = get_or tallies i nothing in
@@ -50,5 +50,5 @@ loop-one-preserved c =
     }
 
 pub returns : goal.returns
-returns c =
+returns g c =
     subst (λ (l : List Tally). IsLeastAmong c.args.base.now c.args.plan.now c.args.logged.now l c.loop-one.best) (take_all c.loop-one.one-index c.args.tallies.now c.loop-one-test.false) c.loop-one.invariant.least
