@@ -26,7 +26,7 @@ use Rattle.snb_graph_model.specs.Graphs.{HasKey, IsGraph}
 use Rattle.snb_graph_model.specs.Messages.{Wrote, HasMessage}
 use Rattle.snb_graph_model.specs.Soundness.{Held}
 use Rattle.snb_graph_model.proofs.Laws.{comment_author, comment_only, container_only, end_only, forum_only, friend_tells, friend_there, friend_told, Friendship, friendship_rises, person_only, post_author, post_only, Sent, sent_there}
-use Rattle.snb_graph_model.specs.Around.{Message, authors, containers, friends, is_friend, messages, or_else, persons, with_id}
+use Rattle.snb_graph_model.specs.Around.{Message, containers, friends, is_friend, messages, or_else, persons, with_id}
 use Rattle.snb_read_model.specs.Distance.{IsPerson, IsWithin, Walk}
 use Rattle.snb_read_lookups.specs.Lookups.{IsCellNumber, IsOnlyAuthor, IsOnlyCity, IsOnlyForum, IsOnlyMessage, IsOnlyModerator, IsOnlyPerson}
 use Rattle.snb_read_lookups.specs.Found.{IsFriendFound, IsMessageFound}

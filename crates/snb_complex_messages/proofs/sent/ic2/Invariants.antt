@@ -1,4 +1,4 @@
-use Rattle.std.proofs.Common.{◌++◌, ℕ, List, nat_le}
+use Rattle.std.proofs.Common.{◌++◌, List, nat_le}
 use Rattle.std.specs.List.{flat_map}
 use Rattle.std.specs.List.Sorted.{IsPermutation}
 use Rattle.snb_graph_links.specs.Pairs.{rest}

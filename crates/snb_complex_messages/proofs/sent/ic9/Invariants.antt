@@ -1,4 +1,4 @@
-use Rattle.std.proofs.Common.{ℕ, List, nat_lt, take}
+use Rattle.std.proofs.Common.{List, nat_lt, take}
 use Rattle.std.specs.List.{flat_map}
 use Rattle.std.specs.List.Sorted.{IsPermutation}
 use Rattle.snb_read_model.specs.declared.sent.Sent.{Sent}
