@@ -23,10 +23,10 @@ use Rattle.snb_graph_model.specs.Graphs.{IsGraph}
 use Rattle.snb_graph_model.specs.Soundness.{Sound}
 use Rattle.snb_plan.specs.Plans.{Plan, schedule_of}
 use Rattle.snb_workers_replay.specs.Laws.{IsReplayed}
-use Rattle.snb_workers.specs.Counts.{IsCount}
+use Rattle.snb_replica.specs.Counts.{IsCount}
 use Rattle.snb_workers.specs.Laws.{OneCount}
-use Rattle.snb_workers.specs.declared.miscount.Miscount.{Miscount}
-use Rattle.snb_workers.specs.Miscounts.{IsFirstMiscount, IsMiscount, events_of}
+use Rattle.snb_miscount.specs.declared.miscount.Miscount.{Miscount}
+use Rattle.snb_miscount.specs.Miscounts.{IsFirstMiscount, IsMiscount, events_of}
 use Rattle.snb_auditor_log.specs.declared.verdict.AuditVerdict.{AuditVerdict}
 use Rattle.snb_auditor_log.specs.declared.verdict.AuditVerdict.TheVariants.{Judged, Miscounted, Mismatched}
 use Rattle.snb_auditor_log.specs.AuditVerdicts.{IsAuditVerdict, IsInOrder, IsMatched, IsMismatched, IsViolated, IsWhole, is_whole}

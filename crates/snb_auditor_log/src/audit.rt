@@ -10,7 +10,7 @@ ghost use Rattle.snb_plan.specs.Closed.{IsClosed};
 ghost use Rattle.snb_plan.specs.Plans.{schedule_of, updates_in};
 ghost use Rattle.snb_graph_model.specs.Graphs.{HoldsKey};
 ghost use Rattle.snb_graph_model.specs.Soundness.{Sound};
-ghost use Rattle.snb_workers.specs.Miscounts.{events_of};
+ghost use Rattle.snb_miscount.specs.Miscounts.{events_of};
 ghost use Rattle.snb_auditor_log.specs.Audited.{IsAuditAnswer};
 ghost use Rattle.snb_auditor_log.specs.AuditVerdicts.{IsAuditVerdict, IsMatched};
 ghost use Rattle.snb_auditor_log.specs.LogFiles.{IsAuditable};
@@ -23,9 +23,9 @@ use snb_base::Shelf;
 use snb_graph::Graph;
 use snb_history::{Logged, Schedule};
 use snb_input_files::Load;
+use snb_miscount::first_miscount_via;
 use snb_plan::Plan;
 use snb_replies::Replies;
-use snb_workers::first_miscount_via;
 use std::alloc::{AllocError, Global};
 
 /// A log, and the verdict on it.

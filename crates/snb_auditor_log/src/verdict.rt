@@ -4,7 +4,7 @@ ghost use Rattle.std.specs.Prelude.{◌≡◌};
 ghost use Rattle.snb_auditor_log.specs.AuditVerdicts.{is_whole};
 
 use snb_auditor::Verdict;
-use snb_workers::Miscount;
+use snb_miscount::Miscount;
 
 /// The verdict on a log: the first of these that applies. But a history that breaks a rule is judged
 /// before its counts are looked at.

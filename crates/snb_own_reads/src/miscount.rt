@@ -6,13 +6,13 @@ ghost use Rattle.snb_graph_model.specs.Graphs.{HoldsKey};
 ghost use Rattle.snb_graph_model.specs.Soundness.{Sound};
 ghost use Rattle.snb_plan.specs.Closed.{IsClosed};
 ghost use Rattle.snb_plan.specs.Plans.{schedule_of, updates_in};
-ghost use Rattle.snb_workers.specs.Miscounts.{IsFirstMiscount, events_of};
+ghost use Rattle.snb_miscount.specs.Miscounts.{IsFirstMiscount, events_of};
 
 use snb_graph::Graph;
 use snb_history::Logged;
+use snb_miscount::{Miscount, first_miscount_via};
 use snb_plan::Plan;
 use snb_read_replies::OwnReads;
-use snb_workers::{Miscount, first_miscount_via};
 use std::alloc::{AllocError, Global};
 
 /// The first event of a log that is a Finish with a wrong count of rows, if there is one, as `first_miscount_via` of

@@ -6,8 +6,8 @@ ghost use Rattle.snb_read_model.specs.Replies.{IsReply};
 
 use snb_read_model::{CowText, Reply};
 use snb_read_replies::OwnReads;
+use snb_replica::Replica;
 use snb_schema::Query;
-use snb_workers::Replica;
 use std::alloc::{AllocError, Global};
 
 /// A replica that replies by the graph's own reads.

@@ -9,7 +9,7 @@ use Rattle.snb_graph_model.specs.Graphs.{HoldsKey, IsGraph}
 use Rattle.snb_board.specs.Boards.{Sitting, events_of}
 use Rattle.snb_plan.specs.Closed.{IsClosed}
 use Rattle.snb_plan.specs.Plans.{Plan, updates_in}
-use Rattle.snb_workers.specs.Replicas.{Taken}
+use Rattle.snb_replica.specs.Replicas.{Taken}
 use Rattle.snb_workers.specs.Works.{IsFollowing, IsFree}
 
 -- who has seen nothing has nothing in hand and hasn't halted

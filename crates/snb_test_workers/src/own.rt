@@ -2,7 +2,7 @@
 
 ghost use Rattle.std.specs.Prelude.{◌≡◌, IfOk};
 ghost use Rattle.snb_graph_model.specs.Soundness.{Sound};
-ghost use Rattle.snb_workers.specs.Miscounts.{events_of};
+ghost use Rattle.snb_miscount.specs.Miscounts.{events_of};
 ghost use Rattle.snb_test_workers.specs.Wholes.{IsWhole};
 
 use crate::alone::moments_of;
@@ -11,14 +11,15 @@ use snb_base::MemoryShelf;
 use snb_graph::Graph;
 use snb_history::{Event, Logged};
 use snb_input_files::Load;
+use snb_miscount::Miscount;
 use snb_own_reads::{OwnReplica, check_cases, expect, first_miscount, run_alone};
 use snb_plan::{Plan, Task};
+use snb_replica::Replica;
 use snb_test_script::escape::shown;
 use snb_test_script::words::first_word;
 use snb_test_script::{Files, Flaw, Given, Lines};
 use snb_validation::reply_text;
 use snb_validation_check::Tally;
-use snb_workers::{Miscount, Replica};
 use std::alloc::{AllocError, Global};
 use std::sync::Wait;
 

@@ -15,7 +15,7 @@ use snb_test_script::words::{first_word, number_of};
 use snb_test_script::{Files, Flaw};
 use snb_own_reads::work;
 use snb_answered::Done;
-use snb_workers::Replica;
+use snb_replica::Replica;
 use std::alloc::{AllocError, Global};
 use std::sync::Wait;
 use std::sync::atomic::{AtomicU64, Ordering};

@@ -29,9 +29,9 @@ use Rattle.snb_auditor_log.specs.Laws.{AcceptedInOrder, WholeExactly}
 use Rattle.snb_auditor_log.specs.VerdictTexts.{audit_status, audit_text, verdict_status}
 use Rattle.snb_auditor.specs.declared.verdict.Verdict.{Verdict}
 use Rattle.snb_auditor.specs.declared.verdict.Verdict.TheVariants.{Violated, Halted, Incomplete, TooLate, Accepted}
-use Rattle.snb_workers.specs.Counts.{logged_of}
+use Rattle.snb_replica.specs.Counts.{logged_of}
 use Rattle.snb_workers.specs.Laws.{CountsOfARun}
-use Rattle.snb_workers.specs.Miscounts.{events_of}
+use Rattle.snb_miscount.specs.Miscounts.{events_of}
 use Rattle.snb_schema.specs.declared.row.Row.{Row}
 use Rattle.snb_tool.specs.Laws.{AnswersHaveStatus, AuditInShort, IsAuditInShort, IsLatencyInShort, IsRunInShort, IsValidateInShort, LatencyInShort, RefusalIsOne, RefusedOrNot, RunInShort, ValidateInShort}
 use Rattle.snb_tool.specs.Outcome.{Asked, IsAnswer, IsAsked, ShowsSummary, TellsLatencies, TellsVerdict, IsDone, IsDoneAnswer, IsJudged, IsRefused, IsRun, IsValidated}

@@ -24,17 +24,17 @@ use Rattle.snb_runlog.specs.declared.columns.TheConstants.{LAST_VERSION, MAX_NUM
 use Rattle.snb_runlog.specs.Columns.{CanBeLogged, HasCount}
 use Rattle.snb_runlog.specs.Laws.{ReadsBack, RunReadsBack}
 use Rattle.snb_runlog.specs.Writing.{AreCounted, logged_text}
-use Rattle.snb_workers.specs.Counts.{HasRightCount, IsCount, TellsCounts, logged_by, logged_of, rows_by}
+use Rattle.snb_replica.specs.Counts.{HasRightCount, IsCount, TellsCounts, logged_by, logged_of, rows_by}
 use Rattle.snb_answered.specs.declared.done.Answered.{Answered}
 use Rattle.snb_workers.specs.Laws.{FinishesAreOfOperations, OneCount}
-use Rattle.snb_workers.specs.Miscounts.{IsFirstMiscount}
+use Rattle.snb_miscount.specs.Miscounts.{IsFirstMiscount}
 use Rattle.snb_workers_replay.specs.Laws.{IsReplayed}
 use Rattle.snb_graph_model.specs.Graphs.{IsGraph}
 use Rattle.snb_graph_model.specs.Soundness.{Sound}
 use Rattle.snb_schema.specs.declared.row.Row.{Row}
 use Rattle.snb_base.proofs.Laws.{at_contains}
 use Rattle.std.specs.Prelude.{Option, None, Some}
-use Rattle.snb_workers.specs.Replicas.{IfFinish}
+use Rattle.snb_replica.specs.Replicas.{IfFinish}
 
 -- ---- what a log can tell of a run
 

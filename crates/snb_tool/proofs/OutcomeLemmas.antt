@@ -36,9 +36,9 @@ use Rattle.snb_schema.specs.declared.refusal.Refusal.TheVariants.{Unregistered}
 use Rattle.snb_tool.specs.Inputs.{Connector, Given}
 use Rattle.snb_ratio.specs.Chances.{Falling}
 use Rattle.snb_walk.specs.declared.target.Pick.TheVariants.{Modulo}
-use Rattle.snb_workers.specs.Counts.{logged_of}
+use Rattle.snb_replica.specs.Counts.{logged_of}
 use Rattle.snb_workers.specs.declared.run.Outcome.{Outcome}
-use Rattle.snb_workers.specs.Miscounts.{IsFirstMiscount, events_of}
+use Rattle.snb_miscount.specs.Miscounts.{IsFirstMiscount, events_of}
 use Rattle.snb_workers.specs.Runs.{HasRun}
 use Rattle.snb_tool.specs.declared.audit.Judged.{Judged}
 use Rattle.snb_tool.specs.declared.deliver.Finished.{Finished}

@@ -25,9 +25,9 @@ use Rattle.snb_tool_words.specs.declared.command.Command.{Command}
 use Rattle.snb_tool_words.specs.declared.command.Command.TheVariants.{Audit, Latency, Run}
 use Rattle.snb_tool_words.specs.Commands.{IsLineOf}
 use Rattle.snb_tool_words.specs.Laws.{WordsAreOne}
-use Rattle.snb_workers.specs.Counts.{logged_of}
+use Rattle.snb_replica.specs.Counts.{logged_of}
 use Rattle.snb_workers.specs.Laws.{CountsOfARun}
-use Rattle.snb_workers.specs.Miscounts.{events_of}
+use Rattle.snb_miscount.specs.Miscounts.{events_of}
 use Rattle.snb_tool.specs.Inputs.{Found, Given, IsFine, IsFoundTold, IsInput, checks_of, plan_checks}
 use Rattle.snb_tool.specs.Laws.{RefusedOrNot, RunIsWhole}
 use Rattle.snb_tool.specs.Outcome.{Asked, IsAnswer, IsDone, IsJudged, IsRun, ShowsSummary, TellsLatencies, TellsVerdict}

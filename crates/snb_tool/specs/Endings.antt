@@ -33,7 +33,7 @@ use Rattle.snb_graph_model.specs.Graphs.{HoldsKey}
 use Rattle.snb_tool_texts.specs.Answers.{answers_text, bytes_in}
 use Rattle.snb_plan.specs.Closed.{IsClosed, IsFirstWrong}
 use Rattle.snb_plan.specs.Plans.{IsOfStreams, IsPlan, Plan, queries_in, read_count, updates_in}
-use Rattle.snb_workers.specs.Counts.{logged_of}
+use Rattle.snb_replica.specs.Counts.{logged_of}
 use Rattle.snb_workers.specs.declared.run.Outcome.{Outcome as RunOutcome}
 use Rattle.snb_tool_words.specs.declared.command.Command.{Command}
 use Rattle.snb_tool_words.specs.Words.{texts_of}

@@ -53,8 +53,8 @@ use Rattle.snb_tool_words.specs.declared.command.Command.TheVariants.{Audit, Exp
 use Rattle.snb_tool_words.specs.declared.options.Via.{Via}
 use Rattle.snb_tool_words.specs.declared.options.Via.TheVariants.{Graph, Table}
 use Rattle.snb_tool_words.specs.Commands.{IsLineOf}
-use Rattle.snb_workers.specs.Counts.{TellsCounts}
-use Rattle.snb_workers.specs.Miscounts.{events_of}
+use Rattle.snb_replica.specs.Counts.{TellsCounts}
+use Rattle.snb_miscount.specs.Miscounts.{events_of}
 use Rattle.snb_answered.specs.declared.done.Answered.{Answered}
 use Rattle.snb_workers.specs.Runs.{AreByClock, AreReplies}
 use Rattle.snb_tool.specs.Inputs.{ArePlanned, Found, Given, IsFine, IsInput, after_dataset, after_streams, at_first, checks_of}

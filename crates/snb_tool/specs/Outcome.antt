@@ -45,8 +45,8 @@ use Rattle.snb_summary.specs.Works.{run_of}
 use Rattle.snb_tool_texts.specs.Answers.{answers_text}
 use Rattle.snb_tool_texts.specs.Counts.{check_text}
 use Rattle.snb_trial.specs.Trial.{dataset, lanes, least_ratio, lists, read_frequencies}
-use Rattle.snb_workers.specs.Counts.{logged_of}
-use Rattle.snb_workers.specs.Miscounts.{IsFirstMiscount, events_of}
+use Rattle.snb_replica.specs.Counts.{logged_of}
+use Rattle.snb_miscount.specs.Miscounts.{IsFirstMiscount, events_of}
 use Rattle.snb_answered.specs.declared.done.Answered.{Answered}
 use Rattle.snb_workers.specs.Runs.{HasRun}
 use Rattle.snb_tool_words.specs.declared.command.Command.{Command}

@@ -8,7 +8,7 @@ ghost use Rattle.snb_plan.specs.Closed.{IsClosed};
 ghost use Rattle.snb_plan.specs.Plans.{queries_in, schedule_of, updates_in};
 ghost use Rattle.snb_history.specs.Rules.{IsLegal};
 ghost use Rattle.snb_runlog.specs.declared.columns.TheConstants.{MAX_NUMBER as MOST};
-ghost use Rattle.snb_workers.specs.Counts.{logged_of};
+ghost use Rattle.snb_replica.specs.Counts.{logged_of};
 ghost use Rattle.snb_schema.specs.declared.limits.TheConstants.{MAX_WORKERS};
 ghost use Rattle.snb_history.specs.RunTexts.{log_text};
 ghost use Rattle.snb_schema.specs.ScreenTexts.{summary_text};

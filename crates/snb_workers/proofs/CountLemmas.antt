@@ -28,7 +28,7 @@ use Rattle.snb_validation.specs.ReplyData.{reply_data}
 use Rattle.snb_workers_replay.specs.Laws.{IsReplayed, PrefixesAreSound}
 use Rattle.snb_workers_replay.specs.Replay.{IsAfter}
 use Rattle.snb_answered.specs.declared.done.Answered.{Answered}
-use Rattle.snb_workers.specs.Counts.{HasRightCount, IsCount, IsCountOf, TellsCounts, first_rows, logged_by, logged_of, rows_by}
+use Rattle.snb_replica.specs.Counts.{HasRightCount, IsCount, IsCountOf, TellsCounts, first_rows, logged_by, logged_of, rows_by}
 use Rattle.snb_workers.specs.Laws.{CountsOfARun, FinishesAreOfOperations, OneCount, OneEntry}
 use Rattle.snb_workers.specs.Runs.{AreReplies, Asks, IsAnswered}
 use Rattle.snb_workers_replay.proofs.Laws.{same_gain}

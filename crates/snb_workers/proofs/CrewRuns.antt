@@ -30,14 +30,15 @@ use Rattle.snb_workers_replay.specs.Replay.{IsAfter, IsFinal}
 use Rattle.snb_workers.specs.declared.crew.Worker.{Worker}
 use Rattle.snb_answered.specs.declared.done.Answered.{Answered}
 use Rattle.snb_workers.specs.Crews.{AllLeave, AreReady, IsCrew, IsReady, Leaves, opening}
-use Rattle.snb_workers.specs.Replicas.{StandsFor, Taken}
+use Rattle.snb_replica.specs.Replicas.{StandsFor, Taken}
 use Rattle.snb_workers.specs.Runs.{AreByClock, AreReplies, HasRun, IsAnswered}
 use Rattle.snb_workers.specs.Turns.{IsBehind}
 use Rattle.snb_workers.specs.Works.{AreTimely, HasWorked, IsFollowing, IsFree}
 use Rattle.snb_workers.proofs.CrewEvents.{all_by_clock, any_prefix, none_of, seen_there}
 use Rattle.snb_base.proofs.Laws.{contains_cases, contains_here, in_filter}
 use Rattle.snb_answered.proofs.Laws.{all_from, of_all}
-use Rattle.snb_workers.proofs.TurnEvents.{all_done, front_within, of_more}
+use Rattle.snb_replica.proofs.Laws.{front_within}
+use Rattle.snb_workers.proofs.TurnEvents.{all_done, of_more}
 use Rattle.snb_workers.proofs.WorkEvents.{prefix-trans}
 
 -- a worker's seat at first

@@ -1,4 +1,3 @@
-pub mod Following
 pub mod PlanSteps
 pub mod TurnEvents
 pub mod TurnReplies
@@ -9,5 +8,3 @@ pub mod WorkLemmas
 pub mod CrewEvents
 pub mod CrewRuns
 pub mod CountLemmas
-pub mod TallyFacts
-pub mod MiscountFacts

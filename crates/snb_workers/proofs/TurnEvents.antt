@@ -14,7 +14,7 @@ use Rattle.snb_history.specs.Rules.{IsComplete, IsFront, IsLegal, MayAct, Obeys,
 use Rattle.snb_history.specs.Schedule.{Schedule, IsOperation, step_of}
 use Rattle.snb_history.proofs.Laws.{keeps_legal}
 use Rattle.snb_plan.specs.Plans.{Plan}
-use Rattle.snb_workers.specs.Replicas.{HasTaken, MayTake, StandsFor, Taken}
+use Rattle.snb_replica.specs.Replicas.{HasTaken, MayTake, StandsFor, Taken}
 use Rattle.snb_workers.specs.Turns.{IsBehind}
 
 -- ---- replicas
@@ -37,18 +37,6 @@ caught_up base plan all h old new front is whole behind taken =
 -- ---- legal histories
 
 module _ (s : Schedule) (workers : ℕ) (h : List Event) (legal : IsLegal s workers h) where
-  -- the front of a Finish lies within the history
-  pub front_within : (op worker at front : ℕ) → Contains h (Finish op worker at front) → front ≤ length h
-  front_within op worker at front c =
-      let k : ℕ = c.0 in
-      let e : Event = Finish op worker at front in
-      let is : IsFront s (take k h) op front = (legal.fits (take k h) e (drop (k + 1) h) (split_here h k e c.1 (sym c.2))).obeys V8 in
-      let size = length-take k h in
-      elim (cases_Bool (step_of s op).query) [
-        | inl read ↦ (let within = (is.of_read read).1 in omega (arith, within, size))
-        | inr insert ↦ (let none = is.of_insert insert in omega (arith, none))
-      ]
-
   -- what has finished had started
   pub was_started : (op worker at front : ℕ) → Contains h (Finish op worker at front) → started h op ≡ true
   was_started op worker at front c =

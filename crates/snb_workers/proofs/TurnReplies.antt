@@ -20,8 +20,9 @@ use Rattle.snb_workers_replay.specs.Replay.{IsAfter}
 use Rattle.snb_answered.specs.declared.done.Answered.{Answered}
 use Rattle.snb_answered.specs.Replies.{HasAdded}
 use Rattle.snb_answered.proofs.Laws.{added_there, still_there}
-use Rattle.snb_workers.specs.Replicas.{StandsFor, Taken}
-use Rattle.snb_workers.specs.Runs.{AreReplies, Asks, IsAnswered, IsReplied}
+use Rattle.snb_replica.specs.Replicas.{StandsFor, Taken}
+use Rattle.snb_replica.specs.ReplyTexts.{IsReplied}
+use Rattle.snb_workers.specs.Runs.{AreReplies, Asks, IsAnswered}
 use Rattle.snb_workers.specs.declared.work.Served.{Served}
 use Rattle.snb_workers.specs.Turns.{IsDone, IsReplyNow, IsServed}
 use Rattle.snb_workers.proofs.PlanSteps.{ask_is_query, insert_is_no_query}

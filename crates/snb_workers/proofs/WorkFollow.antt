@@ -10,7 +10,7 @@ use Rattle.snb_history.specs.Rules.{IsLegal}
 use Rattle.snb_history.specs.Schedule.{Schedule}
 use Rattle.snb_board.specs.Boards.{HasLooked, Sitting}
 use Rattle.snb_plan.specs.Plans.{Plan, schedule_of}
-use Rattle.snb_workers.specs.Replicas.{HasTaken, HasTakenSome, MayTake, StandsFor, Taken}
+use Rattle.snb_replica.specs.Replicas.{HasTaken, HasTakenSome, MayTake, StandsFor, Taken}
 use Rattle.snb_workers.specs.Works.{IsFollowing}
 use Rattle.snb_workers.specs.WorkTurns.{HasFollowed, IsAbreast}
 use Rattle.snb_workers.proofs.WorkCalls.{following_later, later}

@@ -22,7 +22,7 @@ use Rattle.snb_book.specs.Kept.{IsInHand, moment_after}
 use Rattle.snb_board.specs.Boards.{HasCalled, HasClaimed, HasFinished, HasHalted, HasLearned, HasLooked, Site, Sitting, events_of, mine, sitting}
 use Rattle.snb_plan.specs.Plans.{IsOfStreams, Plan, schedule_of}
 use Rattle.snb_answered.specs.declared.done.Answered.{Answered}
-use Rattle.snb_workers.specs.Replicas.{StandsFor, Taken}
+use Rattle.snb_replica.specs.Replicas.{StandsFor, Taken}
 use Rattle.snb_workers.specs.Runs.{AreReplies, Asks}
 use Rattle.snb_workers.specs.declared.work.Served.{Served}
 use Rattle.snb_workers.specs.Turns.{IsServed}

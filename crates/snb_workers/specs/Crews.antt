@@ -12,7 +12,7 @@ use Rattle.snb_plan.specs.Closed.{IsClosed}
 use Rattle.snb_plan.specs.Plans.{Plan, schedule_of, updates_in}
 use Rattle.snb_workers.specs.declared.crew.Worker.{Worker}
 use Rattle.snb_answered.specs.declared.done.Answered.{Answered}
-use Rattle.snb_workers.specs.Replicas.{Taken}
+use Rattle.snb_replica.specs.Replicas.{Taken}
 use Rattle.snb_workers.specs.Works.{AreTimely, HasWorked, IsFollowing, IsLater}
 
 -- a worker may work: it has its seat at the board, and has seen nothing

@@ -14,10 +14,11 @@ use Rattle.snb_read_model.specs.Cells.{Cell}
 use Rattle.snb_read_model.specs.Replies.{IsReply}
 use Rattle.snb_validation.specs.ReplyData.{reply_data}
 use Rattle.snb_workers_replay.specs.Laws.{IsReplayed}
-use Rattle.snb_workers.specs.Counts.{IsCount, TellsCounts, first_rows, logged_of}
+use Rattle.snb_replica.specs.Counts.{IsCount, TellsCounts, first_rows, logged_of}
 use Rattle.snb_answered.specs.declared.done.Answered.{Answered}
-use Rattle.snb_workers.specs.Replicas.{IfFinish}
-use Rattle.snb_workers.specs.Runs.{AreByClock, HasRun, IsAt, IsReplied}
+use Rattle.snb_replica.specs.Replicas.{IfFinish}
+use Rattle.snb_replica.specs.ReplyTexts.{IsReplied}
+use Rattle.snb_workers.specs.Runs.{AreByClock, HasRun, IsAt}
 
 -- in a legal history of a plan, the operation of each Finish is one of the plan
 abbrev pub FinishesAreOfOperations : Type 0

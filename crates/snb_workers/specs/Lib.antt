@@ -1,9 +1,5 @@
-pub mod Counts
 pub mod Laws
-pub mod Miscounts
-pub mod Replicas
 pub mod Runs
-pub mod Tallies
 pub mod Turns
 pub mod Works
 pub mod WorkTurns

@@ -1,7 +1,6 @@
 -- What a run of a plan leaves: its history, the replies to its reads, and the graph.
 use Rattle.std.specs.Prelude.{◌≡◌, ℕ, min, List, take, All, AllPairs, Contains, ◌<◌, ◌≤◌, Some, slice_get, true}
 use Rattle.snb_base.specs.Moments.{Moments}
-use Rattle.serde_json.specs.Written.{compact_text}
 use Rattle.snb_history.specs.declared.event.Event.{Event}
 use Rattle.snb_history.specs.declared.event.Event.TheVariants.{Start, Finish, Halt}
 use Rattle.snb_schema.specs.declared.limits.TheConstants.{MAX_AT}
@@ -10,12 +9,9 @@ use Rattle.snb_schema.specs.declared.row.Row.{Row}
 use Rattle.snb_history.specs.Rules.{IsComplete, IsLegal}
 use Rattle.snb_graph_model.specs.Soundness.{Sound}
 use Rattle.snb_plan.specs.Plans.{Ask, Operation, Plan, schedule_of}
-use Rattle.snb_read_model.specs.Cells.{Cell}
-use Rattle.snb_read_model.specs.Replies.{IsReply}
 use Rattle.snb_workers_replay.specs.Replay.{IsAfter, IsFinal}
 use Rattle.snb_workers_replay.specs.Waiting.{StaysBelow, WaitsForAll}
-use Rattle.snb_validation.specs.ReplyData.{reply_data}
-use Rattle.snb_workers.specs.Counts.{first_rows}
+use Rattle.snb_replica.specs.ReplyTexts.{IsReplied}
 use Rattle.snb_answered.specs.declared.done.Answered.{Answered}
 
 -- an event's moment, if it has one, is this
@@ -49,10 +45,6 @@ pub record ComesAfter (moments : Moments) (reply : List ℕ) (at : ℕ) : Type 0
 -- the operation of this number asks the query
 abbrev pub Asks : Plan → ℕ → Query → Type 0
 Asks plan op query = (o : Operation) × (slice_get plan.operations op ≡ Some o) × (o.work ≡ Ask query)
-
--- so many rows has the first answer of a reply to the query on the graph, and the bytes are the JSON text of that reply
-abbrev pub IsReplied : List Row → Query → ℕ → List ℕ → Type 0
-IsReplied graph query rows text = (reply : List (List (List Cell))) × IsReply graph query reply × (rows ≡ first_rows reply) × (text ≡ compact_text (reply_data reply))
 
 -- one of these events finishes a read with this front, no earlier than the clock could answer with the bytes of the reply there, and the reply is
 -- that to its query on the graph of the base and of what had finished in that front of the history

@@ -8,8 +8,8 @@ use Rattle.snb_plan.specs.Plans.{Ask, Insert, Operation, Plan, Work}
 use Rattle.snb_answered.specs.declared.done.Answered.{Answered}
 use Rattle.snb_workers.specs.declared.work.Served.{Served}
 use Rattle.snb_answered.specs.Replies.{HasAdded}
-use Rattle.snb_workers.specs.Replicas.{MayTake, Taken}
-use Rattle.snb_workers.specs.Runs.{IsReplied}
+use Rattle.snb_replica.specs.Replicas.{MayTake, Taken}
+use Rattle.snb_replica.specs.ReplyTexts.{IsReplied}
 
 -- the replica stands for the first events of the book's history, and may take the others
 abbrev pub IsBehind : Plan → List Event → Taken → List Row → Type 0

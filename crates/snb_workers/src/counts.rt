@@ -2,8 +2,8 @@
 
 ghost use Rattle.std.specs.Prelude.{◌≡◌, ◌<◌, List, IfOk, length};
 ghost use Rattle.snb_answered.specs.declared.done.Answered.{Answered as AnyAnswered};
-ghost use Rattle.snb_workers.specs.Counts.{AreCountsOf, logged_by};
-ghost use Rattle.snb_workers.specs.Replicas.{IfFinish};
+ghost use Rattle.snb_replica.specs.Counts.{AreCountsOf, logged_by};
+ghost use Rattle.snb_replica.specs.Replicas.{IfFinish};
 
 use snb_answered::Done;
 use snb_history::{Event, Logged};

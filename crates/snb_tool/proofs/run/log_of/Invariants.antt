@@ -1,7 +1,7 @@
 use Rattle.std.proofs.Common.{◌≡◌, ◌++◌, length, take}
 use Rattle.snb_history.specs.RunTexts.{header_line, header_of}
 use Rattle.snb_runlog.specs.Writing.{logged_text}
-use Rattle.snb_workers.specs.Counts.{logged_of}
+use Rattle.snb_replica.specs.Counts.{logged_of}
 use Rattle.snb_tool.proofs.run.log_of.Given as goal
 
 -- the header and the lines of the events so far are written

@@ -3,7 +3,7 @@ use Rattle.std.proofs.lemmas.Result.{IfOk-weaker}
 use Rattle.snb_history.specs.Schedule.{IsPlanned}
 use Rattle.snb_runlog.specs.declared.columns.TheConstants.{MAX_NUMBER}
 use Rattle.snb_answered.specs.declared.done.Answered.{Answered}
-use Rattle.snb_workers.specs.Counts.{logged_of}
+use Rattle.snb_replica.specs.Counts.{logged_of}
 use Rattle.snb_tool.specs.Endings.{bytes_of}
 use Rattle.snb_tool.proofs.LogLemmas.{no_miscount, run_back, run_fits}
 use Rattle.snb_tool.proofs.OutcomeLemmas.{run_shown}

@@ -4,7 +4,7 @@ use Rattle.snb_graph_model.specs.FinalText.{final_text}
 use Rattle.snb_plan.specs.Plans.{queries_in, updates_in}
 use Rattle.snb_schema.specs.ScreenTexts.{summary_text}
 use Rattle.snb_tool_texts.specs.Answers.{answers_text}
-use Rattle.snb_workers.specs.Counts.{logged_of}
+use Rattle.snb_replica.specs.Counts.{logged_of}
 use Rattle.snb_tool.proofs.run.texts_of.Goals as goal
 
 pub returns : goal.returns

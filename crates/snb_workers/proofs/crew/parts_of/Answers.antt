@@ -4,7 +4,7 @@ use Rattle.std.specs.Prelude.{Any}
 use Rattle.std.proofs.lemmas.List.{map-append, flat_map_more}
 use Rattle.std.proofs.lemmas.List.Elements.{Contains-append_left, Contains-append_right}
 use Rattle.snb_workers.specs.declared.crew.Worker.{Worker}
-use Rattle.snb_workers.specs.Replicas.{Taken}
+use Rattle.snb_replica.specs.Replicas.{Taken}
 use Rattle.snb_base.proofs.Laws.{contains_here}
 use Rattle.snb_answered.proofs.Laws.{contained_any}
 use Rattle.snb_workers.proofs.crew.parts_of.Goals as goal

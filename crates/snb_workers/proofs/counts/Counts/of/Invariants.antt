@@ -1,6 +1,6 @@
 -- The replies from the place on have been counted.
 use Rattle.std.proofs.Common.{◌≡◌, ◌≤◌, length, drop}
-use Rattle.snb_workers.specs.Counts.{AreCountsOf}
+use Rattle.snb_replica.specs.Counts.{AreCountsOf}
 use Rattle.snb_workers.proofs.counts.Counts.of.Given as goal
 
 abbrev pub invariant-loop-place : goal.invariant-loop-place

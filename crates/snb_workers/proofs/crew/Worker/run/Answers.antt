@@ -1,5 +1,5 @@
 use Rattle.std.proofs.Common.{subst}
-use Rattle.snb_workers.specs.Replicas.{Taken}
+use Rattle.snb_replica.specs.Replicas.{Taken}
 use Rattle.snb_workers.specs.Works.{HasWorked}
 use Rattle.snb_workers.proofs.CrewRuns.{follows_here}
 use Rattle.snb_workers.proofs.crew.Worker.run.Goals as goal

@@ -1,0 +1,2 @@
+pub mod MiscountFacts
+pub mod TallyFacts

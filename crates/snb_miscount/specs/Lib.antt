@@ -1,0 +1,2 @@
+pub mod Miscounts
+pub mod Tallies

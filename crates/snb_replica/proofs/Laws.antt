@@ -1,0 +1,2 @@
+-- Laws of histories and their fronts.
+pub use Rattle.snb_replica.proofs.Fronts.{front_within}
