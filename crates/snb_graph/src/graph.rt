@@ -1,6 +1,6 @@
 //! The graph, with what is walked along.
 
-ghost use Rattle.std.specs.Prelude.{◌≢◌, length, map, All, ◌≡◌, ◌∷◌, [], ◌↔◌, Contains, IsTrue, IsSome, IfSome, IfOk, IfErr, OnOk, OnErr, Err};
+ghost use Rattle.std.specs.Prelude.{◌≢◌, length, map, All, ◌≡◌, ◌∷◌, [], ◌↔◌, Contains, IsTrue, IsSome, IfSome, IfOk, OnOk, OnErr, Err};
 ghost use Rattle.std.specs.Option.{option_copied};
 ghost use Rattle.snb_schema.specs.declared.layout.KeyColumns.TheVariants as columns;
 ghost use Rattle.snb_schema.specs.declared.layout.Shape.TheVariants as shapes;
@@ -12,8 +12,7 @@ ghost use Rattle.snb_schema.specs.RowKeys.{node_key, slot_of};
 ghost use Rattle.snb_schema.specs.TableRows.{IsTableRow};
 ghost use Rattle.snb_graph_model.specs.Around.{friends, likes, likes_in, messages, replies, study, work};
 ghost use Rattle.snb_graph_model.specs.Graphs.{HasGained, HasKey, HasSlot, IsGraph, count, rows};
-ghost use Rattle.snb_graph_model.specs.Soundness.{Held as IsHeld, Sound};
-ghost use Rattle.snb_graph_integrity.specs.Outcomes.{IsWrong};
+ghost use Rattle.snb_graph_model.specs.Soundness.{Held as IsHeld};
 ghost use Rattle.snb_graph_rows.specs.Edges.{link_of};
 ghost use Rattle.snb_graph_tables.specs.declared.insert.Insert.TheVariants as Insert;
 ghost use Rattle.snb_graph_tables.specs.Words.{words_of};
@@ -23,8 +22,6 @@ ghost use Rattle.snb_graph_links.specs.Pairs.{rest};
 
 use crate::additions::{insert, insert_each, move_each, take_all};
 use snb_graph_adjacency::{Indexes, Walk};
-use snb_graph_integrity::Unsound;
-use snb_graph_integrity::sound::sound;
 use snb_graph_links::Links;
 use snb_graph_maps::{Layer, Walk as Entries};
 use snb_graph_tables::{Insert, TableRows, Tables, Words};
@@ -95,6 +92,18 @@ impl Graph {
         ensures { IsGraph self.now }
     {
         self.tables.known();
+    }
+
+    /// The tables that have the rows. `Soundness` of `snb_graph_sound` looks at them.
+    pub fn tables(&self) -> &Tables
+        ensures { result.now.rows ≡ self.now }
+    {
+        &self.tables
+    }
+
+    /// Where the graph takes its memory.
+    pub fn allocator(&self) -> &Global {
+        &self.alloc
     }
 
     /// The person of this id.
@@ -334,20 +343,6 @@ impl Graph {
                 Err(error)
             }
         }
-    }
-
-    /// Whether the graph is sound, where each node that a row refers to is held: each node has the
-    /// edges that it must have, and the chain of each comment's parents ends at a post. `Lacks` names
-    /// the first edge that is missing, by the node's table, then its id, then the edge's table. `Cycle`
-    /// says that nothing is missing, and names the least comment whose chain has no end: it is in a
-    /// cycle, or hangs below one. `Memory` says that memory doesn't suffice. It doesn't look at
-    /// references.
-    pub fn sound(&self) -> Result<(), Unsound>
-        ensures ok { OnOk result (IsHeld self.now → Sound self.now) }
-        ensures err { IfErr result (IsWrong self.now) }
-    {
-        let _ = &self.links;
-        sound(self.alloc, &self.tables)
     }
 
     /// Makes all rows frozen, so that copies of the graph share them; rows that waited are put in order, and walks

@@ -152,7 +152,7 @@ fn take_last<G: Grammar, S: Sink<G::Item>>(
 {
     let mut row = Record::new(of.alloc);
     let line = mem::replace(&mut at.begun, Vec::new(of.alloc));
-    split_line(of.alloc, line.as_slice(), &mut row)?;
+    split_line(line.as_slice(), &mut row)?;
     take_line(of, at, line.as_slice(), false, &row, sink)
 }
 

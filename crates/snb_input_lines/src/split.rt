@@ -1,6 +1,6 @@
 //! Lines cut at their ends, and their fields, split by `csv`.
 
-ghost use Rattle.std.specs.Prelude.{◌≡◌, ◌≢◌, ◌++◌, ℕ, List, Some, [], OnOk, OnErr, IsTrue, IsUtf8, MatchOption, true, ◌↔◌};
+ghost use Rattle.std.specs.Prelude.{◌≡◌, ◌≢◌, ◌++◌, ◌∷◌, ℕ, List, Some, [], OnOk, OnErr, IsTrue, IsUtf8, MatchOption, true, ◌↔◌};
 ghost use Rattle.csv.specs.Machine.{next_record};
 ghost use Rattle.csv.specs.Reading.{has_failed};
 ghost use Rattle.csv.specs.Records.{fields_of};
@@ -8,7 +8,7 @@ ghost use Rattle.csv.specs.declared.parser.State.TheVariants as st;
 ghost use Rattle.snb_schema.specs.Lines.{begins_with_mark, fields};
 ghost use Rattle.snb_input_lines.specs.Bars.{MayStand, Stands, bar_config};
 ghost use Rattle.snb_input_lines.specs.Cut.{IsCutAtEnd};
-ghost use Rattle.snb_schema.specs.Lines.{HasNoEnd};
+ghost use Rattle.snb_schema.specs.Lines.{HasNoBar, HasNoEnd};
 
 use crate::record::Record;
 use csv::{ByteRecord, ErrorKind, Reader, ReaderBuilder, Terminator};
@@ -88,15 +88,35 @@ pub fn cut_at_end<'a>(text: &'a [u8]) -> Option<(&'a [u8], &'a [u8])>
     }
 }
 
-/// Splits a line, which has no `\n`, at its bars into `row`, where it has a byte. The one error is want
-/// of memory.
-pub fn split_line(alloc: Global, line: &[u8], row: &mut Record) -> Result<(), AllocError>
-    requires { HasNoEnd line.now }
-    ensures { OnOk result (line.now ≢ [] → row.new ≡ fields line.now) }
+// The bytes up to the first bar, and those behind it.
+fn cut_at_bar<'a>(text: &'a [u8]) -> Option<(&'a [u8], &'a [u8])>
+    ensures { MatchOption result (HasNoBar text.entry.now)
+        (λ parts. (text.entry.now ≡ parts.0.now ++ 124 ∷ parts.1.now) × HasNoBar parts.0.now) }
 {
-    if line.is_empty() {
-        return Ok(());
+    match memchr(b'|', text) {
+        None => None,
+        Some(end) => Some((&text[..end], &text[end + 1..])),
     }
-    let mut reader = bar_reader(alloc, line, &[]);
-    take_fields(&mut reader, &mut row.row)
+}
+
+// Makes the row that of the fields of a line.
+fn split_into(line: &[u8], row: &mut ByteRecord) -> Result<(), AllocError>
+    ensures { OnOk result (fields_of row.new ≡ fields line.now) }
+{
+    row.clear();
+    let mut rest = line;
+    'fields: while let Some((field, behind)) = cut_at_bar(rest) {
+        row.push_field(field)?;
+        rest = behind;
+    }
+    row.push_field(rest)
+}
+
+/// Splits a line, which has no `\n`, at its bars into `row`. The one error is want of memory.
+///
+/// A reader of `csv` for a single line would take a buffer and clear it.
+pub fn split_line(line: &[u8], row: &mut Record) -> Result<(), AllocError>
+    ensures { OnOk result (row.new ≡ fields line.now) }
+{
+    split_into(line, &mut row.row)
 }

@@ -15,6 +15,7 @@ use snb_csv::TableLines;
 use snb_graph::Graph;
 use snb_graph_integrity::Unsound;
 use snb_graph_model::law::graphs_are_their_rows;
+use snb_graph_sound::Soundness;
 use snb_input_files::law::one_saying;
 use snb_input_files::{Load, Used};
 use snb_schema::Refusal;

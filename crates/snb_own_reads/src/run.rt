@@ -50,7 +50,9 @@ pub fn work<R: Wait, C: Clock, G: Gate>(
     ensures ok { IfOk result (HasWorked plan.now (C.moments clock.now) seat.old seat.new replica.old replica.new) }
     ensures err { OnErr result (HasStopped seat.new) }
 {
-    work_via(rt, alloc, &OwnReads, board, seat, plan, replica, clock, gate)
+    work_via(
+        rt, alloc, &OwnReads, board, seat, plan, replica, clock, gate,
+    )
 }
 
 /// Runs the plan on this thread, by one worker, as `run_alone_via` of `snb_workers` does by the graph's own reads.

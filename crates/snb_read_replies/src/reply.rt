@@ -5,11 +5,11 @@ ghost use Rattle.std.specs.List.{AllZip};
 ghost use Rattle.snb_read_model.specs.Replies.{IsAnswer, IsReply};
 ghost use Rattle.snb_graph_model.specs.Soundness.{Sound};
 
-use snb_complex_reads::answered::ic8;
-use snb_complex_reads::jobs::ic11;
-use snb_complex_reads::liked::ic7;
-use snb_complex_reads::namesakes::ic1;
-use snb_complex_reads::sent::{ic2, ic9};
+use snb_complex_messages::answered::ic8;
+use snb_complex_messages::liked::ic7;
+use snb_complex_messages::sent::{ic2, ic9};
+use snb_complex_persons::jobs::ic11;
+use snb_complex_persons::namesakes::ic1;
 use snb_graph::Graph;
 use snb_reach::reach::ic13;
 use snb_read_model::tail::tail_of;

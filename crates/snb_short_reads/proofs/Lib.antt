@@ -1,3 +1,3 @@
-pub mod Laws
+pub mod ReplyLemmas
 pub mod RootLemmas
 pub mod RowLemmas

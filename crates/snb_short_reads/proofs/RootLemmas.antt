@@ -13,8 +13,9 @@ use Rattle.snb_graph_model.specs.Graphs.{HasKey, IsGraph}
 use Rattle.snb_graph_model.specs.Messages.{IsRoot}
 use Rattle.snb_graph_model.specs.Soundness.{EndsAfter, Held, Sound}
 use Rattle.snb_graph_integrity.specs.SoundLaws.{NumbersFit, RootsAreOfParents}
-use Rattle.snb_short_reads.proofs.Laws.{any}
-use Rattle.snb_short_reads.specs.Lookups.{IsCellNumber, IsOnlyRoot}
+use Rattle.snb_read_lookups.proofs.Laws.{any}
+use Rattle.snb_read_lookups.specs.Lookups.{IsCellNumber}
+use Rattle.snb_short_reads.specs.Roots.{IsOnlyRoot}
 
 -- the second id of a link
 abbrev link_to : Row → ℕ

@@ -18,8 +18,9 @@ use Rattle.snb_read_model.specs.Cells.{Cell}
 use Rattle.snb_graph_model.specs.Around.{authors, friends, messages, replies}
 use Rattle.snb_read_model.specs.Order.{Falling, First, FirstOf, Rising, Whole, by}
 use Rattle.snb_read_model.specs.ShortReads.{Is2, Is3, Is7, IsFriend, IsRecent, IsReplyTo}
-use Rattle.snb_short_reads.proofs.Laws.{found_person, person_at, recent_first, shows, written}
-use Rattle.snb_short_reads.specs.Found.{AreReplies, IsMessageFound, IsReplyFound, without_author}
+use Rattle.snb_read_lookups.proofs.Laws.{found_person, person_at, recent_first, shows, written}
+use Rattle.snb_read_lookups.specs.Found.{IsMessageFound}
+use Rattle.snb_short_reads.specs.Found.{AreReplies, IsReplyFound, without_author}
 use Rattle.snb_base.proofs.Laws.{one_only}
 
 -- ---- orders of keys

@@ -1,4 +1,4 @@
--- What walks have found. Cited by contracts of private functions alone.
+-- The replies to a message that a walk has found. Cited by contracts of private functions alone.
 use Rattle.std.specs.Prelude.{◌≡◌, ℕ, List, [], ◌∷◌, map}
 use Rattle.std.specs.List.{All}
 use Rattle.std.specs.List.Sorted.{IsPermutation}
@@ -8,26 +8,13 @@ use Rattle.snb_schema.specs.RowKeys.{node_key}
 use Rattle.snb_graph_model.specs.Graphs.{HasKey}
 use Rattle.snb_graph_model.specs.Messages.{HasMessage}
 use Rattle.snb_graph_model.specs.Around.{authors, replies}
-use Rattle.snb_read_model.specs.Distance.{IsPerson}
-use Rattle.snb_short_reads.specs.Lookups.{IsCellNumber}
+use Rattle.snb_read_lookups.specs.Lookups.{IsCellNumber}
 
 -- a reply with its author, as (id, date, author), without the author
 abbrev pub without_author : ℕ × ℕ × ℕ → ℕ × ℕ
 without_author z = (z.0, z.1)
 
 module _ (g : List Row) where
-  -- a message that is held, and its date
-  pub record IsMessageFound (m : ℕ × ℕ) : Type 0 where
-    pub held : HasMessage g m.0
-    pub id_fits : IsCellNumber m.0
-    pub date_fits : IsCellNumber m.1
-
-  -- a friend who is held, and the date
-  pub record IsFriendFound (f : ℕ × ℕ) : Type 0 where
-    pub held : IsPerson g f.0
-    pub id_fits : IsCellNumber f.0
-    pub date_fits : IsCellNumber f.1
-
   -- a comment that replies to the message, with its author
   pub record IsReplyFound (message : ℕ) (z : ℕ × ℕ × ℕ) : Type 0 where
     pub held : HasKey g (node_key kinds.Comment z.0)

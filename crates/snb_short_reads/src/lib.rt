@@ -1,7 +1,6 @@
 //! The short reads of LDBC's Social Network Benchmark, Interactive workload v1.
 #![tactic(auto)]
 
-pub mod lookups;
 pub mod messages;
 pub mod persons;
 mod roots;

@@ -6,12 +6,12 @@ ghost use Rattle.snb_short_reads.specs.Found.{AreReplies, IsReplyFound, without_
 ghost use Rattle.snb_graph_model.specs.Messages.{HasMessage};
 ghost use Rattle.snb_graph_model.specs.Soundness.{Sound};
 
-use crate::lookups::{are_friends, author_id, forum, known, moderator, shown, words};
 use crate::persons::only;
 use crate::roots::root;
 use snb_base::list_of;
 use snb_graph::Graph;
 use snb_graph_integrity::law::sound_graphs;
+use snb_read_lookups::lookups::{are_friends, author_id, forum, known, moderator, shown, words};
 use snb_read_model::{Answer, AnswerRow, Cell, CowText};
 use snb_read_order::in_order;
 use std::alloc::{AllocError, Global};

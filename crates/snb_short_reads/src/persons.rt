@@ -3,14 +3,14 @@
 ghost use Rattle.std.specs.Prelude.{◌≡◌, ◌∷◌, [], IfOk, Contains};
 ghost use Rattle.snb_schema.specs.declared.row.Row.TheVariants as row;
 ghost use Rattle.snb_read_model.specs.ShortReads.{Is1, Is2, Is3, IsFriend, IsProfile, IsRecent};
-ghost use Rattle.snb_short_reads.specs.Found.{IsFriendFound, IsMessageFound};
+ghost use Rattle.snb_read_lookups.specs.Found.{IsFriendFound, IsMessageFound};
 ghost use Rattle.snb_graph_model.specs.Soundness.{Sound};
 
-use crate::lookups::{author_id, city, collected, known, shown, words};
 use crate::roots::root;
 use snb_base::list_of;
 use snb_graph::Graph;
 use snb_graph_integrity::law::sound_graphs;
+use snb_read_lookups::lookups::{author_id, city, collected, known, shown, words};
 use snb_read_model::{Answer, AnswerRow, Cell, CowText};
 use snb_read_order::{first_of, in_order};
 use snb_schema::Person;

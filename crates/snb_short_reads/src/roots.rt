@@ -4,7 +4,7 @@ ghost use Rattle.std.specs.Prelude.{Contains};
 ghost use Rattle.snb_schema.specs.declared.table.Kind.TheVariants as kinds;
 ghost use Rattle.snb_schema.specs.Inserts.{parent_row};
 ghost use Rattle.snb_schema.specs.RowKeys.{node_key};
-ghost use Rattle.snb_short_reads.specs.Lookups.{IsOnlyRoot};
+ghost use Rattle.snb_short_reads.specs.Roots.{IsOnlyRoot};
 ghost use Rattle.snb_graph_model.specs.Graphs.{HasKey};
 ghost use Rattle.snb_graph_model.specs.Messages.{HasMessage};
 ghost use Rattle.snb_graph_model.specs.Soundness.{Sound};

@@ -40,6 +40,6 @@ pub fn fields_in(alloc: Global, text: &[u8]) -> Result<Record, LineFault>
     }
     plain_fields();
     let mut fields = Record::new(alloc);
-    split_line(alloc, text, &mut fields)?;
+    split_line(text, &mut fields)?;
     Ok(fields)
 }

@@ -5,11 +5,11 @@ ghost use Rattle.snb_test_workers.specs.Wholes.{IsWhole};
 use crate::closed::{Planned, load_closed};
 use crate::pair::work_seat;
 use snb_history::Event;
+use snb_own_reads::run_alone;
 use snb_test_board::boards::board_of_two;
 use snb_test_book::books::told_events;
 use snb_test_script::words::{first_word, number_of};
 use snb_test_script::{Files, Flaw, Given, Lines};
-use snb_own_reads::run_alone;
 use std::alloc::Global;
 use std::sync::Wait;
 

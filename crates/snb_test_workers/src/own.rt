@@ -47,11 +47,13 @@ fn log_of_sevens(alloc: Global, events: &[Event]) -> Result<Vec<Logged>, AllocEr
 // The first wrong count.
 fn told_miscount(alloc: Global, found: Option<Miscount>) -> Result<String, AllocError> {
     match found {
-        Some(Miscount {
-            event,
-            needs,
-            found,
-        }) => format!(in alloc; "event {event} needs {needs} found {found}"),
+        Some(
+            Miscount {
+                event,
+                needs,
+                found,
+            },
+        ) => format!(in alloc; "event {event} needs {needs} found {found}"),
         None => String::from_str(alloc, "no wrong count"),
     }
 }

@@ -7,15 +7,15 @@ ghost use Rattle.snb_plan.specs.Plans.{schedule_of};
 ghost use Rattle.snb_test_workers.specs.Wholes.{IsWhole};
 
 use crate::closed::{Planned, load_closed};
+use snb_answered::Done;
 use snb_base::{Clock, FarClock, Gate, OpenGate};
 use snb_board::{Board, Seat};
 use snb_book::Book;
+use snb_own_reads::work;
+use snb_replica::Replica;
 use snb_test_board::boards::{closed_by_all, completeness};
 use snb_test_script::words::{first_word, number_of};
 use snb_test_script::{Files, Flaw};
-use snb_own_reads::work;
-use snb_answered::Done;
-use snb_replica::Replica;
 use std::alloc::{AllocError, Global};
 use std::sync::Wait;
 use std::sync::atomic::{AtomicU64, Ordering};

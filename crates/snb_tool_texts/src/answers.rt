@@ -3,8 +3,8 @@
 ghost use Rattle.std.specs.Prelude.{◌≡◌, ◌++◌, [], IfOk, OnOk, codes};
 ghost use Rattle.snb_tool_texts.specs.Answers.{answer_line, answers_text, bytes_in};
 
-use snb_base::OwnedList;
 use snb_answered::{Answered, Done};
+use snb_base::OwnedList;
 use std::alloc::{AllocError, Global};
 use std::mem;
 

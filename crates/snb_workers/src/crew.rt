@@ -73,7 +73,15 @@ impl Worker {
             }
         };
         let replies = work_via(
-            rt, alloc, answers, board, &mut seat, plan, &mut replica, clock, gate,
+            rt,
+            alloc,
+            answers,
+            board,
+            &mut seat,
+            plan,
+            &mut replica,
+            clock,
+            gate,
         )?;
         Ok(Worker {
             seat,

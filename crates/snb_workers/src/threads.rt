@@ -61,7 +61,12 @@ fn work_all<R: Threads + Wait + Sync, A: Replies + Sync, C: Clock + Sync, G: Gat
 ///
 /// The conditions: `ready`, what answers reads is ready; `some` and `few`, the number of workers; `sound`, the base is sound; `closed`, the plan
 /// is closed over it. Where a worker has no memory it halts, and the answer is Err once all have returned.
-pub fn run_workers_via<R: Threads + Wait + Sync, A: Replies + Sync, C: Clock + Sync, G: Gate + Sync>(
+pub fn run_workers_via<
+    R: Threads + Wait + Sync,
+    A: Replies + Sync,
+    C: Clock + Sync,
+    G: Gate + Sync,
+>(
     rt: &R,
     alloc: Global,
     answers: &A,

@@ -3,7 +3,7 @@ use Rattle.std.proofs.lemmas.List.Elements.{All-nil}
 use Rattle.std.specs.List.Sorted.{IsPermutation}
 use Rattle.snb_graph_links.specs.Pairs.{rest}
 use Rattle.snb_graph_model.specs.Around.{replies}
-use Rattle.snb_short_reads.proofs.Laws.{all_found, next_found, next_held}
+use Rattle.snb_short_reads.proofs.ReplyLemmas.{all_found, next_found, next_held}
 use Rattle.snb_short_reads.specs.Found.{IsReplyFound}
 use Rattle.snb_short_reads.proofs.messages.replies.Goals as goal
 

@@ -1,5 +1,5 @@
 use Rattle.snb_graph_links.specs.Pairs.{rest}
-use Rattle.snb_short_reads.proofs.Laws.{IsFinding}
+use Rattle.snb_short_reads.proofs.ReplyLemmas.{IsFinding}
 use Rattle.snb_short_reads.proofs.messages.replies.Given as goal
 
 abbrev pub invariant-loop-id : goal.invariant-loop-id

@@ -6,9 +6,9 @@ use Rattle.snb_read_order.proofs.Laws.{compares, walked}
 use Rattle.snb_graph_model.proofs.Laws.{sent_there}
 use Rattle.snb_graph_model.specs.Around.{messages}
 use Rattle.snb_read_model.specs.Order.{First}
-use Rattle.snb_short_reads.proofs.Laws.{message_found}
+use Rattle.snb_read_lookups.proofs.Laws.{message_found}
 use Rattle.snb_short_reads.proofs.RowLemmas.{is2_answers, latest_first, latest_total}
-use Rattle.snb_short_reads.specs.Found.{IsMessageFound}
+use Rattle.snb_read_lookups.specs.Found.{IsMessageFound}
 use Rattle.snb_read_model.specs.ShortReads.{IsRecent}
 use Rattle.snb_short_reads.proofs.persons.is2.Goals as goal
 use Rattle.snb_base.proofs.Laws.{each_at, each_made}

@@ -6,9 +6,9 @@ use Rattle.snb_read_order.proofs.Laws.{compares, walked}
 use Rattle.snb_graph_model.proofs.Laws.{friend_there}
 use Rattle.snb_graph_model.specs.Around.{friends}
 use Rattle.snb_read_model.specs.Order.{Whole}
-use Rattle.snb_short_reads.proofs.Laws.{friend_found, recent_first, recent_total}
+use Rattle.snb_read_lookups.proofs.Laws.{friend_found, recent_first, recent_total}
 use Rattle.snb_short_reads.proofs.RowLemmas.{is3_answers}
-use Rattle.snb_short_reads.specs.Found.{IsFriendFound}
+use Rattle.snb_read_lookups.specs.Found.{IsFriendFound}
 use Rattle.snb_read_model.specs.ShortReads.{IsFriend}
 use Rattle.snb_short_reads.proofs.persons.is3.Goals as goal
 use Rattle.snb_base.proofs.Laws.{each_at, each_made}

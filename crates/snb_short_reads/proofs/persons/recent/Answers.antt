@@ -1,5 +1,5 @@
 use Rattle.std.proofs.Common.{rules}
-use Rattle.snb_short_reads.proofs.Laws.{shows}
+use Rattle.snb_read_lookups.proofs.Laws.{shows}
 use Rattle.snb_short_reads.proofs.persons.recent.Goals as goal
 
 pub unreachable-requires : goal.unreachable-requires

@@ -1,0 +1,5 @@
+mod Heads
+mod LikeLemmas
+mod Moves
+mod ReplyLemmas
+mod SentLemmas

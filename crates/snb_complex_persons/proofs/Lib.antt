@@ -1,0 +1,6 @@
+mod Columns
+mod JobLemmas
+mod NamesakeLemmas
+mod NearFirst
+mod ScanLemmas
+mod StayLemmas

@@ -1,0 +1,4 @@
+pub mod Jobs
+pub mod Namesakes
+pub mod Scan
+pub mod Stays

@@ -1,5 +1,0 @@
-use Rattle.std.proofs.Common.{◌≡◌, ◌++◌}
-use Rattle.snb_complex_reads.proofs.namesakes.sorted.Given as goal
-
-abbrev pub invariant-loop-text : goal.invariant-loop-text
-invariant-loop-text l = l.lent.items ++ l.text-iterator ≡ l.fn.texts

@@ -1,4 +1,0 @@
-pub mod Found
-pub mod Jobs
-pub mod Namesakes
-pub mod Scan
