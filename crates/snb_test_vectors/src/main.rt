@@ -5,14 +5,12 @@
 
 use snb_test_script::{Files, Flaw, Player, Step, Stop};
 use std::alloc::Global;
-use std::env;
 use std::env::Env;
-use std::fs;
-use std::io;
 use std::process::ExitCode;
 use std::rt::Files as RealFiles;
 use std::sync::Wait;
 use std::thread::Threads;
+use std::{env, fs, io};
 
 // What the calls of a case are made on, for each crate of calls that keeps something.
 struct Every {
