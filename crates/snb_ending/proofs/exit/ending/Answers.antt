@@ -1,10 +1,10 @@
 use Rattle.std.proofs.Common.{◌≡◌, ◌∙◌, ◌++◌, ◌∷◌, [], List, ℕ, ap, refl, sym}
 use Rattle.std.specs.Option.{option_map}
 use Rattle.std.specs.Process.{exit_status}
-use Rattle.snb_edge.specs.Edge.{shown_for}
-use Rattle.snb_edge.proofs.Shown.{line_shown, none_shown, nothing_shown}
-use Rattle.snb_edge.proofs.program.ending.Goals as goal
-use Rattle.snb_edge.proofs.program.ending.Goals.{in-Some, in_default}
+use Rattle.snb_ending.specs.Endings.{shown_for}
+use Rattle.snb_ending.proofs.Shown.{line_shown, none_shown, nothing_shown}
+use Rattle.snb_ending.proofs.exit.ending.Goals as goal
+use Rattle.snb_ending.proofs.exit.ending.Goals.{in-Some, in_default}
 
 pub returns-clause-shown : goal.returns-clause-shown
 returns-clause-shown g c =

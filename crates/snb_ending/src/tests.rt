@@ -1,15 +1,9 @@
-//! How the program ends, and which words it reads.
+//! How the program ends.
 
-ghost use Rattle.std.specs.Prelude.{◌≤◌, length, None};
-ghost use Rattle.std.specs.Io.{WritesAtMost};
-
-use crate::error_lines::ErrorLines;
-use crate::host::{HostErrorLines, HostWords};
-use crate::program::ending;
-use crate::words::Words;
+use crate::exit::ending;
+use crate::host::HostErrorLines;
 use std::alloc::Global;
 use std::cell::Cell;
-use std::env::{Env, FillError};
 use std::fmt::Display;
 use std::io;
 use std::io::Eprint;

@@ -1,7 +1,7 @@
 //! What can fail outside the program's words and files.
 
 ghost use Rattle.std.specs.Prelude.{◌≡◌, ◌<◌, ◌↔◌, ◌⊎◌, IfSome, IsNone};
-ghost use Rattle.snb_edge.specs.Edge.{line_of, status_of};
+ghost use Rattle.snb_ending.specs.Endings.{line_of, status_of};
 
 /// A fault of the world around the program.
 #[derive(Clone, Copy, Debug, PartialEq, Eq)]

@@ -1,9 +1,9 @@
 -- What standard error shows.
 use Rattle.std.proofs.Common.{◌≡◌, ◌∙◌, ◌<◌, ◌++◌, ◌∷◌, ◌==◌, ◌⊎◌, ℕ, List, [], Option, None, Some, refl, ap, arith, inl, inr, sym, append-nil, option_map}
 use Rattle.std.proofs.lemmas.Bool.{cases_Bool, eqb-true}
-use Rattle.snb_edge.specs.declared.fault.Fault.{Fault}
-use Rattle.snb_edge.specs.declared.fault.Fault.TheVariants.{Read, Write, Memory}
-use Rattle.snb_edge.specs.Edge.{line_of, shown_for, status_of}
+use Rattle.snb_ending.specs.declared.fault.Fault.{Fault}
+use Rattle.snb_ending.specs.declared.fault.Fault.TheVariants.{Read, Write, Memory}
+use Rattle.snb_ending.specs.Endings.{line_of, shown_for, status_of}
 
 -- the line of a fault
 pub line_shown : (fault : Fault) → shown_for (status_of fault) ≡ line_of fault ++ 10 ∷ []
