@@ -30,7 +30,7 @@ use snb_input_files::Load;
 use snb_plan::Plan;
 use snb_ratio::Ratio;
 use snb_replies::Replies;
-use snb_runlog::columns::LAST_VERSION;
+use snb_runlog::columns::{LAST_VERSION, MAX_NUMBER};
 use snb_runlog::law::log_reads_back;
 use snb_runlog::write::{write_header, write_lines};
 use snb_schema::Frequencies;
@@ -46,9 +46,15 @@ use std::sync::Wait;
 use std::thread::Threads;
 
 // No count of rows is greater than one that a log can have.
-fn known_counts(_replies: &[Answered])
-    ensures { All (λ a. a.rows ≤ MOST) _replies.now }
-{}
+fn known_counts(replies: &[Answered])
+    ensures { All (λ a. a.rows ≤ MOST) replies.now }
+{
+    for one in replies {
+        if u64::from(one.rows) > MAX_NUMBER {
+            unreachable!();
+        }
+    }
+}
 
 // The log of a run of a plan by so many workers, whose events are let go.
 fn log_of(
