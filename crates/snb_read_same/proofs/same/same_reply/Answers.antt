@@ -1,5 +1,5 @@
-use Rattle.snb_validation_check.proofs.SameFacts.{items_equal, lists_equal}
-use Rattle.snb_validation_check.proofs.same.same_reply.Goals as goal
+use Rattle.snb_read_same.proofs.SameFacts.{items_equal, lists_equal}
+use Rattle.snb_read_same.proofs.same.same_reply.Goals as goal
 
 pub returns : goal.returns
 returns c =

@@ -1,5 +1,5 @@
-use Rattle.snb_validation_check.proofs.SameFacts.{items_equal}
-use Rattle.snb_validation_check.proofs.same.CellCowTextSameCellText.same.Goals as goal
+use Rattle.snb_read_same.proofs.SameFacts.{items_equal}
+use Rattle.snb_read_same.proofs.same.CellCowTextSameCellText.same.Goals as goal
 
 pub returns-in-List-other : goal.returns-in-List-other
 returns-in-List-other c =

@@ -87,7 +87,7 @@ impl<'a> Same<Cell<Text>> for Cell<CowText<'a>> {
 
 /// Whether two replies are one: the same answers in the same order, each with the same rows in the same
 /// order, each with the same cells. Takes no memory.
-pub(crate) fn same_reply(a: &Reply<CowText<'_>>, b: &Reply<Text>) -> bool
+pub fn same_reply(a: &Reply<CowText<'_>>, b: &Reply<Text>) -> bool
     ensures { IsTrue result ↔ (a.now ≡ b.now) }
 {
     a.same(b)

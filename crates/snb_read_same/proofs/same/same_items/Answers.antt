@@ -1,7 +1,7 @@
 use Rattle.std.proofs.Common.{arith, rules, sym}
 use Rattle.std.proofs.lemmas.Slice.Zip.{AllZip-long}
-use Rattle.snb_validation_check.proofs.SameFacts.{not_so, zip_at, zip_next}
-use Rattle.snb_validation_check.proofs.same.same_items.Goals as goal
+use Rattle.snb_read_same.proofs.SameFacts.{not_so, zip_at, zip_next}
+use Rattle.snb_read_same.proofs.same.same_items.Goals as goal
 
 pub returns-then-a-b : goal.returns-then-a-b
 returns-then-a-b g c = not_so (λ z. c.if-a-b.true (sym (AllZip-long g.T.Same.is _ _ z)))
