@@ -1,2 +1,1 @@
 mod Started
-mod Shown

@@ -1,33 +1,12 @@
 -- What the program promises to whoever starts it.
-use Rattle.std.specs.Prelude.{◌≡◌, ◌++◌, ◌∷◌, ℕ, ◌==◌, ◌⊎◌, List, [], if◌then◌else◌, codes, IfSome, Option, Some}
+use Rattle.std.specs.Prelude.{◌≡◌, ◌∷◌, ℕ, ◌⊎◌, List, [], IfSome, Option, Some}
 use Rattle.snb_base.specs.declared.outbox.Outbox.{Ghosts as Outboxes}
 use Rattle.snb_base.specs.declared.shelf.Shelf.{Ghosts as Shelves}
 use Rattle.snb_base.specs.Moments.{Moments}
-use Rattle.snb_edge.specs.declared.fault.Fault.{Fault}
-use Rattle.snb_edge.specs.declared.fault.Fault.TheVariants.{Read, Write, Memory}
 use Rattle.snb_schema.specs.declared.read_kind.ReadKind.{ReadKind}
 use Rattle.snb_schema.specs.declared.read_kind.ReadKind.TheVariants.{Is1, Is2, Is3, Is4, Is5, Is6, Is7, Ic1, Ic2, Ic7, Ic8, Ic9, Ic11, Ic13}
 use Rattle.snb_tool_outcome.specs.Outcome.{Asked, HasServed}
 use Rattle.snb_walk.specs.declared.target.Pick.TheVariants.{Modulo}
-
--- the exit status of a fault
-abbrev pub status_of : Fault → ℕ
-status_of Read = 4
-status_of Write = 5
-status_of Memory = 6
-
--- its line on standard error, without the end
-abbrev pub line_of : Fault → List ℕ
-line_of Read = codes "snb: read fault"
-line_of Write = codes "snb: write fault"
-line_of Memory = codes "snb: out of memory"
-
--- what standard error shows for a status: a line where it tells of a fault
-abbrev pub shown_for : ℕ → List ℕ
-shown_for status =
-    if status == 4 then line_of Read ++ 10 ∷ []
-    else (if status == 5 then line_of Write ++ 10 ∷ []
-    else (if status == 6 then line_of Memory ++ 10 ∷ [] else []))
 
 -- the words are those that are told, where any are
 abbrev pub AreTold : Option (List (List ℕ)) → List (List ℕ) → Type 0

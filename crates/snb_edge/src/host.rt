@@ -1,14 +1,13 @@
-//! The words and the standard error of the system.
+//! The words of the system.
 
 ghost use Rattle.std.specs.Prelude.{None};
 
-use crate::error_lines::ErrorLines;
 use crate::words::Words;
 use snb_base::{Text, Texts};
 use std::alloc::{AllocError, Global};
 use std::env;
 use std::env::Env;
-use std::io::{Eprint, ErrorKind};
+use std::io::ErrorKind;
 
 /// The words that the system started the program with. It doesn't tell them.
 #[derive(Drop)]
@@ -43,27 +42,5 @@ impl<R: Env + AllocGlobal> Words for HostWords<R> {
                 }
             }
         }
-    }
-}
-
-/// Standard error. It doesn't tell what it was given.
-#[derive(Drop)]
-pub struct HostErrorLines<R> {
-    rt: R,
-}
-
-impl<R: Eprint> HostErrorLines<R> {
-    /// The standard error that the runtime reaches.
-    pub fn new(rt: R) -> HostErrorLines<R> {
-        HostErrorLines { rt }
-    }
-}
-
-impl<R: Eprint> ErrorLines for HostErrorLines<R> {
-    ghost given = { λ _. None };
-
-    fn show(&mut self, line: &str) {
-        // Where standard error fails too, the status still tells.
-        let _ = eprintln!(self.rt; "{line}");
     }
 }

@@ -9,12 +9,12 @@ ghost use Rattle.snb_tool_outcome.specs.Names.{MayAskFor};
 ghost use Rattle.snb_tool_words.specs.Words.{texts_of};
 ghost use Rattle.snb_walk.specs.declared.target.Pick.TheVariants as picks;
 ghost use Rattle.snb_walk.specs.Picks.{index_of};
-ghost use Rattle.snb_edge.specs.Edge.{AreTold, HasObeyed, IsServed, shown_for, started_with};
+ghost use Rattle.snb_ending.specs.Endings.{shown_for};
+ghost use Rattle.snb_edge.specs.Edge.{AreTold, HasObeyed, IsServed, started_with};
 
-use crate::error_lines::ErrorLines;
-use crate::fault::Fault;
 use crate::words::Words;
 use snb_base::{Clock, Gate, Outbox, Shelf, Text, Texts};
+use snb_ending::{ErrorLines, Fault, ending};
 use snb_graph::Graph;
 use snb_handlers::{Call, Handler, Handlers, KINDS};
 use snb_read_model::{Answer, copy_answer};
@@ -26,17 +26,6 @@ use std::alloc::{AllocError, Global};
 use std::process::ExitCode;
 use std::sync::Wait;
 use std::thread::Threads;
-
-/// Ends with this status: with one line on standard error, where the status tells of a fault.
-pub fn ending<E: ErrorLines>(errors: &mut E, status: u8) -> ExitCode
-    ensures status { exit_status result ≡ status }
-    ensures shown { E.given errors.new ≡ option_map (λ text. text ++ shown_for (exit_status result)) (E.given errors.old) }
-{
-    if let Some(fault) = Fault::of_status(status) {
-        errors.show(fault.line());
-    }
-    ExitCode::from(status)
-}
 
 // The texts, lent.
 fn lend(alloc: Global, texts: &Texts) -> Result<Vec<&str>, AllocError>

@@ -7,7 +7,7 @@ use Rattle.std.specs.Ordering.{is_le, is_lt, ordering_reverse}
 use Rattle.std.specs.Cmp.{IsTotalOrder, tied_itself}
 use Rattle.std.specs.List.{AllByRecursion}
 use Rattle.snb_graph_maps.specs.Ahead.{IsLeast, before, is_above, is_from}
-use Rattle.snb_base.proofs.Laws.{contains_cases, contains_here, contains_there}
+use Rattle.snb_graph_maps.proofs.Facts.{contains_cases, contains_here, contains_there}
 
 module _ {K : Type 0} (R : K → K → Ordering) (o : IsTotalOrder R) (exact : (x y : K) → R x y ≡ Equal → x ≡ y) where
   -- a key that is above another, or it

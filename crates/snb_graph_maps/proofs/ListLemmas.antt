@@ -1,5 +1,5 @@
 -- What a list contains, and what its entries are under a key.
-use Rattle.std.proofs.Common.{◌≡◌, ◌↔◌, ◌⊎◌, inl, inr, true, false, cond, List, [], ◌∷◌, Some, None, refl, sym, ap, ◌∙◌, subst, is_some}
+use Rattle.std.proofs.Common.{◌≡◌, ◌↔◌, ◌⊎◌, inl, inr, true, false, cond, List, [], ◌∷◌, Some, None, sym, ap, ◌∙◌, subst, is_some}
 use mathlib.Core.Bool.{false≢true}
 use Rattle.std.specs.declared.cmp.Ordering.{Ordering}
 use Rattle.std.specs.declared.cmp.Ordering.TheVariants.{Less, Equal, Greater}
@@ -9,12 +9,12 @@ use Rattle.std.specs.BTreeMap.{insert_entry, is_at}
 use Rattle.std.specs.List.{Contains}
 use Rattle.std.specs.List.Sorted.{IsPermutation}
 use Rattle.std.specs.Map.{lookup, keys_of}
-use Rattle.std.proofs.lemmas.List.Sorted.{IsPermutation-refl, IsPermutation-cons, IsPermutation-trans, IsPermutation-sym, Contains-permutation}
+use Rattle.std.proofs.lemmas.List.Sorted.{IsPermutation-append_comm, IsPermutation-append_left, IsPermutation-refl, IsPermutation-cons, IsPermutation-trans, IsPermutation-sym, Contains-permutation}
 use Rattle.std.proofs.lemmas.Map.Keys.{IsDistinct-from_sorted}
 use Rattle.std.proofs.lemmas.Map.Lookups.{CmpEqualImpliesEq}
 use Rattle.std.proofs.lemmas.Map.Views.{Contains-from_lookup, lookup-from_Contains, tells_apart}
 use Rattle.snb_graph_maps.specs.Merged.{value_at, Rises}
-use Rattle.snb_base.proofs.Laws.{contains_cases, contains_here, contains_there, none_of, two_swapped}
+use Rattle.snb_graph_maps.proofs.Facts.{contains_cases, contains_here, contains_there, none_of}
 
 -- an entry under a new key is one entry more
 pub IsPermutation-insert_entry : {K V : Type 0} (cmp : K → K → Ordering) (es : List (K × V)) (k : K) (v : V) → lookup (is_at (cmp k)) es ≡ None → IsPermutation (insert_entry cmp es k v) ((k, v) ∷ es)
@@ -23,7 +23,7 @@ IsPermutation-insert_entry cmp (e ∷ es) k v n =
     elim (cmp k e.0) as (λ o. cond (is_eq o) (Some e.1) (lookup (is_at (cmp k)) es) ≡ None → IsPermutation (match_ordering o ((k, v) ∷ e ∷ es) ((e.0, v) ∷ es) (e ∷ insert_entry cmp es k v)) ((k, v) ∷ e ∷ es)) [
       | Less ↦ λ m. IsPermutation-refl _
       | Equal ↦ λ m. absurd cc
-      | Greater ↦ λ m. IsPermutation-trans _ _ _ (IsPermutation-cons e _ _ (IsPermutation-insert_entry cmp es k v m)) (two_swapped e (k, v) es)
+      | Greater ↦ λ m. IsPermutation-trans _ _ _ (IsPermutation-cons e _ _ (IsPermutation-insert_entry cmp es k v m)) (IsPermutation-append_left es (e ∷ (k, v) ∷ []) ((k, v) ∷ e ∷ []) (IsPermutation-append_comm (e ∷ []) ((k, v) ∷ [])))
     ] n
 
 module _ {K X : Type 0} (R : K → K → Ordering) (o : IsTotalOrder R) (exact : CmpEqualImpliesEq R) where

@@ -16,7 +16,7 @@ use Rattle.std.proofs.lemmas.Map.Entries.{lookup-filter-keys}
 use Rattle.std.proofs.lemmas.Map.Keys.{IsDistinct-from_sorted}
 use Rattle.snb_graph_maps.specs.Merged.{value_at, merged, Rises, AreParts, AreStored, most_entries}
 use Rattle.snb_graph_maps.proofs.MergedLemmas.{same_rows, rises-merged, rises-insert, value_at-merged, value_at-insert, value_at_tied, length-merged, length-insert, parts-all, parts-insert, parts-remove}
-use Rattle.snb_base.proofs.Laws.{equal_from}
+use Rattle.snb_graph_maps.proofs.Facts.{equal_from}
 
 -- a filter by the keys
 pub keys_filter : {K X : Type 0} (p : K → Bool) (es : List (K × X)) → keys_of (filter (λ e. p e.0) es) ≡ filter p (keys_of es)

@@ -17,7 +17,7 @@ use Rattle.snb_graph_maps.proofs.ListLemmas.{entry_at}
 use Rattle.snb_graph_maps.proofs.LeastLemmas.{all_after, cut}
 use Rattle.snb_graph_maps.proofs.MergedLemmas.{length-insert, merged-nil, rises-insert, rises-merged, same_rows, value_at-insert, value_at-merged, value_below}
 use Rattle.snb_graph_maps.proofs.PartLemmas.{filter_all, rises-remove, value_at-gone}
-use Rattle.snb_base.proofs.Laws.{contains_cases, contains_here, contains_there, equal_from}
+use Rattle.snb_graph_maps.proofs.Facts.{contains_cases, contains_here, contains_there, equal_from}
 
 or_none : {X : Type 0} (p : Option X) → option_or p None ≡ p
 or_none None = refl

@@ -4,7 +4,8 @@
 
 use snb_base::OpenGate;
 use snb_base_host::{FolderOutbox, FolderShelf, HostClock, StandardStreams};
-use snb_edge::{Fault, HostErrorLines, HostWords, ending, serve};
+use snb_edge::{HostWords, serve};
+use snb_ending::{Fault, HostErrorLines, ending};
 use std::process::ExitCode;
 
 fn main(rt: HostRuntime) -> ExitCode {

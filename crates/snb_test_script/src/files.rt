@@ -36,11 +36,11 @@ impl Drop for Folder {
 /// The files of the case that is played, no two of one name, and those that it can begin with.
 pub struct Files {
     alloc: Global,
-    /// Those that were made before the first case.
+    /// Those that were made where no case was played, no two of one name.
     shared: Vec<Named>,
     /// What the cases before it left.
     left: Vec<Folder>,
-    /// The name of the case, once there is one.
+    /// The name of the case, where one is played.
     case: Option<String>,
     all: Vec<Named>,
     /// The file that lines are added to.
@@ -67,6 +67,13 @@ fn place_of(all: &[Named], name: &str) -> Option<usize>
     all.iter().position(|file| file.name.as_str() == name)
 }
 
+// Where the files stand that the case of this name left.
+fn place_of_case(left: &[Folder], case: &str) -> Option<usize>
+    ensures { IfSome result (λ at. at < length left.now) }
+{
+    left.iter().position(|left| left.case.as_str() == case)
+}
+
 impl Files {
     /// No files.
     pub fn new(alloc: Global) -> Files {
@@ -80,23 +87,35 @@ impl Files {
         }
     }
 
-    /// Begins a case, which has no files yet.
-    pub fn begin_case(&mut self, name: &str) -> Result<(), AllocError> {
-        let name = String::from_str(self.alloc, name)?;
+    /// Ends the case, if one is played: a later one can begin with what it leaves. What was made where none was
+    /// played is shared from now on.
+    pub fn end_case(&mut self) -> Result<(), AllocError> {
         let files = mem::replace(&mut self.all, Vec::new(self.alloc));
         self.begun = None;
-        match mem::replace(&mut self.case, Some(name)) {
+        match self.case.take() {
             Some(case) => Ok(self.left.push(Folder { case, files })?),
             None => {
-                self.shared = files;
+                for file in files {
+                    self.shared.push(file)?;
+                }
                 Ok(())
             }
         }
     }
 
+    /// Begins a case, which has no files yet.
+    pub fn begin_case(&mut self, name: &str) -> Result<(), Flaw> {
+        self.end_case()?;
+        if place_of_case(&self.left, name).is_some() {
+            return Err(Flaw::CaseTwice);
+        }
+        self.case = Some(String::from_str(self.alloc, name)?);
+        Ok(())
+    }
+
     // Gives the case the files that an earlier one left, and no others.
     fn begin_like(&mut self, case: &str) -> Result<(), Flaw> {
-        match self.left.iter().position(|left| left.case.as_str() == case) {
+        match place_of_case(&self.left, case) {
             Some(at) => {
                 self.all = self.left[at].files.clone()?;
                 self.begun = None;
@@ -128,6 +147,9 @@ impl Files {
                 self.begun = Some(at);
             }
             None => {
+                if self.case.is_none() && place_of(&self.shared, name).is_some() {
+                    return Err(Flaw::FileTwice);
+                }
                 let name = String::from_str(self.alloc, name)?;
                 self.begun = Some(self.all.len());
                 self.all.push(Named { name, bytes })?;

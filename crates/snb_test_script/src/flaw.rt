@@ -25,8 +25,8 @@ pub enum Flaw {
     NoCall,
     /// The line belongs to a case, and none is begun.
     NoCase,
-    /// The script has no case.
-    NoCases,
+    /// Two cases have one name.
+    CaseTwice,
     /// No file and no case of this name stands above.
     NoFile,
     /// A file has no such line, or not so many bytes.
@@ -47,11 +47,11 @@ pub enum Flaw {
     Memory,
 }
 
-/// What is wrong with which line, counted from 1.
+/// What is wrong with a file of cases.
 #[derive(Clone, Copy)]
 pub struct Stop {
-    /// The line.
-    pub line: usize,
+    /// The line that isn't carried out, counted from 1; None where the file can't be read.
+    pub line: Option<usize>,
     /// What is wrong with it.
     pub flaw: Flaw,
 }
@@ -70,7 +70,7 @@ impl Flaw {
             Flaw::NothingWanted => "it isn't said what must come",
             Flaw::NoCall => "no call stands above that could answer this",
             Flaw::NoCase => "no case is begun",
-            Flaw::NoCases => "the script has no case",
+            Flaw::CaseTwice => "a case of this name stands above",
             Flaw::NoFile => "nothing of this name stands above",
             Flaw::TooShort => "the file isn't so long",
             Flaw::Untold => "something came that the case doesn't ask for",

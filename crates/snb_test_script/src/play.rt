@@ -20,9 +20,10 @@ pub enum Step<'a> {
 
 /// What is printed of a script.
 pub struct Report {
-    /// A line for each case, and one that counts them, or one that names what is wrong with the script.
+    /// A line for each file and for each case that differs, and one that counts them, or one that names what is
+    /// wrong with a file.
     pub text: String,
-    /// Whether each line of the script was carried out.
+    /// Whether each line of each file was carried out.
     pub is_whole: bool,
 }
 
@@ -35,8 +36,8 @@ impl Drop for Report {
     }
 }
 
-/// How far a script is played. A case is played up to the first answer that isn't the wanted one; its lines
-/// about files are carried out all the same.
+/// How far a script is played, whose files follow one another. A case is played up to the first answer that isn't
+/// the wanted one; its lines about files are carried out all the same.
 pub struct Player {
     alloc: Global,
     files: Files,
@@ -70,6 +71,11 @@ impl Player {
             cases: Cases::new(alloc),
             answered: None,
         }
+    }
+
+    /// Begins a file of the script, of this name.
+    pub fn begin_file(&mut self, name: &str) -> Result<(), AllocError> {
+        self.cases.begin_file(name)
     }
 
     /// The files as they are.
@@ -145,7 +151,7 @@ impl Player {
         }
         self.cases.end()?;
         self.cases.begin(name)?;
-        Ok(self.files.begin_case(name)?)
+        self.files.begin_case(name)
     }
 
     // Keeps the answer of a call, which is compared with what must come.
@@ -188,13 +194,10 @@ impl Player {
         }
     }
 
-    /// Ends the last case.
-    pub fn end(&mut self) -> Result<(), Flaw> {
-        self.cases.end()?;
-        if self.cases.count() == 0 {
-            return Err(Flaw::NoCases);
-        }
-        Ok(())
+    /// Ends the file of the script, with its last case.
+    pub fn end_file(&mut self) -> Result<(), AllocError> {
+        self.cases.end_file()?;
+        self.files.end_case()
     }
 
     // The cases.
@@ -213,7 +216,7 @@ impl Player {
         let is_whole = ending.is_ok();
         let text = match ending {
             Ok(()) => self.cases().counted()?,
-            Err(stop) => self.cases().stopped(stop.line, stop.flaw.text())?,
+            Err(stop) => self.cases().stopped(stop)?,
         };
         Ok(Report { text, is_whole })
     }

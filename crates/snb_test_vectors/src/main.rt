@@ -1,14 +1,16 @@
-//! Reads a script of calls from standard input, makes them, and prints for each case whether each call
-//! answered what the script wants. The form of the script stands at its head, in the file `stdin` of this
-//! crate.
+//! Plays the files of cases that its words name, one after another: makes the calls of each case, and prints of each
+//! file in how many cases each call answered what the file wants. `data/README.md` of this crate has the form of
+//! these files.
 #![tactic(auto)]
 
 use snb_test_script::{Files, Flaw, Player, Step, Stop};
 use std::alloc::Global;
-use std::io;
+use std::env::Env;
 use std::process::ExitCode;
+use std::rt::Files as RealFiles;
 use std::sync::Wait;
 use std::thread::Threads;
+use std::{env, fs, io};
 
 // What the calls of a case are made on, for each crate of calls that keeps something.
 struct Every {
@@ -96,7 +98,7 @@ fn look_at_end(every: &Every, player: &Player) -> Result<(), Flaw> {
     Ok(())
 }
 
-// Carries out a line of the script.
+// Carries out a line of a file.
 fn take_line<R: AllocGlobal + Threads + Wait + Sync>(
     rt: &R,
     every: &mut Every,
@@ -118,38 +120,84 @@ fn take_line<R: AllocGlobal + Threads + Wait + Sync>(
     }
 }
 
-// Ends the script.
+// Ends a file.
 fn end(every: &Every, player: &mut Player) -> Result<(), Flaw> {
     player.settle()?;
     look_at_end(every, player)?;
-    player.end()
+    Ok(player.end_file()?)
 }
 
-// Carries out the lines of the script, up to the first one that can't be.
+// Carries out the lines of a file, up to the first one that can't be.
 fn take_lines<R: AllocGlobal + Threads + Wait + Sync>(
     rt: &R,
     player: &mut Player,
-    script: &str,
+    text: &str,
 ) -> Result<(), Stop> {
     let mut every = Every::new(rt.alloc());
-    let mut line: usize = 0;
-    for text in script.split('\n') {
-        line = line.saturating_add(1);
-        if let Err(flaw) = take_line(rt, &mut every, player, line, text) {
-            return Err(Stop { line, flaw });
+    let mut number: usize = 0;
+    for line in text.split('\n') {
+        number = number.saturating_add(1);
+        if let Err(flaw) = take_line(rt, &mut every, player, number, line) {
+            return Err(Stop {
+                line: Some(number),
+                flaw,
+            });
         }
     }
     match end(&every, player) {
         Ok(()) => Ok(()),
-        Err(flaw) => Err(Stop { line, flaw }),
+        Err(flaw) => Err(Stop {
+            line: Some(number),
+            flaw,
+        }),
     }
 }
 
-// Plays the script, and prints what came of it. Tells whether each line was carried out.
-fn play_input<R: AllocGlobal + Input + Print + Threads + Wait + Sync>(rt: &R) -> io::Result<bool> {
-    let script = io::read_to_string(rt.alloc(), rt.reader())?;
+// Begins the file of this name: its text.
+fn text_of<R: AllocGlobal + RealFiles>(
+    rt: &R,
+    player: &mut Player,
+    name: &str,
+) -> Result<String, Flaw> {
+    player.begin_file(name)?;
+    match fs::read_to_string(rt, name) {
+        Ok(text) => Ok(text),
+        Err(_) => Err(Flaw::ReadFault),
+    }
+}
+
+// Plays the file of this name.
+fn play_file<R: AllocGlobal + RealFiles + Threads + Wait + Sync>(
+    rt: &R,
+    player: &mut Player,
+    name: &str,
+) -> Result<(), Stop> {
+    match text_of(rt, player, name) {
+        Ok(text) => take_lines(rt, player, text.as_str()),
+        Err(flaw) => Err(Stop { line: None, flaw }),
+    }
+}
+
+// Plays the files that the program's words name, up to the first line that can't be carried out. An error says that
+// the words couldn't be read.
+fn play_files<R: AllocGlobal + Env + RealFiles + Threads + Wait + Sync>(
+    rt: &R,
+    player: &mut Player,
+) -> io::Result<Result<(), Stop>> {
+    for name in env::args(rt)?.skip(1) {
+        if let Err(stop) = play_file(rt, player, name.as_str()) {
+            return Ok(Err(stop));
+        }
+    }
+    Ok(Ok(()))
+}
+
+// Plays the files, and prints what came of them. Tells whether each line was carried out.
+fn play<R: AllocGlobal + Env + RealFiles + Print + Threads + Wait + Sync>(
+    rt: &R,
+) -> io::Result<bool> {
     let mut player = Player::new(rt.alloc());
-    let ending = take_lines(rt, &mut player, script.as_str());
+    let ending = play_files(rt, &mut player)?;
     let report = player.report(ending)?;
     let text = report.text.as_str();
     print!(rt; "{text}")?;
@@ -157,7 +205,7 @@ fn play_input<R: AllocGlobal + Input + Print + Threads + Wait + Sync>(rt: &R) ->
 }
 
 fn main(rt: HostRuntime) -> ExitCode {
-    match play_input(&rt) {
+    match play(&rt) {
         Ok(true) => ExitCode::from(0),
         Ok(false) => ExitCode::from(1),
         Err(_) => ExitCode::from(1),

@@ -4,5 +4,4 @@ mod Inserting
 mod LawFacts
 pub mod Laws
 mod Refusing
-mod SameFacts
 mod Telling

@@ -11,12 +11,12 @@ ghost use Rattle.snb_inserts.specs.Applying.{HasLine, IsDuplicate, IsFirstMissin
 ghost use Rattle.snb_validation_check.specs.Steps.{HasCompared, HasText, IsTaken, IsUnmet, Steps};
 
 use crate::difference::Difference;
-use crate::same::same_reply;
 use snb_base::Text;
 use snb_graph::Graph;
 use snb_inserts::Applied;
 use snb_inserts::apply::apply;
 use snb_read_model::{Reply, copy_reply};
+use snb_read_same::same_reply;
 use snb_replies::Replies;
 use snb_schema::{Missing, Op, Query};
 use snb_validation_cases::Case;

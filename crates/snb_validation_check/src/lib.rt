@@ -6,7 +6,6 @@ pub mod checker;
 pub mod difference;
 pub mod file;
 pub mod law;
-mod same;
 pub mod text;
 
 pub use file::check_cases_via;

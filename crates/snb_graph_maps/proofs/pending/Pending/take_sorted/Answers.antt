@@ -3,7 +3,7 @@ use Rattle.snb_graph_maps.specs.Merged.{merged}
 use Rattle.snb_graph_maps.proofs.PendingLemmas.{pending_again}
 use Rattle.snb_graph_maps.proofs.ZipLemmas.{zip-sides}
 use Rattle.snb_graph_maps.proofs.pending.Pending.take_sorted.Goals as goal
-use Rattle.snb_base.proofs.Laws.{on_any_err}
+use Rattle.snb_graph_maps.proofs.Facts.{on_any_err}
 
 pub returns-in_err-keys-clause-err : goal.returns-in_err-keys-clause-err
 returns-in_err-keys-clause-err g c = on_any_err c.from_residual-in_err-keys.result (rw (← c.self.view_is) (ap (merged g.K.Ord.cmp []) c.in_ok-sort.ensures.ok ∙ pending_again g.K.Ord.cmp g.met.K.Ord.total g.met.K.Apart.same_key c.self.inside.map.entries))

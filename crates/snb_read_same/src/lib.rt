@@ -1,0 +1,6 @@
+//! Whether two replies are one.
+#![tactic(auto)]
+
+mod same;
+
+pub use same::same_reply;
