@@ -24,7 +24,7 @@ use Rattle.snb_graph_model.specs.Soundness.{Sound}
 use Rattle.snb_plan.specs.Plans.{Plan, schedule_of}
 use Rattle.snb_workers_replay.specs.Laws.{IsReplayed}
 use Rattle.snb_replica.specs.Counts.{IsCount}
-use Rattle.snb_workers.specs.Laws.{OneCount}
+use Rattle.snb_miscount.specs.Laws.{OneCount}
 use Rattle.snb_miscount.specs.declared.miscount.Miscount.{Miscount}
 use Rattle.snb_miscount.specs.Miscounts.{IsFirstMiscount, IsMiscount, events_of}
 use Rattle.snb_auditor_log.specs.declared.verdict.AuditVerdict.{AuditVerdict}

@@ -4,8 +4,8 @@ ghost use Rattle.snb_auditor_log.specs.Laws.{AcceptedInOrder, AuditVerdictIsOne,
 
 use crate::file_sink::log_is_lawful;
 use snb_auditor::law::{accepted_exactly, verdict_is_one};
+use snb_miscount::law::one_count;
 use snb_runlog::law::log_is_exact;
-use snb_workers::law::one_count;
 
 /// Something is wrong with a log in one first way, or nothing is, and it says one header and one list of
 /// events with their counts.

@@ -28,6 +28,7 @@ use Rattle.snb_workers_replay.specs.Replay.{IsAfter}
 use Rattle.snb_miscount.specs.declared.miscount.Miscount.{Miscount}
 use Rattle.snb_miscount.specs.declared.tally.Tally.{Tally}
 use Rattle.snb_replica.specs.Counts.{IsCount, IsCountOf, first_rows}
+use Rattle.snb_miscount.specs.Laws.{OneCount}
 use Rattle.snb_miscount.specs.Miscounts.{IsFirstMiscount, IsMiscount, events_of}
 use Rattle.snb_replica.specs.Replicas.{HasTaken, IfFinish, IsCountable, MayTake, StandsFor, Taken}
 use Rattle.snb_miscount.specs.Tallies.{CountsRows, HasRows, HasTallies, HasTally, IsAlong, IsEarlier, IsInsert, IsLeastAmong, IsTally, IsWeighed, miscount_of}
@@ -66,6 +67,10 @@ module _ (base : List Row) (plan : Plan) (h : List Event) (laws : HasLaws base p
   one_count (Finish op worker at front) n m (o, here, is) (other, there, count) =
       one_count_of front o.work n m is (subst (λ (x : Operation). IsCountOf base plan h front x.work m) (same_Some other o (sym there ∙ here)) count)
   one_count (Halt worker) n m a b = absurd a
+
+-- in each legal history
+pub count_is_one : OneReply → GraphsAreTheirRows → PrefixesAreSound → OneCount
+count_is_one one rows sound_after base plan workers h e m n graph sound replayed legal a b = one_count base plan h (has_laws base plan workers h rows sound_after one graph sound replayed legal) e m n a b
 
 -- ---- the count of a tally
 

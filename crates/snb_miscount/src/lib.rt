@@ -1,6 +1,7 @@
 //! The counts of rows that a log states, and the first that isn't right.
 #![tactic(auto)]
 
+pub mod law;
 pub mod miscount;
 mod tally;
 

@@ -26,7 +26,8 @@ use Rattle.snb_runlog.specs.Laws.{ReadsBack, RunReadsBack}
 use Rattle.snb_runlog.specs.Writing.{AreCounted, logged_text}
 use Rattle.snb_replica.specs.Counts.{HasRightCount, IsCount, TellsCounts, logged_by, logged_of, rows_by}
 use Rattle.snb_answered.specs.declared.done.Answered.{Answered}
-use Rattle.snb_workers.specs.Laws.{FinishesAreOfOperations, OneCount}
+use Rattle.snb_miscount.specs.Laws.{OneCount}
+use Rattle.snb_workers.specs.Laws.{FinishesAreOfOperations}
 use Rattle.snb_miscount.specs.Miscounts.{IsFirstMiscount}
 use Rattle.snb_workers_replay.specs.Laws.{IsReplayed}
 use Rattle.snb_graph_model.specs.Graphs.{IsGraph}

@@ -4,7 +4,7 @@ use Rattle.snb_base.specs.Moments.{Moments}
 use Rattle.std.specs.Prelude.{◌==◌, Contains, slice_get}
 use Rattle.std.specs.List.{count_by}
 use Rattle.std.proofs.lemmas.Bool.{cases_Bool, eq-eqb, eqb-true}
-use Rattle.std.proofs.lemmas.List.{length-map, take-append-drop}
+use Rattle.std.proofs.lemmas.List.{length-map}
 use Rattle.std.proofs.lemmas.List.Elements.{All-contains, All-contains_itself, All-map}
 use Rattle.std.proofs.lemmas.List.Sums.{sum_by-cons}
 use Rattle.std.proofs.lemmas.Option.{same_Some}
@@ -18,20 +18,14 @@ use Rattle.snb_history.specs.History.{finishes}
 use Rattle.snb_history.specs.Laws.{OnceEach}
 use Rattle.snb_history.specs.Rules.{IsLegal, V1}
 use Rattle.snb_history.specs.Schedule.{IsOperation}
-use Rattle.snb_graph_model.specs.Graphs.{IsGraph}
-use Rattle.snb_graph_model.specs.Laws.{GraphsAreTheirRows}
-use Rattle.snb_graph_model.specs.Soundness.{Sound}
 use Rattle.snb_plan.specs.Plans.{Ask, Insert, Operation, Plan, Work, schedule_of}
-use Rattle.snb_read_model.specs.Replies.{IsReply}
 use Rattle.snb_read_laws.specs.Laws.{OneReply}
 use Rattle.snb_validation.specs.ReplyData.{reply_data}
-use Rattle.snb_workers_replay.specs.Laws.{IsReplayed, PrefixesAreSound}
 use Rattle.snb_workers_replay.specs.Replay.{IsAfter}
 use Rattle.snb_answered.specs.declared.done.Answered.{Answered}
-use Rattle.snb_replica.specs.Counts.{HasRightCount, IsCount, IsCountOf, TellsCounts, first_rows, logged_by, logged_of, rows_by}
-use Rattle.snb_workers.specs.Laws.{CountsOfARun, FinishesAreOfOperations, OneCount, OneEntry}
+use Rattle.snb_replica.specs.Counts.{HasRightCount, IsCountOf, TellsCounts, first_rows, logged_by, logged_of, rows_by}
+use Rattle.snb_workers.specs.Laws.{CountsOfARun, FinishesAreOfOperations, OneEntry}
 use Rattle.snb_workers.specs.Runs.{AreReplies, Asks, IsAnswered}
-use Rattle.snb_workers_replay.proofs.Laws.{same_gain}
 
 -- ---- what passes once
 
@@ -179,25 +173,3 @@ pub one_entry : OneReply → OneEntry
 one_entry one g query rows text reply is_graph sound replied is =
     let same : replied.0 ≡ reply = one g query replied.0 reply is_graph sound replied.1 is in
     (replied.2 ∙ ap first_rows same, replied.3 ∙ ap (λ (r : _). compact_text (reply_data r)) same)
-
--- two counts of what one operation did are one
-module _ (one : OneReply) (rows : GraphsAreTheirRows) (sound_after : PrefixesAreSound) (base : List Row) (plan : Plan) (workers : ℕ) (h : List Event) (is_graph : IsGraph base) (sound : Sound base) (replayed : IsReplayed base plan)
-    (legal : IsLegal (schedule_of plan) workers h) where
-  same_count : (front : ℕ) (work : Work) (m n : ℕ) → IsCountOf base plan h front work m → IsCountOf base plan h front work n → m ≡ n
-  same_count front (Insert line) m n a b = a ∙ sym b
-  same_count front (Ask query) m n a b =
-      let after = sound_after base plan workers (take front h) (drop front h) h is_graph sound replayed legal (take-append-drop front h) in
-      let first : after.0 ≡ a.0 = same_gain rows base _ after.0 a.0 after.1 a.1 in
-      let other : b.0 ≡ a.0 = same_gain rows base _ b.0 a.0 b.1 a.1 in
-      let replies : a.2 ≡ b.2 = one a.0 query a.2 b.2 a.1.graph (subst Sound first after.2) a.3 (subst (λ (g : List Row). IsReply g query b.2) other b.3) in
-      a.4 ∙ (ap first_rows replies ∙ sym b.4)
-
-  pub count_is_one : (e : Event) (m n : ℕ) → IsCount base plan h e m → IsCount base plan h e n → m ≡ n
-  count_is_one (Start op worker at) m n a b = absurd a
-  count_is_one (Halt worker) m n a b = absurd a
-  count_is_one (Finish op worker at front) m n a b =
-      let same : b.0 ≡ a.0 = same_Some b.0 a.0 (sym b.1 ∙ a.1) in
-      same_count front a.0.work m n a.2 (subst (λ (o : Operation). IsCountOf base plan h front o.work n) same b.2)
-
-pub one_count : OneReply → GraphsAreTheirRows → PrefixesAreSound → OneCount
-one_count one rows sound_after base plan workers h e m n is_graph sound replayed legal a b = count_is_one one rows sound_after base plan workers h is_graph sound replayed legal e m n a b

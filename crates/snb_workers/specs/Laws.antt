@@ -13,8 +13,7 @@ use Rattle.snb_plan.specs.Plans.{Plan, schedule_of}
 use Rattle.snb_read_model.specs.Cells.{Cell}
 use Rattle.snb_read_model.specs.Replies.{IsReply}
 use Rattle.snb_validation.specs.ReplyData.{reply_data}
-use Rattle.snb_workers_replay.specs.Laws.{IsReplayed}
-use Rattle.snb_replica.specs.Counts.{IsCount, TellsCounts, first_rows, logged_of}
+use Rattle.snb_replica.specs.Counts.{TellsCounts, first_rows, logged_of}
 use Rattle.snb_answered.specs.declared.done.Answered.{Answered}
 use Rattle.snb_replica.specs.Replicas.{IfFinish}
 use Rattle.snb_replica.specs.ReplyTexts.{IsReplied}
@@ -41,9 +40,3 @@ abbrev pub OneEntry : Type 0
 OneEntry =
     (g : List Row) (query : Query) (rows : ℕ) (text : List ℕ) (reply : List (List (List Cell))) → IsGraph g → Sound g → IsReplied g query rows text
     → IsReply g query reply → (rows ≡ first_rows reply) × (text ≡ compact_text (reply_data reply))
-
--- in a legal history of a plan that is closed over a sound graph, a Finish has one count
-abbrev pub OneCount : Type 0
-OneCount =
-    (base : List Row) (plan : Plan) (workers : ℕ) (h : List Event) (e : Event) (m n : ℕ) → IsGraph base → Sound base → IsReplayed base plan
-    → IsLegal (schedule_of plan) workers h → IsCount base plan h e m → IsCount base plan h e n → m ≡ n

@@ -1,12 +1,10 @@
 //! Laws of runs and of the counts that their logs tell. The functions only cite laws of histories, graphs and
 //! replies; their contracts are the laws.
 
-ghost use Rattle.snb_workers.specs.Laws.{CountsOfARun, FinishesAreOfOperations, OneCount, OneEntry, OneMoment};
+ghost use Rattle.snb_workers.specs.Laws.{CountsOfARun, FinishesAreOfOperations, OneEntry, OneMoment};
 
-use snb_graph_model::law::graphs_are_their_rows;
 use snb_history::law::once_each;
 use snb_read_laws::law::one_reply;
-use snb_workers_replay::law::replay_is_welcome;
 
 /// In a legal history of a plan, the operation of each Finish is one of the plan.
 pub fn finishes_are_of_operations()
@@ -30,13 +28,4 @@ pub fn one_entry()
     ensures { OneEntry }
 {
     one_reply();
-}
-
-/// In a legal history of a plan whose updates are closed over a sound base, a Finish has one count.
-pub fn one_count()
-    ensures { OneCount }
-{
-    one_reply();
-    graphs_are_their_rows();
-    replay_is_welcome();
 }
