@@ -3,13 +3,13 @@
 #![tactic(auto)]
 
 pub mod checker;
-pub mod expect;
+pub mod expected;
 pub mod miscount;
 pub mod replica;
 pub mod run;
 
 pub use checker::{OwnChecker, check_cases};
-pub use expect::expect;
+pub use expected::expect;
 pub use miscount::first_miscount;
 pub use replica::OwnReplica;
 pub use run::{run_alone, run_workers, work};
