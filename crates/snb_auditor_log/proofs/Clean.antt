@@ -1,6 +1,6 @@
 -- Nothing is wrong with the bytes of a log whose lines say a header and events.
-use Rattle.std.proofs.Common.{◌≡◌, ◌∷◌, ◌∙◌, ◌+◌, ◌≤◌, ℕ, List, [], length, Option, None, Some, sym, subst, inl, inr, arith}
-use Rattle.snb_base.specs.FirstOf.{FirstOf}
+use Rattle.std.proofs.Common.{◌≡◌, ◌∷◌, ◌++◌, ◌∙◌, ◌+◌, ◌≤◌, ℕ, List, [], length, Option, None, Some, refl, sym, ap, subst, inl, inr, arith}
+use Rattle.snb_base.specs.FirstOf.{FirstOf, NoneOf}
 use Rattle.snb_history.specs.declared.logged.Header.{Header}
 use Rattle.snb_history.specs.declared.logged.Logged.{Logged}
 use Rattle.snb_schema.specs.declared.limits.TheConstants.{MAX_BYTES}
@@ -13,7 +13,7 @@ use Rattle.snb_input_files.specs.Places.{FailsOwn, HasBadColumn, IsBare, IsNoHea
 use Rattle.snb_input_files.proofs.Laws.{says_knows}
 use Rattle.snb_runlog.specs.Lines.{log_file, log_language}
 use Rattle.snb_auditor_log.specs.Laws.{SaidLogIsClean}
-use Rattle.snb_auditor_log.specs.LogFiles.{log_format}
+use Rattle.snb_auditor_log.specs.LogFiles.{log_checks, log_format}
 
 -- after lines either the header is known or it isn't
 known_apart : (ls : List (List ℕ)) (k : Header) → Knows None log_language.heads ls None → Knows None log_language.heads ls (Some k) → ⊥

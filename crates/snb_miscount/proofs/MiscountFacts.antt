@@ -12,6 +12,7 @@ use Rattle.snb_read_model.specs.Replies.{IsAnswer, IsReply}
 use Rattle.snb_history.specs.declared.event.Event.{Event}
 use Rattle.snb_history.specs.declared.event.Event.TheVariants.{Start, Finish, Halt}
 use Rattle.snb_history.specs.declared.logged.Logged.{Logged}
+use Rattle.snb_schema.specs.declared.limits.TheConstants.{MAX_WORKERS}
 use Rattle.snb_schema.specs.declared.query.Query.{Query}
 use Rattle.snb_schema.specs.declared.row.Row.{Row}
 use Rattle.snb_history.specs.Laws.{PrefixIsLegal}
