@@ -4,6 +4,7 @@
 
 mod alone;
 pub mod answer;
+mod asked;
 mod behind;
 mod closed;
 mod held;
