@@ -31,8 +31,13 @@ fn told_miscount(alloc: Global, found: Option<Miscount>) -> Result<String, Alloc
 // What was found over cases.
 fn told_tally(alloc: Global, tally: Result<Tally, Load>) -> Result<String, Flaw> {
     match tally {
-        Ok(Tally { reads, first: None }) => Ok(format!(in alloc; "{reads} reads, all right")?),
-        Ok(_) => Ok(String::from_str(alloc, "a reply differs")?),
+        Ok(tally) => {
+            if tally.first.is_some() {
+                return Ok(String::from_str(alloc, "a reply differs")?);
+            }
+            let reads = tally.reads;
+            Ok(format!(in alloc; "{reads} reads, all right")?)
+        }
         Err(Load::Memory) => Err(Flaw::Memory),
         Err(Load::ReadFault) => Err(Flaw::ReadFault),
         Err(Load::Refused { .. }) => Err(Flaw::OtherValue),
