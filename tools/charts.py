@@ -2,8 +2,8 @@
 
 usage: from charts import bars, over_time, spread
 
-It is not proved. Colours are classes and letters are the page's, so the page says what light, dark
-and paper look like. All are 440 units wide, so that their letters can be read on a phone.
+It is not proved. Colours are classes and letters are the page's, so the page says how they look in light,
+in dark and in print. All are 440 units wide, so that their letters can be read on a phone.
 """
 
 import math

@@ -91,7 +91,8 @@ impl Done {
     fn place_of(&self, op: u32) -> usize
         ensures within { result ≤ length self.now }
         ensures before { (k : ℕ) (d : AnyAnswered) → k < result → (slice_index_or self.now k d).op ≤ op }
-        ensures after { (k : ℕ) (d : AnyAnswered) → result ≤ k → k < length self.now → op < (slice_index_or self.now k d).op }
+        ensures after { (k : ℕ) (d : AnyAnswered) → result ≤ k → k < length self.now
+            → op < (slice_index_or self.now k d).op }
     {
         let mut place = self.items.len();
         while place > 0 && self.items[place - 1].op > op {

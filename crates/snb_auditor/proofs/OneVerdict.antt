@@ -6,7 +6,7 @@ use Rattle.snb_history.specs.declared.event.Event.{Event}
 use Rattle.snb_history.specs.declared.event.Event.TheVariants.{Halt}
 use Rattle.snb_history.specs.Schedule.{Schedule}
 use Rattle.snb_history.specs.History.{halted}
-use Rattle.snb_history.specs.Rules.{Rule, number, Fits, IsLegal}
+use Rattle.snb_history.specs.Rules.{Rule, rule_number, Fits, IsLegal}
 use Rattle.snb_history.specs.Violation.{Told, told_at, Breaks}
 use Rattle.snb_book.specs.Asked.{IsFirstUnfinished}
 use Rattle.snb_auditor.specs.declared.verdict.Violation.{Violation}
@@ -19,7 +19,7 @@ use Rattle.snb_history.proofs.Laws.{number-same}
 -- the first rule that an event breaks is one, and so are its values
 one_break : (s : Schedule) (workers : ℕ) (h : List Event) (e : Event) (q r : Rule) (one other : Told) → Breaks s workers h e q one → Breaks s workers h e r other → (q ≡ r) × (one ≡ other)
 one_break s workers h e q r one other first second =
-    let same : q ≡ r = elim (cases_order (number q) (number r)) [
+    let same : q ≡ r = elim (cases_order (rule_number q) (rule_number r)) [
       | inl level ↦ number-same q r level
       | inr apart ↦ elim apart [
         | inl below ↦ absurd (first.broken (second.before q below))
@@ -32,7 +32,7 @@ same_violation : (s : Schedule) (workers : ℕ) (h : List Event) (e : Event) (on
 same_violation s workers h e one other a b =
     let same = one_break s workers h e a.first b.first _ _ a.breaks b.breaks in
     let event : one.event ≡ other.event = a.place ∙ sym b.place in
-    let rule : one.rule ≡ other.rule = a.numbered ∙ ap number same.0 ∙ sym b.numbered in
+    let rule : one.rule ≡ other.rule = a.numbered ∙ ap rule_number same.0 ∙ sym b.numbered in
     let needs : one.needs ≡ other.needs = ap (λ (t : Told). t.needs) same.1 in
     let found : one.found ≡ other.found = ap (λ (t : Told). t.found) same.1 in
     by_fields one other event rule needs found

@@ -10,7 +10,7 @@ use Rattle.snb_history.specs.declared.event.Event.TheVariants.{Start, Finish, Ha
 use Rattle.snb_schema.specs.declared.limits.TheConstants.{MAX_AT}
 use Rattle.snb_history.specs.Schedule.{Schedule}
 use Rattle.snb_history.specs.History.{finished, moment}
-use Rattle.snb_history.specs.Rules.{Rule, V1, V2, V3, V4, V5, V6, V7, V8, V9, number, Obeys, Fits, IsLegal}
+use Rattle.snb_history.specs.Rules.{Rule, V1, V2, V3, V4, V5, V6, V7, V8, V9, rule_number, Obeys, Fits, IsLegal}
 use Rattle.snb_history.specs.Violation.{told_at}
 use Rattle.snb_history.proofs.Laws.{obeys, halted-push, IsLegal-nil, IsLegal-push}
 use Rattle.snb_book.specs.Kept.{Kept}
@@ -23,10 +23,10 @@ use Rattle.snb_auditor.proofs.Judged.{Passes, passes_none, passes_more, passes_a
 
 -- the event fits, or a first rule doesn't hold
 abbrev FitsOrNot : Kept → Event → Type 0
-FitsOrNot b e = Fits b.schedule b.workers b.history e ⊎ ((r : Rule) × (¬ Obeys b.schedule b.workers b.history e r) × Passes b e (number r))
+FitsOrNot b e = Fits b.schedule b.workers b.history e ⊎ ((r : Rule) × (¬ Obeys b.schedule b.workers b.history e r) × Passes b e (rule_number r))
 
 -- one rule is tried, and then the others
-try_rule : (b : Kept) (e : Event) (r : Rule) → (Passes b e (suc (number r)) → FitsOrNot b e) → Passes b e (number r) → FitsOrNot b e
+try_rule : (b : Kept) (e : Event) (r : Rule) → (Passes b e (suc (rule_number r)) → FitsOrNot b e) → Passes b e (rule_number r) → FitsOrNot b e
 try_rule b e r others passes =
     elim (obeys b.schedule b.workers b.history e r) [
       | inl holds ↦ others (passes_more b e r passes holds)
@@ -41,10 +41,10 @@ fits_or_not b e =
 
 -- the violation of the first rule that fails
 violated : (s : Schedule) (workers : ℕ) (h : List Event) (e : Event) (r : Rule) → IsLegal s workers h → (¬ Obeys s workers h e r)
-    → Passes (record { schedule = s; workers = workers; history = h }) e (number r) → (v : Violation) × IsVerdict s workers (h ++ e ∷ []) (Violated v)
+    → Passes (record { schedule = s; workers = workers; history = h }) e (rule_number r) → (v : Violation) × IsVerdict s workers (h ++ e ∷ []) (Violated v)
 violated s workers h e r legal fails passes =
     let v : Violation =
-    record { event = length h; rule = number r; needs = (told_at s workers h e r).needs; found = (told_at s workers h e r).found } in
+    record { event = length h; rule = rule_number r; needs = (told_at s workers h e r).needs; found = (told_at s workers h e r).found } in
     let is : IsViolation s workers h e v =
     record { place = refl; first = r; numbered = refl; breaks = record { broken = fails; before = passes; values_are = refl } } in
     (v, (h, e, [], refl, legal, is))

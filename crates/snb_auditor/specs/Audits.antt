@@ -12,17 +12,21 @@ pub record Audit : Type 0 where
   pub fitted : List Event
   pub kept : Option Violation
 
--- the history is what has been told: the events that fit; and where a violation is kept the event that it is of, and any after it
+-- the history is what has been told: the events that fit; and where a violation is kept the event
+-- that it is of, and any after it
 abbrev pub IsTold : Schedule → ℕ → List Event → Option Violation → List Event → Type 0
 IsTold s workers fitted None h = fitted ≡ h
-IsTold s workers fitted (Some v) h = (e : Event) × (rest : List Event) × (fitted ++ e ∷ rest ≡ h) × IsViolation s workers fitted e v
+IsTold s workers fitted (Some v) h =
+    (e : Event) × (rest : List Event) × (fitted ++ e ∷ rest ≡ h) × IsViolation s workers fitted e v
 
 -- the history is what the auditor has been told
 abbrev pub HasHeard : Audit → List Event → Type 0
 HasHeard a h = IsTold a.schedule a.workers a.fitted a.kept h
 
--- a violation was kept, which is given again, and all is as before; or the event doesn't fit, and its violation is kept from now on
+-- a violation was kept, which is given again, and all is as before; or the event doesn't fit, and
+-- its violation is kept from now on
 abbrev pub IsRefused : Audit → Event → Violation → Audit → Type 0
 IsRefused old e v new =
     ((old.kept ≡ Some v) × (new ≡ old))
-    ⊎ ((old.kept ≡ None) × IsViolation old.schedule old.workers old.fitted e v × (new ≡ record old { kept = Some v }))
+    ⊎ ((old.kept ≡ None) × IsViolation old.schedule old.workers old.fitted e v
+    × (new ≡ record old { kept = Some v }))

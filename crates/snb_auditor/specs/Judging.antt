@@ -30,7 +30,8 @@ pub record AreStopped (b : Kept) (stopped : List Bool) : Type 0 where
 -- of each worker the number of the Start of what it has in hand
 pub record AreBegun (b : Kept) (begun : List ℕ) : Type 0 where
   pub each : length begun ≡ b.workers
-  pub numbers : (w k : ℕ) → w < b.workers → hand b.history w ≡ Some k → slice_index begun w ≡ position_or_len (starts k) b.history
+  pub numbers : (w k : ℕ) → w < b.workers → hand b.history w ≡ Some k
+      → slice_index begun w ≡ position_or_len (starts k) b.history
 
 -- the book with one more event
 abbrev pub and_then : Kept → Event → Kept

@@ -4,7 +4,7 @@ ghost use Rattle.std.specs.Prelude.{◌≡◌, ℕ, ◌<◌, ◌≤◌, ◌^◌,
 ghost use Rattle.std.specs.List.{position_or_len};
 ghost use Rattle.snb_history.specs.Schedule.{IsOperation, step_of};
 ghost use Rattle.snb_history.specs.History.{hand, last, moment, starts};
-ghost use Rattle.snb_history.specs.Rules.{Fits, IsCleared, IsFront, IsHead, IsLegal, IsNotBusy, MayAct, V1, V2, V3, V4, V5, V6, V7, V8, V9};
+ghost use Rattle.snb_history.specs.Rules.{Fits, IsCleared, IsFront, LeadsLane, IsLegal, LaneIsFinished, MayAct, V1, V2, V3, V4, V5, V6, V7, V8, V9};
 ghost use Rattle.snb_history.specs.Violation.{or_none, told, told_of_worker};
 ghost use Rattle.snb_book.specs.Claims.{IsPlanHead};
 ghost use Rattle.snb_auditor.specs.Verdicts.{IsFirstHalt, IsVerdict, IsViolation, NobodyHalted, is_on_time, on_time};
@@ -101,7 +101,7 @@ fn judge_acting(book: &Book, stopped: &[bool], op: u32, worker: u32) -> Option<V
 /// V2: the operation is the first of its lane that isn't started.
 fn judge_head(book: &Book, op: u32) -> Option<Values>
     requires { IsOperation book.now.schedule op }
-    ensures { Finds (IsHead book.now.schedule book.now.history op)
+    ensures { Finds (LeadsLane book.now.schedule book.now.history op)
         (told book.now.schedule book.now.workers book.now.history op 0 0 0 V2) result }
 {
     match book.first_unstarted(op) {
@@ -120,7 +120,7 @@ fn judge_head(book: &Book, op: u32) -> Option<Values>
 /// V3: in a forum lane, all before the operation is finished.
 fn judge_turn(book: &Book, op: u32) -> Option<Values>
     requires { IsPlanHead book.now.schedule book.now.history op }
-    ensures { Finds (IsNotBusy book.now.schedule book.now.history op)
+    ensures { Finds (LaneIsFinished book.now.schedule book.now.history op)
         (told book.now.schedule book.now.workers book.now.history op 0 0 0 V3) result }
 {
     match book.first_unfinished_before(op) {
@@ -253,7 +253,8 @@ fn judge_moment(book: &Book, at: u64) -> Option<Values>
 
 /// The violation of a rule by the event that comes next.
 fn violation(book: &Book, rule: u32, values: Values) -> Option<Violation>
-    ensures { result ≡ Some (record { event = length book.now.history; rule = rule; needs = values.needs; found = values.found }) }
+    ensures { result ≡ Some
+        (record { event = length book.now.history; rule = rule; needs = values.needs; found = values.found }) }
 {
     Some(Violation {
         event: book.events().len() as u32,
@@ -437,7 +438,8 @@ impl Auditor {
     pub fn new(alloc: Global, schedule: &Schedule, workers: u32) -> Result<Auditor, AllocError>
         requires some { 1 ≤ workers }
         requires few { workers ≤ MAX_WORKERS }
-        ensures { IfOk result (λ a. a ≡ record { schedule = schedule.now; workers = workers; fitted = []; kept = None }) }
+        ensures { IfOk result
+            (λ a. a ≡ record { schedule = schedule.now; workers = workers; fitted = []; kept = None }) }
     {
         Ok(Auditor {
             book: Book::make(alloc, schedule, workers)?,
@@ -516,7 +518,8 @@ impl Auditor {
 
     /// The verdict on what it has been told. Takes no memory.
     pub fn end(&self) -> Verdict
-        ensures verdict { (h : List Event) → HasHeard self.now h → IsVerdict self.now.schedule self.now.workers h result }
+        ensures verdict { (h : List Event) → HasHeard self.now h
+            → IsVerdict self.now.schedule self.now.workers h result }
         ensures kept { IfSome self.now.kept (λ v. result ≡ Verdict.Violated v) }
         ensures fitted { IfNone self.now.kept (IsVerdict self.now.schedule self.now.workers self.now.fitted result) }
     {

@@ -9,19 +9,20 @@ use Rattle.snb_schema.specs.Lines.{filled, lines}
 use Rattle.snb_input_lines.specs.Laws.{IsExact}
 use Rattle.snb_input_lines.specs.Reading.{ReadsLine, Says}
 use Rattle.snb_input_lines.proofs.Laws.{says_cut}
-use Rattle.snb_input_files.specs.Places.{FailsOwn, HasBadColumn, IsBare, IsNoHeader, IsRowTooMany, Knows, LacksHeader, LinesRefuse, Place, line_checks, opening}
+use Rattle.snb_input_files.specs.Places.{HasKnown, InputPlace, opening}
+use Rattle.snb_input_files.specs.PlaceChecks.{FailsOwn, HasBadColumn, IsBare, HasBadHeader, IsRowTooMany, LacksHeader, LinesRefuse, line_checks}
 use Rattle.snb_input_files.proofs.Laws.{says_knows}
 use Rattle.snb_runlog.specs.Lines.{log_file, log_language}
 use Rattle.snb_auditor_log.specs.Laws.{SaidLogIsClean}
 use Rattle.snb_auditor_log.specs.LogFiles.{log_checks, log_format}
 
 -- after lines either the header is known or it isn't
-known_apart : (ls : List (List ℕ)) (k : Header) → Knows None log_language.heads ls None → Knows None log_language.heads ls (Some k) → ⊥
+known_apart : (ls : List (List ℕ)) (k : Header) → HasKnown None log_language.heads ls None → HasKnown None log_language.heads ls (Some k) → ⊥
 known_apart [] k p q = absurd cc
 known_apart (l ∷ ls) k p q = let none = p.2 in absurd cc
 
 -- and one is known
-known_one : IsExact log_language → (ls : List (List ℕ)) (k j : Header) → Knows None log_language.heads ls (Some k) → Knows None log_language.heads ls (Some j) → k ≡ j
+known_one : IsExact log_language → (ls : List (List ℕ)) (k j : Header) → HasKnown None log_language.heads ls (Some k) → HasKnown None log_language.heads ls (Some j) → k ≡ j
 known_one exact [] k j p q = absurd cc
 known_one exact (l ∷ ls) k j p q =
     let first = p.2 in
@@ -32,18 +33,18 @@ known_one exact (l ∷ ls) k j p q =
 
 module _ (exact : IsExact log_language) (bytes : List ℕ) (few : length bytes ≤ MAX_BYTES) where
   -- a place in the file
-  abbrev place : List (List ℕ) → Place
+  abbrev place : List (List ℕ) → InputPlace
   place before = record (opening log_file 0 0 [] bytes) { before = before }
 
   module _ (before : List (List ℕ)) (front : List Logged) where
     -- what is known there is what the header said
-    knows : (known : Option Header) → Says log_language None 0 before front known → Knows None log_language.heads (filled before) known
+    knows : (known : Option Header) → Says log_language None 0 before front known → HasKnown None log_language.heads (filled before) known
     knows known says = says_knows log_language before None known 0 front says
 
     -- what is tried of what a line says
     abbrev said_checks : List ℕ → List {1} (Refusal → Type 0)
     said_checks line =
-        IsNoHeader log_format (place before) line ∷ HasBadColumn log_format (place before) line ∷ IsRowTooMany log_format (place before) ∷ FailsOwn log_format (place before) line ∷ []
+        HasBadHeader log_format (place before) line ∷ HasBadColumn log_format (place before) line ∷ IsRowTooMany log_format (place before) ∷ FailsOwn log_format (place before) line ∷ []
 
     -- the header is refused for nothing
     header_good : (line : List ℕ) (k : Header) → Says log_language None 0 before front None → log_language.heads line k → (r : Refusal) → ¬ FirstOf (said_checks line) r

@@ -21,10 +21,11 @@ use Rattle.snb_input_files.specs.declared.load.Load.TheVariants.{Refused, ReadFa
 use Rattle.snb_input_files.specs.declared.load.Used.{Used}
 use Rattle.snb_input_files.specs.Format.{Lawful}
 use Rattle.snb_input_files.specs.Loading.{IsKnownAnswer}
-use Rattle.snb_input_files.specs.Places.{Knows, opening}
+use Rattle.snb_input_files.specs.Places.{HasKnown, opening}
 use Rattle.snb_input_files.proofs.Laws.{file_one, first_some, says_knows, says_one}
-use Rattle.snb_runlog.specs.Columns.{AreWithin, CanBeHeader, columns, count_numbers, event_numbers, header_columns, header_numbers, kind_of, version_column}
-use Rattle.snb_runlog.specs.Laws.{EventOrColumn, HeaderOrColumn, LogIsExact, WhereCountsAre}
+use Rattle.snb_runlog.specs.Columns.{AreWithin, CanBeHeader, event_columns, count_numbers, event_numbers, header_columns, header_numbers, event_kind_of, version_column}
+use Rattle.snb_runlog.specs.Laws.{EventOrColumn, HeaderOrColumn, LogIsExact}
+use Rattle.snb_runlog.specs.WriteLaws.{WhereCountsAre}
 use Rattle.snb_runlog.specs.Lines.{IsHeader, IsLogged, log_file, log_language}
 use Rattle.snb_auditor_log.specs.declared.log.Log.{Log}
 use Rattle.snb_auditor_log.specs.Laws.{LogSaysOne, OneLogRefusal, RefusedOrNot}
@@ -64,20 +65,20 @@ says_all {K} {T} g F each ((b ∷ bs) ∷ ls) (Some k) new n items h =
     (All-append F h.0 h.1 (subst (λ (xs : List T). All F xs) (sym h.3.1.2) (All-cons F h.3.1.0 [] (each k (n + 1) (b ∷ bs) h.3.1.0 h.3.1.1) (All-nil F))) (says_all g F each ls h.2 new (n + 1) h.1 h.4))
 
 -- an event with such numbers has no moment that is too great
-timed_within : (version : ℕ) (e : Event) (o : Option ℕ) → AreWithin (columns version (kind_of e)) (event_numbers e ++ count_numbers o) → moment e ≤ MAX_AT
+timed_within : (version : ℕ) (e : Event) (o : Option ℕ) → AreWithin (event_columns version (event_kind_of e)) (event_numbers e ++ count_numbers o) → moment e ≤ MAX_AT
 timed_within version (Start op worker at) o h = h.2.2.1
 timed_within version (Finish op worker at front) o h = h.2.2.1
 timed_within version (Halt worker) o h = omega arith
 
 -- nor has one that a line tells
 timed : (version : ℕ) (line : List ℕ) (l : Logged) → IsLogged version line l → moment l.event ≤ MAX_AT
-timed version line l s = timed_within version l.event l.rows (numbers_within (columns version (kind_of l.event)) (drop 1 (fields line)) (event_numbers l.event ++ count_numbers l.rows) s.numbers)
+timed version line l s = timed_within version l.event l.rows (numbers_within (event_columns version (event_kind_of l.event)) (drop 1 (fields line)) (event_numbers l.event ++ count_numbers l.rows) s.numbers)
 
 -- a header says that there is a worker, and not too many
 few_workers : (fs : List (List ℕ)) (head : Header) → IsHeader fs head → (1 ≤ head.workers) × (head.workers ≤ MAX_WORKERS)
 few_workers fs head s = (let h : CanBeHeader head = numbers_within (version_column ∷ header_columns head.version) (drop 1 fs) (header_numbers head) s.numbers in (h.2.0, h.2.1))
 
-known_workers : (ls : List (List ℕ)) (head : Header) → Knows None log_language.heads ls (Some head) → (1 ≤ head.workers) × (head.workers ≤ MAX_WORKERS)
+known_workers : (ls : List (List ℕ)) (head : Header) → HasKnown None log_language.heads ls (Some head) → (1 ≤ head.workers) × (head.workers ≤ MAX_WORKERS)
 known_workers [] head e = absurd cc
 known_workers (l ∷ ls) head (k, is, e) = few_workers (fields l) head (subst (λ (x : Header). IsHeader (fields l) x) (same k head e) is)
   where

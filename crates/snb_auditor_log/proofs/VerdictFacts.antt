@@ -209,16 +209,16 @@ module _ (base : List Row) (plan : Plan) (header : Header) (logged : List Logged
     in_order : (verdict : AuditVerdict) → IsAuditVerdict base plan header logged verdict → audit_status verdict ≡ 0 → IsInOrder base plan header logged
     in_order verdict is e =
         let run = whole verdict is (accepted_whole verdict e) in
-        record { legal = run.legal; complete = run.complete; timely = timely verdict is e; counted = run.counted; matched = run.matched }
+        record { whole = run; timely = timely verdict is e }
 
     accepts : (verdict : AuditVerdict) → IsAuditVerdict base plan header logged verdict → IsInOrder base plan header logged → audit_status verdict ≡ 0
-    accepts verdict (inl wrong) good = absurd (not_mismatched good.matched verdict wrong)
+    accepts verdict (inl wrong) good = absurd (not_mismatched good.whole.matched verdict wrong)
     accepts verdict (inr (matched, inl wrong)) good =
-        let a = (exactly (schedule_of plan) header.workers (events_of logged)).1 (good.legal, good.complete, good.timely) in
+        let a = (exactly (schedule_of plan) header.workers (events_of logged)).1 (good.whole.legal, good.whole.complete, good.timely) in
         absurd (let e = one (schedule_of plan) header.workers (events_of logged) (Violated wrong.violation) (Accepted a.0 a.1) wrong.judged a.2 in cc)
-    accepts verdict (inr (matched, inr (unbroken, inl wrong))) good = absurd (good.counted wrong.miscount wrong.first.0)
+    accepts verdict (inr (matched, inr (unbroken, inl wrong))) good = absurd (good.whole.counted wrong.miscount wrong.first.0)
     accepts verdict (inr (matched, inr (unbroken, inr (rightly, inl judged)))) good =
-        let a = (exactly (schedule_of plan) header.workers (events_of logged)).1 (good.legal, good.complete, good.timely) in
+        let a = (exactly (schedule_of plan) header.workers (events_of logged)).1 (good.whole.legal, good.whole.complete, good.timely) in
         ap audit_status judged.is ∙ ap verdict_status (one (schedule_of plan) header.workers (events_of logged) judged.history (Accepted a.0 a.1) judged.judged a.2)
     accepts verdict (inr (matched, inr (unbroken, inr (rightly, inr (none, wrong))))) good = absurd wrong
 

@@ -23,46 +23,44 @@ pub record IsMismatched (plan : Plan) (header : Header) (verdict : AuditVerdict)
   pub is : verdict ≡ Mismatched (length plan.operations) found
 
 -- an event of the history breaks a rule
-pub record IsViolated (plan : Plan) (header : Header) (logged : List Logged) (verdict : AuditVerdict) : Type 0 where
+pub record IsViolated (plan : Plan) (header : Header) (logged : List Logged)
+    (verdict : AuditVerdict) : Type 0 where
   pub violation : Violation
   pub judged : IsVerdict (schedule_of plan) header.workers (events_of logged) (Violated violation)
   pub is : verdict ≡ Judged (Violated violation)
 
 -- the history is legal, and the count of an event isn't its own
-pub record IsMiscounted (base : List Row) (plan : Plan) (header : Header) (logged : List Logged) (verdict : AuditVerdict) : Type 0 where
+pub record IsMiscounted (base : List Row) (plan : Plan) (header : Header) (logged : List Logged)
+    (verdict : AuditVerdict) : Type 0 where
   pub miscount : Miscount
   pub legal : IsLegal (schedule_of plan) header.workers (events_of logged)
   pub first : IsFirstMiscount base plan logged (Some miscount)
   pub is : verdict ≡ Miscounted miscount
 
 -- this is the verdict on the history
-pub record IsJudged (plan : Plan) (header : Header) (logged : List Logged) (verdict : AuditVerdict) : Type 0 where
+pub record IsJudged (plan : Plan) (header : Header) (logged : List Logged) (verdict : AuditVerdict)
+    : Type 0 where
   pub history : Verdict
   pub judged : IsVerdict (schedule_of plan) header.workers (events_of logged) history
   pub is : verdict ≡ Judged history
 
--- what is tried of a log, in order, each with its verdict: the number of operations that the header states, the rules, the counts, and what else
--- there is to say of the history: a Halt, an operation that isn't finished, and how many operations were on time
+-- what is tried of a log, in order, each with its verdict: the number of operations that the header
+-- states, the rules, the counts, and what else there is to say of the history: a Halt, an operation
+-- that isn't finished, and how many operations were on time
 abbrev pub audit_checks : List Row → Plan → Header → List Logged → List {1} (AuditVerdict → Type 0)
 audit_checks base plan header logged =
-    IsMismatched plan header ∷ IsViolated plan header logged ∷ IsMiscounted base plan header logged ∷ IsJudged plan header logged ∷ []
+    IsMismatched plan header ∷ IsViolated plan header logged ∷ IsMiscounted base plan header logged
+    ∷ IsJudged plan header logged ∷ []
 
--- the verdict on a log with this header that tells this, by a plan over a dataset: the first that applies
+-- the verdict on a log with this header that tells this, by a plan over a dataset: the first that
+-- applies
 abbrev pub IsAuditVerdict : List Row → Plan → Header → List Logged → AuditVerdict → Type 0
-IsAuditVerdict base plan header logged verdict = FirstOf (audit_checks base plan header logged) verdict
+IsAuditVerdict base plan header logged verdict =
+    FirstOf (audit_checks base plan header logged) verdict
 
 -- the number of operations, where the header states it, is the plan's
 abbrev pub IsMatched : Plan → Header → Type 0
 IsMatched plan header = IfSome header.operations (λ n. n ≡ length plan.operations)
-
--- the history of a log is legal and complete on the plan, at least 95 of 100 operations are on time, no count is wrong, and the number of
--- operations, where it is stated, is the plan's
-pub record IsInOrder (base : List Row) (plan : Plan) (header : Header) (logged : List Logged) : Type 0 where
-  pub legal : IsLegal (schedule_of plan) header.workers (events_of logged)
-  pub complete : IsComplete (schedule_of plan) (events_of logged)
-  pub timely : IsTimelyRun (schedule_of plan) (events_of logged)
-  pub counted : IsFirstMiscount base plan logged None
-  pub matched : IsMatched plan header
 
 -- the verdict says that the run is whole: it is accepted, or late
 abbrev pub is_whole : AuditVerdict → Bool
@@ -70,9 +68,16 @@ is_whole (Judged (TooLate on_time all)) = true
 is_whole (Judged (Accepted on_time all)) = true
 is_whole other = false
 
--- the history of a log is legal and complete on the plan, no count is wrong, and the number of operations, where it is stated, is the plan's
-pub record IsWhole (base : List Row) (plan : Plan) (header : Header) (logged : List Logged) : Type 0 where
+-- a log is that of a whole run of the plan over the base
+pub record IsWhole (base : List Row) (plan : Plan) (header : Header) (logged : List Logged)
+    : Type 0 where
   pub legal : IsLegal (schedule_of plan) header.workers (events_of logged)
   pub complete : IsComplete (schedule_of plan) (events_of logged)
   pub counted : IsFirstMiscount base plan logged None
   pub matched : IsMatched plan header
+
+-- a log is that of a whole run, of whose operations at least 95 of 100 are on time
+pub record IsInOrder (base : List Row) (plan : Plan) (header : Header) (logged : List Logged)
+    : Type 0 where
+  pub whole : IsWhole base plan header logged
+  pub timely : IsTimelyRun (schedule_of plan) (events_of logged)

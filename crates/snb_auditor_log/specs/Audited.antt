@@ -11,16 +11,20 @@ use Rattle.snb_auditor_log.specs.declared.audit.Audited.{Audited}
 use Rattle.snb_auditor_log.specs.AuditVerdicts.{IsAuditVerdict}
 use Rattle.snb_auditor_log.specs.LogFiles.{IsLogOf, log_checks}
 
--- nothing is wrong with a log, which says this, and this is the verdict on it by a plan over a dataset
-pub record IsAudited (base : List Row) (plan : Plan) (held : Option (List ℕ)) (a : Audited) : Type 0 where
+-- nothing is wrong with a log, which says this, and this is the verdict on it by a plan over a
+-- dataset
+pub record IsAudited (base : List Row) (plan : Plan) (held : Option (List ℕ)) (a : Audited)
+    : Type 0 where
   pub clean : NoneOf (log_checks held)
   pub says : IsLogOf held a.log.header a.log.logged.items
   pub judged : IsAuditVerdict base plan a.log.header a.log.logged.items a.verdict
 
--- what the audit of a log answers: this is held under the name, where the shelf tells what it holds, which says this and on which this is the
--- verdict, or which is refused so
+-- what the audit of a log answers: this is held under the name, where the shelf tells what it
+-- holds, which says this and on which this is the verdict, or which is refused so
 abbrev pub IsAuditAnswer : List Row → Plan → Option Files → List ℕ → Result Audited Load → Type 0
-IsAuditAnswer base plan contents name (Ok a) = (held : Option (List ℕ)) × IsTold contents name held × IsAudited base plan held a
-IsAuditAnswer base plan contents name (Err (Refused r)) = (held : Option (List ℕ)) × IsTold contents name held × FirstOf (log_checks held) r
+IsAuditAnswer base plan contents name (Ok a) =
+    (held : Option (List ℕ)) × IsTold contents name held × IsAudited base plan held a
+IsAuditAnswer base plan contents name (Err (Refused r)) =
+    (held : Option (List ℕ)) × IsTold contents name held × FirstOf (log_checks held) r
 IsAuditAnswer base plan contents name (Err ReadFault) = Unit {0}
 IsAuditAnswer base plan contents name (Err Memory) = Unit {0}

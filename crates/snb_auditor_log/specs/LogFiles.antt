@@ -14,7 +14,8 @@ use Rattle.snb_input_files.specs.declared.load.Load.TheVariants.{Refused, ReadFa
 use Rattle.snb_base.specs.FirstOf.{FirstOf, NoneOf}
 use Rattle.snb_input_files.specs.Format.{Format, IsFileSink, Rules}
 use Rattle.snb_input_files.specs.Loading.{IsTold}
-use Rattle.snb_input_files.specs.Places.{LinesSay, file_checks, opening}
+use Rattle.snb_input_files.specs.Places.{LinesSay, opening}
+use Rattle.snb_input_files.specs.PlaceChecks.{file_checks}
 use Rattle.snb_runlog.specs.Columns.{HasCount, HasOperations}
 use Rattle.snb_runlog.specs.Lines.{log_file, log_language}
 use Rattle.snb_auditor_log.specs.declared.log.Log.{Log}
@@ -27,7 +28,8 @@ log_rules = record { limit = None; own = λ file done mine x r. ⊥; bare = λ f
 abbrev pub log_format : Format Header Logged
 log_format = record { language = λ file. log_language; rules = log_rules }
 
--- what is tried of a log, in order: whether it is held, then its lines, then whether it has a header
+-- what is tried of a log, in order: whether it is held, then its lines, then whether it has a
+-- header
 abbrev pub log_checks : Option (List ℕ) → List {1} (Refusal → Type 0)
 log_checks None = (λ r. r ≡ Absent log_file) ∷ []
 log_checks (Some bytes) = file_checks log_format (opening log_file 0 0 [] bytes) bytes
@@ -37,17 +39,19 @@ abbrev pub IsLogOf : Option (List ℕ) → Header → List Logged → Type 0
 IsLogOf None header logged = ⊥
 IsLogOf (Some bytes) header logged = LinesSay log_format log_file (lines bytes) logged (Some header)
 
--- what the reading of a log answers: this is held under the name, where the shelf tells what it holds, of which nothing is wrong and this
--- is what it says, or which is refused so
+-- what the reading of a log answers: this is held under the name, where the shelf tells what it
+-- holds, of which nothing is wrong and this is what it says, or which is refused so
 abbrev pub IsLogAnswer : Option Files → List ℕ → Result Log Load → Type 0
 IsLogAnswer contents name (Ok log) =
-    (held : Option (List ℕ)) × IsTold contents name held × NoneOf (log_checks held) × IsLogOf held log.header log.logged.items
-IsLogAnswer contents name (Err (Refused r)) = (held : Option (List ℕ)) × IsTold contents name held × FirstOf (log_checks held) r
+    (held : Option (List ℕ)) × IsTold contents name held × NoneOf (log_checks held)
+    × IsLogOf held log.header log.logged.items
+IsLogAnswer contents name (Err (Refused r)) =
+    (held : Option (List ℕ)) × IsTold contents name held × FirstOf (log_checks held) r
 IsLogAnswer contents name (Err ReadFault) = Unit {0}
 IsLogAnswer contents name (Err Memory) = Unit {0}
 
--- a log of one to `MAX_WORKERS` workers, in which no moment is after `MAX_AT`; there is a count of operations exactly in version 2, and of rows
--- exactly at each Finish of version 2
+-- a log of one to `MAX_WORKERS` workers, in which no moment is after `MAX_AT`; there is a count of
+-- operations exactly in version 2, and of rows exactly at each Finish of version 2
 pub record IsAuditable (log : Log) : Type 0 where
   pub some_worker : 1 ≤ log.header.workers
   pub few_workers : log.header.workers ≤ MAX_WORKERS

@@ -10,17 +10,23 @@ use Rattle.snb_auditor_log.specs.declared.verdict.AuditVerdict.TheVariants.{Judg
 abbrev pub verdict_text : Verdict → List ℕ
 verdict_text (Violated v) =
     codes "violated event " ++ decimal v.event ++ codes " rule V" ++ decimal v.rule
-    ++ codes " needs " ++ signed_decimal v.needs ++ codes " found " ++ signed_decimal v.found ++ codes "\n"
+    ++ codes " needs " ++ signed_decimal v.needs ++ codes " found " ++ signed_decimal v.found
+    ++ codes "\n"
 verdict_text (Halted worker) = codes "halted worker " ++ decimal worker ++ codes "\n"
 verdict_text (Incomplete op) = codes "incomplete operation " ++ decimal op ++ codes "\n"
-verdict_text (TooLate on_time all) = codes "late " ++ decimal on_time ++ codes " of " ++ decimal all ++ codes "\n"
-verdict_text (Accepted on_time all) = codes "accepted " ++ decimal on_time ++ codes " of " ++ decimal all ++ codes "\n"
+verdict_text (TooLate on_time all) =
+    codes "late " ++ decimal on_time ++ codes " of " ++ decimal all ++ codes "\n"
+verdict_text (Accepted on_time all) =
+    codes "accepted " ++ decimal on_time ++ codes " of " ++ decimal all ++ codes "\n"
 
 -- the line of a verdict on a log
 abbrev pub audit_text : AuditVerdict → List ℕ
-audit_text (Mismatched needs found) = codes "mismatched operations needs " ++ decimal needs ++ codes " found " ++ decimal found ++ codes "\n"
+audit_text (Mismatched needs found) =
+    codes "mismatched operations needs " ++ decimal needs ++ codes " found " ++ decimal found
+    ++ codes "\n"
 audit_text (Miscounted m) =
-    codes "miscounted event " ++ decimal m.event ++ codes " needs " ++ decimal m.needs ++ codes " found " ++ decimal m.found ++ codes "\n"
+    codes "miscounted event " ++ decimal m.event ++ codes " needs " ++ decimal m.needs
+    ++ codes " found " ++ decimal m.found ++ codes "\n"
 audit_text (Judged verdict) = verdict_text verdict
 
 -- the status of a verdict on a history: 0 where the run is accepted, else 1

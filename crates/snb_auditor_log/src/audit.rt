@@ -1,7 +1,7 @@
 //! The audit of a log.
 
 ghost use Rattle.std.specs.Prelude.{◌≡◌, ◌≤◌, All, IfOk, true};
-ghost use Rattle.snb_base.specs.Reads.{IsRead};
+ghost use Rattle.snb_base.specs.Reads.{IsShelfRead};
 ghost use Rattle.snb_schema.specs.declared.limits.TheConstants.{MAX_AT, MAX_WORKERS};
 ghost use Rattle.snb_history.specs.History.{moment};
 ghost use Rattle.snb_input_files.specs.Loading.{is_read_fault};
@@ -136,7 +136,7 @@ pub fn audit_log<S: Shelf, A: Replies>(
     requires closed { IsClosed (HoldsKey base.now) (updates_in plan.now) }
     requires allowed { S.may shelf.old path.now ≡ true }
     ensures answer { IsAuditAnswer base.now plan.now (S.contents shelf.old) path.now result }
-    ensures read { IsRead (is_read_fault result) S.Shelf shelf.old shelf.new }
+    ensures read { IsShelfRead (is_read_fault result) S.Shelf shelf.old shelf.new }
 {
     let log = load_log(alloc, shelf, path)?;
     let verdict = verdict_on(alloc, answers, plan, base, &log)?;

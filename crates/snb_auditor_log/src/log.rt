@@ -1,7 +1,7 @@
 //! The reading of a log.
 
 ghost use Rattle.std.specs.Prelude.{◌≡◌, IfOk, true};
-ghost use Rattle.snb_base.specs.Reads.{IsRead};
+ghost use Rattle.snb_base.specs.Reads.{IsShelfRead};
 ghost use Rattle.snb_input_files.specs.Loading.{is_read_fault};
 ghost use Rattle.snb_auditor_log.specs.LogFiles.{IsAuditable, IsLogAnswer};
 
@@ -49,7 +49,7 @@ pub fn load_log<S: Shelf>(alloc: Global, shelf: &mut S, path: &str) -> Result<Lo
     requires allowed { S.may shelf.old path.now ≡ true }
     ensures answer { IsLogAnswer (S.contents shelf.old) path.now result }
     ensures auditable { IfOk result IsAuditable }
-    ensures read { IsRead (is_read_fault result) S.Shelf shelf.old shelf.new }
+    ensures read { IsShelfRead (is_read_fault result) S.Shelf shelf.old shelf.new }
 {
     log_is_lawful();
     counts_are_in_version_2();

@@ -41,11 +41,14 @@ two_digits n = (48 + n / 10) ∷ (48 + n % 10) ∷ []
 
 -- `YYYY-MM-DD`
 abbrev pub day_text : ℕ → ℕ → ℕ → List ℕ
-day_text y m d = two_digits (y / 100) ++ two_digits (y % 100) ++ (45 ∷ two_digits m) ++ (45 ∷ two_digits d)
+day_text y m d =
+    two_digits (y / 100) ++ two_digits (y % 100) ++ (45 ∷ two_digits m) ++ (45 ∷ two_digits d)
 
 -- x spells a real day, whose midnight is n milliseconds after 1970-01-01
 abbrev pub SpellsDay : List ℕ → ℕ → Type 0
-SpellsDay x n = (y : ℕ) × (m : ℕ) × (d : ℕ) × IsRealDay y m d × (x ≡ day_text y m d) × (n ≡ 86400000 * day_number y m d)
+SpellsDay x n =
+    (y : ℕ) × (m : ℕ) × (d : ℕ) × IsRealDay y m d × (x ≡ day_text y m d)
+    × (n ≡ 86400000 * day_number y m d)
 
 -- a clock shows this time
 pub record IsRealTime (hour minute second millis : ℕ) : Type 0 where
@@ -66,11 +69,15 @@ time_text hour minute second millis =
 
 -- x spells a real time of day of n milliseconds
 abbrev pub SpellsTime : List ℕ → ℕ → Type 0
-SpellsTime x n = (h : ℕ) × (i : ℕ) × (s : ℕ) × (k : ℕ) × IsRealTime h i s k × (x ≡ time_text h i s k) × (n ≡ time_number h i s k)
+SpellsTime x n =
+    (h : ℕ) × (i : ℕ) × (s : ℕ) × (k : ℕ) × IsRealTime h i s k × (x ≡ time_text h i s k)
+    × (n ≡ time_number h i s k)
 
 -- x spells a real day and time of day, n milliseconds after 1970-01-01T00:00:00
 abbrev pub SpellsMoment : List ℕ → ℕ → Type 0
-SpellsMoment x n = (day : List ℕ) × (time : List ℕ) × (a : ℕ) × (b : ℕ) × (x ≡ day ++ time) × SpellsDay day a × SpellsTime time b × (n ≡ a + b)
+SpellsMoment x n =
+    (day : List ℕ) × (time : List ℕ) × (a : ℕ) × (b : ℕ) × (x ≡ day ++ time) × SpellsDay day a
+    × SpellsTime time b × (n ≡ a + b)
 
 -- a byte of `0` to `9`
 abbrev pub IsDigit : ℕ → Type 0

@@ -1,7 +1,8 @@
 -- The first of some things that are wrong.
 use Rattle.std.specs.Prelude.{◌⊎◌, List, [], ◌∷◌}
 
--- each of the list says what it tells where it is wrong; this is what the first of them tells that is
+-- each of the list says what it tells where it is wrong; this is what the first of them tells that
+-- is
 abbrev pub FirstOf : {A : Type 0} → List {1} (A → Type 0) → A → Type 0
 FirstOf [] a = ⊥
 FirstOf (W ∷ Ws) a = W a ⊎ (((b : _) → ¬ W b) × FirstOf Ws a)

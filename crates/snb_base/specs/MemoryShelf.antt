@@ -6,7 +6,8 @@ use Rattle.snb_base.specs.Shelf.{Files}
 use Rattle.snb_base.specs.declared.shelf.Got.{Got}
 use Rattle.snb_base.specs.declared.shelf.Got.TheVariants.{Took, Absent}
 
--- the files by name, the calls of `read` that are to fail, how many calls there were, and how many failed
+-- the files by name, the calls of `read` that are to fail, how many calls there were, and how many
+-- failed
 pub record Held : Type 0 where
   pub files : List (List ℕ × List ℕ)
   pub failing : List ℕ
@@ -22,11 +23,13 @@ file_of (file ∷ files) name = if bytes_eq file.0 name then Some file.1 else fi
 abbrev pub is_listed : List ℕ → ℕ → Bool
 is_listed calls call = list_any (nat_eq call) calls
 
--- whether the next call of `read` fails: its number is on the list, and the count of calls is not at its end
+-- whether the next call of `read` fails: its number is on the list, and the count of calls is not
+-- at its end
 abbrev pub is_failing : Held → Bool
 is_failing s = nat_lt s.calls (2 ^ 64 - 1) && is_listed s.failing s.calls
 
--- after the next call of `read`: one call more, as far as 64 bits go, and one fault more where it fails
+-- after the next call of `read`: one call more, as far as 64 bits go, and one fault more where it
+-- fails
 abbrev pub after_read : Held → Held
 after_read s = record {
   files = s.files;
@@ -37,4 +40,5 @@ after_read s = record {
 
 -- a reading without a fault: as many bytes as the file has from `at` on and the buffer takes
 abbrev pub IsFullReading : Files → List ℕ → ℕ → ℕ → Got → Type 0
-IsFullReading files name at room got = MatchOption (files name) (got ≡ Absent) (λ file. got ≡ Took (min room (length file - at)))
+IsFullReading files name at room got =
+    MatchOption (files name) (got ≡ Absent) (λ file. got ≡ Took (min room (length file - at)))

@@ -28,11 +28,46 @@ bytes_on w Cases = w.cases
 
 -- with these bytes at the end of one channel
 abbrev pub appended : Written → Channel → List ℕ → Written
-appended w Screen bytes = record { screen = w.screen ++ bytes; log = w.log; answers = w.answers; finals = w.finals; cases = w.cases }
-appended w Log bytes = record { screen = w.screen; log = w.log ++ bytes; answers = w.answers; finals = w.finals; cases = w.cases }
-appended w Answers bytes = record { screen = w.screen; log = w.log; answers = w.answers ++ bytes; finals = w.finals; cases = w.cases }
-appended w Final bytes = record { screen = w.screen; log = w.log; answers = w.answers; finals = w.finals ++ bytes; cases = w.cases }
-appended w Cases bytes = record { screen = w.screen; log = w.log; answers = w.answers; finals = w.finals; cases = w.cases ++ bytes }
+appended w Screen bytes =
+    record {
+      screen = w.screen ++ bytes;
+      log = w.log;
+      answers = w.answers;
+      finals = w.finals;
+      cases = w.cases;
+    }
+appended w Log bytes =
+    record {
+      screen = w.screen;
+      log = w.log ++ bytes;
+      answers = w.answers;
+      finals = w.finals;
+      cases = w.cases;
+    }
+appended w Answers bytes =
+    record {
+      screen = w.screen;
+      log = w.log;
+      answers = w.answers ++ bytes;
+      finals = w.finals;
+      cases = w.cases;
+    }
+appended w Final bytes =
+    record {
+      screen = w.screen;
+      log = w.log;
+      answers = w.answers;
+      finals = w.finals ++ bytes;
+      cases = w.cases;
+    }
+appended w Cases bytes =
+    record {
+      screen = w.screen;
+      log = w.log;
+      answers = w.answers;
+      finals = w.finals;
+      cases = w.cases ++ bytes;
+    }
 
 -- with the bytes of the second at the end of each channel of the first
 abbrev pub joined : Written → Written → Written
@@ -62,24 +97,38 @@ room_of r Cases = r.cases
 
 -- with another number for one channel
 abbrev pub with_room : Rooms → Channel → ℕ → Rooms
-with_room r Screen room = record { screen = room; log = r.log; answers = r.answers; finals = r.finals; cases = r.cases }
-with_room r Log room = record { screen = r.screen; log = room; answers = r.answers; finals = r.finals; cases = r.cases }
-with_room r Answers room = record { screen = r.screen; log = r.log; answers = room; finals = r.finals; cases = r.cases }
-with_room r Final room = record { screen = r.screen; log = r.log; answers = r.answers; finals = room; cases = r.cases }
-with_room r Cases room = record { screen = r.screen; log = r.log; answers = r.answers; finals = r.finals; cases = room }
+with_room r Screen room =
+    record { screen = room; log = r.log; answers = r.answers; finals = r.finals; cases = r.cases }
+with_room r Log room =
+    record {
+      screen = r.screen;
+      log = room;
+      answers = r.answers;
+      finals = r.finals;
+      cases = r.cases;
+    }
+with_room r Answers room =
+    record { screen = r.screen; log = r.log; answers = room; finals = r.finals; cases = r.cases }
+with_room r Final room =
+    record { screen = r.screen; log = r.log; answers = r.answers; finals = room; cases = r.cases }
+with_room r Cases room =
+    record { screen = r.screen; log = r.log; answers = r.answers; finals = r.finals; cases = room }
 
 -- whether the outside failed at a call of `write`
-abbrev pub is_failed : Put → Bool
-is_failed (Took count) = false
-is_failed Failed = true
+abbrev pub write_failed : Put → Bool
+write_failed (Took count) = false
+write_failed Failed = true
 
 -- what a call of `write` may answer, with the bytes before and after it
 abbrev pub IsWriting : Channel → List ℕ → Option Written → Option Written → Put → Type 0
 IsWriting channel piece old new (Took count) =
-    (0 < count) × (count ≤ length piece) × (new ≡ option_map (λ w. appended w channel (take count piece)) old)
+    (0 < count) × (count ≤ length piece)
+    × (new ≡ option_map (λ w. appended w channel (take count piece)) old)
 IsWriting channel piece old new Failed = new ≡ old
 
--- it didn't fail, and of so many bytes on each channel that it was sure to take it is sure of the rest
+-- it didn't fail, and of so many bytes on each channel that it was sure to take it is sure of the
+-- rest
 abbrev pub IsSure : Put → Channel → Rooms → (Rooms → Type 0) → Type 0
-IsSure (Took count) channel rooms ready = ready (with_room rooms channel (room_of rooms channel - count))
+IsSure (Took count) channel rooms ready =
+    ready (with_room rooms channel (room_of rooms channel - count))
 IsSure Failed channel rooms ready = ⊥

@@ -1,4 +1,5 @@
--- How numbers, dates, days and lists are spelled, as the benchmark's files have them: relations on whole texts.
+-- How numbers, dates, days and lists are spelled, as the benchmark's files have them: relations on
+-- whole texts.
 use Rattle.std.specs.Prelude.{◌≡◌, ◌≢◌, ℕ, ◌+◌, ◌-◌, ◌*◌, ◌<◌, ◌≤◌, ◌⊎◌, ◌==◌, ◌&&◌, Bool, List, [], ◌∷◌, ◌++◌, length, slice_index, if◌then◌else◌, nat_eq, Contains}
 use Rattle.std.specs.List.{slice_split, list_any, AllByRecursion}
 use Rattle.std.specs.Str.{bytes_eq}
@@ -18,7 +19,8 @@ abbrev pub value_after : ℕ → List ℕ → ℕ
 value_after before [] = before
 value_after before (b ∷ bs) = value_after (10 * before + (b - 48)) bs
 
--- x is 1 to 19 decimal digits, without a leading zero unless x is `0`, of the value n, which is at most `most`
+-- x is 1 to 19 decimal digits, without a leading zero unless x is `0`, of the value n, which is at
+-- most `most`
 pub record Num (x : List ℕ) (n most : ℕ) : Type 0 where
   pub digits : AllByRecursion IsDigit x
   pub some : 0 < length x
@@ -43,7 +45,8 @@ elements (b ∷ bs) = slice_split (λ c. c == 59) (b ∷ bs)
 -- the items that don't stand in `seen` or before, in order
 abbrev pub once_after : {A : Type 0} → (A → A → Bool) → List A → List A → List A
 once_after eq seen [] = []
-once_after eq seen (a ∷ more) = if list_any (eq a) seen then once_after eq seen more else a ∷ once_after eq (a ∷ seen) more
+once_after eq seen (a ∷ more) =
+    if list_any (eq a) seen then once_after eq seen more else a ∷ once_after eq (a ∷ seen) more
 
 -- each text is an element that spells the item beside it
 abbrev pub EachSpells : {A : Type 0} → (List ℕ → A → Type 0) → List (List ℕ) → List A → Type 0
@@ -54,7 +57,8 @@ EachSpells Spells (x ∷ xs) (a ∷ more) = Spells x a × EachSpells Spells xs m
 
 -- x is elements in their grammar, and the items are theirs, a later repeat left out
 abbrev pub Listed : {A : Type 0} → (List ℕ → A → Type 0) → (A → A → Bool) → List ℕ → List A → Type 0
-Listed {A} Spells eq x items = (all : List A) × EachSpells Spells (elements x) all × (items ≡ once_after eq [] all)
+Listed {A} Spells eq x items =
+    (all : List A) × EachSpells Spells (elements x) all × (items ≡ once_after eq [] all)
 
 -- a text that isn't empty spells itself
 abbrev pub SpellsWord : List ℕ → List ℕ → Type 0
@@ -66,7 +70,9 @@ SpellsId x id = Num x id last_id
 
 -- `id,year`
 abbrev pub SpellsPair : List ℕ → ℕ × ℕ → Type 0
-SpellsPair x pair = (id : List ℕ) × (year : List ℕ) × (x ≡ id ++ 44 ∷ year) × Num id pair.0 last_id × Num year pair.1 LAST_YEAR
+SpellsPair x pair =
+    (id : List ℕ) × (year : List ℕ) × (x ≡ id ++ 44 ∷ year) × Num id pair.0 last_id
+    × Num year pair.1 LAST_YEAR
 
 -- whether two pairs are equal
 abbrev pub pair_eq : ℕ × ℕ → ℕ × ℕ → Bool

@@ -3,7 +3,7 @@
 ghost use Rattle.std.specs.Prelude.{◌≡◌, ℕ, ◌-◌, ◌^◌, ◌<◌, ◌≤◌, ◌↔◌, ◌⊎◌, ◌∷◌, ◌++◌, [], length, take, min, Some, IsTrue, IfOk, OnOk, OnErr};
 ghost use Rattle.snb_base.specs.MemoryShelf.{is_listed};
 ghost use Rattle.snb_base.specs.MemoryOutbox.{IsReady, equal_rooms, room_left, answer_of, after_write};
-ghost use Rattle.snb_base.specs.Outbox.{IsSure, IsWriting, Rooms, nothing, appended, bytes_on, is_failed, room_of, with_room};
+ghost use Rattle.snb_base.specs.Outbox.{IsSure, IsWriting, Rooms, nothing, appended, bytes_on, write_failed, room_of, with_room};
 ghost use Rattle.snb_base.specs.Shelf.{HasCounted};
 
 use crate::calls::is_on;
@@ -221,7 +221,7 @@ impl Outbox for MemoryOutbox {
     fn write(&mut self, channel: Channel, piece: &[u8]) -> Put
         requires { 0 < length piece.now }
         ensures took { IsWriting channel piece.now (Some self.old.written) (Some self.new.written) result }
-        ensures counted { HasCounted (is_failed result) self.old.faults self.new.faults }
+        ensures counted { HasCounted (write_failed result) self.old.faults self.new.faults }
 
         // It fails at the listed calls and at a full channel alone, and else writes all that it can.
         ensures listed { self.old.calls < 2 ^ 64 - 1 →

@@ -122,7 +122,8 @@ impl Shelf for MemoryShelf {
         requires { 0 < length into.old }
         ensures room { FitsBuffer (length into.old) result }
         ensures told { IsReading (file_of self.old.files) name.now at into.new result }
-        ensures read { HasRead (is_failed result) (Some (file_of self.old.files)) any_name self.old.faults (Some (file_of self.new.files)) any_name self.new.faults }
+        ensures read { HasRead (is_failed result) (Some (file_of self.old.files)) any_name self.old.faults
+            (Some (file_of self.new.files)) any_name self.new.faults }
 
         // It fails at the listed calls alone, and else reads all that it can.
         ensures listed { self.old.calls < 2 ^ 64 - 1 →

@@ -1,7 +1,7 @@
 //! Where bytes are written.
 
 ghost use Rattle.std.specs.Prelude.{ℕ, ◌<◌, ◌≤◌, length, Option};
-ghost use Rattle.snb_base.specs.Outbox.{IsSure, IsWriting, Rooms, Written, is_failed, room_of};
+ghost use Rattle.snb_base.specs.Outbox.{IsSure, IsWriting, Rooms, Written, write_failed, room_of};
 ghost use Rattle.snb_base.specs.Shelf.{HasCounted};
 
 /// What is written where.
@@ -51,6 +51,7 @@ pub trait Outbox {
     fn write(&mut self, channel: Channel, piece: &[u8]) -> Put
         requires { 0 < length piece.now }
         ensures took { IsWriting channel piece.now (written self.old) (written self.new) result }
-        ensures counted { HasCounted (is_failed result) (faults self.old) (faults self.new) }
-        ensures sure { (rooms : Rooms) → ready self.old rooms → length piece.now ≤ room_of rooms channel → IsSure result channel rooms (ready self.new) };
+        ensures counted { HasCounted (write_failed result) (faults self.old) (faults self.new) }
+        ensures sure { (rooms : Rooms) → ready self.old rooms → length piece.now ≤ room_of rooms channel
+            → IsSure result channel rooms (ready self.new) };
 }

@@ -40,5 +40,6 @@ pub trait Shelf {
         requires allowed { may self.old name.now ≡ true }
         ensures room { FitsBuffer (length into.old) result }
         ensures told { IfSome (contents self.old) (λ files. IsReading files name.now at into.new result) }
-        ensures read { HasRead (is_failed result) (contents self.old) (may self.old) (faults self.old) (contents self.new) (may self.new) (faults self.new) };
+        ensures read { HasRead (is_failed result) (contents self.old) (may self.old) (faults self.old)
+            (contents self.new) (may self.new) (faults self.new) };
 }

@@ -50,7 +50,8 @@ impl Shelf for SteadyShelf {
         requires { 0 < length into.old }
         ensures room { FitsBuffer (length into.old) result }
         ensures told { IsReading (file_of self.old) name.now at into.new result }
-        ensures read { HasRead (is_failed result) (Some (file_of self.old)) any_name 0 (Some (file_of self.new)) any_name 0 }
+        ensures read { HasRead (is_failed result) (Some (file_of self.old)) any_name 0 (Some (file_of self.new))
+            any_name 0 }
         ensures steady { result ≢ Got.Failed }
         ensures full { IsFullReading (file_of self.old) name.now at (length into.old) result }
         ensures after { self.new ≡ self.old }

@@ -19,7 +19,8 @@ use Rattle.snb_book.specs.Kept.{IsInHand, Kept}
 use Rattle.snb_board.specs.declared.view.View.{View}
 use Rattle.snb_board.specs.declared.view.Phase.TheVariants.{Idle, Holding}
 use Rattle.snb_board.specs.Boards.{Site, Sitting, HasCalled, claimed_events, events_of, mine, site, sitting, time_below}
-use Rattle.snb_board.specs.Views.{Sat, author, kept, part, posed, reached, seeing, seen_of, number_of, told_of}
+use Rattle.snb_board.specs.Views.{Sat}
+use Rattle.snb_board.specs.Parts.{author, kept, part, posed, reached, seeing, seen_of, number_of, told_of}
 use Rattle.snb_board.specs.Steps.{Place, IsSeated, IsSingle, IsResting, HoldsTurn, HasTurn, Grew, is_go, sitting_of}
 use Rattle.snb_board.proofs.Events.{events_of-append, events_of-mine, front_later, in_hand_later, reached-told, running_later}
 use Rattle.snb_board.proofs.Parts.{single-seeing, single-posed}

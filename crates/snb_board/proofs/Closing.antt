@@ -16,7 +16,8 @@ use Rattle.snb_board.specs.declared.view.Part.{Part}
 use Rattle.snb_board.specs.declared.view.View.{View}
 use Rattle.std.specs.Prelude.{Ok}
 use Rattle.snb_board.specs.Boards.{Site, Sitting, AreAll, AreMadeBy, AreSeats, IsPartOf, events_of, sitting, time_below}
-use Rattle.snb_board.specs.Views.{Home, Sat, author, part, Each, HasWorker, IsRuled, seen_of, number_of, told_of}
+use Rattle.snb_board.specs.Views.{Home, Sat, Each, HasWorker, IsRuled}
+use Rattle.snb_board.specs.Parts.{author, part, seen_of, number_of, told_of}
 use Rattle.snb_board.specs.Steps.{IsKnown, Place, IsResting, part_of, with_parts, number_after, sitting_of}
 use Rattle.snb_board.proofs.Events.{below-number, is_by-author, number-below, reached-told}
 use Rattle.snb_board.proofs.Joins.{closes}

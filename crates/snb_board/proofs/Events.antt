@@ -18,7 +18,7 @@ use Rattle.snb_history.specs.Schedule.{Schedule, step_of}
 use Rattle.snb_history.specs.Completion.{completion, is_awaited, least_of}
 use Rattle.snb_history.proofs.Laws.{completion_rises, least_of-top}
 use Rattle.snb_board.specs.Boards.{events_of, time_below}
-use Rattle.snb_board.specs.Views.{author, reached}
+use Rattle.snb_board.specs.Parts.{author, reached}
 use Rattle.snb_board.specs.Steps.{number_after}
 use Rattle.snb_base.proofs.Laws.{slice_get-prefix}
 

@@ -14,7 +14,9 @@ use Rattle.snb_board.specs.declared.view.View.{View}
 use Rattle.snb_board.specs.declared.view.Phase.{Phase}
 use Rattle.std.specs.Prelude.{Ok}
 use Rattle.snb_board.specs.declared.view.Phase.TheVariants.{Idle, Holding, Counted, Raised}
-use Rattle.snb_board.specs.Views.{kept, reached, Shows, first_view, spent_view, IsOut, IsShown, number_of, Each, HasWorker, PartOk, ViewOk, Turn, free, held, Home, Stands, IsRuled, minting, newcomer, gathered}
+use Rattle.snb_board.specs.Views.{Each, HasWorker, PartOk, ViewOk, Turn, free, held, Home, Stands, IsRuled}
+use Rattle.snb_board.specs.ViewSteps.{minting, newcomer, gathered}
+use Rattle.snb_board.specs.Parts.{kept, reached, Shows, first_view, spent_view, IsOut, IsShown, number_of}
 use Rattle.snb_board.specs.Steps.{IsKnown}
 use Rattle.snb_board.proofs.Events.{reached-append}
 use Rattle.snb_board.proofs.Parts.{each_set, each_push, Each-map, Each-append, found, has_left, has_right, has_either, differ_both}

@@ -20,7 +20,9 @@ use Rattle.snb_board.specs.declared.view.View.{View}
 use Rattle.snb_board.specs.declared.view.Phase.{Phase}
 use Rattle.std.specs.Prelude.{Ok}
 use Rattle.snb_board.specs.declared.view.Phase.TheVariants.{Idle, Holding, Counted, Raised}
-use Rattle.snb_board.specs.Views.{author, kept, reached, part, viewing, IsOut, IsShown, Shows, seen_of, number_of, told_of, telling, posed, Each, PartOk, ViewOk, Turn, free, held, Home, Stands, IsRuled, Sat, noted, first_view, took, began, counted_one, raised, loaded, passed}
+use Rattle.snb_board.specs.Views.{Each, PartOk, ViewOk, Turn, free, held, Home, Stands, IsRuled, Sat}
+use Rattle.snb_board.specs.ViewSteps.{noted, took, began, counted_one, raised, loaded, passed}
+use Rattle.snb_board.specs.Parts.{author, kept, reached, part, viewing, IsOut, IsShown, Shows, seen_of, number_of, told_of, telling, posed, first_view}
 use Rattle.snb_board.specs.Steps.{IsSingle}
 use Rattle.snb_board.proofs.Parts.{at_set_here, each_set, telling_has, telling_had, telling_differ, parts-posed, own_ok, reach_grows, has_part, posed_ok, others_grow}
 

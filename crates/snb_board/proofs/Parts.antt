@@ -12,7 +12,8 @@ use Rattle.snb_board.specs.declared.view.Part.{Part}
 use Rattle.snb_board.specs.declared.view.View.{View}
 use Rattle.snb_board.specs.declared.view.Phase.{Phase}
 use Rattle.snb_board.specs.Boards.{events_of}
-use Rattle.snb_board.specs.Views.{author, reached, part, IsShown, seen_of, number_of, told_of, seeing, telling, posed, Each, HasWorker, Differ, PartOk, ViewOk}
+use Rattle.snb_board.specs.Views.{Each, HasWorker, Differ, PartOk, ViewOk}
+use Rattle.snb_board.specs.Parts.{author, reached, part, IsShown, seen_of, number_of, told_of, seeing, telling, posed}
 use Rattle.snb_board.specs.Steps.{IsSingle}
 use Rattle.snb_base.proofs.Laws.{prefix-refl}
 

@@ -10,7 +10,9 @@ use Rattle.snb_board.specs.Boards.{events_of}
 use Rattle.snb_board.specs.declared.view.View.{View}
 use Rattle.std.specs.Prelude.{Err, None, Ok}
 use Rattle.snb_board.specs.declared.view.Phase.TheVariants.{Idle, Holding, Counted, Raised}
-use Rattle.snb_board.specs.Views.{kept, reached, Home, Sat, At, IsOut, part, viewing, seeing, noted, noted_in, posed, seen_of, number_of, told_of, first_view, took, IsShown}
+use Rattle.snb_board.specs.Views.{Home, Sat, At}
+use Rattle.snb_board.specs.ViewSteps.{noted, noted_in, took}
+use Rattle.snb_board.specs.Parts.{kept, reached, IsOut, part, viewing, seeing, posed, seen_of, number_of, told_of, first_view, IsShown}
 use Rattle.snb_board.specs.Steps.{IsSingle}
 use Rattle.snb_board.proofs.Parts.{single-seeing, single-posed}
 

@@ -13,7 +13,8 @@ use Rattle.snb_board.specs.declared.view.Part.{Part}
 use Rattle.snb_board.specs.declared.view.Phase.TheVariants.{Idle, Holding}
 use Rattle.std.specs.Prelude.{Err, None}
 use Rattle.snb_board.specs.Boards.{Sitting, sitting, site, events_of, time_below}
-use Rattle.snb_board.specs.Views.{Home, author, part, reached, viewing, posed, seen_of, number_of, told_of, telling}
+use Rattle.snb_board.specs.Views.{Home}
+use Rattle.snb_board.specs.Parts.{author, part, reached, viewing, posed, seen_of, number_of, told_of, telling}
 
 abbrev pub Place : Type 0
 Place = Seat Home View
@@ -26,18 +27,21 @@ IsSeated p q = (q.table_id ≡ p.table_id) × (q.id ≡ p.id)
 
 -- the view has just its own part, and it has the schedule and the count of workers
 abbrev pub IsSingle : View → Type 0
-IsSingle v = (v.parts ≡ part (number_of v.parts) (seen_of v.parts) (told_of v.parts) ∷ []) × (0 < v.workers)
+IsSingle v =
+    (v.parts ≡ part (number_of v.parts) (seen_of v.parts) (told_of v.parts) ∷ []) × (0 < v.workers)
 
 -- it has no turn and no slot
 abbrev pub IsResting : Place → Type 0
 IsResting p = (p.me.0.phase ≡ Idle) × IsSingle p.me.0 × (p.me.1 ≡ [])
 
--- the seat has the turn and the empty slot. The history that it found begins with what it had seen, and has no other event of its worker
+-- the seat has the turn and the empty slot. The history that it found begins with what it had seen,
+-- and has no other event of its worker
 abbrev pub HoldsTurn : Place → Place → List Event → Type 0
 HoldsTurn p q h =
     (q.me ≡ (posed Holding h p.me.0, (0, Err None) ∷ []))
     × IsPrefix (seen_of p.me.0.parts) h
-    × (events_of (number_of p.me.0.parts) h ≡ events_of (number_of p.me.0.parts) (seen_of p.me.0.parts))
+    × (events_of (number_of p.me.0.parts) h
+    ≡ events_of (number_of p.me.0.parts) (seen_of p.me.0.parts))
 
 -- the history has grown by one event of this worker, or not at all
 abbrev pub Grew : ℕ → List Event → Bool → List Event → Type 0
@@ -50,7 +54,9 @@ HasTurn p = (p.me.0.phase ≡ Holding) × IsSingle p.me.0 × (p.me.1 ≡ (0, Err
 
 -- what a seat is seen as
 abbrev pub sitting_of : Place → Sitting
-sitting_of p = sitting (site p.table_id p.me.0.schedule p.me.0.workers) (number_of p.me.0.parts) (seen_of p.me.0.parts) (time_below (told_of p.me.0.parts))
+sitting_of p =
+    sitting (site p.table_id p.me.0.schedule p.me.0.workers) (number_of p.me.0.parts)
+    (seen_of p.me.0.parts) (time_below (told_of p.me.0.parts))
 
 -- the view with what other seats have seen, and the count of seats made, if one of them had it
 abbrev pub with_parts : View → ℕ → List Part → View
@@ -72,7 +78,8 @@ part_of s = part s.worker s.seen (number_after s.told)
 -- what a part has seen begins the history, which has no other event of its worker
 abbrev pub IsKnown : Schedule → List Event → Part → Type 0
 IsKnown schedule history p =
-    IsPrefix p.seen history × (events_of p.worker history ≡ events_of p.worker p.seen) × (p.told ≤ reached schedule history)
+    IsPrefix p.seen history × (events_of p.worker history ≡ events_of p.worker p.seen)
+    × (p.told ≤ reached schedule history)
 
 -- the claim is a Go
 abbrev pub is_go : Claim → Bool

@@ -9,7 +9,7 @@ ghost use Rattle.snb_book.specs.Claims.{IfGo};
 ghost use Rattle.snb_book.specs.Kept.{IsInHand};
 ghost use Rattle.snb_board.specs.Boards.{site, mine, AreAll, AreMadeBy, AreSeats, HasClaimed, HasFinished, HasHalted, HasLearned, HasLooked, IsEmptyYet, IsPartOf};
 ghost use Rattle.snb_board.specs.Steps.{IsSized, IsSeated, IsResting, is_go, part_of, with_parts};
-ghost use Rattle.snb_board.specs.Views.{first_view, kept};
+ghost use Rattle.snb_board.specs.Parts.{first_view, kept};
 
 use crate::seat::Seat;
 use crate::steps::{begin, gather, give, load, mint, reach_of, take};
@@ -209,7 +209,8 @@ impl Board {
         requires board { seat.old.site ≡ self.now }
         requires from { from ≤ length seat.old.seen }
         ensures call { HasLooked seat.old seat.new }
-        ensures ok { IfOk result (λ n. (n ≡ length seat.new.seen) × (into.new.items ≡ into.old.items ++ drop from seat.new.seen)) }
+        ensures ok { IfOk result
+            (λ n. (n ≡ length seat.new.seen) × (into.new.items ≡ into.old.items ++ drop from seat.new.seen)) }
         ensures err { OnErr result (into.new.items ≡ into.old.items) }
     {
         let book = take(rt, &self.table.shared, &mut seat.place);

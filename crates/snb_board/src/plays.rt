@@ -1,6 +1,7 @@
 //! What each step on the table tells. These types are for the proofs alone.
 
-ghost use Rattle.snb_board.specs.Views.{took, began, counted_one, raised, loaded, passed, minting, newcomer, gathered, spent_view};
+ghost use Rattle.snb_board.specs.ViewSteps.{took, began, counted_one, raised, loaded, passed, minting, newcomer, gathered};
+ghost use Rattle.snb_board.specs.Parts.{spent_view};
 
 use crate::view::{Slot, View};
 use atomic_table::{Join, Play, Split};

@@ -22,7 +22,7 @@ impl Model for Seat {
     ghost Value = { Sitting };
 
     ghost use Rattle.std.specs.Prelude.{◌≡◌, ◌<◌};
-    ghost use Rattle.snb_board.specs.Views.{number_of};
+    ghost use Rattle.snb_board.specs.Parts.{number_of};
     ghost use Rattle.snb_board.specs.Steps.{IsResting, sitting_of};
 
     ghost view = { λ s. sitting_of s.place };

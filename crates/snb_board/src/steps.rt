@@ -8,7 +8,9 @@ ghost use Rattle.snb_history.specs.Rules.{IsLegal};
 ghost use Rattle.snb_board.specs.Boards.{time_below};
 ghost use Rattle.snb_board.specs.Steps.{IsSized, IsSeated, IsResting, HoldsTurn, HasTurn, Grew, told_view};
 ghost use Rattle.snb_board.specs.declared.view.Phase.TheVariants.{Idle, Holding, Counted, Raised};
-ghost use Rattle.snb_board.specs.Views.{Home, kept, posed, reached, seen_of, number_of, told_of, first_view, minting, newcomer, gathered};
+ghost use Rattle.snb_board.specs.Views.{Home};
+ghost use Rattle.snb_board.specs.ViewSteps.{minting, newcomer, gathered};
+ghost use Rattle.snb_board.specs.Parts.{kept, posed, reached, seen_of, number_of, told_of, first_view};
 
 use crate::plays::{Begin, Count, Gather, Load, Mint, Pass, Raise, Take};
 use crate::view::{Place, Top};
@@ -82,7 +84,8 @@ fn last_event(book: &Book) -> Event
 /// Counts the book's new event, which its slot has meanwhile, and publishes its completion time.
 fn publish(top: &Top, place: &mut Place, book: &Book)
     requires table { IsSized top.now.table_id × (place.old.table_id ≡ top.now.table_id) }
-    requires turn { HasTurn place.old × (book.now ≡ kept place.old.me.0.schedule place.old.me.0.workers book.now.history) }
+    requires turn { HasTurn place.old
+        × (book.now ≡ kept place.old.me.0.schedule place.old.me.0.workers book.now.history) }
     requires event { Grew (number_of place.old.me.0.parts) (seen_of place.old.me.0.parts) true book.now.history }
     ensures table { IsSeated place.old place.new }
     ensures view { (x : Home) × (place.new.me ≡ (posed Raised book.now.history place.old.me.0, (0, x) ∷ [])) }
@@ -124,8 +127,10 @@ pub(crate) fn mint(top: &Top, place: &mut Place) -> Place
 
 /// Takes in what another seat has seen.
 pub(crate) fn gather(top: &Top, place: &mut Place, other: Place)
-    requires table { IsSized top.now.table_id × (place.old.table_id ≡ top.now.table_id) × (other.table_id ≡ top.now.table_id) }
-    requires rest { (place.old.me.0.phase ≡ Idle) × (0 < place.old.me.0.workers) × (place.old.me.1 ≡ []) × IsResting other }
+    requires table { IsSized top.now.table_id × (place.old.table_id ≡ top.now.table_id)
+        × (other.table_id ≡ top.now.table_id) }
+    requires rest { (place.old.me.0.phase ≡ Idle) × (0 < place.old.me.0.workers) × (place.old.me.1 ≡ [])
+        × IsResting other }
     ensures table { IsSeated place.old place.new }
     ensures views { place.new.me ≡ (gathered place.old.me.0 other.me.0, []) }
 {
@@ -138,7 +143,8 @@ pub(crate) fn load(top: &Top, place: &mut Place) -> u64
     requires rest { IsResting place.old }
     ensures table { IsSeated place.old place.new }
     ensures rest { place.new.me ≡ (told_view place.old.me.0 result, []) }
-    ensures known { (told_of place.old.me.0.parts ≤ result) × (reached place.old.me.0.schedule (seen_of place.old.me.0.parts) ≤ result) }
+    ensures known { (told_of place.old.me.0.parts ≤ result)
+        × (reached place.old.me.0.schedule (seen_of place.old.me.0.parts) ≤ result) }
     ensures bounded { result ≤ MAX_TIME + 1 }
 {
     top.load::<Load>(place, REACH)

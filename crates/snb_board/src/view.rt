@@ -42,7 +42,8 @@ pub struct View {
 pub struct Rule;
 
 impl TableRule<Slot, View, Snapshot<Book>> for Rule {
-    ghost use Rattle.snb_board.specs.Views.{IsRuled, first_view};
+    ghost use Rattle.snb_board.specs.Views.{IsRuled};
+    ghost use Rattle.snb_board.specs.Parts.{first_view};
 
     ghost holds = { λ key. IsRuled key.value };
 

@@ -10,7 +10,7 @@ use Rattle.snb_history.specs.declared.event.Event.{Event}
 use Rattle.snb_history.specs.Schedule.{Schedule, step_of, IsOperation, IsPlanned}
 use Rattle.snb_history.specs.History.{started, finished, halted, hand}
 use Rattle.snb_history.specs.Completion.{time_left, completion, is_awaited, least_t}
-use Rattle.snb_history.specs.Rules.{IsCleared, IsComplete, IsNotBusy}
+use Rattle.snb_history.specs.Rules.{IsCleared, IsComplete, LaneIsFinished}
 use Rattle.snb_completion.specs.Progress.{Progress, flag}
 use Rattle.snb_book.specs.declared.book.Firsts.{Firsts}
 use Rattle.snb_book.specs.Kept.{Kept}
@@ -51,7 +51,7 @@ pub firsts_told : (b : Kept) (capacity : ℕ) (times : Progress) (heads : List �
     → AreFirsts b.schedule b.history firsts
 firsts_told b capacity times heads held latest stopped firsts kept told is = record {
   all = TellsFirst-same s _ (IsPlanHead s h) firsts.all (λ j q. head j q.0) (λ j q. (next j q, low j q)) is.all;
-  free = TellsFirst-same s _ (λ j. IsPlanHead s h j × IsNotBusy s h j) firsts.free
+  free = TellsFirst-same s _ (λ j. IsPlanHead s h j × LaneIsFinished s h j) firsts.free
       (λ j q. (head j q.0.0, not_busy_where_free s b.workers h times.finished kept.planned kept.legal told.over j (head j q.0.0) q.0.1))
       (λ j q. ((next j q.0, free_where_not_busy s h times.finished told.over j q.0 q.1), low j q.0))
       is.free;
@@ -119,7 +119,7 @@ goes s h worker at op start idle is due counted = (
 )
 
 pub blocked : (s : Schedule) (h : List Event) (worker at op needs : ℕ) (time : ℤ) → IsUnderWay s h worker → ((j : ℕ) → IsDueHead s h at j → ¬ IsAdmitted s h j)
-    → TellsFirst s (λ j. IsPlanHead s h j × IsNotBusy s h j) (Some op) → (step_of s op).due ≤ at
+    → TellsFirst s (λ j. IsPlanHead s h j × LaneIsFinished s h j) (Some op) → (step_of s op).due ≤ at
     → needs ≡ (step_of s op).t_d → time ≡ completion s h → IsClaim s h worker at (Blocked op needs time)
 blocked s h worker at op needs time idle none is due needed reached = (
   idle,
@@ -132,12 +132,12 @@ blocked s h worker at op needs time idle none is due needed reached = (
 )
 
 -- each due head is busy where the first that isn't is due later
-pub all_busy : (s : Schedule) (h : List Event) (at : ℕ) (free : Option ℕ) → TellsFirst s (λ j. IsPlanHead s h j × IsNotBusy s h j) free → IsLate s at free
-    → (j : ℕ) → IsDueHead s h at j → ¬ IsNotBusy s h j
-all_busy s h at free is late j head not_busy = none_due s (λ j. IsPlanHead s h j × IsNotBusy s h j) at free is late j ((head.0, head.1), not_busy) head.2
+pub all_busy : (s : Schedule) (h : List Event) (at : ℕ) (free : Option ℕ) → TellsFirst s (λ j. IsPlanHead s h j × LaneIsFinished s h j) free → IsLate s at free
+    → (j : ℕ) → IsDueHead s h at j → ¬ LaneIsFinished s h j
+all_busy s h at free is late j head not_busy = none_due s (λ j. IsPlanHead s h j × LaneIsFinished s h j) at free is late j ((head.0, head.1), not_busy) head.2
 
 pub lane_busy : (s : Schedule) (h : List Event) (worker at first by_whom : ℕ) → IsUnderWay s h worker → IsFirst s (IsDueHead s h at) first
-    → ((j : ℕ) → IsDueHead s h at j → ¬ IsNotBusy s h j) → HoldsBefore s h first by_whom → IsClaim s h worker at (Busy first by_whom)
+    → ((j : ℕ) → IsDueHead s h at j → ¬ LaneIsFinished s h j) → HoldsBefore s h first by_whom → IsClaim s h worker at (Busy first by_whom)
 lane_busy s h worker at first by_whom idle is busy held = inr (record { under_way = idle; all_busy = busy; first = is; held = held })
 
 all_set-at : (flags : List Bool) (i : ℕ) → i < length flags → list_all (λ flag. flag) flags ≡ true → get_or flags i false ≡ true

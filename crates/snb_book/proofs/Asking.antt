@@ -11,7 +11,7 @@ use Rattle.snb_history.specs.declared.step.LaneKind.TheVariants.{Forum}
 use Rattle.snb_history.specs.Schedule.{Schedule, step_of, IsOperation, IsPlanned}
 use Rattle.snb_history.specs.History.{started, finished, hand, holder}
 use Rattle.snb_history.specs.Completion.{first_op, is_awaited, least_t}
-use Rattle.snb_history.specs.Rules.{V1, IsCleared, IsHead, IsLegal}
+use Rattle.snb_history.specs.Rules.{V1, IsCleared, LeadsLane, IsLegal}
 use Rattle.snb_completion.specs.Progress.{Progress, flag}
 use Rattle.snb_book.specs.Kept.{Kept}
 use Rattle.snb_book.specs.Book.{IsSoundBook, IsTold, IsNext}
@@ -62,7 +62,7 @@ first_unstarted_told s h heads planned begins op within fresh (Some k) at =
           (lane_hit (step_of s k).lane (step_of s op).lane (started h k) at.in_lane head.1.fresh)
           (λ j lt. lane_miss (step_of s j).lane (step_of s op).lane (started h j) (λ lane. head.1.led j (lt, lane ∙ sym at.in_lane)));
       head = (
-        λ same. subst (λ (i : ℕ). IsHead s h i) same head.1,
+        λ same. subst (λ (i : ℕ). LeadsLane s h i) same head.1,
         λ is. same_place s planned k op at.within within at.in_lane (at.placed ∙ sym (next_from_head s h heads planned begins op (within, is)).1),
       );
     }

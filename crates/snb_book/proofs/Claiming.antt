@@ -8,7 +8,7 @@ use Rattle.snb_history.specs.declared.event.Event.TheVariants.{Start}
 use Rattle.snb_history.specs.Schedule.{Schedule, step_of, IsOperation, IsPlanned}
 use Rattle.snb_book.specs.Kept.{IsInHand}
 use Rattle.snb_history.specs.History.{started, last}
-use Rattle.snb_history.specs.Rules.{Rule, V1, V2, V3, V4, V5, V6, V7, V8, V9, start_rules, fact_of, Fits, IsLegal, MayAct}
+use Rattle.snb_history.specs.Rules.{Rule, V1, V2, V3, V4, V5, V6, V7, V8, V9, Obeys, Fits, IsLegal, MayAct}
 use Rattle.snb_book.specs.declared.claim.Ticket.{Ticket}
 use Rattle.snb_book.specs.declared.claim.Claim.{Claim}
 use Rattle.snb_book.specs.declared.claim.Claim.TheVariants.{Halted, AllStarted, Busy, NotDue, Go, Blocked}
@@ -25,7 +25,7 @@ claim_fits s workers h worker at ticket known later claim = record { obeys = by_
     admitted : IsAdmitted s h ticket.op
     admitted = claim.1.0.1
 
-    by_rule : (r : Rule) → fact_of (start_rules s workers h ticket.op worker at) r
+    by_rule : (r : Rule) → Obeys s workers h (Start ticket.op worker at) r
     by_rule V1 = (due.0, record { known = known; running = claim.0.running worker })
     by_rule V2 = due.1
     by_rule V3 = admitted.0

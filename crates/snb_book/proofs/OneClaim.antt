@@ -7,7 +7,7 @@ use Rattle.snb_history.specs.declared.step.LaneKind.{LaneKind}
 use Rattle.snb_history.specs.declared.step.LaneKind.TheVariants.{Person, Forum, Query}
 use Rattle.snb_history.specs.Schedule.{Schedule, step_of, IsBefore, IsInForum}
 use Rattle.snb_history.specs.History.{started, finished, holder}
-use Rattle.snb_history.specs.Rules.{IsLegal, IsNotBusy}
+use Rattle.snb_history.specs.Rules.{IsLegal, LaneIsFinished}
 use Rattle.snb_book.specs.declared.claim.Ticket.{Ticket}
 use Rattle.snb_book.specs.declared.claim.Claim.{Claim}
 use Rattle.snb_book.specs.declared.claim.Claim.TheVariants.{Halted, AllStarted, Busy, NotDue, Go, Blocked}
@@ -58,7 +58,7 @@ one_held s workers h op i j legal head forum i_before i_open j_before j_open =
     in_forum k before = subst (λ (l : ℕ). slice_get s.kinds l ≡ Some Forum) (sym before.1) forum
 
 -- an operation that is busy stands in a forum lane
-busy_in_forum : (s : Schedule) (h : List Event) (op : ℕ) → ¬ IsNotBusy s h op → (o : Option LaneKind) → slice_get s.kinds (step_of s op).lane ≡ o → IsInForum s op
+busy_in_forum : (s : Schedule) (h : List Event) (op : ℕ) → ¬ LaneIsFinished s h op → (o : Option LaneKind) → slice_get s.kinds (step_of s op).lane ≡ o → IsInForum s op
 busy_in_forum s h op busy (Some Forum) q = q
 busy_in_forum s h op busy (Some Person) q = absurd (busy (λ forum. absurd cc))
 busy_in_forum s h op busy (Some Query) q = absurd (busy (λ forum. absurd cc))

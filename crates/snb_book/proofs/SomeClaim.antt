@@ -7,7 +7,7 @@ use Rattle.snb_history.specs.declared.event.Event.TheVariants.{Start, Finish, Ha
 use Rattle.snb_history.specs.Schedule.{Schedule, step_of, IsOperation, IsBefore}
 use Rattle.snb_history.specs.History.{started, finished, halted, hand, holder}
 use Rattle.snb_history.specs.Completion.{completion}
-use Rattle.snb_history.specs.Rules.{V2, V3, V5, IsLegal, IsHead, IsNotBusy, IsCleared}
+use Rattle.snb_history.specs.Rules.{V2, V3, V5, IsLegal, LeadsLane, LaneIsFinished, IsCleared}
 use Rattle.snb_book.specs.declared.claim.Claim.{Claim}
 use Rattle.snb_book.specs.declared.claim.Claim.TheVariants.{Halted, AllStarted, Busy, NotDue, Go, Blocked}
 use Rattle.snb_book.specs.Claims.{IsPlanHead, IsDueHead, IsAdmitted, ComesFirst, IsFirst, IsUnderWay, IsClaim}
@@ -19,7 +19,7 @@ use Rattle.snb_history.proofs.Laws.{holder_holds, keeps_legal, obeys}
 is_plan_head : (s : Schedule) (h : List Event) (k : ℕ) → Decided (IsPlanHead s h k)
 is_plan_head s h k =
     let within : Decided (IsOperation s k) = elim (cases_lt k (length s.steps)) [ inl less ↦ inl less | inr more ↦ inr (λ q. omega arith) ] in
-    let head : Decided (IsHead s h k) = obeys s 0 h (Start k 0 0) V2 in
+    let head : Decided (LeadsLane s h k) = obeys s 0 h (Start k 0 0) V2 in
     both within head
 
 is_due_head : (s : Schedule) (h : List Event) (at k : ℕ) → Decided (IsDueHead s h at k)
@@ -32,7 +32,7 @@ is_due_head s h at k =
       ]
     ]
 
-is_not_busy : (s : Schedule) (h : List Event) (k : ℕ) → Decided (IsNotBusy s h k)
+is_not_busy : (s : Schedule) (h : List Event) (k : ℕ) → Decided (LaneIsFinished s h k)
 is_not_busy s h k = obeys s 0 h (Start k 0 0) V3
 
 is_admitted : (s : Schedule) (h : List Event) (k : ℕ) → Decided (IsAdmitted s h k)
@@ -135,7 +135,7 @@ any_halted (Finish op worker at front ∷ h) = any_halted h
 any_halted (Halt worker ∷ h) = inr (worker, let e = eq-eqb worker worker refl in grind arith)
 
 -- an operation that is busy waits for one before it, which somebody holds
-waits_for : (s : Schedule) (workers : ℕ) (h : List Event) (op : ℕ) → IsLegal s workers h → IsHead s h op → ¬ IsNotBusy s h op
+waits_for : (s : Schedule) (workers : ℕ) (h : List Event) (op : ℕ) → IsLegal s workers h → LeadsLane s h op → ¬ LaneIsFinished s h op
     → (by_whom : ℕ) × ((j : ℕ) × IsBefore s j op × (finished h j ≡ false) × (holder h j ≡ Some by_whom))
 waits_for s workers h op legal head busy =
     elim (least_failing p op) [
@@ -174,7 +174,7 @@ claim_exists s workers h worker at legal =
     none_admitted : IsUnderWay s h worker → (first : ℕ) → IsFirst s (IsDueHead s h at) first → ((j : ℕ) → IsDueHead s h at j → ¬ IsAdmitted s h j)
         → (c : Claim) × IsClaim s h worker at c
     none_admitted under_way first is none =
-        elim (first_such s (λ j. IsDueHead s h at j × IsNotBusy s h j) (λ j. both (is_due_head s h at j) (is_not_busy s h j)) (λ j p. p.0.0)) [
+        elim (first_such s (λ j. IsDueHead s h at j × LaneIsFinished s h j) (λ j. both (is_due_head s h at j) (is_not_busy s h j)) (λ j p. p.0.0)) [
           | inr found ↦ (Blocked found.0 (step_of s found.0).t_d (completion s h), (under_way, none, found.1, refl, refl, blocked_below s h at found.0 none found.1.0.0 found.1.0.1))
           | inl all_busy ↦
               let w = waits_for s workers h first legal is.0.1 (λ free. all_busy first (is.0, free)) in (

@@ -11,7 +11,7 @@ use Rattle.snb_schema.specs.declared.limits.TheConstants.{MAX_AT, MAX_WORKERS}
 use Rattle.snb_history.specs.Schedule.{Schedule, step_of, IsBefore, IsOperation, IsPlanned}
 use Rattle.snb_history.specs.History.{is_by, started, hand, moment, last}
 use Rattle.snb_history.specs.Completion.{completion}
-use Rattle.snb_history.specs.Rules.{Rule, V1, V2, V3, V4, V5, V6, V7, V8, V9, MayAct, IsFront, finish_rules, fact_of, Fits, IsLegal}
+use Rattle.snb_history.specs.Rules.{Rule, V1, V2, V3, V4, V5, V6, V7, V8, V9, MayAct, IsFront, Obeys, Fits, IsLegal}
 use Rattle.snb_completion.specs.Progress.{Progress, nothing_started, IsNextInLane, IsOpen}
 use Rattle.snb_book.specs.Kept.{Kept, IsAdding, moment_after}
 use Rattle.snb_book.specs.Book.{IsSoundBook, IsTold}
@@ -278,7 +278,7 @@ pub finish_fits : (b : Kept) (op worker now front : ℕ) → IsLegal b.schedule 
     → IsFront b.schedule b.history op front → Fits b.schedule b.workers b.history (Finish op worker (moment_after b.history now) front)
 finish_fits b op worker now front legal held may at_front = record { obeys = by_rule }
   where
-    by_rule : (r : Rule) → fact_of (finish_rules b.schedule b.workers b.history op worker (moment_after b.history now) front) r
+    by_rule : (r : Rule) → Obeys b.schedule b.workers b.history (Finish op worker (moment_after b.history now) front) r
     by_rule V1 = (held_within b worker op legal held, may)
     by_rule V2 = tt
     by_rule V3 = tt

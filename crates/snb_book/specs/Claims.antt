@@ -4,26 +4,28 @@ use Rattle.snb_history.specs.declared.event.Event.{Event}
 use Rattle.snb_history.specs.Schedule.{Schedule, step_of, IsOperation, IsBefore}
 use Rattle.snb_history.specs.History.{started, finished, halted, hand, holder}
 use Rattle.snb_history.specs.Completion.{completion}
-use Rattle.snb_history.specs.Rules.{IsHead, IsNotBusy, IsCleared}
+use Rattle.snb_history.specs.Rules.{LeadsLane, LaneIsFinished, IsCleared}
 use Rattle.snb_book.specs.declared.claim.Ticket.{Ticket}
 use Rattle.snb_book.specs.declared.claim.Claim.{Claim}
 use Rattle.snb_book.specs.declared.claim.Claim.TheVariants.{Halted, AllStarted, Busy, NotDue, Go, Blocked}
 
 -- the first unstarted operation of a lane
 abbrev pub IsPlanHead : Schedule → List Event → ℕ → Type 0
-IsPlanHead s h op = IsOperation s op × IsHead s h op
+IsPlanHead s h op = IsOperation s op × LeadsLane s h op
 
 -- a head that is due
 abbrev pub IsDueHead : Schedule → List Event → ℕ → ℕ → Type 0
-IsDueHead s h at op = IsOperation s op × IsHead s h op × ((step_of s op).due ≤ at)
+IsDueHead s h at op = IsOperation s op × LeadsLane s h op × ((step_of s op).due ≤ at)
 
 -- a head that V3 and V5 let start
 abbrev pub IsAdmitted : Schedule → List Event → ℕ → Type 0
-IsAdmitted s h op = IsNotBusy s h op × IsCleared s h op
+IsAdmitted s h op = LaneIsFinished s h op × IsCleared s h op
 
 -- j comes no earlier: by due time, then by lane
 abbrev pub ComesFirst : Schedule → ℕ → ℕ → Type 0
-ComesFirst s op j = ((step_of s op).due < (step_of s j).due) ⊎ (((step_of s op).due ≡ (step_of s j).due) × ((step_of s op).lane ≤ (step_of s j).lane))
+ComesFirst s op j =
+    ((step_of s op).due < (step_of s j).due)
+    ⊎ (((step_of s op).due ≡ (step_of s j).due) × ((step_of s op).lane ≤ (step_of s j).lane))
 
 -- of those with the property, the one of least due time, lowest lane first
 abbrev pub IsFirst : Schedule → (ℕ → Type 0) → ℕ → Type 0
@@ -44,26 +46,31 @@ pub record IsOwnBusy (s : Schedule) (h : List Event) (worker op holder : ℕ) : 
 
 -- the worker has in hand an unfinished one before the operation in its lane
 abbrev pub HoldsBefore : Schedule → List Event → ℕ → ℕ → Type 0
-HoldsBefore s h op by_whom = (j : ℕ) × IsBefore s j op × (finished h j ≡ false) × (holder h j ≡ Some by_whom)
+HoldsBefore s h op by_whom =
+    (j : ℕ) × IsBefore s j op × (finished h j ≡ false) × (holder h j ≡ Some by_whom)
 
 -- each due head waits for one before it in its lane, and this holder has that of the first in hand
 pub record IsLaneBusy (s : Schedule) (h : List Event) (worker at op by_whom : ℕ) : Type 0 where
   pub under_way : IsUnderWay s h worker
-  pub all_busy : (j : ℕ) → IsDueHead s h at j → ¬ IsNotBusy s h j
+  pub all_busy : (j : ℕ) → IsDueHead s h at j → ¬ LaneIsFinished s h j
   pub first : IsFirst s (IsDueHead s h at) op
   pub held : HoldsBefore s h op by_whom
 
--- the answer to a claim by the worker at this moment, the first of these that applies: somebody has halted; all is started; the worker has an
--- operation in hand; no head of a lane is due; the first head that is due and admitted; the first due head that isn't busy, which is blocked;
--- all due heads are busy
+-- the answer to a claim by the worker at this moment, the first of these that applies: somebody has
+-- halted; all is started; the worker has an operation in hand; no head of a lane is due; the first
+-- head that is due and admitted; the first due head that isn't busy, which is blocked; all due
+-- heads are busy
 abbrev pub IsClaim : Schedule → List Event → ℕ → ℕ → Claim → Type 0
 IsClaim s h worker at Halted = (w : ℕ) × (halted h w ≡ true)
-IsClaim s h worker at AllStarted = ((w : ℕ) → halted h w ≡ false) × ((k : ℕ) → IsOperation s k → started h k ≡ true)
-IsClaim s h worker at (Busy op by_whom) = IsOwnBusy s h worker op by_whom ⊎ IsLaneBusy s h worker at op by_whom
+IsClaim s h worker at AllStarted =
+    ((w : ℕ) → halted h w ≡ false) × ((k : ℕ) → IsOperation s k → started h k ≡ true)
+IsClaim s h worker at (Busy op by_whom) =
+    IsOwnBusy s h worker op by_whom ⊎ IsLaneBusy s h worker at op by_whom
 IsClaim s h worker at (NotDue until) =
     IsUnderWay s h worker
     × ((j : ℕ) → IsPlanHead s h j → at < (step_of s j).due)
-    × ((op : ℕ) × IsPlanHead s h op × (until ≡ (step_of s op).due) × ((j : ℕ) → IsPlanHead s h j → until ≤ (step_of s j).due))
+    × ((op : ℕ) × IsPlanHead s h op × (until ≡ (step_of s op).due)
+    × ((j : ℕ) → IsPlanHead s h j → until ≤ (step_of s j).due))
 IsClaim s h worker at (Go ticket) =
     IsUnderWay s h worker
     × IsFirst s (λ j. IsDueHead s h at j × IsAdmitted s h j) ticket.op
@@ -72,7 +79,7 @@ IsClaim s h worker at (Go ticket) =
 IsClaim s h worker at (Blocked op needs time) =
     IsUnderWay s h worker
     × ((j : ℕ) → IsDueHead s h at j → ¬ IsAdmitted s h j)
-    × IsFirst s (λ j. IsDueHead s h at j × IsNotBusy s h j) op
+    × IsFirst s (λ j. IsDueHead s h at j × LaneIsFinished s h j) op
     × (needs ≡ (step_of s op).t_d)
     × (time ≡ completion s h)
     × (time <ℤ pos needs)

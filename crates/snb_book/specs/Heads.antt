@@ -3,7 +3,7 @@ use Rattle.std.specs.Prelude.{◌≡◌, ℕ, ◌<◌, ◌≤◌, nat_lt, true, 
 use Rattle.snb_history.specs.declared.event.Event.{Event}
 use Rattle.snb_history.specs.declared.step.Step.{Step}
 use Rattle.snb_history.specs.Schedule.{Schedule, no_step, step_of, IsOperation, IsBefore, IsInForum}
-use Rattle.snb_history.specs.Rules.{IsNotBusy}
+use Rattle.snb_history.specs.Rules.{LaneIsFinished}
 use Rattle.snb_completion.specs.Progress.{flag}
 use Rattle.snb_book.specs.declared.book.Firsts.{Firsts}
 use Rattle.snb_book.specs.Book.{IsNext}
@@ -58,16 +58,19 @@ TellsFirst s P first = MatchOption first ((j : ℕ) → ¬ P j) (IsFirst s P)
 abbrev pub TellsFirstBelow : Schedule → (ℕ → Type 0) → ℕ → Option ℕ → Type 0
 TellsFirstBelow s P n first = TellsFirst s (λ j. P j × ((step_of s j).lane < n)) first
 
--- at the places that are kept, in the lanes below n: the first of all, of those that are free, and of those of them that are within
-pub record AreFirstsBelow (s : Schedule) (heads : List ℕ) (finished : List Bool) (least n : ℕ) (firsts : Firsts) : Type 0 where
+-- at the places that are kept, in the lanes below n: the first of all, of those that are free, and
+-- of those of them that are within
+pub record AreFirstsBelow (s : Schedule) (heads : List ℕ) (finished : List Bool) (least n : ℕ)
+    (firsts : Firsts) : Type 0 where
   pub all : TellsFirstBelow s (IsNext s heads) n firsts.all
   pub free : TellsFirstBelow s (λ j. IsNext s heads j × IsFree s finished j) n firsts.free
-  pub ready : TellsFirstBelow s (λ j. IsNext s heads j × IsFree s finished j × IsWithin s least j) n firsts.ready
+  pub ready : TellsFirstBelow s (λ j. IsNext s heads j × IsFree s finished j × IsWithin s least j) n
+      firsts.ready
 
 -- the first head, the first that isn't busy, and the first that may start
 pub record AreFirsts (s : Schedule) (h : List Event) (firsts : Firsts) : Type 0 where
   pub all : TellsFirst s (IsPlanHead s h) firsts.all
-  pub free : TellsFirst s (λ j. IsPlanHead s h j × IsNotBusy s h j) firsts.free
+  pub free : TellsFirst s (λ j. IsPlanHead s h j × LaneIsFinished s h j) firsts.free
   pub ready : TellsFirst s (λ j. IsPlanHead s h j × IsAdmitted s h j) firsts.ready
 
 -- there is no such operation, or it is due later

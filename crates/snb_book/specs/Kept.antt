@@ -14,7 +14,8 @@ pub record Kept : Type 0 where
   pub workers : ℕ
   pub history : List Event
 
--- the moment of the next event where the clock shows now: no earlier than the last, and no later than the greatest
+-- the moment of the next event where the clock shows now: no earlier than the last, and no later
+-- than the greatest
 abbrev pub moment_after : List Event → ℕ → ℕ
 moment_after h now = max (last h) (min now MAX_AT)
 
@@ -23,7 +24,8 @@ pub record IsInHand (h : List Event) (ticket : Ticket) : Type 0 where
   pub held : hand h ticket.worker ≡ Some ticket.op
   pub since : (at : ℕ) × (slice_get h ticket.start ≡ Some (Start ticket.op ticket.worker at))
 
--- the new book is the old one with more events, all of them this worker's, and its history is legal and shorter than 2 ^ 32
+-- the new book is the old one with more events, all of them this worker's, and its history is legal
+-- and shorter than 2 ^ 32
 pub record IsAdding (worker : ℕ) (old new : Kept) : Type 0 where
   pub schedule : new.schedule ≡ old.schedule
   pub workers : new.workers ≡ old.workers

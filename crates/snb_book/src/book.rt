@@ -6,7 +6,7 @@ ghost use Rattle.std.specs.List.{list_all};
 ghost use Rattle.snb_history.specs.Schedule.{IsOperation, IsPlanned, is_dependency, step_of};
 ghost use Rattle.snb_history.specs.History.{finished, hand, holder, last, moment, started};
 ghost use Rattle.snb_history.specs.Completion.{completion, is_awaited, least_t};
-ghost use Rattle.snb_history.specs.Rules.{Fits, IsCleared, IsComplete, IsFront, IsLegal, IsNotBusy, MayAct};
+ghost use Rattle.snb_history.specs.Rules.{Fits, IsCleared, IsComplete, IsFront, IsLegal, LaneIsFinished, MayAct};
 ghost use Rattle.snb_book.specs.Kept.{IsAdding, IsInHand, moment_after};
 ghost use Rattle.snb_book.specs.Claims.{IsAdmitted, IsClaim, IsDueHead, IsFirst, IsPlanHead, IsUnderWay};
 ghost use Rattle.snb_book.specs.Claims.{HoldsBefore, IfGo, IfNotGo, IsIdle, MovesOn, NeedsEarlier};
@@ -362,7 +362,8 @@ impl Book {
     /// finished, or `MAX_TIME` where each one is; -1 where that least `t` is 0.
     pub fn completion(&self) -> i64
         ensures value { result ≡ completion self.now.schedule self.now.history }
-        ensures waits { (k : ℕ) → is_dependency self.now.schedule k ≡ true → finished self.now.history k ≡ false → result <ℤ pos (step_of self.now.schedule k).t }
+        ensures waits { (k : ℕ) → is_dependency self.now.schedule k ≡ true → finished self.now.history k ≡ false
+            → result <ℤ pos (step_of self.now.schedule k).t }
     {
         self.times.global_completion()
     }
@@ -396,7 +397,7 @@ impl Book {
     /// The worker that has in hand what a head waits for.
     fn holder_before(&self, op: u32) -> u32
         requires head { IsPlanHead self.now.schedule self.now.history op }
-        requires busy { ¬ IsNotBusy self.now.schedule self.now.history op }
+        requires busy { ¬ LaneIsFinished self.now.schedule self.now.history op }
         ensures { HoldsBefore self.now.schedule self.now.history op result }
     {
         match predecessor(self.schedule(), op) {
@@ -410,9 +411,10 @@ impl Book {
     fn answer_waiting(&self, worker: u32, at: u64, first: u32, free: Option<u32>) -> Claim
         requires idle { IsUnderWay self.now.schedule self.now.history worker }
         requires first { IsFirst self.now.schedule (IsDueHead self.now.schedule self.now.history at) first }
-        requires none { (j : ℕ) → IsDueHead self.now.schedule self.now.history at j → ¬ IsAdmitted self.now.schedule self.now.history j }
+        requires none { (j : ℕ) → IsDueHead self.now.schedule self.now.history at j
+            → ¬ IsAdmitted self.now.schedule self.now.history j }
         requires free { TellsFirst self.now.schedule
-            (λ j. IsPlanHead self.now.schedule self.now.history j × IsNotBusy self.now.schedule self.now.history j) free }
+            (λ j. IsPlanHead self.now.schedule self.now.history j × LaneIsFinished self.now.schedule self.now.history j) free }
         ensures { IsClaim self.now.schedule self.now.history worker at result }
     {
         match due_by(self.schedule(), free, at) {
@@ -487,7 +489,8 @@ impl Book {
     fn finish_at(&mut self, op: u32, worker: u32, at: u64, front: u32)
         requires fits { Fits self.old.schedule self.old.workers self.old.history (Event.Finish op worker at front) }
         requires bounded { at ≤ MAX_AT }
-        ensures appended { self.new ≡ record self.old { history = self.old.history ++ Event.Finish op worker at front ∷ [] } }
+        ensures appended { self.new ≡ record self.old
+            { history = self.old.history ++ Event.Finish op worker at front ∷ [] } }
         ensures adds { IsAdding worker self.old self.new }
     {
         let event = Event::Finish {
@@ -641,7 +644,7 @@ impl Book {
     /// where the head isn't busy.
     pub fn first_unfinished_before(&self, op: u32) -> Option<u32>
         requires { IsPlanHead self.now.schedule self.now.history op }
-        ensures { MatchOption result (IsNotBusy self.now.schedule self.now.history op)
+        ensures { MatchOption result (LaneIsFinished self.now.schedule self.now.history op)
             (λ first. IsWaitedFor self.now.schedule self.now.history op first) }
     {
         match predecessor(self.schedule(), op) {

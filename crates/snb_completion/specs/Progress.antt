@@ -14,7 +14,12 @@ flag flags k = slice_index_or flags k false
 
 -- nothing is started
 abbrev pub nothing_started : Schedule → Progress
-nothing_started s = record { schedule = s; started = replicate (length s.steps) false; finished = replicate (length s.steps) false }
+nothing_started s =
+    record {
+      schedule = s;
+      started = replicate (length s.steps) false;
+      finished = replicate (length s.steps) false;
+    }
 
 -- the first unstarted operation of its lane
 pub record IsNextInLane (p : Progress) (op : ℕ) : Type 0 where

@@ -21,11 +21,15 @@ is_left_in s done lane k = ((step_of s k).lane == lane) && is_left s done k
 
 -- the lane's dependencies that aren't started, and those that aren't finished
 pub record IsLaneOf (p : Progress) (lane : ℕ) (times : LaneTimes) : Type 0 where
-  pub unstarted : HasThose times.unstarted (length p.schedule.steps) (is_left_in p.schedule (flag p.started) lane)
-  pub unfinished : HasThose times.unfinished (length p.schedule.steps) (is_left_in p.schedule (flag p.finished) lane)
+  pub unstarted : HasThose times.unstarted (length p.schedule.steps)
+      (is_left_in p.schedule (flag p.started) lane)
+  pub unfinished : HasThose times.unfinished (length p.schedule.steps)
+      (is_left_in p.schedule (flag p.finished) lane)
 
--- the steps are a plan's, and there are a flag for each operation, the set of the dependencies that aren't finished, and the two sets of each lane
-pub record AreTimesOf (p : Progress) (unfinished : BTreeSet ℕ) (lanes : List LaneTimes) : Type 0 where
+-- the steps are a plan's, and there are a flag for each operation, the set of the dependencies that
+-- aren't finished, and the two sets of each lane
+pub record AreTimesOf (p : Progress) (unfinished : BTreeSet ℕ) (lanes : List LaneTimes)
+    : Type 0 where
   pub planned : IsPlanned p.schedule
   pub started_each : length p.started ≡ length p.schedule.steps
   pub finished_each : length p.finished ≡ length p.schedule.steps

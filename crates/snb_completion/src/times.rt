@@ -112,7 +112,9 @@ fn dependencies_in(
 /// What is waited for in each lane, where nothing is started.
 fn lanes_of(alloc: Global, schedule: &Schedule) -> Result<Vec<LaneTimes>, AllocError>
     ensures counted { IfOk result (λ lanes. length lanes.items ≡ length schedule.now.kinds) }
-    ensures each { IfOk result (λ lanes. (l : ℕ) (d : LaneTimes) → l < length lanes.items → IsLaneOf (nothing_started schedule.now) l (slice_index_or lanes.items l d)) }
+    ensures each { IfOk result
+        (λ lanes. (l : ℕ) (d : LaneTimes) → l < length lanes.items
+        → IsLaneOf (nothing_started schedule.now) l (slice_index_or lanes.items l d)) }
 {
     let count = schedule.kinds().len();
     let mut lanes = Vec::with_capacity(alloc, count)?;

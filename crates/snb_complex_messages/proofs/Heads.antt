@@ -11,7 +11,7 @@ use Rattle.std.specs.List.{All, filter, list_any, slice_get}
 use Rattle.std.specs.List.Sorted.{IsSorted}
 use Rattle.std.specs.Ordering.{is_lt, nat_cmp, ordering_then}
 use Rattle.snb_read_model.specs.declared.like.Like.{Like}
-use Rattle.snb_read_model.specs.ComplexReads.{beats}
+use Rattle.snb_read_model.specs.MessageReads.{beats}
 use Rattle.snb_read_lookups.proofs.Laws.{filter_push}
 use Rattle.snb_complex_messages.specs.Found.{weigh}
 

@@ -8,7 +8,7 @@ use Rattle.std.specs.List.{All, filter, flat_map, swap}
 use Rattle.std.specs.List.Sorted.{IsPermutation, IsSorted}
 use Rattle.std.specs.declared.cmp.Ordering.{Ordering}
 use Rattle.snb_read_lookups.proofs.Laws.{joined_push}
-use Rattle.snb_read_model.specs.Order.{FirstOf, Whole}
+use Rattle.snb_read_model.specs.Order.{SortedAndCut, AllRows}
 use Rattle.snb_complex_messages.specs.Found.{HasAppended}
 use Rattle.snb_base.proofs.Laws.{shuffled}
 
@@ -109,8 +109,8 @@ module _ {X Y : Type 0} (f : X → Y) (p : X → Bool) where
 -- ---- rows in order
 
 -- all rows in order are the rows in another order, and sorted
-pub ordered_moved : {X : Type 0} (order : X → X → Ordering) (rows answer : List X) → FirstOf order Whole rows answer → IsPermutation rows answer
+pub ordered_moved : {X : Type 0} (order : X → X → Ordering) (rows answer : List X) → SortedAndCut order AllRows rows answer → IsPermutation rows answer
 ordered_moved order rows answer first = subst (IsPermutation rows) (sym first.kept) first.same
 
-pub ordered_sorted : {X : Type 0} (order : X → X → Ordering) (rows answer : List X) → FirstOf order Whole rows answer → IsSorted order answer
+pub ordered_sorted : {X : Type 0} (order : X → X → Ordering) (rows answer : List X) → SortedAndCut order AllRows rows answer → IsSorted order answer
 ordered_sorted order rows answer first = subst (IsSorted order) (sym first.kept) first.ordered

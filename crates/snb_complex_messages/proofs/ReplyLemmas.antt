@@ -14,10 +14,11 @@ use Rattle.snb_graph_model.specs.Graphs.{IsGraph}
 use Rattle.snb_graph_model.specs.Soundness.{Sound}
 use Rattle.snb_read_order.proofs.Laws.{answers_from, two_columns}
 use Rattle.snb_graph_model.proofs.Laws.{HasComment, comment_alone, replied_there}
-use Rattle.snb_read_model.specs.Cells.{Cell}
-use Rattle.snb_graph_model.specs.Around.{comment_shown, comments, replies}
-use Rattle.snb_read_model.specs.ComplexReads.{IsAnswered}
-use Rattle.snb_read_model.specs.Order.{Answers, Falling, First, FirstOf, Rising, by}
+use Rattle.snb_read_model.specs.Cells.{ByteCell}
+use Rattle.snb_graph_model.specs.Around.{comments, replies}
+use Rattle.snb_graph_model.specs.RowParts.{comment_shown}
+use Rattle.snb_read_model.specs.MessageReads.{ShowsReply}
+use Rattle.snb_read_model.specs.Order.{ReadAnswers, Falling, FirstRows, SortedAndCut, Rising, by}
 use Rattle.snb_read_lookups.proofs.Laws.{comment_at, found_person, person_at, recent_first, written}
 use Rattle.snb_read_lookups.specs.Lookups.{IsCellNumber}
 use Rattle.snb_complex_messages.proofs.Moves.{All-flat_map}
@@ -37,11 +38,11 @@ module _ (g : List Row) (graph : IsGraph g) (fit : NumbersFit) where
       All-weaker (Contains (replies g m.0)) (IsCommentFound g) (λ r c. comment_found r.0 r.1 (replied_there g m.0 r.0 r.1 c).1) (replies g m.0) (All-contains_itself (replies g m.0))))
 
   module _ (sound : Sound g) (one : MessagesAreOfOneKind) (author : MessagesHaveOneAuthor) where
-    reply_agree : (x y : ℕ × ℕ) (a b : List Cell) → IsAnswered g x a → IsAnswered g y b → is_lt (by (Falling 4 ∷ Rising 5 ∷ []) a b) ≡ is_lt (recent_first x y)
+    reply_agree : (x y : ℕ × ℕ) (a b : List ByteCell) → ShowsReply g x a → ShowsReply g y b → is_lt (by (Falling 4 ∷ Rising 5 ∷ []) a b) ≡ is_lt (recent_first x y)
     reply_agree x y a b r s = rw (r.is, s.is) (ap is_lt (two_columns y.1 x.1 x.0 y.0))
 
     -- each reply has a row
-    reply_any : (r : ℕ × ℕ) → IsCommentFound g r → (a : List Cell) × IsAnswered g r a
+    reply_any : (r : ℕ × ℕ) → IsCommentFound g r → (a : List ByteCell) × ShowsReply g r a
     reply_any r found =
         let a = author g graph sound r.0 (inr found.held) in
         let w = written g graph one sound.held r.0 a.author a.wrote in
@@ -58,8 +59,8 @@ module _ (g : List Row) (graph : IsGraph g) (fit : NumbersFit) where
         )
 
     -- the rows of the latest replies are the answer
-    pub reply_answers : (found first : List (ℕ × ℕ)) (answer : List (List Cell)) → All (IsCommentFound g) found → FirstOf recent_first (First 20) found first → AllZip (IsAnswered g) first answer
-        → Answers found (IsAnswered g) (Falling 4 ∷ Rising 5 ∷ []) (First 20) answer
+    pub reply_answers : (found first : List (ℕ × ℕ)) (answer : List (List ByteCell)) → All (IsCommentFound g) found → SortedAndCut recent_first (FirstRows 20) found first → AllZip (ShowsReply g) first answer
+        → ReadAnswers found (ShowsReply g) (Falling 4 ∷ Rising 5 ∷ []) (FirstRows 20) answer
     reply_answers found first answer all taken z =
-        answers_from (IsAnswered g) recent_first (Falling 4 ∷ Rising 5 ∷ []) reply_agree (First 20) found found first answer (IsPermutation-refl found) taken
-        (All-weaker (IsCommentFound g) (λ r. (a : List Cell) × IsAnswered g r a) reply_any found all) z
+        answers_from (ShowsReply g) recent_first (Falling 4 ∷ Rising 5 ∷ []) reply_agree (FirstRows 20) found found first answer (IsPermutation-refl found) taken
+        (All-weaker (IsCommentFound g) (λ r. (a : List ByteCell) × ShowsReply g r a) reply_any found all) z

@@ -11,11 +11,11 @@ use Rattle.snb_graph_integrity.specs.SoundLaws.{NumbersFit}
 use Rattle.snb_graph_model.specs.Graphs.{IsGraph}
 use Rattle.snb_read_order.proofs.Laws.{answers_from, two_columns}
 use Rattle.snb_read_model.specs.declared.sent.Sent.{Sent}
-use Rattle.snb_read_model.specs.Cells.{Cell}
+use Rattle.snb_read_model.specs.Cells.{ByteCell}
 use Rattle.snb_graph_model.specs.Around.{messages}
-use Rattle.snb_read_model.specs.ComplexReads.{IsSent, latest, messages_of}
+use Rattle.snb_read_model.specs.MessageReads.{IsSent, newest_first, messages_of}
 use Rattle.snb_read_model.specs.Distance.{IsPerson}
-use Rattle.snb_read_model.specs.Order.{Answers, First, FirstOf, by}
+use Rattle.snb_read_model.specs.Order.{ReadAnswers, FirstRows, SortedAndCut, by}
 use Rattle.snb_read_lookups.proofs.Laws.{found_person, messages_found, person_at, person_fits, shows}
 use Rattle.snb_read_lookups.specs.Found.{IsMessageFound}
 use Rattle.snb_complex_messages.proofs.Moves.{All-flat_map}
@@ -31,19 +31,19 @@ module _ (g : List Row) (graph : IsGraph g) (fit : NumbersFit) where
       All-map (IsSentFound g) (λ m. record { person = p.0; message = m.0; date = m.1 }) (filter (λ m. passes m.1) (messages g p.0)) (All-filter (λ m. passes m.1) (λ (m : ℕ × ℕ). IsSentFound g (record { person = p.0; message = m.0; date = m.1 })) (messages g p.0)
       (All-weaker (IsMessageFound g) (λ (m : ℕ × ℕ). IsSentFound g (record { person = p.0; message = m.0; date = m.1 })) (λ m found. record { person = person; fits = person_fits g graph fit p.0 person; message = found }) (messages g p.0) (messages_found g graph fit p.0)))))
 
-  pub sent_agree : (x y : Sent) (a b : List Cell) → IsSent g x a → IsSent g y b → is_lt (by latest a b) ≡ is_lt (sent_first x y)
+  pub sent_agree : (x y : Sent) (a b : List ByteCell) → IsSent g x a → IsSent g y b → is_lt (by newest_first a b) ≡ is_lt (sent_first x y)
   sent_agree x y a b r s = rw (r.is, s.is) (ap is_lt (two_columns y.date x.date x.message y.message))
 
   -- each message has a row
-  pub sent_any : (s : Sent) → IsSentFound g s → (a : List Cell) × IsSent g s a
+  pub sent_any : (s : Sent) → IsSentFound g s → (a : List ByteCell) × IsSent g s a
   sent_any s f =
       let (p, c, named) = person_at g graph s.person f.person in
       let (m, is) = shows g graph fit s.message f.message.held in
       (_, record { person = p; held = (found_person g graph fit s.person p (named, c)).only; message = m; sent = is; is = refl })
 
   -- the rows of the latest messages are the answer
-  pub sent_answers : (found first : List (Sent)) (answer : List (List Cell)) → All (IsSentFound g) found → FirstOf sent_first (First 20) found first → AllZip (IsSent g) first answer
-      → Answers found (IsSent g) latest (First 20) answer
+  pub sent_answers : (found first : List (Sent)) (answer : List (List ByteCell)) → All (IsSentFound g) found → SortedAndCut sent_first (FirstRows 20) found first → AllZip (IsSent g) first answer
+      → ReadAnswers found (IsSent g) newest_first (FirstRows 20) answer
   sent_answers found first answer all taken z =
-      answers_from (IsSent g) sent_first latest sent_agree (First 20) found found first answer (IsPermutation-refl found) taken
-      (All-weaker (IsSentFound g) (λ s. (a : List Cell) × IsSent g s a) sent_any found all) z
+      answers_from (IsSent g) sent_first newest_first sent_agree (FirstRows 20) found found first answer (IsPermutation-refl found) taken
+      (All-weaker (IsSentFound g) (λ s. (a : List ByteCell) × IsSent g s a) sent_any found all) z

@@ -27,12 +27,16 @@ like_of m l = record { person = l.0; date = l.1; message = m.0; sent = m.1 }
 
 -- persons rising, then dates falling, then messages rising
 abbrev pub weigh : Like → Like → Ordering
-weigh = then_cmp (on (λ (l : Like). l.person) nat_cmp) (then_cmp (flip_args (on (λ (l : Like). l.date) nat_cmp)) (on (λ (l : Like). l.message) nat_cmp))
+weigh = then_cmp (on (λ (l : Like). l.person) nat_cmp)
+    (then_cmp (flip_args (on (λ (l : Like). l.date) nat_cmp))
+    (on (λ (l : Like). l.message) nat_cmp))
 
 module _ (g : List Row) where
   -- a person's messages that pass
   abbrev pub sent_by : (ℕ → Bool) → ℕ → List Sent
-  sent_by passes person = map (λ m. record { person = person; message = m.0; date = m.1 }) (filter (λ m. passes m.1) (messages g person))
+  sent_by passes person =
+      map (λ m. record { person = person; message = m.0; date = m.1 })
+      (filter (λ m. passes m.1) (messages g person))
 
   -- a message and a person who are held
   pub record IsSentFound (s : Sent) : Type 0 where
@@ -55,13 +59,16 @@ module _ (g : List Row) where
 
 -- dates falling, then message ids rising
 abbrev pub sent_first : Sent → Sent → Ordering
-sent_first = then_cmp (flip_args (on (λ (s : Sent). s.date) nat_cmp)) (on (λ (s : Sent). s.message) nat_cmp)
+sent_first =
+    then_cmp (flip_args (on (λ (s : Sent). s.date) nat_cmp)) (on (λ (s : Sent). s.message) nat_cmp)
 
 -- of these messages the latest twenty are kept
 abbrev pub IsLatest : List Sent → Kept Sent → Type 0
 IsLatest found kept = IsTopK sent_first found kept × (kept.most ≡ 20)
 
--- whatever the messages were of which the latest were kept: those of them, and of these, are kept now
+-- whatever the messages were of which the latest were kept: those of them, and of these, are kept
+-- now
 abbrev pub HasOffered : List Sent → Kept Sent → Kept Sent → Type 0
 HasOffered all old new =
-    (before : List Sent) → IsLatest before old → (found : List Sent) × IsLatest found new × HasAppended all before found
+    (before : List Sent) → IsLatest before old
+    → (found : List Sent) × IsLatest found new × HasAppended all before found

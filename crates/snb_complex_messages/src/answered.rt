@@ -4,8 +4,8 @@ ghost use Rattle.std.specs.Prelude.{◌∷◌, [], IfOk, OnOk};
 ghost use Rattle.std.specs.List.{All};
 ghost use Rattle.snb_complex_messages.specs.Found.{HasAppended, IsCommentFound};
 ghost use Rattle.snb_graph_model.specs.Around.{replies};
-ghost use Rattle.snb_read_model.specs.ComplexReads.{Ic8, IsAnswered};
-ghost use Rattle.snb_read_model.specs.Order.{Answers, Falling, First, Rising};
+ghost use Rattle.snb_read_model.specs.MessageReads.{Ic8Answer, ShowsReply};
+ghost use Rattle.snb_read_model.specs.Order.{ReadAnswers, Falling, FirstRows, Rising};
 ghost use Rattle.snb_graph_model.specs.Soundness.{Sound};
 
 use snb_base::list_of;
@@ -24,7 +24,7 @@ fn reply_row(
 ) -> Result<AnswerRow<CowText<'_>>, AllocError>
     requires sound { Sound graph.now }
     requires found { IsCommentFound graph.now reply }
-    ensures { IfOk result (IsAnswered graph.now reply) }
+    ensures { IfOk result (ShowsReply graph.now reply) }
 {
     graph.known();
     let Some(comment) = graph.comment(reply.0) else {
@@ -50,7 +50,7 @@ fn latest_replies(
 ) -> Result<Answer<CowText<'_>>, AllocError>
     requires sound { Sound graph.now }
     requires found { All (IsCommentFound graph.now) found.items }
-    ensures { IfOk result (Answers found.items (IsAnswered graph.now) (Falling 4 ∷ Rising 5 ∷ []) (First 20)) }
+    ensures { IfOk result (ReadAnswers found.items (ShowsReply graph.now) (Falling 4 ∷ Rising 5 ∷ []) (FirstRows 20)) }
 {
     graph.known();
     sound_graphs();
@@ -77,7 +77,7 @@ fn add_replies(graph: &Graph, message: u64, found: &mut Vec<(u64, u64)>) -> Resu
 /// The condition: the graph is sound.
 pub fn ic8(alloc: Global, graph: &Graph, person: u64) -> Result<Answer<CowText<'_>>, AllocError>
     requires sound { Sound graph.now }
-    ensures { IfOk result (Ic8 graph.now person) }
+    ensures { IfOk result (Ic8Answer graph.now person) }
 {
     graph.known();
     sound_graphs();

@@ -5,8 +5,8 @@ ghost use Rattle.std.specs.List.{All, filter, list_any};
 ghost use Rattle.std.specs.List.Sorted.{IsSorted};
 ghost use Rattle.snb_complex_messages.specs.Found.{HasAppended, IsLikeFound, like_of, weigh};
 ghost use Rattle.snb_graph_model.specs.Around.{likes};
-ghost use Rattle.snb_read_model.specs.ComplexReads.{Ic7, IsLiked, beats, minutes};
-ghost use Rattle.snb_read_model.specs.Order.{Answers, Falling, First, Rising};
+ghost use Rattle.snb_read_model.specs.MessageReads.{Ic7Answer, IsLiked, beats, minutes};
+ghost use Rattle.snb_read_model.specs.Order.{ReadAnswers, Falling, FirstRows, Rising};
 ghost use Rattle.snb_read_lookups.specs.Lookups.{IsCellNumber};
 ghost use Rattle.snb_graph_model.specs.Soundness.{Sound};
 
@@ -67,7 +67,8 @@ fn latest_likes(
     likes: Vec<Like>,
 ) -> Result<Answer<CowText<'_>>, AllocError>
     requires { All (IsLikeFound graph.now) likes.items }
-    ensures { IfOk result (Answers likes.items (IsLiked graph.now start) (Falling 4 ∷ Rising 1 ∷ []) (First 20)) }
+    ensures { IfOk result
+        (ReadAnswers likes.items (IsLiked graph.now start) (Falling 4 ∷ Rising 1 ∷ []) (FirstRows 20)) }
 {
     graph.known();
     sound_graphs();
@@ -126,7 +127,8 @@ fn best_of(alloc: Global, likes: &[Like]) -> Result<Vec<Like>, AllocError>
 // Appends the likes of a message: (message, date).
 fn add_likes(graph: &Graph, message: (u64, u64), found: &mut Vec<Like>) -> Result<(), AllocError>
     requires { Sound graph.now }
-    ensures { OnOk result (HasAppended (map (like_of message) (likes graph.now message.0)) found.old.items found.new.items) }
+    ensures { OnOk result
+        (HasAppended (map (like_of message) (likes graph.now message.0)) found.old.items found.new.items) }
 {
     for (person, date) in graph.likes(message.0) {
         found.push(Like {
@@ -145,7 +147,7 @@ fn add_likes(graph: &Graph, message: (u64, u64), found: &mut Vec<Like>) -> Resul
 /// The condition: the graph is sound.
 pub fn ic7(alloc: Global, graph: &Graph, person: u64) -> Result<Answer<CowText<'_>>, AllocError>
     requires sound { Sound graph.now }
-    ensures { IfOk result (Ic7 graph.now person) }
+    ensures { IfOk result (Ic7Answer graph.now person) }
 {
     graph.known();
     sound_graphs();

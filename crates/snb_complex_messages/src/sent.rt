@@ -4,8 +4,8 @@ ghost use Rattle.std.specs.Prelude.{◌≡◌, ◌∷◌, ◌++◌, ℕ, Bool, L
 ghost use Rattle.std.specs.List.{All};
 ghost use Rattle.snb_complex_messages.specs.Found.{HasOffered, IsLatest, IsSentFound, sent_by, sent_first};
 ghost use Rattle.snb_read_model.specs.declared.sent.Sent.{Sent};
-ghost use Rattle.snb_read_model.specs.ComplexReads.{Ic2, Ic9, IsSent, latest};
-ghost use Rattle.snb_read_model.specs.Order.{Answers, First};
+ghost use Rattle.snb_read_model.specs.MessageReads.{Ic2Answer, Ic9Answer, IsSent, newest_first};
+ghost use Rattle.snb_read_model.specs.Order.{ReadAnswers, FirstRows};
 ghost use Rattle.snb_graph_model.specs.Soundness.{Sound};
 
 use snb_base::list_of;
@@ -74,7 +74,7 @@ fn latest_sent(
 ) -> Result<Answer<CowText<'_>>, AllocError>
     requires { (found : List Sent) × IsLatest found top × All (IsSentFound graph.now) found }
     ensures { IfOk result (λ answer. (found : List Sent) → IsLatest found top → All (IsSentFound graph.now) found
-        → Answers found (IsSent graph.now) latest (First 20) answer) }
+        → ReadAnswers found (IsSent graph.now) newest_first (FirstRows 20) answer) }
 {
     graph.known();
     sound_graphs();
@@ -90,7 +90,8 @@ fn offer_messages<F: Fn(u64) -> bool>(
     top: &mut TopK<Sent>,
 ) -> Result<(), AllocError>
     requires { F.IsAlwaysCallable passes }
-    ensures { OnOk result ((test : ℕ → Bool) → ((date : ℕ) (answer : Bool) → F.post passes date answer → answer ≡ test date)
+    ensures { OnOk result
+        ((test : ℕ → Bool) → ((date : ℕ) (answer : Bool) → F.post passes date answer → answer ≡ test date)
         → HasOffered (sent_by graph.now test person) top.old top.new) }
 {
     for (message, date) in graph.messages(person) {
@@ -118,7 +119,7 @@ pub fn ic2(
     max_date: u64,
 ) -> Result<Answer<CowText<'_>>, AllocError>
     requires sound { Sound graph.now }
-    ensures { IfOk result (Ic2 graph.now person max_date) }
+    ensures { IfOk result (Ic2Answer graph.now person max_date) }
 {
     graph.known();
     sound_graphs();
@@ -139,7 +140,7 @@ pub fn ic9(
     max_date: u64,
 ) -> Result<Answer<CowText<'_>>, AllocError>
     requires sound { Sound graph.now }
-    ensures { IfOk result (Ic9 graph.now person max_date) }
+    ensures { IfOk result (Ic9Answer graph.now person max_date) }
 {
     graph.known();
     sound_graphs();

@@ -22,10 +22,10 @@ use Rattle.snb_graph_integrity.specs.SoundLaws.{NumbersFit}
 use Rattle.snb_graph_model.specs.Graphs.{IsGraph}
 use Rattle.snb_read_order.proofs.Laws.{answers_from, answers_mapped, chosen, number_cmp, then_assoc, zip_with}
 use Rattle.snb_read_model.specs.declared.cell.Cell.TheVariants as cell
-use Rattle.snb_read_model.specs.Cells.{Cell, cell_cmp, number}
+use Rattle.snb_read_model.specs.Cells.{ByteCell, cell_cmp, number_cell}
 use Rattle.snb_graph_model.specs.Around.{ends, organisations, places, work}
-use Rattle.snb_read_model.specs.ComplexReads.{IsAt, IsJob, is_in}
-use Rattle.snb_read_model.specs.Order.{Answers, Falling, First, FirstOf, Rising, by}
+use Rattle.snb_read_model.specs.ComplexReads.{HasItsPlace, IsJob, is_in}
+use Rattle.snb_read_model.specs.Order.{ReadAnswers, Falling, FirstRows, SortedAndCut, Rising, by}
 use Rattle.snb_read_lookups.proofs.Laws.{found_person, joined_push, person_at}
 use Rattle.snb_complex_persons.proofs.Columns.{any_one, words_cmp}
 use Rattle.snb_complex_persons.specs.Stays.{IsStayFound}
@@ -41,7 +41,7 @@ jobs_total = then_total (then_total (on_total (λ (j : Job). j.0.2) nat_cmp_tota
 
 -- ---- whether an organisation is in the country
 
-pub in_country : (g : List Row) (country name : List ℕ) (id : ℕ) (o : Organisation) (p : Place) (there : Bool) → IsAt g id o p → name ≡ p.name → there ≡ bytes_eq name country → there ≡ is_in g country id
+pub in_country : (g : List Row) (country name : List ℕ) (id : ℕ) (o : Organisation) (p : Place) (there : Bool) → HasItsPlace g id o p → name ≡ p.name → there ≡ bytes_eq name country → there ≡ is_in g country id
 in_country g country name id o p there at named is =
     is ∙ ap (λ n. bytes_eq n country) named
     ∙ sym (any_one (λ place. list_any (λ p. bytes_eq p.name country) (places g place)) (ends g table.OrganisationIsLocatedInPlace id) at.place at.located
@@ -132,37 +132,37 @@ jobs_all g f all items i found is high are = subst (λ l. AreJobs g l found) (ap
 -- ---- rows
 
 module _ (g : List Row) (graph : IsGraph g) (fit : NumbersFit) where
-  abbrev Shown : Job → List Cell → Type 0
+  abbrev Shown : Job → List ByteCell → Type 0
   Shown j a = IsJob g (job_of j) a × IsJobFound g j
 
-  name_is : (j : Job) (a : List Cell) (s : Shown j a) → s.0.organisation.name ≡ j.1.now
+  name_is : (j : Job) (a : List ByteCell) (s : Shown j a) → s.0.organisation.name ≡ j.1.now
   name_is j a (r, f) = ap (λ (o : Organisation). o.name) (one_only (organisations g j.0.1) r.organisation f.organisation r.at f.at) ∙ sym f.named
 
-  job_agree : (x y : Job) (a b : List Cell) → Shown x a → Shown y b → is_lt (by (Rising 5 ∷ Rising 1 ∷ Falling 4 ∷ []) a b) ≡ is_lt (jobs_first x y)
+  job_agree : (x y : Job) (a b : List ByteCell) → Shown x a → Shown y b → is_lt (by (Rising 5 ∷ Rising 1 ∷ Falling 4 ∷ []) a b) ≡ is_lt (jobs_first x y)
   job_agree x y a b r s =
       let first = name_is x a r in
       let second = name_is y b s in
       rw (r.0.is, s.0.is, first, second) (ap is_lt (columns x.0.2 y.0.2 x.0.0 y.0.0 x.1.now y.1.now))
     where
-      columns : (m m' n n' : ℕ) (t t' : List ℕ) → ordering_then (cell_cmp (number m) (number m')) (ordering_then (cell_cmp (number n) (number n')) (ordering_then (cell_cmp (cell.Words t') (cell.Words t)) Equal))
+      columns : (m m' n n' : ℕ) (t t' : List ℕ) → ordering_then (cell_cmp (number_cell m) (number_cell m')) (ordering_then (cell_cmp (number_cell n) (number_cell n')) (ordering_then (cell_cmp (cell.Words t') (cell.Words t)) Equal))
           ≡ ordering_then (ordering_then (nat_cmp m m') (nat_cmp n n')) (slice_cmp nat_cmp t' t)
       columns m m' n n' t t' =
-          ap (λ o. ordering_then o (ordering_then (cell_cmp (number n) (number n')) (ordering_then (cell_cmp (cell.Words t') (cell.Words t)) Equal))) (number_cmp m m')
+          ap (λ o. ordering_then o (ordering_then (cell_cmp (number_cell n) (number_cell n')) (ordering_then (cell_cmp (cell.Words t') (cell.Words t)) Equal))) (number_cmp m m')
           ∙ ap (λ o. ordering_then (nat_cmp m m') (ordering_then o (ordering_then (cell_cmp (cell.Words t') (cell.Words t)) Equal))) (number_cmp n n')
           ∙ ap (λ o. ordering_then (nat_cmp m m') (ordering_then (nat_cmp n n') o)) (then_last (cell_cmp (cell.Words t') (cell.Words t)) ∙ words_cmp t' t)
           ∙ then_assoc (nat_cmp m m') (nat_cmp n n') (slice_cmp nat_cmp t' t)
 
   -- each work row has a row
-  job_any : (j : Job) → IsJobFound g j → (a : List Cell) × Shown j a
+  job_any : (j : Job) → IsJobFound g j → (a : List ByteCell) × Shown j a
   job_any j f =
       let (p, c, named) = person_at g graph j.0.0 f.person in
       (_, (record { person = p; held = (found_person g graph fit j.0.0 p (named, c)).only; organisation = f.organisation; at = f.at; is = refl }, f))
 
   -- the rows of the first work rows are the answer
-  pub job_answers : (found first : List Job) (answer : List (List Cell)) → All (IsJobFound g) found → FirstOf jobs_first (First 10) found first → AllZip (λ j a. IsJob g (job_of j) a) first answer
-      → Answers (map job_of found) (IsJob g) (Rising 5 ∷ Rising 1 ∷ Falling 4 ∷ []) (First 10) answer
+  pub job_answers : (found first : List Job) (answer : List (List ByteCell)) → All (IsJobFound g) found → SortedAndCut jobs_first (FirstRows 10) found first → AllZip (λ j a. IsJob g (job_of j) a) first answer
+      → ReadAnswers (map job_of found) (IsJob g) (Rising 5 ∷ Rising 1 ∷ Falling 4 ∷ []) (FirstRows 10) answer
   job_answers found first answer all taken z =
-      answers_mapped job_of Shown (IsJob g) (λ j a s. s.0) (map job_of found) found (Rising 5 ∷ Rising 1 ∷ Falling 4 ∷ []) (First 10) answer (IsPermutation-refl (map job_of found))
-      (answers_from Shown jobs_first (Rising 5 ∷ Rising 1 ∷ Falling 4 ∷ []) job_agree (First 10) found found first answer (IsPermutation-refl found) taken
-      (All-weaker (IsJobFound g) (λ j. (a : List Cell) × Shown j a) job_any found all)
-      (zip_with (λ j a. IsJob g (job_of j) a) (IsJobFound g) first answer (chosen (IsJobFound g) jobs_first (First 10) found first all taken) z))
+      answers_mapped job_of Shown (IsJob g) (λ j a s. s.0) (map job_of found) found (Rising 5 ∷ Rising 1 ∷ Falling 4 ∷ []) (FirstRows 10) answer (IsPermutation-refl (map job_of found))
+      (answers_from Shown jobs_first (Rising 5 ∷ Rising 1 ∷ Falling 4 ∷ []) job_agree (FirstRows 10) found found first answer (IsPermutation-refl found) taken
+      (All-weaker (IsJobFound g) (λ j. (a : List ByteCell) × Shown j a) job_any found all)
+      (zip_with (λ j a. IsJob g (job_of j) a) (IsJobFound g) first answer (chosen (IsJobFound g) jobs_first (FirstRows 10) found first all taken) z))

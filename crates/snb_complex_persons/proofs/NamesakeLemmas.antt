@@ -19,16 +19,16 @@ use Rattle.snb_schema.specs.declared.table.Table.TheVariants as table
 use Rattle.snb_schema.specs.RowKeys.{node_key}
 use Rattle.snb_graph_integrity.specs.SoundLaws.{RequiredEdgesAreThere}
 use Rattle.snb_graph_model.specs.Graphs.{HasKey, IsGraph}
-use Rattle.snb_graph_model.specs.Soundness.{Held, Sound}
+use Rattle.snb_graph_model.specs.Soundness.{HoldsRefs, Sound}
 use Rattle.snb_read_order.specs.Laws.{SomeFirst}
 use Rattle.snb_read_order.proofs.Laws.{answers_from, answers_mapped, chosen, number_cmp, then_assoc, zip_push, zip_with}
 use Rattle.snb_graph_model.proofs.Laws.{city_alone, end_only, end_there}
 use Rattle.snb_read_model.specs.declared.cell.Cell.TheVariants as cell
-use Rattle.snb_read_model.specs.Cells.{Cell, cell_cmp, number}
+use Rattle.snb_read_model.specs.Cells.{ByteCell, cell_cmp, number_cell}
 use Rattle.snb_graph_model.specs.Around.{ends, persons, study, words, work}
 use Rattle.snb_read_model.specs.ComplexReads.{AreStays, IsNamesake, IsStay, Stay, is_named, stay_cmp}
 use Rattle.snb_read_model.specs.Distance.{IsPerson, IsWithin}
-use Rattle.snb_read_model.specs.Order.{Answers, First, FirstOf, Rising, Whole, by}
+use Rattle.snb_read_model.specs.Order.{ReadAnswers, FirstRows, SortedAndCut, Rising, AllRows, by}
 use Rattle.snb_read_lookups.proofs.Laws.{any, edge_key_held, filter_push, walk_held}
 use Rattle.snb_complex_persons.proofs.Columns.{any_one, words_cmp}
 use Rattle.snb_complex_persons.proofs.StayLemmas.{is_somewhere, link_at, place_at, study_found, work_found}
@@ -100,7 +100,7 @@ naming_next g all left rest named new s t is stay push naming = record {
   found = All-tail (IsStayFound g) s rest (subst (All (IsStayFound g)) is naming.found);
 }
 
-pub naming_done : (g : List Row) (all left : List (ℕ × ℕ)) (named shown : List Stay) → left ≡ [] → FirstOf stay_cmp Whole named shown → IsNaming g all left named → AreStays g all shown
+pub naming_done : (g : List Row) (all left : List (ℕ × ℕ)) (named shown : List Stay) → left ≡ [] → SortedAndCut stay_cmp AllRows named shown → IsNaming g all left named → AreStays g all shown
 naming_done g all left named shown none first naming = record {
   named = named;
   each = subst (λ l. AllZip (IsStay g) l named) (sym (append-nil naming.done) ∙ ap (λ l. naming.done ++ l) (sym none) ∙ naming.same) naming.each;
@@ -109,7 +109,7 @@ naming_done g all left named shown none first naming = record {
 
 -- ---- rows
 
-pub city_place : (g : List Row) → Held g → (p c : ℕ) → ends g table.PersonIsLocatedInPlace p ≡ c ∷ [] → HasKey g (node_key kinds.Place c)
+pub city_place : (g : List Row) → HoldsRefs g → (p c : ℕ) → ends g table.PersonIsLocatedInPlace p ≡ c ∷ [] → HasKey g (node_key kinds.Place c)
 city_place g held p c only =
     let link = end_there g table.PersonIsLocatedInPlace p c (subst (λ l. Contains l c) (sym only) (0, omega arith, refl)) in
     held (row.Link table.PersonIsLocatedInPlace p c) link 1 any (omega arith)
@@ -125,7 +125,7 @@ module _ (g : List Row) (graph : IsGraph g) (sound : Sound g) (required : Requir
   are_stays : SomeFirst Stay → (xs : List (ℕ × ℕ)) → All (IsStayFound g) xs → (shown : List Stay) × AreStays g xs shown
   are_stays some xs all =
       let (named, zip) = stays_named xs all in
-      let (shown, first) = some stay_cmp Whole named stay_total in
+      let (shown, first) = some stay_cmp AllRows named stay_total in
       (shown, record { named = named; each = zip; first = first })
 
   -- the edge that leads to a person's city
@@ -137,35 +137,35 @@ module _ (g : List Row) (graph : IsGraph g) (sound : Sound g) (required : Requir
   lives : (p : ℕ) → IsPerson g p → (c : ℕ) × (ends g table.PersonIsLocatedInPlace p ≡ c ∷ [])
   lives p h = let (c, link) = home p h in (c, end_only g table.PersonIsLocatedInPlace p c graph refl link)
 
-  abbrev Shown : Namesake → List Cell → Type 0
+  abbrev Shown : Namesake → List ByteCell → Type 0
   Shown k a = IsNamesake g (namesake_of k) a × IsNamesakeFound g k
 
-  person_is : (k : Namesake) (a : List Cell) (s : Shown k a) → s.0.person.last_name ≡ k.0.now.last_name
+  person_is : (k : Namesake) (a : List ByteCell) (s : Shown k a) → s.0.person.last_name ≡ k.0.now.last_name
   person_is k a (r, f) = ap (λ (p : Person). p.last_name) (one_only (persons g k.0.now.id) r.person k.0.now r.held f.person.only)
 
-  namesake_agree : (x y : Namesake) (a b : List Cell) → Shown x a → Shown y b → is_lt (by (Rising 3 ∷ Rising 2 ∷ Rising 1 ∷ []) a b) ≡ is_lt (namesakes_first x y)
+  namesake_agree : (x y : Namesake) (a b : List ByteCell) → Shown x a → Shown y b → is_lt (by (Rising 3 ∷ Rising 2 ∷ Rising 1 ∷ []) a b) ≡ is_lt (namesakes_first x y)
   namesake_agree x y a b r s =
       let first = person_is x a r in
       let second = person_is y b s in
       rw (r.0.is, s.0.is, first, second) (ap is_lt (columns x.1 y.1 x.0.now.id y.0.now.id x.0.now.last_name y.0.now.last_name))
     where
-      columns : (m m' n n' : ℕ) (t t' : List ℕ) → ordering_then (cell_cmp (number m) (number m')) (ordering_then (cell_cmp (cell.Words t) (cell.Words t')) (ordering_then (cell_cmp (number n) (number n')) Equal))
+      columns : (m m' n n' : ℕ) (t t' : List ℕ) → ordering_then (cell_cmp (number_cell m) (number_cell m')) (ordering_then (cell_cmp (cell.Words t) (cell.Words t')) (ordering_then (cell_cmp (number_cell n) (number_cell n')) Equal))
           ≡ ordering_then (ordering_then (nat_cmp m m') (slice_cmp nat_cmp t t')) (nat_cmp n n')
       columns m m' n n' t t' =
-          ap (λ o. ordering_then o (ordering_then (cell_cmp (cell.Words t) (cell.Words t')) (ordering_then (cell_cmp (number n) (number n')) Equal))) (number_cmp m m')
-          ∙ ap (λ o. ordering_then (nat_cmp m m') (ordering_then o (ordering_then (cell_cmp (number n) (number n')) Equal))) (words_cmp t t')
-          ∙ ap (λ o. ordering_then (nat_cmp m m') (ordering_then (slice_cmp nat_cmp t t') o)) (then_last (cell_cmp (number n) (number n')) ∙ number_cmp n n')
+          ap (λ o. ordering_then o (ordering_then (cell_cmp (cell.Words t) (cell.Words t')) (ordering_then (cell_cmp (number_cell n) (number_cell n')) Equal))) (number_cmp m m')
+          ∙ ap (λ o. ordering_then (nat_cmp m m') (ordering_then o (ordering_then (cell_cmp (number_cell n) (number_cell n')) Equal))) (words_cmp t t')
+          ∙ ap (λ o. ordering_then (nat_cmp m m') (ordering_then (slice_cmp nat_cmp t t') o)) (then_last (cell_cmp (number_cell n) (number_cell n')) ∙ number_cmp n n')
           ∙ then_assoc (nat_cmp m m') (slice_cmp nat_cmp t t') (nat_cmp n n')
 
   module _ (texts : SomeFirst (List ℕ)) (some : SomeFirst Stay) where
     -- each person has a row
-    namesake_any : (k : Namesake) → IsNamesakeFound g k → (a : List Cell) × Shown k a
+    namesake_any : (k : Namesake) → IsNamesakeFound g k → (a : List ByteCell) × Shown k a
     namesake_any k f =
         let id = k.0.now.id in
         let (c, home) = lives id f.held in
         let (p, there) = place_at g graph c (city_place g sound.held id c home) in
-        let (emails, mails) = texts (slice_cmp nat_cmp) Whole (words g table.PersonEmailEmailAddress id) nat_list_cmp_total in
-        let (languages, speaks) = texts (slice_cmp nat_cmp) Whole (words g table.PersonSpeaksLanguage id) nat_list_cmp_total in
+        let (emails, mails) = texts (slice_cmp nat_cmp) AllRows (words g table.PersonEmailEmailAddress id) nat_list_cmp_total in
+        let (languages, speaks) = texts (slice_cmp nat_cmp) AllRows (words g table.PersonSpeaksLanguage id) nat_list_cmp_total in
         let (universities, studied) = are_stays some (study g id) (study_found g graph sound.held id) in
         let (companies, worked) = are_stays some (work g id) (work_found g graph sound.held id) in (
           _,
@@ -192,10 +192,10 @@ module _ (g : List Row) (graph : IsGraph g) (sound : Sound g) (required : Requir
         )
 
     -- the rows of the first persons are the answer
-    pub namesake_answers : (found first : List Namesake) (answer : List (List Cell)) → All (IsNamesakeFound g) found → FirstOf namesakes_first (First 20) found first → AllZip (λ k a. IsNamesake g (namesake_of k) a) first answer
-        → Answers (map namesake_of found) (IsNamesake g) (Rising 3 ∷ Rising 2 ∷ Rising 1 ∷ []) (First 20) answer
+    pub namesake_answers : (found first : List Namesake) (answer : List (List ByteCell)) → All (IsNamesakeFound g) found → SortedAndCut namesakes_first (FirstRows 20) found first → AllZip (λ k a. IsNamesake g (namesake_of k) a) first answer
+        → ReadAnswers (map namesake_of found) (IsNamesake g) (Rising 3 ∷ Rising 2 ∷ Rising 1 ∷ []) (FirstRows 20) answer
     namesake_answers found first answer all taken z =
-        answers_mapped namesake_of Shown (IsNamesake g) (λ k a s. s.0) (map namesake_of found) found (Rising 3 ∷ Rising 2 ∷ Rising 1 ∷ []) (First 20) answer (IsPermutation-refl (map namesake_of found))
-        (answers_from Shown namesakes_first (Rising 3 ∷ Rising 2 ∷ Rising 1 ∷ []) namesake_agree (First 20) found found first answer (IsPermutation-refl found) taken
-        (All-weaker (IsNamesakeFound g) (λ k. (a : List Cell) × Shown k a) namesake_any found all)
-        (zip_with (λ k a. IsNamesake g (namesake_of k) a) (IsNamesakeFound g) first answer (chosen (IsNamesakeFound g) namesakes_first (First 20) found first all taken) z))
+        answers_mapped namesake_of Shown (IsNamesake g) (λ k a s. s.0) (map namesake_of found) found (Rising 3 ∷ Rising 2 ∷ Rising 1 ∷ []) (FirstRows 20) answer (IsPermutation-refl (map namesake_of found))
+        (answers_from Shown namesakes_first (Rising 3 ∷ Rising 2 ∷ Rising 1 ∷ []) namesake_agree (FirstRows 20) found found first answer (IsPermutation-refl found) taken
+        (All-weaker (IsNamesakeFound g) (λ k. (a : List ByteCell) × Shown k a) namesake_any found all)
+        (zip_with (λ k a. IsNamesake g (namesake_of k) a) (IsNamesakeFound g) first answer (chosen (IsNamesakeFound g) namesakes_first (FirstRows 20) found first all taken) z))

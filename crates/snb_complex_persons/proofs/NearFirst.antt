@@ -18,10 +18,10 @@ use Rattle.snb_graph_model.specs.Graphs.{IsGraph}
 use Rattle.snb_graph_model.specs.Soundness.{Sound}
 use Rattle.snb_read_order.specs.Laws.{SomeFirst}
 use Rattle.snb_read_order.proofs.Laws.{number_cmp, zip_length}
-use Rattle.snb_read_model.specs.Cells.{Cell, cell_cmp, number}
-use Rattle.snb_read_model.specs.ComplexReads.{Ic1, IsNamesake, Stay, is_named}
+use Rattle.snb_read_model.specs.Cells.{ByteCell, cell_cmp, number_cell}
+use Rattle.snb_read_model.specs.ComplexReads.{Ic1Answer, IsNamesake, Stay, is_named}
 use Rattle.snb_read_model.specs.Distance.{IsWithin}
-use Rattle.snb_read_model.specs.Order.{Answers, First, FirstOf, Rising, Way, Whole, by}
+use Rattle.snb_read_model.specs.Order.{ReadAnswers, FirstRows, SortedAndCut, Rising, Way, AllRows, by}
 use Rattle.snb_read_laws.proofs.Laws.{by_total, near_held, one_within, some_namesake, some_within, some_zip}
 use Rattle.snb_read_lookups.proofs.Laws.{answers_moved}
 use Rattle.snb_base.proofs.Laws.{contains_cases, contains_here, contains_there, in_filter, none_in}
@@ -43,9 +43,9 @@ module _ {X : Type 0} (R : X → X → Ordering) where
       ]
 
   first_more : SomeFirst X → IsTotalOrder R → (n : ℕ) (part rest answer : List X) → n ≤ length part → ((x y : X) → Contains part x → Contains rest y → is_lt (R y x) ≡ false)
-      → FirstOf R (First n) part answer → FirstOf R (First n) (part ++ rest) answer
+      → SortedAndCut R (FirstRows n) part answer → SortedAndCut R (FirstRows n) (part ++ rest) answer
   first_more some total n part rest answer enough apart first =
-      let (sorted, more) = some R Whole rest total in
+      let (sorted, more) = some R AllRows rest total in
       let long = length_permutation part first.sorted first.same in
       record {
         sorted = first.sorted ++ more.sorted;
@@ -71,11 +71,11 @@ module _ {X Y : Type 0} (R : X → Y → Type 0) where
   zip_append (x ∷ xs) us [] vs z w = absurd z
   zip_append (x ∷ xs) us (y ∷ ys) vs z w = (z.0, zip_append xs us ys vs z.1 w)
 
-module _ {X : Type 0} (Shows : X → List Cell → Type 0) (order : List Way) where
+module _ {X : Type 0} (Shows : X → List ByteCell → Type 0) (order : List Way) where
   -- where the others come after, and those that come before are enough, these give the answer
-  pub answers_more : SomeFirst (List Cell) → (n : ℕ) (part rest : List X) (answer : List (List Cell)) → n ≤ length part → ((y : X) → Contains rest y → (b : List Cell) × Shows y b)
-      → ((x y : X) (a b : List Cell) → Contains part x → Contains rest y → Shows x a → Shows y b → is_lt (by order b a) ≡ false) → Answers part Shows order (First n) answer
-      → Answers (part ++ rest) Shows order (First n) answer
+  pub answers_more : SomeFirst (List ByteCell) → (n : ℕ) (part rest : List X) (answer : List (List ByteCell)) → n ≤ length part → ((y : X) → Contains rest y → (b : List ByteCell) × Shows y b)
+      → ((x y : X) (a b : List ByteCell) → Contains part x → Contains rest y → Shows x a → Shows y b → is_lt (by order b a) ≡ false) → ReadAnswers part Shows order (FirstRows n) answer
+      → ReadAnswers (part ++ rest) Shows order (FirstRows n) answer
   answers_more some n part rest answer enough each apart is =
       let (more, z) = some_zip Shows rest each in
       let long = zip_length Shows part is.rows is.shown in
@@ -100,10 +100,10 @@ filter_comm {X} p q (x ∷ xs) = both (p x) refl (q x) refl (filter_comm p q xs)
     both false e true f rest = rw e rest
     both false e false f rest = rest
 
-later : (m n : ℕ) (o : Ordering) → n < m → is_lt (ordering_then (cell_cmp (number m) (number n)) o) ≡ false
+later : (m n : ℕ) (o : Ordering) → n < m → is_lt (ordering_then (cell_cmp (number_cell m) (number_cell n)) o) ≡ false
 later m n o low = let falls : nat_cmp m n ≡ Greater = grind (arith, nat_tests) in ap (λ (r : Ordering). is_lt (ordering_then r o)) (number_cmp m n ∙ falls)
 
-module _ (g : List Row) (graph : IsGraph g) (sound : Sound g) (required : RequiredEdgesAreThere) (texts : SomeFirst (List ℕ)) (stays : SomeFirst Stay) (cells : SomeFirst (List Cell)) (person : ℕ) (name : List ℕ) where
+module _ (g : List Row) (graph : IsGraph g) (sound : Sound g) (required : RequiredEdgesAreThere) (texts : SomeFirst (List ℕ)) (stays : SomeFirst Stay) (cells : SomeFirst (List ByteCell)) (person : ℕ) (name : List ℕ) where
   -- those close are those within two steps
   close_within : (all : List (ℕ × ℕ)) → IsWithin g person 3 all → IsWithin g person 2 (filter (λ n. nat_le n.1 2) all)
   close_within all within = record {
@@ -117,8 +117,8 @@ module _ (g : List Row) (graph : IsGraph g) (sound : Sound g) (required : Requir
   }
 
   -- where those within two steps are enough, they give the answer
-  pub near_first : (near : List (ℕ × ℕ)) (answer : List (List Cell)) → IsWithin g person 2 near → 20 ≤ length (filter (is_named g name) near)
-      → Answers (filter (is_named g name) near) (IsNamesake g) (Rising 3 ∷ Rising 2 ∷ Rising 1 ∷ []) (First 20) answer → Ic1 g person name answer
+  pub near_first : (near : List (ℕ × ℕ)) (answer : List (List ByteCell)) → IsWithin g person 2 near → 20 ≤ length (filter (is_named g name) near)
+      → ReadAnswers (filter (is_named g name) near) (IsNamesake g) (Rising 3 ∷ Rising 2 ∷ Rising 1 ∷ []) (FirstRows 20) answer → Ic1Answer g person name answer
   near_first near answer within enough is =
       let (all, whole) = some_within g person 3 in
       let named = filter (is_named g name) all in
@@ -129,7 +129,7 @@ module _ (g : List Row) (graph : IsGraph g) (sound : Sound g) (required : Requir
       record {
         near = all;
         within = whole;
-        answers = answers_moved (IsNamesake g) (Rising 3 ∷ Rising 2 ∷ Rising 1 ∷ []) (First 20) named (filter (is_named g name) near ++ rest) answer (subst (λ l. IsPermutation named (l ++ rest)) part moves)
+        answers = answers_moved (IsNamesake g) (Rising 3 ∷ Rising 2 ∷ Rising 1 ∷ []) (FirstRows 20) named (filter (is_named g name) near ++ rest) answer (subst (λ l. IsPermutation named (l ++ rest)) part moves)
             (answers_more (IsNamesake g) (Rising 3 ∷ Rising 2 ∷ Rising 1 ∷ []) cells 20 (filter (is_named g name) near) rest answer enough
             (λ n c. some_namesake g graph sound required texts stays n
             (near_held g person 3 all whole n ((in_filter (is_named g name) all n).0 ((in_filter (λ (n : ℕ × ℕ). not (nat_le n.1 2)) named n).0 c).0).0))

@@ -13,13 +13,13 @@ use Rattle.snb_schema.specs.declared.person.Person.{Person}
 use Rattle.snb_schema.specs.declared.row.Row.{Row}
 use Rattle.snb_schema.specs.declared.row.Row.TheVariants as row
 use Rattle.snb_schema.specs.declared.table.Table.TheVariants as table
-use Rattle.snb_schema.specs.RowLines.{table_of}
+use Rattle.snb_schema.specs.RowValues.{table_of}
 use Rattle.snb_schema.specs.TableOrder.{same_table}
 use Rattle.snb_graph_model.specs.Around.{friends, is_friend}
 use Rattle.snb_graph_model.specs.Graphs.{IsGraph, row_order, rows}
 use Rattle.snb_graph_model.proofs.Laws.{friend_here, friend_tells, friend_there, friend_told, in_rows, of_each}
 use Rattle.snb_read_model.specs.ComplexReads.{is_named}
-use Rattle.snb_read_model.specs.Distance.{IsDistance, IsPerson, IsWithin, Walk}
+use Rattle.snb_read_model.specs.Distance.{IsDistance, IsPerson, IsWithin, FriendPath}
 use Rattle.snb_read_laws.proofs.Laws.{Rises, same_rising, some_within}
 use Rattle.snb_read_lookups.proofs.Laws.{person_at, walk_held}
 use Rattle.snb_read_lookups.specs.Lookups.{IsOnlyPerson}
@@ -41,14 +41,14 @@ two_is (Some n) e = ap Some (eqb-true n 2 e)
 -- ---- distances by those met within two steps
 
 module _ (g : List Row) (start : ℕ) (met : ℕ → Option ℕ) (are : AreDistances g start 2 met) (p : ℕ) where
-  beyond : met p ≡ None → (m : ℕ) → Walk g start p m → 3 ≤ m
+  beyond : met p ≡ None → (m : ℕ) → FriendPath g start p m → 3 ≤ m
   beyond none m w = elim (cases_lt m 3) as (λ _. 3 ≤ m) [
     | inl less ↦ absurd (none_some (met p) none (are.near p m w (omega (arith, less))))
     | inr more ↦ more
   ]
 
   -- a friend at distance 2
-  second_there : has_second g met p ≡ true → (q : ℕ) × (is_friend g q p ≡ true) × Walk g start q 2
+  second_there : has_second g met p ≡ true → (q : ℕ) × (is_friend g q p ≡ true) × FriendPath g start q 2
   second_there e =
       let (f, c, two) = from_any (λ (f : ℕ × ℕ). is_two (met f.0)) (friends g p) e in
       (f.0, friend_turned g p f.0 (friend_tells g p f.0 f.1 (friend_there g p f.0 f.1 c)), (are.told f.0 2 (two_is (met f.0) two)).0.walk)
@@ -59,12 +59,12 @@ module _ (g : List Row) (start : ℕ) (met : ℕ → Option ℕ) (are : AreDista
       any_of (λ (f : ℕ × ℕ). is_two (met f.0)) (friends g p) (q, d) (friend_here g p q d f) (ap is_two at)
 
   -- who comes before a person that isn't met is at distance 2
-  before : met p ≡ None → (q : ℕ) → is_friend g q p ≡ true → Walk g start q 2 → IsPerson g p → (o : Option ℕ) → met q ≡ o → met q ≡ Some 2
+  before : met p ≡ None → (q : ℕ) → is_friend g q p ≡ true → FriendPath g start q 2 → IsPerson g p → (o : Option ℕ) → met q ≡ o → met q ≡ Some 2
   before none q knows w is None e = absurd (none_some (met q) e (are.near q 2 w (omega arith)))
   before none q knows w is (Some m) e =
       let at = (are.told q m e).0 in
       let low = at.least 2 w in
-      let high = beyond none (suc m) (Walk.step start q p m at.walk knows is) in
+      let high = beyond none (suc m) (FriendPath.step start q p m at.walk knows is) in
       let same : m ≡ 2 = omega (arith, low, high) in
       e ∙ ap Some same
 
@@ -75,7 +75,7 @@ module _ (g : List Row) (start : ℕ) (met : ℕ → Option ℕ) (are : AreDista
   )
   by_told is None e true h n low high =
       let (q, knows, w) = second_there h in
-      let third : IsDistance g start p 3 = record { walk = Walk.step start q p 2 w knows is; least = beyond e } in
+      let third : IsDistance g start p 3 = record { walk = FriendPath.step start q p 2 w knows is; least = beyond e } in
       (λ at. one_distance g start p 3 n third at, λ same. subst (IsDistance g start p) same third)
   by_told is None e false h n low high = (
     λ at. (let least = beyond e n at.walk in

@@ -14,16 +14,17 @@ use Rattle.snb_schema.specs.declared.table.Table.{Table}
 use Rattle.snb_schema.specs.declared.table.Table.TheVariants as table
 use Rattle.snb_schema.specs.Layouts.{key_columns, shape}
 use Rattle.snb_schema.specs.RowKeys.{RowKey, edge_key, node_key, row_key, sharing, slot, slot_of}
-use Rattle.snb_schema.specs.RowLines.{row_shape, table_of}
+use Rattle.snb_schema.specs.RowValues.{row_shape, table_of}
 use Rattle.snb_schema.specs.TableRows.{IsTableRow}
 use Rattle.snb_graph_rows.specs.Keyed.{key_table}
 use Rattle.snb_graph_tables.specs.Words.{words_of}
 use Rattle.snb_graph_integrity.specs.SoundLaws.{RequiredEdgesAreThere}
 use Rattle.snb_graph_model.specs.Graphs.{HasKey, IsGraph, rows}
-use Rattle.snb_graph_model.specs.Soundness.{Held, Sound}
+use Rattle.snb_graph_model.specs.Soundness.{HoldsRefs, Sound}
 use Rattle.snb_graph_model.proofs.Laws.{end_only, in_rows, one_chosen, organisation_row, place_row, rows_apart, stay_there}
-use Rattle.snb_graph_model.specs.Around.{ends, organisation_in, organisations, place_in, places, study, word_in, words, work}
-use Rattle.snb_read_model.specs.ComplexReads.{IsAt}
+use Rattle.snb_graph_model.specs.Around.{ends, organisations, places, study, words, work}
+use Rattle.snb_graph_model.specs.RowParts.{organisation_in, place_in, word_in}
+use Rattle.snb_read_model.specs.ComplexReads.{HasItsPlace}
 use Rattle.snb_read_lookups.proofs.Laws.{any, edge_key_held}
 use Rattle.snb_complex_persons.specs.Stays.{IsStayFound}
 
@@ -96,14 +97,14 @@ module _ (g : List Row) (graph : IsGraph g) where
       sites table.OrganisationIsLocatedInPlace e = refl
       sites u e = absurd cc
 
-  pub site_held : Held g → (id there : ℕ) → Contains g (row.Link table.OrganisationIsLocatedInPlace id there) → HasKey g (node_key kinds.Place there)
+  pub site_held : HoldsRefs g → (id there : ℕ) → Contains g (row.Link table.OrganisationIsLocatedInPlace id there) → HasKey g (node_key kinds.Place there)
   site_held held id there c = held (row.Link table.OrganisationIsLocatedInPlace id there) c 1 any (omega arith)
 
   pub site_only : (id there : ℕ) → Contains g (row.Link table.OrganisationIsLocatedInPlace id there) → ends g table.OrganisationIsLocatedInPlace id ≡ there ∷ []
   site_only id there c = end_only g table.OrganisationIsLocatedInPlace id there graph refl c
 
   -- an organisation that is held stands somewhere
-  pub is_somewhere : RequiredEdgesAreThere → Sound g → (id : ℕ) → HasKey g (node_key kinds.Organisation id) → (o : Organisation) × (p : Place) × IsAt g id o p
+  pub is_somewhere : RequiredEdgesAreThere → Sound g → (id : ℕ) → HasKey g (node_key kinds.Organisation id) → (o : Organisation) × (p : Place) × HasItsPlace g id o p
   is_somewhere required sound id h =
       let (o, is) = organisation_at id h in
       let (there, c) = link_at table.OrganisationIsLocatedInPlace id refl refl (site_key required sound id h) in
@@ -140,13 +141,13 @@ module _ (g : List Row) (graph : IsGraph g) where
   languages_are p = words_by p (rows g table.PersonSpeaksLanguage) (shaped table.PersonSpeaksLanguage)
 
   -- the organisations of stays are held
-  pub work_found : Held g → (p : ℕ) → All (IsStayFound g) (work g p)
+  pub work_found : HoldsRefs g → (p : ℕ) → All (IsStayFound g) (work g p)
   work_found held p = All-weaker (Contains (work g p)) (IsStayFound g) (λ s c. (let there = stay_there g table.PersonWorkAtOrganisation p s.0 s.1 c in
       let fit = All-contains IsTableRow g (row.Yeared table.PersonWorkAtOrganisation p s.0 s.1) graph.of_tables there in
       let low : s.1 ≤ 9999 = fit.within.1.1.0 in
       record { held = held (row.Yeared table.PersonWorkAtOrganisation p s.0 s.1) there 1 any (omega arith); fits = omega (arith, low) })) (work g p) (All-contains_itself (work g p))
 
-  pub study_found : Held g → (p : ℕ) → All (IsStayFound g) (study g p)
+  pub study_found : HoldsRefs g → (p : ℕ) → All (IsStayFound g) (study g p)
   study_found held p = All-weaker (Contains (study g p)) (IsStayFound g) (λ s c. (let there = stay_there g table.PersonStudyAtOrganisation p s.0 s.1 c in
       let fit = All-contains IsTableRow g (row.Yeared table.PersonStudyAtOrganisation p s.0 s.1) graph.of_tables there in
       let low : s.1 ≤ 9999 = fit.within.1.1.0 in

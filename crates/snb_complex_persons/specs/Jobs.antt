@@ -19,7 +19,9 @@ job_of j = j.0
 module _ (g : List Row) where
   -- a person's work rows before the year in the country, each as (person, organisation, year)
   abbrev pub jobs_by : List ℕ → ℕ → ℕ → List (ℕ × ℕ × ℕ)
-  jobs_by country year person = map (λ w. (person, w.0, w.1)) (filter (λ w. nat_lt w.1 year && is_in g country w.0) (work g person))
+  jobs_by country year person =
+      map (λ w. (person, w.0, w.1))
+      (filter (λ w. nat_lt w.1 year && is_in g country w.0) (work g person))
 
   -- a work row of a person who is held, with the organisation's name
   pub record IsJobFound (j : Job) : Type 0 where

@@ -33,7 +33,8 @@ module _ (g : List Row) where
     pub each : All IsNamesakeFound found
 
   -- these are those of a first name at distance 1 to `steps`
-  pub record AreNamesakesWithin (person steps : ℕ) (name : List ℕ) (found : List Namesake) : Type 0 where
+  pub record AreNamesakesWithin (person steps : ℕ) (name : List ℕ) (found : List Namesake)
+      : Type 0 where
     pub near : List (ℕ × ℕ)
     pub within : IsWithin g person steps near
     pub are : AreNamesakes (filter (is_named g name) near) found

@@ -27,7 +27,8 @@ or_three None has = if has then 3 else 0
 abbrev pub has_second : List Row → (ℕ → Option ℕ) → ℕ → Bool
 has_second g met person = list_any (λ f. is_two (met f.0)) (friends g person)
 
--- the distance of a person, by those met within two steps: where the person wasn't met, 3 if a friend was at 2, else 0
+-- the distance of a person, by those met within two steps: where the person wasn't met, 3 if a
+-- friend was at 2, else 0
 abbrev pub distance_by : List Row → (ℕ → Option ℕ) → ℕ → ℕ
 distance_by g met person = or_three (met person) (has_second g met person)
 
@@ -40,7 +41,8 @@ abbrev pub is_wanted : List Row → List ℕ → ℕ × ℕ → Bool
 is_wanted g name n = is_named g name n && nat_lt 0 n.1
 
 -- a person who is wanted, with the distance
-pub record IsScanned (g : List Row) (met : ℕ → Option ℕ) (name : List ℕ) (person : ℕ) (k : Namesake) : Type 0 where
+pub record IsScanned (g : List Row) (met : ℕ → Option ℕ) (name : List ℕ) (person : ℕ) (k : Namesake)
+    : Type 0 where
   pub wanted : is_wanted g name (placed g met person) ≡ true
   pub named : namesake_of k ≡ placed g met person
   pub only : IsOnlyPerson g k.0.now.id k.0.now

@@ -4,9 +4,9 @@ ghost use Rattle.std.specs.Prelude.{◌≡◌, ◌∷◌, ◌++◌, ℕ, List, [
 ghost use Rattle.std.specs.HashMap.{get};
 ghost use Rattle.std.specs.List.{All};
 ghost use Rattle.snb_complex_persons.specs.Jobs.{AreJobs, AreSeen, IsJobFound, job_of, jobs_by};
-ghost use Rattle.snb_read_model.specs.ComplexReads.{Ic11, IsJob, is_in};
+ghost use Rattle.snb_read_model.specs.ComplexReads.{Ic11Answer, IsJob, is_in};
 ghost use Rattle.snb_read_model.specs.Distance.{IsPerson};
-ghost use Rattle.snb_read_model.specs.Order.{Answers, Falling, First, Rising};
+ghost use Rattle.snb_read_model.specs.Order.{ReadAnswers, Falling, FirstRows, Rising};
 ghost use Rattle.snb_schema.specs.RowKeys.{node_key};
 ghost use Rattle.snb_schema.specs.declared.table.Kind.TheVariants as kinds;
 ghost use Rattle.snb_graph_model.specs.Graphs.{HasKey};
@@ -50,7 +50,9 @@ fn first_jobs<'a>(
     found: Vec<((u64, u64, u64), &'a Text)>,
 ) -> Result<Answer<CowText<'a>>, AllocError>
     requires { All (IsJobFound graph.now) found.items }
-    ensures { IfOk result (Answers (map job_of found.entry.items) (IsJob graph.now) (Rising 5 ∷ Rising 1 ∷ Falling 4 ∷ []) (First 10)) }
+    ensures { IfOk result
+        (ReadAnswers (map job_of found.entry.items) (IsJob graph.now) (Rising 5 ∷ Rising 1 ∷ Falling 4 ∷ [])
+        (FirstRows 10)) }
 {
     graph.known();
     sound_graphs();
@@ -125,7 +127,7 @@ pub fn ic11<'a>(
     year: u32,
 ) -> Result<Answer<CowText<'a>>, AllocError>
     requires sound { Sound graph.now }
-    ensures { IfOk result (Ic11 graph.now person country.now year) }
+    ensures { IfOk result (Ic11Answer graph.now person country.now year) }
 {
     let near = within(alloc, graph, person, 2)?;
     let mut seen = HashMap::new(alloc);

@@ -9,8 +9,8 @@ ghost use Rattle.snb_complex_persons.specs.Stays.{IsStayFound};
 ghost use Rattle.snb_complex_persons.specs.Namesakes.{AreNamesakes, AreNamesakesWithin, IsNamesakeFound, IsNearFound, namesake_of};
 ghost use Rattle.snb_graph_links.specs.Pairs.{rest};
 ghost use Rattle.snb_reach.specs.Distances.{AreDistances};
-ghost use Rattle.snb_read_model.specs.ComplexReads.{AreStays, Ic1, IsNamesake, IsStay, is_named};
-ghost use Rattle.snb_read_model.specs.Order.{Answers, First, FirstOf, Rising, Whole};
+ghost use Rattle.snb_read_model.specs.ComplexReads.{AreStays, Ic1Answer, IsNamesake, IsStay, is_named};
+ghost use Rattle.snb_read_model.specs.Order.{ReadAnswers, FirstRows, SortedAndCut, Rising, AllRows};
 ghost use Rattle.snb_graph_model.specs.Soundness.{Sound};
 
 use crate::places::{located, place};
@@ -30,7 +30,7 @@ use std::collections::HashMap;
 
 // The texts of a walk, in byte order.
 fn sorted<'a>(alloc: Global, texts: Words<'a>) -> Result<CellTexts<CowText<'a>>, AllocError>
-    ensures { IfOk result (FirstOf (slice_cmp nat_cmp) Whole texts.entry) }
+    ensures { IfOk result (SortedAndCut (slice_cmp nat_cmp) AllRows texts.entry) }
 {
     let mut lent = Vec::new(alloc);
     for text in texts {
@@ -127,7 +127,9 @@ fn first_namesakes<'a>(
 ) -> Result<Answer<CowText<'a>>, AllocError>
     requires sound { Sound graph.now }
     requires found { All (IsNamesakeFound graph.now) found.items }
-    ensures { IfOk result (Answers (map namesake_of found.entry.items) (IsNamesake graph.now) (Rising 3 ∷ Rising 2 ∷ Rising 1 ∷ []) (First 20)) }
+    ensures { IfOk result
+        (ReadAnswers (map namesake_of found.entry.items) (IsNamesake graph.now) (Rising 3 ∷ Rising 2 ∷ Rising 1 ∷ [])
+        (FirstRows 20)) }
 {
     graph.known();
     sound_graphs();
@@ -153,7 +155,8 @@ fn named<'a>(
     near: &[(u64, u64)],
 ) -> Result<Vec<(&'a Person, u64)>, AllocError>
     requires { All (IsNearFound graph.now) near.now }
-    ensures { IfOk result (λ found. AreNamesakes graph.now (filter (is_named graph.now first_name.now) near.now) found.items) }
+    ensures { IfOk result
+        (λ found. AreNamesakes graph.now (filter (is_named graph.now first_name.now) near.now) found.items) }
 {
     let mut found = Vec::new(alloc);
     for one in near {
@@ -192,7 +195,7 @@ pub fn ic1<'a>(
     first_name: &str,
 ) -> Result<Answer<CowText<'a>>, AllocError>
     requires sound { Sound graph.now }
-    ensures { IfOk result (Ic1 graph.now person first_name.now) }
+    ensures { IfOk result (Ic1Answer graph.now person first_name.now) }
 {
     graph.known();
     sound_graphs();

@@ -2,7 +2,7 @@
 
 ghost use Rattle.std.specs.Prelude.{◌≡◌, ◌∷◌, []};
 ghost use Rattle.snb_graph_model.specs.Around.{places};
-ghost use Rattle.snb_read_model.specs.ComplexReads.{IsAt};
+ghost use Rattle.snb_read_model.specs.ComplexReads.{HasItsPlace};
 ghost use Rattle.snb_schema.specs.declared.table.Kind.TheVariants as kinds;
 ghost use Rattle.snb_schema.specs.RowKeys.{node_key};
 ghost use Rattle.snb_graph_model.specs.Graphs.{HasKey};
@@ -28,7 +28,7 @@ pub(crate) fn place(graph: &Graph, id: u64) -> &Place
 pub(crate) fn located(graph: &Graph, id: u64) -> (&Organisation, &Place)
     requires sound { Sound graph.now }
     requires held { HasKey graph.now (node_key kinds.Organisation id) }
-    ensures { IsAt graph.now id result.0.now result.1.now }
+    ensures { HasItsPlace graph.now id result.0.now result.1.now }
 {
     graph.known();
     sound_graphs();

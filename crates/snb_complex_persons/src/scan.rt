@@ -57,7 +57,8 @@ fn namesake<'a>(
     person: &'a Person,
 ) -> Option<(&'a Person, u64)>
     requires held { Contains graph.now (row.Person person.now) }
-    ensures { MatchOption result (is_wanted graph.now first_name.now (placed graph.now (get nat_eq met.now) person.now.id) ≡ false)
+    ensures { MatchOption result
+        (is_wanted graph.now first_name.now (placed graph.now (get nat_eq met.now) person.now.id) ≡ false)
         (IsScanned graph.now (get nat_eq met.now) first_name.now person.now.id) }
 {
     stands_alone(graph, person);
@@ -79,7 +80,9 @@ pub(crate) fn scanned<'a>(
     met: &HashMap<u64, u64>,
     first_name: &str,
 ) -> Result<Vec<(&'a Person, u64)>, AllocError>
-    ensures { IfOk result (λ found. (start : ℕ) → AreDistances graph.now start 2 (get nat_eq met.now) → AreNamesakesWithin graph.now start 3 first_name.now found.items) }
+    ensures { IfOk result
+        (λ found. (start : ℕ) → AreDistances graph.now start 2 (get nat_eq met.now)
+        → AreNamesakesWithin graph.now start 3 first_name.now found.items) }
 {
     graph.known();
     let mut found = Vec::new(alloc);

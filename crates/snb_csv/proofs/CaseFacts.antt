@@ -2,8 +2,10 @@
 use Rattle.std.proofs.Common.{◌≡◌, ◌+◌, ◌⊎◌, ℕ, List, length, refl, inl, inr}
 use Rattle.snb_schema.specs.declared.table.Table.{Table}
 use Rattle.snb_schema.specs.Columns.{StopsAfter}
-use Rattle.snb_schema.specs.Layouts.{columns, has_no_direction}
-use Rattle.snb_schema.specs.RowLines.{IsBadColumn, IsLoop, IsWide}
+use Rattle.snb_schema.specs.Layouts.{has_no_direction}
+use Rattle.snb_schema.specs.TableColumns.{columns}
+use Rattle.snb_schema.specs.RowLines.{IsBadColumn, IsLoop}
+use Rattle.snb_schema.specs.RowValues.{IsWide}
 use Rattle.snb_input_fields.proofs.Laws.{wide_or_not}
 
 -- each case with what isn't so before it

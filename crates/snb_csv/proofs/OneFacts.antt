@@ -8,8 +8,10 @@ use Rattle.snb_schema.specs.declared.row.Row.TheVariants as row
 use Rattle.snb_schema.specs.declared.table.Table.{Table}
 use Rattle.snb_schema.specs.declared.table.Table.TheVariants as table
 use Rattle.snb_schema.specs.Columns.{SpellsAll}
-use Rattle.snb_schema.specs.Layouts.{columns, has_no_direction}
-use Rattle.snb_schema.specs.RowLines.{Differ, IsLoop, IsWide, SpellsRow, in_order, is_turned, row_shape, table_of, values}
+use Rattle.snb_schema.specs.Layouts.{has_no_direction}
+use Rattle.snb_schema.specs.TableColumns.{columns}
+use Rattle.snb_schema.specs.RowLines.{IsLoop, SpellsRow}
+use Rattle.snb_schema.specs.RowValues.{Differ, IsWide, in_order, is_turned, row_shape, table_of, values}
 use Rattle.snb_columns.specs.Laws.{OneList}
 use Rattle.snb_input_fields.proofs.Laws.{no_stop, one_stop, spelled_long}
 use Rattle.snb_csv.specs.Laws.{OneColumn, OneRow, RowsAreRight}

@@ -14,9 +14,11 @@ use Rattle.snb_schema.specs.declared.row.Row.TheVariants as row
 use Rattle.snb_schema.specs.declared.table.Table.{Table}
 use Rattle.snb_schema.specs.declared.table.Table.TheVariants as table
 use Rattle.snb_schema.specs.Columns.{SpellsAll, canonical_field}
-use Rattle.snb_schema.specs.Layouts.{columns, has_no_direction, shape, shape_columns}
+use Rattle.snb_schema.specs.Layouts.{has_no_direction, shape}
+use Rattle.snb_schema.specs.TableColumns.{columns, shape_columns}
 use Rattle.snb_schema.specs.Lines.{HasNoBar, HasNoEnd, fields}
-use Rattle.snb_schema.specs.RowLines.{Differ, IsRow, SpellsRow, canonical, in_order, is_turned, values}
+use Rattle.snb_schema.specs.RowLines.{IsRow, SpellsRow, canonical}
+use Rattle.snb_schema.specs.RowValues.{Differ, in_order, is_turned, values}
 use Rattle.snb_columns.specs.Laws.{HasPlainFields, OneList}
 use Rattle.snb_columns.specs.Laws as lines
 use Rattle.snb_csv.specs.Laws.{OwnRowLine}

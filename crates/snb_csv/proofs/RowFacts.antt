@@ -9,8 +9,10 @@ use Rattle.snb_schema.specs.declared.row.Row.{Row}
 use Rattle.snb_schema.specs.declared.table.Table.{Table}
 use Rattle.snb_schema.specs.declared.table.Table.TheVariants as table
 use Rattle.snb_schema.specs.Columns.{SpellsAll, StopsAfter}
-use Rattle.snb_schema.specs.Layouts.{columns, has_no_direction, shape, shape_columns}
-use Rattle.snb_schema.specs.RowLines.{IsBadColumn, IsWide, SpellsRow, row_shape, table_of, values}
+use Rattle.snb_schema.specs.Layouts.{has_no_direction, shape}
+use Rattle.snb_schema.specs.TableColumns.{columns, shape_columns}
+use Rattle.snb_schema.specs.RowLines.{IsBadColumn, SpellsRow}
+use Rattle.snb_schema.specs.RowValues.{IsWide, row_shape, table_of, values}
 use Rattle.snb_schema.specs.Faults.{OnBadColumn}
 use Rattle.snb_schema.specs.declared.fault.LineFault.{LineFault}
 use Rattle.snb_schema.specs.declared.fault.LineFault.TheVariants.{Bad, Memory}

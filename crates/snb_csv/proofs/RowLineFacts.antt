@@ -21,11 +21,13 @@ use Rattle.snb_schema.specs.declared.row.Row.TheVariants as row
 use Rattle.snb_schema.specs.declared.table.Table.{Table}
 use Rattle.snb_schema.specs.declared.table.Table.TheVariants as table
 use Rattle.snb_schema.specs.Columns.{Spells, SpellsAll, canonical_field}
-use Rattle.snb_schema.specs.Layouts.{columns, has_no_direction, shape, shape_columns}
+use Rattle.snb_schema.specs.Layouts.{has_no_direction, shape}
+use Rattle.snb_schema.specs.TableColumns.{columns, shape_columns}
 use Rattle.snb_schema.specs.Lines.{HasNoBar, HasNoEnd, fields}
-use Rattle.snb_schema.specs.RowLines.{Differ, IsRow, canonical, in_order, is_turned, table_of, values}
+use Rattle.snb_schema.specs.RowLines.{IsRow, canonical}
+use Rattle.snb_schema.specs.RowValues.{Differ, in_order, is_turned, table_of, values}
 use Rattle.snb_csv.specs.Laws.{RowsOfFieldsFit}
-use Rattle.snb_schema.specs.TableRows.{AreWithin, HasLine, HasLowerFirst, IsFieldText, IsTableRow, IsWithin, TableRowsAreOfLines}
+use Rattle.snb_schema.specs.TableRows.{AreWithin, HasLine, HasLowerFirst, IsFieldText, IsTableRow, IsInBounds, TableRowsAreOfLines}
 use Rattle.snb_columns.specs.Laws.{HasPlainFields, OwnLineOfValues}
 use Rattle.snb_columns.proofs.Laws.{all_digits}
 use Rattle.snb_csv.proofs.OwnFacts.{number_first}
@@ -63,7 +65,7 @@ of_tables shapes.Yeared = (omega arith, (omega arith, (omega arith, tt)))
 of_tables shapes.Word = (omega arith, (tt, tt))
 
 -- the canonical spelling of a value within its column's bounds spells it
-spelled : OwnNumbers → (c : Column) (v : Value) → IsOfTables c → IsWithin c v → Spells c (canonical_field v) v
+spelled : OwnNumbers → (c : Column) (v : Value) → IsOfTables c → IsInBounds c v → Spells c (canonical_field v) v
 spelled own (Number most) (Digits n) o w = own n most w (omega arith)
 spelled own (Small most) (SmallDigits n) o w = own n most w (omega arith)
 spelled own Date (Digits n) o w = (w, inr (own n last_time w (omega arith)))
@@ -79,7 +81,7 @@ spelled_all own (c ∷ cs) (v ∷ vs) o w = (spelled own c v o.0 w.0, spelled_al
 spelled_all own cs vs o w = absurd w
 
 -- what holds of digits and of a field's text holds of the canonical spelling
-held : OwnNumbers → (P : List ℕ → Type 0) → ((t : List ℕ) → AllByRecursion IsDigit t → P t) → ((t : List ℕ) → IsFieldText t → P t) → (c : Column) (v : Value) → IsOfTables c → IsWithin c v → P (canonical_field v)
+held : OwnNumbers → (P : List ℕ → Type 0) → ((t : List ℕ) → AllByRecursion IsDigit t → P t) → ((t : List ℕ) → IsFieldText t → P t) → (c : Column) (v : Value) → IsOfTables c → IsInBounds c v → P (canonical_field v)
 held own P digits text (Number most) (Digits n) o w = digits (decimal n) (own n most w (omega arith)).digits
 held own P digits text (Small most) (SmallDigits n) o w = digits (decimal n) (own n most w (omega arith)).digits
 held own P digits text Date (Digits n) o w = digits (decimal n) (own n last_time w (omega arith)).digits
@@ -147,7 +149,7 @@ has_line own law r h =
     )
 
 -- a value that a field's text spells is within its column's bounds
-within : (c : Column) (x : List ℕ) (v : Value) → IsOfTables c → IsFieldText x → Spells c x v → IsWithin c v
+within : (c : Column) (x : List ℕ) (v : Value) → IsOfTables c → IsFieldText x → Spells c x v → IsInBounds c v
 within (Number most) x (Digits n) o f s = s.small
 within (Small most) x (SmallDigits n) o f s = s.small
 within Date x (Digits n) o f s = s.0

@@ -14,7 +14,7 @@ use Rattle.snb_schema.specs.declared.row.Row.{Row}
 use Rattle.snb_schema.specs.declared.row.Row.TheVariants as row
 use Rattle.snb_schema.specs.declared.table.Table.{Table}
 use Rattle.snb_schema.specs.Layouts.{has_no_direction, shape}
-use Rattle.snb_schema.specs.RowLines.{Differ, in_order, is_turned, row_shape, table_of, values}
+use Rattle.snb_schema.specs.RowValues.{Differ, in_order, is_turned, row_shape, table_of, values}
 use Rattle.snb_input_fields.specs.Values.{first_number, first_small, first_text}
 
 abbrev pub place_of : List Value → Place

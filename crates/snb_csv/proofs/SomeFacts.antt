@@ -5,8 +5,10 @@ use Rattle.snb_schema.specs.declared.column.Value.{Value}
 use Rattle.snb_schema.specs.declared.row.Row.{Row}
 use Rattle.snb_schema.specs.declared.table.Table.{Table}
 use Rattle.snb_schema.specs.Columns.{SpellsAll}
-use Rattle.snb_schema.specs.Layouts.{columns, has_no_direction, shape}
-use Rattle.snb_schema.specs.RowLines.{IsBadColumn, IsWide, SpellsRow, in_order, is_turned}
+use Rattle.snb_schema.specs.Layouts.{has_no_direction, shape}
+use Rattle.snb_schema.specs.TableColumns.{columns}
+use Rattle.snb_schema.specs.RowLines.{IsBadColumn, SpellsRow}
+use Rattle.snb_schema.specs.RowValues.{IsWide, in_order, is_turned}
 use Rattle.snb_input_fields.specs.Laws.{EachLineIsRead}
 use Rattle.snb_input_fields.specs.Values.{starts_twice}
 use Rattle.snb_csv.specs.Laws.{RowOrColumn}

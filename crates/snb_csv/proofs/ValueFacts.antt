@@ -13,8 +13,10 @@ use Rattle.snb_schema.specs.declared.row.Row.{Row}
 use Rattle.snb_schema.specs.declared.table.Table.{Table}
 use Rattle.snb_schema.specs.declared.table.Table.TheVariants as table
 use Rattle.snb_schema.specs.Columns.{SpellsAll, StopsAfter}
-use Rattle.snb_schema.specs.Layouts.{columns, has_no_direction, id_column, shape, shape_columns}
-use Rattle.snb_schema.specs.RowLines.{IsBadColumn, IsLoop, IsWide, NoneOrEmpty, SpellsRow, in_order, is_turned, row_shape, table_of, values}
+use Rattle.snb_schema.specs.Layouts.{has_no_direction, shape}
+use Rattle.snb_schema.specs.TableColumns.{columns, id_column, shape_columns}
+use Rattle.snb_schema.specs.RowLines.{IsBadColumn, IsLoop, SpellsRow}
+use Rattle.snb_schema.specs.RowValues.{IsWide, NoneOrEmpty, in_order, is_turned, row_shape, table_of, values}
 use Rattle.snb_input_fields.proofs.Laws.{starts_alone, taken_again}
 use Rattle.snb_input_fields.specs.Values.{starts_twice, taken}
 use Rattle.snb_csv.proofs.RowsByValues.{IsRowOf, row_by}

@@ -9,13 +9,15 @@ use Rattle.snb_input_lines.specs.Laws.{ReadsOnce}
 use Rattle.snb_input_lines.specs.Reading.{Says}
 use Rattle.snb_csv.specs.Rows.{row_language}
 
--- the line of this number is that of the row, which has its number and says whether the line has its ends the other way round
+-- the line of this number is that of the row, which has its number and says whether the line has
+-- its ends the other way round
 pub record IsPlacedRow (t : Table) (number : ℕ) (line : List ℕ) (p : Placed) : Type 0 where
   pub numbered : p.line ≡ number
   pub is_row : IsRow t line p.row
   pub turned : p.turned ≡ is_row.turned
 
--- the rows that a table's file says, from its first line to its last, are those of its data lines in order, under a header of the table
+-- the rows that a table's file says, from its first line to its last, are those of its data lines
+-- in order, under a header of the table
 abbrev pub TableFiles : Type 0
 TableFiles = (t : Table) (bytes : List ℕ) (rows : List Placed)
     → Says (row_language t) None 0 (lines bytes) rows (Some tt)

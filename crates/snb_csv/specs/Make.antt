@@ -11,11 +11,12 @@ use Rattle.snb_schema.specs.declared.row.Row.TheVariants as row
 use Rattle.snb_schema.specs.declared.table.Table.{Table}
 use Rattle.snb_schema.specs.declared.table.Table.TheVariants as table
 use Rattle.snb_schema.specs.Columns.{Spells}
-use Rattle.snb_schema.specs.Layouts.{shape_columns}
-use Rattle.snb_schema.specs.RowLines.{row_shape, table_of, values}
+use Rattle.snb_schema.specs.TableColumns.{shape_columns}
+use Rattle.snb_schema.specs.RowValues.{row_shape, table_of, values}
 use Rattle.snb_input_fields.specs.Reading.{IsBadIn, text_at}
 
--- the table of a row of this shape: that of a node follows from the shape, and that of an edge or a word is told
+-- the table of a row of this shape: that of a node follows from the shape, and that of an edge or a
+-- word is told
 abbrev pub table_by : Shape → Table → Table
 table_by shapes.Place t = table.Place
 table_by shapes.TagClass t = table.TagClass
@@ -42,12 +43,14 @@ pub record IsMadeOf (s : Shape) (t : Table) (fs : List (List ℕ)) (r : Row) : T
   pub shaped : row_shape r ≡ s
   pub spelled : SpellsFrom 0 (shape_columns s) fs (values r)
 
--- the fields spell two ids that differ and a date, the row has the lower id first, and it is turned where that stood second
+-- the fields spell two ids that differ and a date, the row has the lower id first, and it is turned
+-- where that stood second
 pub record AreFriends (t : Table) (fs : List (List ℕ)) (r : Row) (turned : Bool) : Type 0 where
   pub one : ℕ
   pub other : ℕ
   pub date : ℕ
-  pub spelled : SpellsFrom 0 (shape_columns shapes.Dated) fs (Digits one ∷ Digits other ∷ Digits date ∷ [])
+  pub spelled : SpellsFrom 0 (shape_columns shapes.Dated) fs
+      (Digits one ∷ Digits other ∷ Digits date ∷ [])
   pub differ : one ≢ other
   pub made : r ≡ row.Dated t (min one other) (max one other) date
   pub turns : turned ≡ nat_lt other one
@@ -58,4 +61,6 @@ LeadsBack fs = (id : ℕ) × SpellsId (text_at fs 0) id × SpellsId (text_at fs 
 
 -- the fields are no friendship, in this column first
 abbrev pub AreNoFriends : List (List ℕ) → ℕ → Type 0
-AreNoFriends fs column = (LeadsBack fs × (column ≡ 2)) ⊎ (¬ LeadsBack fs × IsBadIn (shape_columns shapes.Dated) fs column)
+AreNoFriends fs column =
+    (LeadsBack fs × (column ≡ 2)) ⊎
+    (¬ LeadsBack fs × IsBadIn (shape_columns shapes.Dated) fs column)

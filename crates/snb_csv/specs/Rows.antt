@@ -5,9 +5,10 @@ use Rattle.snb_schema.specs.declared.file.FileKind.{FileKind}
 use Rattle.snb_schema.specs.declared.file.FileKind.TheVariants as files
 use Rattle.snb_schema.specs.declared.row.Placed.{Placed}
 use Rattle.snb_schema.specs.declared.table.Table.{Table}
-use Rattle.snb_schema.specs.Layouts.{columns}
+use Rattle.snb_schema.specs.TableColumns.{columns}
 use Rattle.snb_schema.specs.Lines.{fields}
-use Rattle.snb_schema.specs.RowLines.{IsBadColumn, IsWide, SpellsRow}
+use Rattle.snb_schema.specs.RowLines.{IsBadColumn, SpellsRow}
+use Rattle.snb_schema.specs.RowValues.{IsWide}
 use Rattle.snb_input_lines.specs.Language.{Language}
 
 -- the file is a table's

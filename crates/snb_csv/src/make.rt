@@ -4,8 +4,9 @@ ghost use Rattle.std.specs.Prelude.{◌≡◌, IfOk};
 ghost use Rattle.snb_schema.specs.declared.layout.Shape.TheVariants as shapes;
 ghost use Rattle.snb_schema.specs.declared.row.Row.TheVariants as rows;
 ghost use Rattle.snb_schema.specs.Faults.{OnBadColumn};
-ghost use Rattle.snb_schema.specs.Layouts.{columns, shape, shape_columns};
-ghost use Rattle.snb_schema.specs.RowLines.{values};
+ghost use Rattle.snb_schema.specs.Layouts.{shape};
+ghost use Rattle.snb_schema.specs.TableColumns.{columns, shape_columns};
+ghost use Rattle.snb_schema.specs.RowValues.{values};
 ghost use Rattle.snb_input_fields.specs.Reading.{IsBadIn, at_first};
 ghost use Rattle.snb_csv.specs.Make.{AreFriends, AreNoFriends, IsMadeOf, SpellsFrom};
 
@@ -34,7 +35,8 @@ fn place(table: Table, fields: &mut FieldReader<'_>) -> Result<Row, LineFault>
 // A tag, or a class of tags.
 fn named(fields: &mut FieldReader<'_>) -> Result<Named, LineFault>
     requires { fields.old ≡ at_first (shape_columns shapes.Tag) fields.old.fields }
-    ensures ok { IfOk result (λ named. SpellsFrom 0 (shape_columns shapes.Tag) fields.old.fields (values (rows.Tag named))) }
+    ensures ok { IfOk result
+        (λ named. SpellsFrom 0 (shape_columns shapes.Tag) fields.old.fields (values (rows.Tag named))) }
     ensures bad { OnBadColumn result (IsBadIn (shape_columns shapes.Tag) fields.old.fields) }
 {
     Ok(Named {

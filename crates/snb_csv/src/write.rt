@@ -40,7 +40,8 @@ fn put_named(named: &Named, to: &mut Vec<u8>) -> Result<(), AllocError>
 }
 
 fn put_organisation(organisation: &Organisation, to: &mut Vec<u8>) -> Result<(), AllocError>
-    ensures ok { OnOk result (to.new.items ≡ to.old.items ++ (canonical (rows.Organisation organisation.now) ++ 10 ∷ [])) }
+    ensures ok { OnOk result
+        (to.new.items ≡ to.old.items ++ (canonical (rows.Organisation organisation.now) ++ 10 ∷ [])) }
     ensures err { OnErr result (to.new.items ≡ to.old.items) }
 {
     put_line(

@@ -4,18 +4,19 @@ use Rattle.std.proofs.Math.Seq.{take-suc}
 use Rattle.std.proofs.lemmas.List.{map-append}
 use Rattle.snb_handlers.specs.declared.handler.Handler.{Handler}
 use Rattle.snb_handlers.specs.declared.handlers.Handlers.{Handlers}
-use Rattle.snb_handlers.specs.Table.{handlers_of, kinds, kinds_in}
+use Rattle.snb_handlers.specs.Table.{handlers_of, kinds, handled_kinds}
 use Rattle.snb_base.specs.declared.outbox.Outbox.{Ghosts as Outboxes}
 use Rattle.snb_base.specs.declared.shelf.Shelf.{Ghosts as Shelves}
 use Rattle.snb_base.specs.Moments.{Moments}
 use Rattle.snb_base.specs.Shelf.{Names}
 use Rattle.snb_schema.specs.declared.read_kind.ReadKind.{ReadKind}
 use Rattle.snb_tool_outcome.specs.Names.{MayAskFor}
-use Rattle.snb_tool_outcome.specs.Outcome.{Asked, HasServed, with}
+use Rattle.snb_tool_outcome.specs.Outcome.{Asked, with}
+use Rattle.snb_tool_outcome.specs.Served.{HasServed}
 use Rattle.snb_tool_words.specs.Words.{texts_of}
 use Rattle.snb_walk.specs.declared.target.Pick.{Pick}
 use Rattle.snb_walk.specs.declared.target.Pick.TheVariants.{Modulo}
-use Rattle.snb_edge.specs.Edge.{all_kinds, started_with}
+use Rattle.snb_edge.specs.Edge.{every_read, started_with}
 
 -- ---- its table
 
@@ -25,22 +26,22 @@ registered (Ok a) failed is none p = p
 registered (Err e) failed is none p = absurd (let both : true ≡ false = sym is ∙ none in cc)
 
 -- a handler more has its kind
-pub grown : {I F P : _} → (old new : Handlers I F P) (handler : Handler I F P) (i : ℕ) (d : ReadKind) → handlers_of new ≡ handlers_of old ++ handler ∷ [] → kinds old ≡ take i all_kinds
-    → i < length all_kinds → handler.kind ≡ get_or all_kinds i d → kinds new ≡ take (i + 1) all_kinds
+pub grown : {I F P : _} → (old new : Handlers I F P) (handler : Handler I F P) (i : ℕ) (d : ReadKind) → handlers_of new ≡ handlers_of old ++ handler ∷ [] → kinds old ≡ take i every_read
+    → i < length every_read → handler.kind ≡ get_or every_read i d → kinds new ≡ take (i + 1) every_read
 grown old new handler i d more was lt is =
-    ap kinds_in more ∙ map-append (λ h. h.kind) (handlers_of old) (handler ∷ []) ∙ ap (λ (ks : List ReadKind). ks ++ handler.kind ∷ []) was
-    ∙ ap (λ (k : ReadKind). take i all_kinds ++ k ∷ []) is ∙ sym taken
+    ap handled_kinds more ∙ map-append (λ h. h.kind) (handlers_of old) (handler ∷ []) ∙ ap (λ (ks : List ReadKind). ks ++ handler.kind ∷ []) was
+    ∙ ap (λ (k : ReadKind). take i every_read ++ k ∷ []) is ∙ sym taken
   where
-    taken : take (i + 1) all_kinds ≡ take i all_kinds ++ get_or all_kinds i d ∷ []
-    taken = let on : i + 1 ≡ suc i = omega arith in ap (λ (n : ℕ). take n all_kinds) on ∙ take-suc all_kinds i d lt
+    taken : take (i + 1) every_read ≡ take i every_read ++ get_or every_read i d ∷ []
+    taken = let on : i + 1 ≡ suc i = omega arith in ap (λ (n : ℕ). take n every_read) on ∙ take-suc every_read i d lt
 
 -- after the last kind each has one
-pub whole : (there : List ReadKind) (i : ℕ) → there ≡ take i all_kinds → i ≡ 14 → there ≡ all_kinds
-whole there i was end = was ∙ ap (λ (n : ℕ). take n all_kinds) end
+pub whole : (there : List ReadKind) (i : ℕ) → there ≡ take i every_read → i ≡ 14 → there ≡ every_read
+whole there i was end = was ∙ ap (λ (n : ℕ). take n every_read) end
 
 -- ---- what it is asked
 
-module _ (words : List (Bor (List ℕ))) (there : List ReadKind) (pick : Pick) (texts : List (List ℕ)) (lent : texts_of words ≡ texts) (all : there ≡ all_kinds) (modulo : pick ≡ Modulo) where
+module _ (words : List (Bor (List ℕ))) (there : List ReadKind) (pick : Pick) (texts : List (List ℕ)) (lent : texts_of words ≡ texts) (all : there ≡ every_read) (modulo : pick ≡ Modulo) where
   -- it is asked just that
   same_asked : with words there pick ≡ started_with texts
   same_asked = λ i. record { words = lent i; given = Some (record { kinds = all i; pick = modulo i }) }

@@ -5,7 +5,8 @@ use Rattle.snb_base.specs.declared.shelf.Shelf.{Ghosts as Shelves}
 use Rattle.snb_base.specs.Moments.{Moments}
 use Rattle.snb_schema.specs.declared.read_kind.ReadKind.{ReadKind}
 use Rattle.snb_schema.specs.declared.read_kind.ReadKind.TheVariants.{Is1, Is2, Is3, Is4, Is5, Is6, Is7, Ic1, Ic2, Ic7, Ic8, Ic9, Ic11, Ic13}
-use Rattle.snb_tool_outcome.specs.Outcome.{Asked, HasServed}
+use Rattle.snb_tool_outcome.specs.Outcome.{Asked}
+use Rattle.snb_tool_outcome.specs.Served.{HasServed}
 use Rattle.snb_walk.specs.declared.target.Pick.TheVariants.{Modulo}
 
 -- the words are those that are told, where any are
@@ -13,22 +14,30 @@ abbrev pub AreTold : Option (List (List ℕ)) → List (List ℕ) → Type 0
 AreTold told texts = IfSome told (λ words. texts ≡ words)
 
 -- each kind of read
-abbrev pub all_kinds : List ReadKind
-all_kinds = Is1 ∷ Is2 ∷ Is3 ∷ Is4 ∷ Is5 ∷ Is6 ∷ Is7 ∷ Ic1 ∷ Ic2 ∷ Ic7 ∷ Ic8 ∷ Ic9 ∷ Ic11 ∷ Ic13 ∷ []
+abbrev pub every_read : List ReadKind
+every_read =
+    Is1 ∷ Is2 ∷ Is3 ∷ Is4 ∷ Is5 ∷ Is6 ∷ Is7 ∷ Ic1 ∷ Ic2 ∷ Ic7 ∷ Ic8 ∷ Ic9 ∷ Ic11 ∷ Ic13 ∷ []
 
--- what the program is asked that is started with these words: they come with a table in which each kind of read has a handler, and with a policy that
--- picks by the word modulo the number of targets
+-- what the program is asked that is started with these words: they come with a table in which each
+-- kind of read has a handler, and with a policy that picks by the word modulo the number of targets
 abbrev pub started_with : List (List ℕ) → Asked
-started_with texts = record { words = texts; given = Some (record { kinds = all_kinds; pick = Modulo }) }
+started_with texts =
+    record { words = texts; given = Some (record { kinds = every_read; pick = Modulo }) }
 
--- there are words, which are those that are told where any are, of which the call did all that it promises
-pub record HasObeyed {S O : Type 0} (shelves : Shelves S) (outboxes : Outboxes O) (told : Option (List (List ℕ))) (moments : Moments) (shelf shelf_after : S) (out out_after : O) (status : ℕ) : Type 0 where
+-- there are words, which are those that are told where any are, of which the call did all that it
+-- promises
+pub record HasObeyed {S O : Type 0} (shelves : Shelves S) (outboxes : Outboxes O)
+    (told : Option (List (List ℕ))) (moments : Moments) (shelf shelf_after : S) (out out_after : O)
+    (status : ℕ) : Type 0 where
   pub texts : List (List ℕ)
   pub words : AreTold told texts
-  pub served : HasServed shelves outboxes moments (started_with texts) shelf shelf_after out out_after status
+  pub served : HasServed shelves outboxes moments (started_with texts) shelf shelf_after out
+      out_after status
 
--- the program did so; or memory didn't suffice before the call, and nothing was read or written
-abbrev pub IsServed : {S O : Type 0} → Shelves S → Outboxes O → Option (List (List ℕ)) → Moments → S → S → O → O → ℕ → Type 0
+-- the call did all that it promises; or memory didn't suffice before it, and nothing was read or
+-- written
+abbrev pub IsServed : {S O : Type 0} → Shelves S → Outboxes O → Option (List (List ℕ)) → Moments → S
+    → S → O → O → ℕ → Type 0
 IsServed shelves outboxes told moments shelf shelf_after out out_after status =
     HasObeyed shelves outboxes told moments shelf shelf_after out out_after status
     ⊎ ((status ≡ 6) × (shelf_after ≡ shelf) × (out_after ≡ out))

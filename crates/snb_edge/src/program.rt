@@ -48,8 +48,10 @@ fn obey<
     C: Clock + Sync,
     G: Gate + Sync,
 >(rt: &R, words: &W, shelf: &mut S, out: &mut O, clock: &C, gate: &G) -> Result<u8, AllocError>
-    requires allowed { (texts : List (List ℕ)) → AreTold (W.told words.now) texts → MayAskFor (S.may shelf.old) (started_with texts) }
-    ensures ok { IfOk result (HasObeyed S.Shelf O.Outbox (W.told words.now) (C.moments clock.now) shelf.old shelf.new out.old out.new) }
+    requires allowed { (texts : List (List ℕ)) → AreTold (W.told words.now) texts
+        → MayAskFor (S.may shelf.old) (started_with texts) }
+    ensures ok { IfOk result
+        (HasObeyed S.Shelf O.Outbox (W.told words.now) (C.moments clock.now) shelf.old shelf.new out.old out.new) }
     ensures err { OnErr result ((shelf.new ≡ shelf.old) × (out.new ≡ out.old)) }
 {
     let alloc = rt.alloc();
@@ -81,14 +83,11 @@ fn obey<
 
 /// Does all that the program does: reads the words that it is started with, does what they say by `snb_with`, with a
 /// table of handlers that answer by the graph's own reads and a policy that picks by the word modulo the number of
-/// targets, and ends with the status of that call. Where the status tells of a fault, it shows one line on standard
-/// error: `snb: read fault` for 4, `snb: write fault` for 5 and `snb: out of memory` for 6.
+/// targets, and ends with the status of that call. Of a fault it shows one line on standard error: `snb: read fault`
+/// for 4, `snb: write fault` for 5 and `snb: out of memory` for 6, which is also the status where memory doesn't
+/// suffice to begin.
 ///
-/// Where memory doesn't suffice to copy the words or to make the table, the status is 6, and nothing was read or
-/// written.
-///
-/// The condition `allowed`: whatever the words are, as far as they are told, the shelf may be asked for the names of
-/// the command that they are the line of.
+/// The condition `allowed`: the shelf may be asked for the names of the command that the words are the line of.
 pub fn serve<
     R: AllocGlobal + Threads + Wait + Sync,
     W: Words,
@@ -98,9 +97,12 @@ pub fn serve<
     C: Clock + Sync,
     G: Gate + Sync,
 >(rt: &R, words: &W, errors: &mut E, shelf: &mut S, out: &mut O, clock: &C, gate: &G) -> ExitCode
-    requires allowed { (texts : List (List ℕ)) → AreTold (W.told words.now) texts → MayAskFor (S.may shelf.old) (started_with texts) }
-    ensures served { IsServed S.Shelf O.Outbox (W.told words.now) (C.moments clock.now) shelf.old shelf.new out.old out.new (exit_status result) }
-    ensures shown { E.given errors.new ≡ option_map (λ text. text ++ shown_for (exit_status result)) (E.given errors.old) }
+    requires allowed { (texts : List (List ℕ)) → AreTold (W.told words.now) texts
+        → MayAskFor (S.may shelf.old) (started_with texts) }
+    ensures served { IsServed S.Shelf O.Outbox (W.told words.now) (C.moments clock.now) shelf.old shelf.new out.old
+        out.new (exit_status result) }
+    ensures shown { E.given errors.new ≡ option_map (λ text. text ++ shown_for (exit_status result))
+        (E.given errors.old) }
 {
     match obey(rt, words, shelf, out, clock, gate) {
         Ok(status) => ending(errors, status),

@@ -12,7 +12,8 @@ use std::process::ExitCode;
 /// Ends with this status: with one line on standard error, where the status tells of a fault.
 pub fn ending<E: ErrorLines>(errors: &mut E, status: u8) -> ExitCode
     ensures status { exit_status result ≡ status }
-    ensures shown { E.given errors.new ≡ option_map (λ text. text ++ shown_for (exit_status result)) (E.given errors.old) }
+    ensures shown { E.given errors.new ≡ option_map (λ text. text ++ shown_for (exit_status result))
+        (E.given errors.old) }
 {
     if let Some(fault) = Fault::of_status(status) {
         errors.show(fault.line());

@@ -17,12 +17,13 @@ use Rattle.snb_schema.specs.declared.table.Table.TheVariants as table
 use Rattle.snb_schema.specs.Layouts.{shape}
 use Rattle.snb_schema.specs.References.{ref}
 use Rattle.snb_schema.specs.RowKeys.{RowKey, node_key, row_key, slot}
-use Rattle.snb_schema.specs.RowLines.{table_of}
+use Rattle.snb_schema.specs.RowValues.{table_of}
 use Rattle.snb_schema.specs.TableOrder.{same_table}
 use Rattle.snb_graph_model.proofs.Laws.{IsApart, friends_apart, in_rows, liker_there, likers_apart, likes_split, messages_apart, none_of, of_each, replies_apart, same_list, stay_row, walk_moved}
-use Rattle.snb_graph_model.specs.Around.{friends, likes, likes_in, messages, replies, stay_in, study, work}
+use Rattle.snb_graph_model.specs.Around.{friends, likes, likes_in, messages, replies, study, work}
+use Rattle.snb_graph_model.specs.RowParts.{stay_in}
 use Rattle.snb_graph_model.specs.Graphs.{HasKey, IsGraph, key_order, part_of, row_order, rows}
-use Rattle.snb_graph_model.specs.Soundness.{Held}
+use Rattle.snb_graph_model.specs.Soundness.{HoldsRefs}
 use Rattle.snb_graph_links.specs.Pairs.{ArePairsOf}
 use Rattle.snb_graph_rows.specs.KeysApart.{table_itself}
 use Rattle.snb_graph_adjacency.specs.declared.indexes.Indexes.{Indexes}
@@ -43,14 +44,14 @@ post_or_comment g m graph post comment =
     apart : table.Post ≡ table.Comment → ⊥
     apart e = absurd cc
 
-liked_post : (g : List Row) (m p d : ℕ) → Held g → Contains g (row.Dated table.PersonLikesPost p m d) → HasKey g (node_key kinds.Post m)
+liked_post : (g : List Row) (m p d : ℕ) → HoldsRefs g → Contains g (row.Dated table.PersonLikesPost p m d) → HasKey g (node_key kinds.Post m)
 liked_post g m p d held c = held (row.Dated table.PersonLikesPost p m d) c 1 (2, ref kinds.Post m) (omega arith)
 
-liked_comment : (g : List Row) (m p d : ℕ) → Held g → Contains g (row.Dated table.PersonLikesComment p m d) → HasKey g (node_key kinds.Comment m)
+liked_comment : (g : List Row) (m p d : ℕ) → HoldsRefs g → Contains g (row.Dated table.PersonLikesComment p m d) → HasKey g (node_key kinds.Comment m)
 liked_comment g m p d held c = held (row.Dated table.PersonLikesComment p m d) c 1 (2, ref kinds.Comment m) (omega arith)
 
 -- the likes of a post are all that its id has, and so are those of a comment
-pub post_likes : (g : List Row) (m : ℕ) (ps : List (ℕ × ℕ)) → IsGraph g → Held g → HasKey g (node_key kinds.Post m) → IsWalkOver (likes_in g table.PersonLikesPost m) ps → IsWalkOver (likes g m) ps
+pub post_likes : (g : List Row) (m : ℕ) (ps : List (ℕ × ℕ)) → IsGraph g → HoldsRefs g → HasKey g (node_key kinds.Post m) → IsWalkOver (likes_in g table.PersonLikesPost m) ps → IsWalkOver (likes g m) ps
 post_likes g m ps graph held post is = subst (λ l. IsWalkOver l ps) (sym alone) is
   where
     alone : likes g m ≡ likes_in g table.PersonLikesPost m
@@ -59,7 +60,7 @@ post_likes g m ps graph held post is = subst (λ l. IsWalkOver l ps) (sym alone)
         ∙ ap (λ l. likes_in g table.PersonLikesPost m ++ l) (none_of (likes_in g table.PersonLikesComment m) (λ y c. post_or_comment g m graph post (liked_comment g m y.0 y.1 held (liker_there g table.PersonLikesComment m y.0 y.1 c))))
         ∙ append-nil (likes_in g table.PersonLikesPost m)
 
-pub comment_likes : (g : List Row) (m : ℕ) (ps : List (ℕ × ℕ)) → Held g → ¬ HasKey g (node_key kinds.Post m) → IsWalkOver (likes_in g table.PersonLikesComment m) ps → IsWalkOver (likes g m) ps
+pub comment_likes : (g : List Row) (m : ℕ) (ps : List (ℕ × ℕ)) → HoldsRefs g → ¬ HasKey g (node_key kinds.Post m) → IsWalkOver (likes_in g table.PersonLikesComment m) ps → IsWalkOver (likes g m) ps
 comment_likes g m ps held none is = subst (λ l. IsWalkOver l ps) (sym alone) is
   where
     alone : likes g m ≡ likes_in g table.PersonLikesComment m

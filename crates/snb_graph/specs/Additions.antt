@@ -43,7 +43,8 @@ pub record IsKept (tables : Stock) (links : Indexes) : Type 0 where
   pub indexed : IsIndexed tables.rows links
   pub backed : IsBacked tables.frozen links
 
--- the graph has gained a row whose slot was free, and the note has its name and what it made of the links
+-- the graph has gained a row whose slot was free, and the note has its name and what it made of the
+-- links
 pub record IsNoteOf (before : List Row) (r : Row) (now : List Row) (note : Noted) : Type 0 where
   pub fits : IsName note.name
   pub named : name_key note.name ≡ row_key r
@@ -54,7 +55,8 @@ pub record IsNoteOf (before : List Row) (r : Row) (now : List Row) (note : Noted
 -- row by row the notes lead from one graph to another
 abbrev pub Lead : List Row → List Noted → List Row → Type 0
 Lead g [] now = now ≡ g
-Lead g (note ∷ notes) now = (r : Row) × (mid : List Row) × IsNoteOf g r mid note × Lead mid notes now
+Lead g (note ∷ notes) now =
+    (r : Row) × (mid : List Row) × IsNoteOf g r mid note × Lead mid notes now
 
 -- a row's name and what it made of the links are the last of the notes
 pub record HasNote (r : Row) (delta : LinkDelta) (was notes : List Noted) : Type 0 where
@@ -65,13 +67,15 @@ pub record HasNote (r : Row) (delta : LinkDelta) (was notes : List Noted) : Type
   pub links : note.delta ≡ delta
 
 -- the graph has gained a row, of which the last of the notes is
-pub record HasNoted (before : List Row) (r : Row) (now : List Row) (was notes : List Noted) : Type 0 where
+pub record HasNoted (before : List Row) (r : Row) (now : List Row) (was notes : List Noted)
+    : Type 0 where
   pub note : Noted
   pub last : notes ≡ was ++ note ∷ []
   pub is : IsNoteOf before r now note
 
 -- a row was added and noted, or rows and notes are as they were
-pub record HasMoved {E : Type 0} (old : Stock) (r : Row) (result : Result (Unit {0}) E) (new : Stock) (was notes : List Noted) : Type 0 where
+pub record HasMoved {E : Type 0} (old : Stock) (r : Row) (result : Result (Unit {0}) E)
+    (new : Stock) (was notes : List Noted) : Type 0 where
   pub ok : OnOk result (HasNoted old.rows r new.rows was notes)
   pub err : OnErr result (new.rows ≡ old.rows)
   pub same : OnErr result (notes ≡ was)

@@ -184,9 +184,11 @@ fn insert_one(
 
 // Takes out the row that was added last, with its links.
 fn take_last(tables: &mut Tables, links: &mut Indexes, noted: Noted)
-    requires some { (before : List Row) × (r : Row) × IsGraph before × IsNoteOf before r tables.old.rows noted × HoldsAll before tables.old.frozen }
+    requires some { (before : List Row) × (r : Row) × IsGraph before × IsNoteOf before r tables.old.rows noted
+        × HoldsAll before tables.old.frozen }
     requires kept { IsKept tables.old links.old }
-    ensures back { (before : List Row) (r : Row) → IsGraph before → IsNoteOf before r tables.old.rows noted → tables.new.rows ≡ before }
+    ensures back { (before : List Row) (r : Row) → IsGraph before → IsNoteOf before r tables.old.rows noted
+        → tables.new.rows ≡ before }
     ensures frozen { tables.new.frozen ≡ tables.old.frozen }
     ensures kept { IsKept tables.new links.new }
 {
@@ -200,7 +202,8 @@ fn take_last(tables: &mut Tables, links: &mut Indexes, noted: Noted)
 
 /// Takes out rows that were added, the last first.
 pub(crate) fn take_all(tables: &mut Tables, links: &mut Indexes, added: Vec<Noted>)
-    requires some { (old : List Row) × IsGraph old × Lead old added.items tables.old.rows × HoldsAll old tables.old.frozen }
+    requires some { (old : List Row) × IsGraph old × Lead old added.items tables.old.rows
+        × HoldsAll old tables.old.frozen }
     requires kept { IsKept tables.old links.old }
     ensures back { (old : List Row) → IsGraph old → Lead old added.items tables.old.rows → tables.new.rows ≡ old }
     ensures kept { IsKept tables.new links.new }

@@ -12,7 +12,7 @@ ghost use Rattle.snb_schema.specs.RowKeys.{node_key, slot_of};
 ghost use Rattle.snb_schema.specs.TableRows.{IsTableRow};
 ghost use Rattle.snb_graph_model.specs.Around.{friends, likes, likes_in, messages, replies, study, work};
 ghost use Rattle.snb_graph_model.specs.Graphs.{HasGained, HasKey, HasSlot, IsGraph, count, rows};
-ghost use Rattle.snb_graph_model.specs.Soundness.{Held as IsHeld};
+ghost use Rattle.snb_graph_model.specs.Soundness.{HoldsRefs as IsHeld};
 ghost use Rattle.snb_graph_rows.specs.Edges.{link_of};
 ghost use Rattle.snb_graph_tables.specs.declared.insert.Insert.TheVariants as Insert;
 ghost use Rattle.snb_graph_tables.specs.Words.{words_of};
@@ -256,8 +256,10 @@ impl Graph {
     /// post of this id, if it is held, and else those who like the comment. Where each node that a row
     /// refers to is held, these are all. Takes no memory.
     pub fn likes(&self, message: u64) -> Links<'_>
-        ensures post { HasKey self.now (node_key kinds.Post message) → IsWalkOver (likes_in self.now table.PersonLikesPost message) (rest result) }
-        ensures comment { ¬ HasKey self.now (node_key kinds.Post message) → IsWalkOver (likes_in self.now table.PersonLikesComment message) (rest result) }
+        ensures post { HasKey self.now (node_key kinds.Post message)
+            → IsWalkOver (likes_in self.now table.PersonLikesPost message) (rest result) }
+        ensures comment { ¬ HasKey self.now (node_key kinds.Post message)
+            → IsWalkOver (likes_in self.now table.PersonLikesComment message) (rest result) }
         ensures held { IsHeld self.now → IsWalkOver (likes self.now message) (rest result) }
     {
         match self.tables.post(message) {

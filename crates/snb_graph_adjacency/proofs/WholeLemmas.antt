@@ -14,7 +14,7 @@ use Rattle.snb_schema.specs.declared.table.Table.{Table}
 use Rattle.snb_schema.specs.declared.table.Table.TheVariants as table
 use Rattle.snb_schema.specs.Layouts.{key_columns, shape}
 use Rattle.snb_schema.specs.References.{from_kind}
-use Rattle.snb_schema.specs.RowLines.{table_of}
+use Rattle.snb_schema.specs.RowValues.{table_of}
 use Rattle.snb_schema.specs.TableRows.{IsTableRow}
 use Rattle.snb_graph_links.specs.Pairs.{AreSingle, HasPair, Lists}
 use Rattle.snb_graph_model.proofs.Laws.{in_rows}

@@ -30,8 +30,10 @@ goes_by_comments Study = false
 -- the walk goes along the edges of a table without dates, or with dates
 abbrev pub goes_by_links : Walk → Table → Bool
 goes_by_links Friends t = false
-goes_by_links Messages t = same_table t table.PostHasCreatorPerson || same_table t table.CommentHasCreatorPerson
-goes_by_links Replies t = same_table t table.CommentReplyOfPost || same_table t table.CommentReplyOfComment
+goes_by_links Messages t =
+    same_table t table.PostHasCreatorPerson || same_table t table.CommentHasCreatorPerson
+goes_by_links Replies t =
+    same_table t table.CommentReplyOfPost || same_table t table.CommentReplyOfComment
 goes_by_links PostLikes t = false
 goes_by_links CommentLikes t = false
 goes_by_links Work t = false

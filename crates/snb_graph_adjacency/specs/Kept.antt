@@ -59,7 +59,8 @@ HasGainedSome old link new = (l : Link) → HasLink new l ↔ (HasLink old l ⊎
 
 -- all links but those with the ends of this one, if there is one
 abbrev pub HasLostSome : Indexes → Option Link → Indexes → Type 0
-HasLostSome old link new = (l : Link) → HasLink new l ↔ (HasLink old l × ((k : Link) → link ≡ Some k → ¬ SameEnds k l))
+HasLostSome old link new =
+    (l : Link) → HasLink new l ↔ (HasLink old l × ((k : Link) → link ≡ Some k → ¬ SameEnds k l))
 
 -- the links are the same
 abbrev pub SameLinks : Indexes → Indexes → Type 0
@@ -88,7 +89,8 @@ HasLinkDelta old delta new = (l : Link) → HasLink new l ↔ (HasLink old l ⊎
 
 -- all links but those with the ends of the delta
 abbrev pub HasLostLinkDelta : Indexes → LinkDelta → Indexes → Type 0
-HasLostLinkDelta old delta new = (l : Link) → HasLink new l ↔ (HasLink old l × ((k : Link) → IsTold delta k → ¬ SameEnds k l))
+HasLostLinkDelta old delta new =
+    (l : Link) → HasLink new l ↔ (HasLink old l × ((k : Link) → IsTold delta k → ¬ SameEnds k l))
 
 -- what a walk from an id gives: a filter over the rows
 abbrev pub along : List Row → Walk → ℕ → List (ℕ × ℕ)

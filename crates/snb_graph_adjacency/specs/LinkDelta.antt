@@ -17,10 +17,13 @@ use Rattle.snb_graph_adjacency.specs.Links.{Tells, message_of}
 abbrev pub TellsLink : List Row → Link → Type 0
 TellsLink g l = Tells g l.walk l.of l.id l.date
 
--- with this row the rows tell of the delta too; and of none of them before, where the row's slot is free
+-- with this row the rows tell of the delta too; and of none of them before, where the row's slot is
+-- free
 pub record IsLinkDelta (g : List Row) (r : Row) (delta : LinkDelta) : Type 0 where
-  pub says : (new : List Row) → IsPermutation new (g ++ r ∷ []) → (l : Link) → TellsLink new l ↔ (TellsLink g l ⊎ IsTold delta l)
-  pub fresh : ¬ HasSlot g (slot_of r) → (k : Link) → IsTold delta k → (l : Link) → SameEnds k l → ¬ TellsLink g l
+  pub says : (new : List Row) → IsPermutation new (g ++ r ∷ []) → (l : Link)
+      → TellsLink new l ↔ (TellsLink g l ⊎ IsTold delta l)
+  pub fresh : ¬ HasSlot g (slot_of r) → (k : Link) → IsTold delta k → (l : Link) → SameEnds k l
+      → ¬ TellsLink g l
   pub apart : AreApart delta
 
 -- a link along a walk
@@ -33,7 +36,8 @@ pub record IsLinkDeltaOf (g : List Row) (r : Row) (walk : Walk) (one : Option Li
   pub says :
       (new : List Row) → IsPermutation new (g ++ r ∷ []) → (of id date : ℕ)
       → Tells new walk of id date ↔ (Tells g walk of id date ⊎ (one ≡ Some (link walk of id date)))
-  pub fresh : ¬ HasSlot g (slot_of r) → (k : Link) → one ≡ Some k → (date : ℕ) → ¬ Tells g walk k.of k.id date
+  pub fresh : ¬ HasSlot g (slot_of r) → (k : Link) → one ≡ Some k → (date : ℕ)
+      → ¬ Tells g walk k.of k.id date
 
 -- the message of a kind and id is held, and has this date
 abbrev pub IsDated : List Row → Kind → ℕ → ℕ → Type 0
@@ -45,12 +49,16 @@ IsUndated g kind id = (n : Row) (date : ℕ) → message_of n ≡ Some (kind, id
 
 -- an edge of one of the tables leads from messages of a kind, from this one to that id
 abbrev pub IsLed : (Table → Type 0) → List Row → Kind → ℕ → ℕ → Type 0
-IsLed Among g kind id to = (t : Table) × Among t × (from_kind t ≡ Some kind) × Contains g (row.Link t id to)
+IsLed Among g kind id to =
+    (t : Table) × Among t × (from_kind t ≡ Some kind) × Contains g (row.Link t id to)
 
 -- no edge of the tables does
 abbrev pub IsLedNowhere : (Table → Type 0) → List Row → Kind → ℕ → Type 0
-IsLedNowhere Among g kind id = (t : Table) → Among t → from_kind t ≡ Some kind → (to : ℕ) → ¬ Contains g (row.Link t id to)
+IsLedNowhere Among g kind id =
+    (t : Table) → Among t → from_kind t ≡ Some kind → (to : ℕ) → ¬ Contains g (row.Link t id to)
 
 -- no edge leads from the message
 abbrev pub IsAlone : List Row → Row → Type 0
-IsAlone g r = (kind : Kind) (id date : ℕ) → message_of r ≡ Some (kind, id, date) → (t : Table) → from_kind t ≡ Some kind → (to : ℕ) → ¬ Contains g (row.Link t id to)
+IsAlone g r =
+    (kind : Kind) (id date : ℕ) → message_of r ≡ Some (kind, id, date) → (t : Table)
+    → from_kind t ≡ Some kind → (to : ℕ) → ¬ Contains g (row.Link t id to)

@@ -12,7 +12,9 @@ use Rattle.snb_graph_adjacency.specs.declared.link.Walk.TheVariants.{Friends, Me
 
 -- two persons know each other from this date on
 abbrev pub IsFriendship : List Row → ℕ → ℕ → ℕ → Type 0
-IsFriendship g p q date = Contains g (row.Dated table.PersonKnowsPerson p q date) ⊎ Contains g (row.Dated table.PersonKnowsPerson q p date)
+IsFriendship g p q date =
+    Contains g (row.Dated table.PersonKnowsPerson p q date)
+    ⊎ Contains g (row.Dated table.PersonKnowsPerson q p date)
 
 -- of a post or comment its kind, id and creation date
 abbrev pub message_of : Row → Option (Kind × ℕ × ℕ)
@@ -28,7 +30,8 @@ IsCreatorTable t = (t ≡ table.PostHasCreatorPerson) ⊎ (t ≡ table.CommentHa
 abbrev pub IsParentTable : Table → Type 0
 IsParentTable t = (t ≡ table.CommentReplyOfPost) ⊎ (t ≡ table.CommentReplyOfComment)
 
--- an edge of one of the tables leads from a message that is held, of this id and creation date, to an id
+-- an edge of one of the tables leads from a message that is held, of this id and creation date, to
+-- an id
 pub record LeadsTo (Among : Table → Type 0) (g : List Row) (to id date : ℕ) : Type 0 where
   pub edge : Table
   pub among : Among edge
@@ -52,14 +55,17 @@ abbrev pub LikesPost : List Row → ℕ → ℕ → ℕ → Type 0
 LikesPost g post person date = Contains g (row.Dated table.PersonLikesPost person post date)
 
 abbrev pub LikesComment : List Row → ℕ → ℕ → ℕ → Type 0
-LikesComment g comment person date = Contains g (row.Dated table.PersonLikesComment person comment date)
+LikesComment g comment person date =
+    Contains g (row.Dated table.PersonLikesComment person comment date)
 
 -- a person works at an organisation since this year, or studied there
 abbrev pub WorksAt : List Row → ℕ → ℕ → ℕ → Type 0
-WorksAt g person organisation year = Contains g (row.Yeared table.PersonWorkAtOrganisation person organisation year)
+WorksAt g person organisation year =
+    Contains g (row.Yeared table.PersonWorkAtOrganisation person organisation year)
 
 abbrev pub StudiedAt : List Row → ℕ → ℕ → ℕ → Type 0
-StudiedAt g person organisation year = Contains g (row.Yeared table.PersonStudyAtOrganisation person organisation year)
+StudiedAt g person organisation year =
+    Contains g (row.Yeared table.PersonStudyAtOrganisation person organisation year)
 
 -- the rows tell of a link: whose it is, where it leads, and its date
 abbrev pub Tells : List Row → Walk → ℕ → ℕ → ℕ → Type 0

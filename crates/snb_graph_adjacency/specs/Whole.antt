@@ -24,7 +24,9 @@ IsLedBy g t kind of id date = Contains g (row.Link t id of) × IsDated g kind id
 
 -- these links more
 abbrev pub HasAddedLinks : List (ℕ × (ℕ × ℕ)) → (ℕ → ℕ → ℕ → Type 0) → List (ℕ × (ℕ × ℕ)) → Type 0
-HasAddedLinks old More new = (of id date : ℕ) → Contains new (of, (id, date)) ↔ (Contains old (of, (id, date)) ⊎ More of id date)
+HasAddedLinks old More new =
+    (of id date : ℕ) → Contains new (of, (id, date))
+    ↔ (Contains old (of, (id, date)) ⊎ More of id date)
 
 -- the pairs are those of these links
 abbrev pub ArePairsBy : (ℕ → ℕ → ℕ → Type 0) → Lists × Lists → Type 0

@@ -13,7 +13,7 @@ use Rattle.snb_schema.specs.declared.table.Table.{Table}
 use Rattle.snb_schema.specs.declared.table.Table.TheVariants as table
 use Rattle.snb_schema.specs.Layouts.{shape}
 use Rattle.snb_schema.specs.RowKeys.{RowKey, node_key, row_key}
-use Rattle.snb_schema.specs.RowLines.{row_shape, table_of}
+use Rattle.snb_schema.specs.RowValues.{row_shape, table_of}
 use Rattle.snb_schema.specs.TableRows.{IsTableRow}
 use Rattle.snb_graph_rows.specs.Keyed.{key_table}
 use Rattle.snb_graph_rows.specs.Pairs.{HasAdded, HasPair}
@@ -22,7 +22,7 @@ use Rattle.snb_graph_integrity.specs.Marks.{AreReached, ReachedIn}
 use Rattle.snb_graph_integrity.proofs.MarkLemmas.{last_cases}
 use Rattle.snb_graph_integrity.proofs.RowLemmas.{IsOf, among_rows, are_of, below_rest, from_rows, not_again, rest_rises, rows_rise}
 use Rattle.snb_graph_model.specs.Graphs.{HasKey, IsGraph, key_order, part, part_of, row_order, rows}
-use Rattle.snb_graph_model.specs.Soundness.{Cycle, EndsAfter, IsRooted}
+use Rattle.snb_graph_model.specs.Soundness.{IsCycle, EndsAfter, IsRooted}
 use Rattle.snb_base.proofs.Laws.{contains_cases, contains_here, contains_there}
 
 -- ---- links
@@ -261,7 +261,7 @@ in_order r s a b kr ks less = rises (sym (by_keys r s a b kr ks) ∙ less)
     rises : ordering_then (nat_cmp a b) (nat_cmp 0 0) ≡ Less → a ≤ b
     rises e = grind (arith, e)
 
-pub checking_found : (g left rest : List Row) (r : Row) (id : ℕ) → left ≡ r ∷ rest → id ≡ (row_key r).1 → ¬ IsRooted g id → IsChecking g left → Cycle g id
+pub checking_found : (g left rest : List Row) (r : Row) (id : ℕ) → left ≡ r ∷ rest → id ≡ (row_key r).1 → ¬ IsRooted g id → IsChecking g left → IsCycle g id
 checking_found g left rest r id is same loose checking = record {
   held = record { it = r; held = own.held; keyed = key };
   loose = loose;

@@ -13,10 +13,11 @@ use Rattle.snb_schema.specs.declared.row.Row.{Row}
 use Rattle.snb_schema.specs.declared.row.Row.TheVariants as row
 use Rattle.snb_schema.specs.declared.table.Table.{Table}
 use Rattle.snb_schema.specs.declared.table.Table.TheVariants as table
-use Rattle.snb_schema.specs.Layouts.{has_no_direction, key_columns, shape, shape_columns}
+use Rattle.snb_schema.specs.Layouts.{has_no_direction, key_columns, shape}
+use Rattle.snb_schema.specs.TableColumns.{shape_columns}
 use Rattle.snb_schema.specs.References.{required}
 use Rattle.snb_schema.specs.RowKeys.{RowKey, edge_key, row_key, slot, slot_of}
-use Rattle.snb_schema.specs.RowLines.{values}
+use Rattle.snb_schema.specs.RowValues.{values}
 use Rattle.snb_schema.specs.TableOrder.{all_tables, same_table}
 use Rattle.snb_schema.specs.TableRows.{AreWithin, HasLowerFirst, IsTableRow}
 use Rattle.snb_graph_rows.specs.Keyed.{key_table}

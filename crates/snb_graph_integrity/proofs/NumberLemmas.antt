@@ -8,9 +8,10 @@ use Rattle.snb_schema.specs.declared.column.Value.{Value}
 use Rattle.snb_schema.specs.declared.column.Value.TheVariants.{Digits, SmallDigits, Letters}
 use Rattle.snb_schema.specs.declared.layout.Shape.{Shape}
 use Rattle.snb_schema.specs.declared.layout.Shape.TheVariants as shapes
-use Rattle.snb_schema.specs.Layouts.{columns, shape, shape_columns}
-use Rattle.snb_schema.specs.RowLines.{table_of, values}
-use Rattle.snb_schema.specs.TableRows.{AreWithin, IsTableRow, IsWithin}
+use Rattle.snb_schema.specs.Layouts.{shape}
+use Rattle.snb_schema.specs.TableColumns.{columns, shape_columns}
+use Rattle.snb_schema.specs.RowValues.{table_of, values}
+use Rattle.snb_schema.specs.TableRows.{AreWithin, IsTableRow, IsInBounds}
 use Rattle.snb_graph_integrity.specs.SoundLaws.{FitsCell, NumbersFit}
 
 -- the column's bound fits a cell; dates and days have one bound, and texts have none
@@ -34,7 +35,7 @@ low shapes.Yeared = (omega arith, (omega arith, (omega arith, tt)))
 low shapes.Word = (omega arith, (tt, tt))
 
 -- a value within the bounds of such a column fits
-fits : (c : Column) (v : Value) → IsLow c → IsWithin c v → FitsCell v
+fits : (c : Column) (v : Value) → IsLow c → IsInBounds c v → FitsCell v
 fits (Number most) (Digits n) is within = omega (arith, is, within)
 fits (Small most) (SmallDigits n) is within = omega (arith, is, within)
 fits Date (Digits n) is within = omega (arith, within)

@@ -12,9 +12,10 @@ use Rattle.snb_schema.specs.declared.layout.Shape.TheVariants as shapes
 use Rattle.snb_schema.specs.declared.row.Row.{Row}
 use Rattle.snb_schema.specs.declared.row.Row.TheVariants as row
 use Rattle.snb_schema.specs.declared.table.Table.{Table}
-use Rattle.snb_schema.specs.Layouts.{key_columns, shape_columns}
+use Rattle.snb_schema.specs.Layouts.{key_columns}
+use Rattle.snb_schema.specs.TableColumns.{shape_columns}
 use Rattle.snb_schema.specs.RowKeys.{edge_key, row_key}
-use Rattle.snb_schema.specs.RowLines.{table_of, values}
+use Rattle.snb_schema.specs.RowValues.{table_of, values}
 use Rattle.snb_schema.specs.TableOrder.{same_table}
 use Rattle.snb_schema.specs.TableRows.{AreWithin, IsTableRow}
 use Rattle.snb_graph_rows.specs.Rows.{GivesRow}

@@ -13,7 +13,7 @@ use Rattle.snb_schema.specs.declared.table.Table.TheVariants as table
 use Rattle.snb_schema.specs.Layouts.{key_columns, shape}
 use Rattle.snb_schema.specs.References.{end_ref, from_kind, ref, required, to_kind}
 use Rattle.snb_schema.specs.RowKeys.{RowKey, edge_key, node_key, row_key, sharing, slot, slot_of}
-use Rattle.snb_schema.specs.RowLines.{table_of}
+use Rattle.snb_schema.specs.RowValues.{table_of}
 use Rattle.snb_schema.specs.TableOrder.{all_tables, same_table}
 use Rattle.snb_schema.specs.TableRows.{IsTableRow}
 use Rattle.snb_graph_rows.specs.Keyed.{key_table}

@@ -27,10 +27,12 @@ missing_of g needs = filter (λ need. not (fills g (slot (need.2, need.1, 0, [])
 
 -- the edge is the first of those that are missing
 abbrev pub TellsFirst : List Need → Unsound → Type 0
-TellsFirst missing (Lacks node id edge) = (others : List Need) × (missing ≡ (node, id, edge) ∷ others)
+TellsFirst missing (Lacks node id edge) =
+    (others : List Need) × (missing ≡ (node, id, edge) ∷ others)
 TellsFirst missing (Cycle comment) = ⊥
 TellsFirst missing Memory = Unit {0}
 
 -- nothing of it is missing, or the first that is missing is told, or memory doesn't suffice
 abbrev pub Finds : List Row → List Need → Result (Unit {0}) Unsound → Type 0
-Finds g needs result = MatchResult result (λ u. missing_of g needs ≡ []) (TellsFirst (missing_of g needs))
+Finds g needs result =
+    MatchResult result (λ u. missing_of g needs ≡ []) (TellsFirst (missing_of g needs))

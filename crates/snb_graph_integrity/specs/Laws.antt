@@ -12,4 +12,5 @@ SoundIsNotWrong = (g : List Row) (e : Unsound) → e ≢ Memory → Sound g → 
 
 -- and of a graph that isn't sound one thing is wrong first
 abbrev pub OneIsWrong : Type 0
-OneIsWrong = (g : List Row) (e f : Unsound) → e ≢ Memory → f ≢ Memory → IsWrong g e → IsWrong g f → e ≡ f
+OneIsWrong =
+    (g : List Row) (e f : Unsound) → e ≢ Memory → f ≢ Memory → IsWrong g e → IsWrong g f → e ≡ f

@@ -18,12 +18,16 @@ IsMarked marks c = (d : ℕ) × HasPair marks c 0 d
 abbrev pub AreReached : List ((ℕ × ℕ) × ℕ) → List ℕ → List ((ℕ × ℕ) × ℕ) → Type 0
 AreReached es roots marks = (c : ℕ) → IsMarked marks c ↔ IsReached es roots c
 
--- what is marked or is to be looked at is reached, the roots are among it, and so are the pairs of what is marked
-pub record IsMarking (es : List ((ℕ × ℕ) × ℕ)) (roots : List ℕ) (marks : List ((ℕ × ℕ) × ℕ)) (ahead : List ℕ) : Type 0 where
+-- what is marked or is to be looked at is reached, the roots are among it, and so are the pairs of
+-- what is marked
+pub record IsMarking (es : List ((ℕ × ℕ) × ℕ)) (roots : List ℕ) (marks : List ((ℕ × ℕ) × ℕ))
+    (ahead : List ℕ) : Type 0 where
   pub reached : (c : ℕ) → IsMarked marks c ⊎ Contains ahead c → IsReached es roots c
   pub begun : (c : ℕ) → Contains roots c → IsMarked marks c ⊎ Contains ahead c
-  pub closed : (p c d : ℕ) → IsMarked marks p → HasPair es p c d → IsMarked marks c ⊎ Contains ahead c
+  pub closed : (p c d : ℕ) → IsMarked marks p → HasPair es p c d
+      → IsMarked marks c ⊎ Contains ahead c
 
 -- the ids of an id's pairs are added to a list
 abbrev pub HasChildren : List ((ℕ × ℕ) × ℕ) → ℕ → List ℕ → List ℕ → Type 0
-HasChildren es p old new = (c : ℕ) → Contains new c ↔ (Contains old c ⊎ ((d : ℕ) × HasPair es p c d))
+HasChildren es p old new =
+    (c : ℕ) → Contains new c ↔ (Contains old c ⊎ ((d : ℕ) × HasPair es p c d))

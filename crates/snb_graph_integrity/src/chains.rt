@@ -3,7 +3,7 @@
 ghost use Rattle.std.specs.Prelude.{◌≡◌, IfOk};
 ghost use Rattle.snb_schema.specs.declared.layout.Shape.TheVariants as shapes;
 ghost use Rattle.snb_schema.specs.declared.row.Row.TheVariants as row;
-ghost use Rattle.snb_schema.specs.RowLines.{row_shape, table_of};
+ghost use Rattle.snb_schema.specs.RowValues.{row_shape, table_of};
 ghost use Rattle.snb_graph_integrity.specs.Chains.{AreReplies, AreRoots, FindsCycle, MarksRooted};
 
 use crate::edges::first_id;

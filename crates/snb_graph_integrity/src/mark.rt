@@ -18,7 +18,9 @@ fn push_pairs(pairs: &Index, of: u64, ahead: &mut Vec<u64>) -> Result<(), AllocE
 
 // Marks an id that was to be looked at, and notes where its pairs lead.
 fn look(pairs: &Index, marks: &mut Index, ahead: &mut Vec<u64>, id: u64) -> Result<(), AllocError>
-    ensures { OnOk result ((roots : List ℕ) → IsMarking pairs.now roots marks.old (ahead.old.items ++ id ∷ []) → IsMarking pairs.now roots marks.new ahead.new.items) }
+    ensures { OnOk result
+        ((roots : List ℕ) → IsMarking pairs.now roots marks.old (ahead.old.items ++ id ∷ [])
+        → IsMarking pairs.now roots marks.new ahead.new.items) }
 {
     if marks.has(id, 0) {
         return Ok(());

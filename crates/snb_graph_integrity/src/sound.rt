@@ -2,7 +2,7 @@
 
 ghost use Rattle.std.specs.Prelude.{IfErr, OnOk};
 ghost use Rattle.snb_graph_integrity.specs.Outcomes.{IsWrong};
-ghost use Rattle.snb_graph_model.specs.Soundness.{Held, Sound};
+ghost use Rattle.snb_graph_model.specs.Soundness.{HoldsRefs, Sound};
 
 use crate::chains::check_chains;
 use crate::edges::check_edges;
@@ -14,7 +14,7 @@ use std::alloc::Global;
 /// have, and the chain of each comment's parents ends at a post. If not, what is wrong first. It
 /// doesn't look at references.
 pub fn sound(alloc: Global, tables: &Tables) -> Result<(), Unsound>
-    ensures ok { OnOk result (Held tables.now.rows → Sound tables.now.rows) }
+    ensures ok { OnOk result (HoldsRefs tables.now.rows → Sound tables.now.rows) }
     ensures err { IfErr result (IsWrong tables.now.rows) }
 {
     check_edges(tables)?;

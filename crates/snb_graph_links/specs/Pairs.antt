@@ -25,7 +25,8 @@ part ps span = take (span.1 - span.0) (drop span.0 ps)
 abbrev pub runs_of : List (ℕ × (ℕ × ℕ)) → List (ℕ × ℕ) → Lists
 runs_of heads ps = map (λ h. (h.0, part ps h.1)) heads
 
--- the heads when the pairs at a place more are a number's: the last head has them too, where it is the number's
+-- the heads when the pairs at a place more are a number's: the last head has them too, where it is
+-- the number's
 abbrev pub grown : List (ℕ × (ℕ × ℕ)) → ℕ → ℕ × ℕ → List (ℕ × (ℕ × ℕ))
 grown [] of span = (of, span) ∷ []
 grown (h ∷ []) of span = cond (nat_eq h.0 of) ((h.0, (h.1.0, span.1)) ∷ []) (h ∷ (of, span) ∷ [])
@@ -67,15 +68,20 @@ SamePairs old new = (q : ℕ) → pairs_of new q ≡ pairs_of old q
 
 -- a pair is added to one number, and no other number's pairs change
 abbrev pub AddsPair : Lists × Lists → Lists × Lists → ℕ → ℕ → ℕ → Type 0
-AddsPair old new of id date = (q : ℕ) → pairs_of new q ≡ cond (nat_eq q of) (insert_entry nat_cmp (pairs_of old of) id date) (pairs_of old q)
+AddsPair old new of id date =
+    (q : ℕ) → pairs_of new q ≡ cond (nat_eq q of) (insert_entry nat_cmp (pairs_of old of) id date)
+    (pairs_of old q)
 
 -- the same in one part
 abbrev pub PutsPair : Lists → Lists → ℕ → ℕ → ℕ → Type 0
-PutsPair old new of id date = (q : ℕ) → pairs_at new q ≡ cond (nat_eq q of) (insert_entry nat_cmp (pairs_at old of) id date) (pairs_at old q)
+PutsPair old new of id date =
+    (q : ℕ) → pairs_at new q ≡ cond (nat_eq q of) (insert_entry nat_cmp (pairs_at old of) id date)
+    (pairs_at old q)
 
 -- a pair is taken out of one part
 abbrev pub TakesPair : Lists → Lists → ℕ → ℕ → Type 0
-TakesPair old new of id = (q : ℕ) → pairs_at new q ≡ cond (nat_eq q of) (without id (pairs_at old of)) (pairs_at old q)
+TakesPair old new of id =
+    (q : ℕ) → pairs_at new q ≡ cond (nat_eq q of) (without id (pairs_at old of)) (pairs_at old q)
 
 -- at each number the two parts rise, and share no id
 abbrev pub ArePairParts : Lists → Lists → Type 0
@@ -111,11 +117,13 @@ HasFrozenPair s of id date = Contains (pairs_at s.0 of) (id, date)
 
 -- one pair more
 abbrev pub HasAdded : Lists × Lists → ℕ → ℕ → ℕ → Lists × Lists → Type 0
-HasAdded old of id date new = (n i d : ℕ) → HasPair new n i d ↔ (HasPair old n i d ⊎ ((of ≡ n) × (id ≡ i) × (date ≡ d)))
+HasAdded old of id date new =
+    (n i d : ℕ) → HasPair new n i d ↔ (HasPair old n i d ⊎ ((of ≡ n) × (id ≡ i) × (date ≡ d)))
 
 -- all pairs but one
 abbrev pub HasDropped : Lists × Lists → ℕ → ℕ → Lists × Lists → Type 0
-HasDropped old of id new = (n i d : ℕ) → HasPair new n i d ↔ (HasPair old n i d × ¬ ((of ≡ n) × (id ≡ i)))
+HasDropped old of id new =
+    (n i d : ℕ) → HasPair new n i d ↔ (HasPair old n i d × ¬ ((of ≡ n) × (id ≡ i)))
 
 -- the pairs are those of a number, by rising id
 pub record ArePairsOf (s : Lists × Lists) (of : ℕ) (ps : List (ℕ × ℕ)) : Type 0 where

@@ -36,7 +36,8 @@ fn put(
     requires rises { Rises nat_cmp (pairs_at (lists_of map.old.entries) of) }
     requires absent { value_at nat_cmp (pairs_at (lists_of map.old.entries) of) id ≡ None }
     ensures ok { OnOk result (PutsPair (lists_of map.old.entries) (lists_of map.new.entries) of id date) }
-    ensures err { OnErr result ((q : ℕ) → pairs_at (lists_of map.new.entries) q ≡ pairs_at (lists_of map.old.entries) q) }
+    ensures err { OnErr result
+        ((q : ℕ) → pairs_at (lists_of map.new.entries) q ≡ pairs_at (lists_of map.old.entries) q) }
 {
     if let Some(pairs) = map.get_mut(&of) {
         return put_pair(pairs, id, date);
@@ -87,7 +88,8 @@ fn joined(
     added: &BTreeMap<u64, Vec<(u64, u64)>>,
 ) -> Result<BTreeMap<u64, Vec<(u64, u64)>>, AllocError>
     requires { ArePairParts frozen.now (lists_of added.now.entries) }
-    ensures { IfOk result (λ whole. (q : ℕ) → pairs_at (lists_of whole.entries) q ≡ pairs_of (frozen.now, lists_of added.now.entries) q) }
+    ensures { IfOk result
+        (λ whole. (q : ℕ) → pairs_at (lists_of whole.entries) q ≡ pairs_of (frozen.now, lists_of added.now.entries) q) }
 {
     let mut whole = added.clone()?;
     for (of, _) in frozen.heads() {
@@ -151,7 +153,8 @@ impl AdjacencyMap {
     /// The condition: links with the same ends have one date.
     pub fn of(alloc: Global, mut links: Vec<(u64, (u64, u64))>) -> Result<Self, AllocError>
         requires { AreSingle links.items }
-        ensures { IfOk result (λ all. (of id date : ℕ) → HasPair all of id date ↔ Contains links.items (of, (id, date))) }
+        ensures { IfOk result
+            (λ all. (of id date : ℕ) → HasPair all of id date ↔ Contains links.items (of, (id, date))) }
     {
         links.sort()?;
         links.dedup();

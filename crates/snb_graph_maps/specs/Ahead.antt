@@ -4,7 +4,8 @@ use Rattle.std.specs.declared.cmp.Ordering.{Ordering}
 use Rattle.std.specs.Ordering.{is_le, is_lt}
 use Rattle.snb_graph_maps.specs.Merged.{merged, value_at}
 
--- the entries that aren't frozen: those that wait, where a map is loaded, and else those of the ordered map
+-- the entries that aren't frozen: those that wait, where a map is loaded, and else those of the
+-- ordered map
 abbrev pub waiting : {E : Type 0} → Option (List E) → List E → List E
 waiting None es = es
 waiting (Some ps) es = ps

@@ -38,7 +38,9 @@ fn is_from<K: Apart>(low: Option<&K>, key: &K) -> bool
 
 // The lesser of a key above one and the least of those before it.
 fn lesser<'a, K: Apart>(low: Option<&K>, key: &'a K, least: Option<&'a K>) -> Option<&'a K>
-    ensures { option_copied result ≡ cond (is_above K.cmp (option_copied low.entry) key.now && not (is_from K.cmp (option_copied least.entry) key.now)) (Some key.now) (option_copied least.entry) }
+    ensures { option_copied result
+        ≡ cond (is_above K.cmp (option_copied low.entry) key.now
+        && not (is_from K.cmp (option_copied least.entry) key.now)) (Some key.now) (option_copied least.entry) }
 {
     if is_above(low, key) && !is_from(least, key) {
         Some(key)
@@ -60,7 +62,8 @@ fn least_above<'a, K: Apart>(keys: &'a [K], low: Option<&K>) -> Option<&'a K>
 
 // The least key above one.
 fn least_in<'a, K: Apart, V>(map: &'a IndexMap<K, V>, low: Option<&K>) -> Option<&'a K>
-    ensures { IsLeast K.cmp (is_above K.cmp (option_copied low.entry)) (keys_of map.now.entries) (option_copied result) }
+    ensures { IsLeast K.cmp (is_above K.cmp (option_copied low.entry)) (keys_of map.now.entries)
+        (option_copied result) }
 {
     least_above(map.keys().as_slice(), low)
 }

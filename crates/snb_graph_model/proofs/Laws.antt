@@ -32,10 +32,11 @@ use Rattle.snb_schema.specs.declared.row.Row.TheVariants as row
 use Rattle.snb_schema.specs.declared.table.Kind.TheVariants as kinds
 use Rattle.snb_schema.specs.declared.table.Table.TheVariants as table
 use Rattle.snb_schema.specs.Layouts.{key_columns}
-use Rattle.snb_schema.specs.RowLines.{table_of}
+use Rattle.snb_schema.specs.RowValues.{table_of}
 use Rattle.snb_schema.specs.TableRows.{IsTableRow}
 use Rattle.snb_graph_model.specs.Graphs.{key_order, part, row_order, HasKey, IsGraph, rows}
-use Rattle.snb_graph_model.specs.Around.{authors, comment_shown, comments, containers, end_in, ends, forum_in, forums, friend_in, friends, has, is_friend, liker_in, likes, likes_in, Message, message_in, message_of, messages, organisation_in, parents, person_in, persons, place_in, post_shown, replies, reply_of, start_in, stay_in, with_id}
+use Rattle.snb_graph_model.specs.Around.{authors, comments, containers, ends, forums, friends, is_friend, likes, likes_in, message_of, messages, parents, persons, replies, reply_of, with_id}
+use Rattle.snb_graph_model.specs.RowParts.{comment_shown, end_in, forum_in, friend_in, has, liker_in, Message, message_in, organisation_in, person_in, place_in, post_shown, start_in, stay_in}
 use Rattle.snb_graph_model.specs.Messages.{HasMessage, RepliesTo}
 use Rattle.std.proofs.lemmas.Option.{cond_some}
 use Rattle.snb_schema.specs.declared.nodes.Organisation.{Organisation}

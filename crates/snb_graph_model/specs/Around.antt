@@ -1,5 +1,5 @@
 -- What a graph holds around a person or a message: filters of its rows.
-use Rattle.std.specs.Prelude.{ℕ, ◌==◌, Bool, List, [], ◌∷◌, ◌++◌, Option, Some, None, if◌then◌else◌}
+use Rattle.std.specs.Prelude.{ℕ, ◌==◌, Bool, List, ◌++◌, Option, Some, None, if◌then◌else◌}
 use Rattle.std.specs.List.{filter_map, list_any}
 use Rattle.snb_schema.specs.declared.nodes.Comment.{Comment}
 use Rattle.snb_schema.specs.declared.nodes.Forum.{Forum}
@@ -12,79 +12,7 @@ use Rattle.snb_schema.specs.declared.row.Row.TheVariants as row
 use Rattle.snb_schema.specs.declared.table.Table.{Table}
 use Rattle.snb_schema.specs.declared.table.Table.TheVariants as table
 use Rattle.snb_graph_model.specs.Graphs.{rows}
-
--- what a read shows of a post or a comment
-pub record Message : Type 0 where
-  pub id : ℕ
-  pub date : ℕ
-  pub content : List ℕ
-
--- a text, or another where it is empty
-abbrev pub or_else : List ℕ → List ℕ → List ℕ
-or_else [] other = other
-or_else (x ∷ xs) other = x ∷ xs
-
--- a post shows its content, or its image where it has none; a comment shows its content
-abbrev pub post_shown : Post → Message
-post_shown q = record { id = q.id; date = q.creation_date; content = or_else q.content q.image_file }
-
-abbrev pub comment_shown : Comment → Message
-comment_shown c = record { id = c.id; date = c.creation_date; content = c.content }
-
--- the node of a row, where it has that id
-abbrev pub person_in : ℕ → Row → Option Person
-person_in id (row.Person p) = if p.id == id then Some p else None
-person_in id other = None
-
-abbrev pub forum_in : ℕ → Row → Option Forum
-forum_in id (row.Forum f) = if f.id == id then Some f else None
-forum_in id other = None
-
-abbrev pub place_in : ℕ → Row → Option Place
-place_in id (row.Place p) = if p.id == id then Some p else None
-place_in id other = None
-
-abbrev pub organisation_in : ℕ → Row → Option Organisation
-organisation_in id (row.Organisation o) = if o.id == id then Some o else None
-organisation_in id other = None
-
-abbrev pub message_in : ℕ → Row → Option Message
-message_in id (row.Post q) = if q.id == id then Some (post_shown q) else None
-message_in id (row.Comment c) = if c.id == id then Some (comment_shown c) else None
-message_in id other = None
-
--- where an edge from there leads, and from where an edge leads there
-abbrev pub end_in : ℕ → Row → Option ℕ
-end_in from (row.Link t a b) = if a == from then Some b else None
-end_in from other = None
-
-abbrev pub start_in : ℕ → Row → Option ℕ
-start_in to (row.Link t a b) = if b == to then Some a else None
-start_in to other = None
-
--- the other end of a friendship, and its date
-abbrev pub friend_in : ℕ → Row → Option (ℕ × ℕ)
-friend_in p (row.Dated t low high date) = if low == p then Some (high, date) else (if high == p then Some (low, date) else None)
-friend_in p other = None
-
--- who likes the message, and the date
-abbrev pub liker_in : ℕ → Row → Option (ℕ × ℕ)
-liker_in m (row.Dated t from to date) = if to == m then Some (from, date) else None
-liker_in m other = None
-
--- where the person is, and the year
-abbrev pub stay_in : ℕ → Row → Option (ℕ × ℕ)
-stay_in p (row.Yeared t from to year) = if from == p then Some (to, year) else None
-stay_in p other = None
-
--- the text, where it is the person's
-abbrev pub word_in : ℕ → Row → Option (List ℕ)
-word_in p (row.Word t from text) = if from == p then Some text else None
-word_in p other = None
-
--- the id is among these
-abbrev pub has : ℕ → List ℕ → Bool
-has x xs = list_any (λ y. y == x) xs
+use Rattle.snb_graph_model.specs.RowParts.{Message, end_in, forum_in, friend_in, has, liker_in, message_in, organisation_in, person_in, place_in, start_in, stay_in, word_in}
 
 module _ (g : List Row) where
   -- the nodes of that id: at most one
@@ -124,8 +52,10 @@ module _ (g : List Row) where
 
   -- a message of the person, and its date
   abbrev pub message_of : ℕ → Row → Option (ℕ × ℕ)
-  message_of p (row.Post q) = if has p (ends table.PostHasCreatorPerson q.id) then Some (q.id, q.creation_date) else None
-  message_of p (row.Comment c) = if has p (ends table.CommentHasCreatorPerson c.id) then Some (c.id, c.creation_date) else None
+  message_of p (row.Post q) =
+      if has p (ends table.PostHasCreatorPerson q.id) then Some (q.id, q.creation_date) else None
+  message_of p (row.Comment c) =
+      if has p (ends table.CommentHasCreatorPerson c.id) then Some (c.id, c.creation_date) else None
   message_of p other = None
 
   -- a direct reply to the message, and its date
@@ -151,7 +81,8 @@ module _ (g : List Row) where
 
   -- who likes the message, with the dates
   abbrev pub likes : ℕ → List (ℕ × ℕ)
-  likes m = filter_map (liker_in m) (rows g table.PersonLikesPost ++ rows g table.PersonLikesComment)
+  likes m =
+      filter_map (liker_in m) (rows g table.PersonLikesPost ++ rows g table.PersonLikesComment)
 
   -- where the person works and where they studied, with the years
   abbrev pub work : ℕ → List (ℕ × ℕ)

@@ -13,11 +13,12 @@ use Rattle.snb_schema.specs.declared.row.Row.{Row}
 use Rattle.snb_schema.specs.declared.table.Table.{Table}
 use Rattle.snb_schema.specs.Layouts.{shape}
 use Rattle.snb_schema.specs.RowKeys.{RowKey, named_key, row_key, slot_of}
-use Rattle.snb_schema.specs.RowLines.{table_of}
+use Rattle.snb_schema.specs.RowValues.{table_of}
 use Rattle.snb_schema.specs.TableOrder.{same_table, table_order}
 use Rattle.snb_schema.specs.TableRows.{IsTableRow}
 
--- the part of a graph in which rows of a shape stand: a part for each kind of node, one for all edges, and one for the words
+-- the part of a graph in which rows of a shape stand: a part for each kind of node, one for all
+-- edges, and one for the words
 abbrev pub part_of : Shape → ℕ
 part_of shapes.Place = 0
 part_of shapes.TagClass = 1
@@ -42,7 +43,9 @@ part r = part_of (shape (table_of r))
 
 -- the order of keys: by table, then by ids as numbers, then by the bytes of a text
 abbrev pub key_order : RowKey → RowKey → Ordering
-key_order j k = ordering_then (table_order j.0 k.0) (ordering_then (nat_cmp j.1 k.1) (ordering_then (nat_cmp j.2 k.2) (slice_cmp nat_cmp j.3 k.3)))
+key_order j k =
+    ordering_then (table_order j.0 k.0)
+    (ordering_then (nat_cmp j.1 k.1) (ordering_then (nat_cmp j.2 k.2) (slice_cmp nat_cmp j.3 k.3)))
 
 -- the order of rows: by part, and within a part by key
 abbrev pub row_order : Row → Row → Ordering

@@ -1,3 +1,4 @@
+pub mod RowParts
 pub mod Around
 pub mod FinalText
 pub mod Graphs

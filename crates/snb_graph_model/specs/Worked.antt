@@ -38,13 +38,33 @@ before_place =
     ∷ row.Place (record { id = 1; name = codes "Townville"; url = codes "u"; kind = codes "city" })
     ∷ row.TagClass (record { id = 0; name = codes "Thing"; url = codes "u" })
     ∷ row.Tag (record { id = 0; name = codes "Tea"; url = codes "u" })
-    ∷ row.Organisation (record { id = 0; kind = codes "company"; name = codes "Acme"; url = codes "u" })
-    ∷ row.Organisation (record { id = 1; kind = codes "university"; name = codes "Uni"; url = codes "u" })
+    ∷ row.Organisation
+    (record { id = 0; kind = codes "company"; name = codes "Acme"; url = codes "u" })
+    ∷ row.Organisation
+    (record { id = 1; kind = codes "university"; name = codes "Uni"; url = codes "u" })
     ∷ row.Person ann
     ∷ row.Person bob
     ∷ row.Forum (record { id = 20; title = codes "Wall"; creation_date = 4000 })
-    ∷ row.Post (record { id = 30; image_file = []; creation_date = 5000; location_ip = codes "1.1.1.1"; browser_used = codes "Firefox"; language = codes "en"; content = codes "Hi"; length = 2 })
-    ∷ row.Comment (record { id = 31; creation_date = 6000; location_ip = codes "1.1.1.2"; browser_used = codes "Chrome"; content = codes "Yo"; length = 2 })
+    ∷ row.Post
+    (record {
+      id = 30;
+      image_file = [];
+      creation_date = 5000;
+      location_ip = codes "1.1.1.1";
+      browser_used = codes "Firefox";
+      language = codes "en";
+      content = codes "Hi";
+      length = 2;
+    })
+    ∷ row.Comment
+    (record {
+      id = 31;
+      creation_date = 6000;
+      location_ip = codes "1.1.1.2";
+      browser_used = codes "Chrome";
+      content = codes "Yo";
+      length = 2;
+    })
     ∷ row.Link table.PlaceIsPartOfPlace 1 0
     ∷ row.Link table.TagHasTypeTagClass 0 0
     ∷ row.Link table.OrganisationIsLocatedInPlace 0 0
@@ -73,7 +93,8 @@ after_place =
     ∷ row.Word table.PersonSpeaksLanguage 10 (codes "en")
     ∷ []
 
--- the network: two places, two persons who know each other, a forum with a post, a comment on it, and so on
+-- the network: two places, two persons who know each other, a forum with a post, a comment on it,
+-- and so on
 abbrev pub network : List Row
 network = before_place ++ row.Link table.PersonIsLocatedInPlace 10 1 ∷ after_place
 
@@ -83,7 +104,16 @@ without_place = before_place ++ after_place
 
 -- a comment of this id
 abbrev pub comment : ℕ → Row
-comment n = row.Comment (record { id = n; creation_date = 0; location_ip = []; browser_used = []; content = []; length = 0 })
+comment n =
+    row.Comment
+    (record {
+      id = n;
+      creation_date = 0;
+      location_ip = [];
+      browser_used = [];
+      content = [];
+      length = 0;
+    })
 
 -- comments 31 and 32 reply to each other, 30 to 32, and 29 to the post 5
 abbrev pub circle : List Row

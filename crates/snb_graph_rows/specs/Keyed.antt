@@ -8,7 +8,7 @@ use Rattle.snb_schema.specs.declared.row.Row.TheVariants as row
 use Rattle.snb_schema.specs.declared.table.Table.{Table}
 use Rattle.snb_schema.specs.Layouts.{key_columns}
 use Rattle.snb_schema.specs.RowKeys.{edge_key, row_key}
-use Rattle.snb_schema.specs.RowLines.{table_of}
+use Rattle.snb_schema.specs.RowValues.{table_of}
 use Rattle.snb_graph_model.specs.Graphs.{part, row_order}
 
 edge_table : (columns : KeyColumns) (t : Table) (from to : ℕ) → (edge_key columns t from to).0 ≡ t

@@ -28,30 +28,47 @@ abbrev pub three : Ordering → Ordering → Ordering → Ordering
 three o p q = ordering_then o (ordering_then p q)
 
 pub three_equal : (o p q : Ordering) → three o p q ≡ Equal → (o ≡ Equal) × (p ≡ Equal) × (q ≡ Equal)
-three_equal o p q e = let one = then_equal o (ordering_then p q) e in let two = then_equal p q one.1 in (one.0, two.0, two.1)
+three_equal o p q e =
+    let one = then_equal o (ordering_then p q) e in let two =
+    then_equal p q one.1 in (one.0, two.0, two.1)
 
 -- keys that compare alike are equal
-pub edge_exact : (j k : EdgeKey) → three (table_order j.table k.table) (nat_cmp j.first k.first) (nat_cmp j.second k.second) ≡ Equal → j ≡ k
+pub edge_exact : (j k : EdgeKey)
+    → three (table_order j.table k.table) (nat_cmp j.first k.first) (nat_cmp j.second k.second)
+    ≡ Equal → j ≡ k
 edge_exact j k e =
-    let all = three_equal (table_order j.table k.table) (nat_cmp j.first k.first) (nat_cmp j.second k.second) e in
+    let all =
+    three_equal (table_order j.table k.table) (nat_cmp j.first k.first)
+    (nat_cmp j.second k.second) e in
     let t = table_exact j.table k.table all.0 in
     let a = exact_unsigned j.first k.first all.1 in
     let b = exact_unsigned j.second k.second all.2 in
     λ i. record { table = t i; first = a i; second = b i }
 
-pub word_exact : (j k : WordKey) → three (table_order j.table k.table) (nat_cmp j.person k.person) (slice_cmp nat_cmp j.text k.text) ≡ Equal → j ≡ k
+pub word_exact : (j k : WordKey)
+    → three (table_order j.table k.table) (nat_cmp j.person k.person)
+    (slice_cmp nat_cmp j.text k.text) ≡ Equal → j ≡ k
 word_exact j k e =
-    let all = three_equal (table_order j.table k.table) (nat_cmp j.person k.person) (slice_cmp nat_cmp j.text k.text) e in
+    let all =
+    three_equal (table_order j.table k.table) (nat_cmp j.person k.person)
+    (slice_cmp nat_cmp j.text k.text) e in
     let t = table_exact j.table k.table all.0 in
     let a = exact_unsigned j.person k.person all.1 in
     let b = exact_bytes j.text k.text all.2 in
     λ i. record { table = t i; person = a i; text = b i }
 
 -- keys compare as the rows' keys do
-pub edge_order : (j k : EdgeKey) → key_order (edge_name j) (edge_name k) ≡ three (table_order j.table k.table) (nat_cmp j.first k.first) (nat_cmp j.second k.second)
-edge_order j k = ap (λ o. ordering_then (table_order j.table k.table) (ordering_then (nat_cmp j.first k.first) o)) (then_last (nat_cmp j.second k.second))
+pub edge_order : (j k : EdgeKey)
+    → key_order (edge_name j) (edge_name k)
+    ≡ three (table_order j.table k.table) (nat_cmp j.first k.first) (nat_cmp j.second k.second)
+edge_order j k =
+    ap (λ o. ordering_then (table_order j.table k.table)
+    (ordering_then (nat_cmp j.first k.first) o)) (then_last (nat_cmp j.second k.second))
 
-pub word_order : (j k : WordKey) → key_order (word_name j) (word_name k) ≡ three (table_order j.table k.table) (nat_cmp j.person k.person) (slice_cmp nat_cmp j.text k.text)
+pub word_order : (j k : WordKey)
+    → key_order (word_name j) (word_name k)
+    ≡ three (table_order j.table k.table) (nat_cmp j.person k.person)
+    (slice_cmp nat_cmp j.text k.text)
 word_order j k = refl
 
 -- the key of a node of a table
@@ -63,4 +80,6 @@ table_itself t = tied_itself total-law t
 
 pub id_order : (t : Table) (j k : ℕ) → key_order (id_name t j) (id_name t k) ≡ nat_cmp j k
 id_order t j k =
-    ap (λ o. ordering_then o (ordering_then (nat_cmp j k) (ordering_then (nat_cmp 0 0) (slice_cmp nat_cmp [] [])))) (table_itself t) ∙ then_last (nat_cmp j k)
+    ap (λ o. ordering_then o
+    (ordering_then (nat_cmp j k) (ordering_then (nat_cmp 0 0) (slice_cmp nat_cmp [] []))))
+    (table_itself t) ∙ then_last (nat_cmp j k)

@@ -6,4 +6,6 @@ use Rattle.snb_graph_rows.specs.declared.keys.EdgeKey.{EdgeKey}
 
 -- the ids and the number of the table in one number
 abbrev pub mixed : EdgeKey → ℕ
-mixed k = (((k.first * 11400714819323198485) % 2 ^ 64 + k.second) % 2 ^ 64 + tag_of the_table k.table) % 2 ^ 64
+mixed k =
+    (((k.first * 11400714819323198485) % 2 ^ 64 + k.second) % 2 ^ 64
+    + tag_of the_table k.table) % 2 ^ 64

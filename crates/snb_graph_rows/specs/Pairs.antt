@@ -20,7 +20,8 @@ pub record IsIndex (es : List ((ℕ × ℕ) × ℕ)) : Type 0 where
 
 -- one pair more
 abbrev pub HasAdded : List ((ℕ × ℕ) × ℕ) → ℕ → ℕ → ℕ → List ((ℕ × ℕ) × ℕ) → Type 0
-HasAdded old of id date new = (e : (ℕ × ℕ) × ℕ) → Contains new e ↔ (Contains old e ⊎ (((of, id), date) ≡ e))
+HasAdded old of id date new =
+    (e : (ℕ × ℕ) × ℕ) → Contains new e ↔ (Contains old e ⊎ (((of, id), date) ≡ e))
 
 -- all pairs but one
 abbrev pub HasDropped : List ((ℕ × ℕ) × ℕ) → ℕ → ℕ → List ((ℕ × ℕ) × ℕ) → Type 0

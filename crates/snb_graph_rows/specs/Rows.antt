@@ -23,7 +23,8 @@ abbrev pub Fits : {K V : Type 0} → ℕ → (K → RowKey) → (RowKey → V �
 Fits n name row k v = (row_key (row (name k) v) ≡ name k) × (part_of (shape (name k).0) ≡ n)
 
 -- the entries rise by key, and each fits
-pub record AreKept {K V : Type 0} (cmp : K → K → Ordering) (fits : K → V → Type 0) (es : List (K × V)) : Type 0 where
+pub record AreKept {K V : Type 0} (cmp : K → K → Ordering) (fits : K → V → Type 0)
+    (es : List (K × V)) : Type 0 where
   pub fit : All (λ e. fits e.0 e.1) es
   pub rises : IsStrictlySortedBy cmp (keys_of es)
 
@@ -33,7 +34,8 @@ pub record Stock : Type 0 where
   pub frozen : List Row
 
 -- the rows of two lists of entries, of which the first is shared
-abbrev pub stock : {K V : Type 0} → (K → K → Ordering) → (K → V → Row) → List (K × V) × List (K × V) → Stock
+abbrev pub stock : {K V : Type 0} → (K → K → Ordering) → (K → V → Row) → List (K × V) × List (K × V)
+    → Stock
 stock cmp f s = record { rows = rows_by f (all_of cmp s); frozen = rows_by f s.0 }
 
 -- the rows but for the one with this key
@@ -50,13 +52,17 @@ is_up_to_end low high = is_le low && not (is_lt high)
 
 -- the rows with keys between two
 abbrev pub rows_within : (Ordering → Ordering → Bool) → RowKey → RowKey → List Row → List Row
-rows_within test lo hi rows = filter (λ r. test (key_order lo (row_key r)) (key_order hi (row_key r))) rows
+rows_within test lo hi rows =
+    filter (λ r. test (key_order lo (row_key r)) (key_order hi (row_key r))) rows
 
 -- what a walk has still to give: nothing, once it has ended
 abbrev pub rows_left : Bool → List Row → List Row
 rows_left true rows = []
 rows_left false rows = rows
 
--- a walk gave the first of the rows that it had, and has the others; or it had none; or memory didn't suffice, and it has none
+-- a walk gave the first of the rows that it had, and has the others; or it had none; or memory
+-- didn't suffice, and it has none
 abbrev pub GivesRow : {E : Type 0} → List Row → Option (Result Row E) → List Row → Type 0
-GivesRow old given new = MatchOption given ((old ≡ []) × (new ≡ [])) (λ one. MatchResult one (λ r. old ≡ r ∷ new) (λ e. new ≡ []))
+GivesRow old given new =
+    MatchOption given ((old ≡ []) × (new ≡ []))
+    (λ one. MatchResult one (λ r. old ≡ r ∷ new) (λ e. new ≡ []))

@@ -58,7 +58,9 @@ impl<K: Key, V: Kept> RowMap<K, V> {
 
     /// What is kept of the row of a key.
     pub fn find(&self, key: &K) -> Option<&V>
-        ensures found { IfSome (option_copied result) (λ v. Fits V.part (K.name V.table) V.as_row key.now v × Contains self.now.rows (V.as_row (K.name V.table key.now) v)) }
+        ensures found { IfSome (option_copied result)
+            (λ v. Fits V.part (K.name V.table) V.as_row key.now v
+            × Contains self.now.rows (V.as_row (K.name V.table key.now) v)) }
         ensures held { IsSome result ↔ HasKey self.now.rows (K.name V.table key.now) }
     {
         self.store.get(key)
@@ -76,7 +78,8 @@ impl<K: Key, V: Kept> RowMap<K, V> {
     pub fn add(&mut self, key: K, value: V, half: Layer) -> Result<(), AllocError>
         requires fits { Fits V.part (K.name V.table) V.as_row key value }
         requires new { ¬ HasKey self.old.rows (K.name V.table key) }
-        ensures ok { OnOk result (IsPermutation self.new.rows (self.old.rows ++ V.as_row (K.name V.table key) value ∷ [])) }
+        ensures ok { OnOk result
+            (IsPermutation self.new.rows (self.old.rows ++ V.as_row (K.name V.table key) value ∷ [])) }
         ensures err { OnErr result (self.new ≡ self.old) }
         ensures frozen { half ≡ Layer.Added → self.new.frozen ≡ self.old.frozen }
         ensures more { (r : Row) → Contains self.old.frozen r → Contains self.new.frozen r }
@@ -118,7 +121,8 @@ impl<K: Key, V: Kept> RowMap<K, V> {
     /// memory.
     pub fn before(&self, from: K, end: K) -> Walk<'_, K, V>
         requires { is_gt (K.cmp from end) ≡ false }
-        ensures rows { rows_by (entry_row (K.name V.table) V.as_row) result ≡ rows_within is_before_end (K.name V.table from) (K.name V.table end) self.now.rows }
+        ensures rows { rows_by (entry_row (K.name V.table) V.as_row) result
+            ≡ rows_within is_before_end (K.name V.table from) (K.name V.table end) self.now.rows }
         ensures few { length result < 2 ^ 63 }
     {
         self.store.range(from, end)
@@ -127,7 +131,8 @@ impl<K: Key, V: Kept> RowMap<K, V> {
     /// The entries from one key up to another, which isn't below the first, in order. Takes no memory.
     pub fn through(&self, from: K, last: K) -> Walk<'_, K, V>
         requires { is_gt (K.cmp from last) ≡ false }
-        ensures rows { rows_by (entry_row (K.name V.table) V.as_row) result ≡ rows_within is_up_to_end (K.name V.table from) (K.name V.table last) self.now.rows }
+        ensures rows { rows_by (entry_row (K.name V.table) V.as_row) result
+            ≡ rows_within is_up_to_end (K.name V.table from) (K.name V.table last) self.now.rows }
         ensures few { length result < 2 ^ 63 }
     {
         self.store.through(from, last)

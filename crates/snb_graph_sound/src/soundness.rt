@@ -3,7 +3,7 @@
 ghost use Rattle.std.specs.Prelude.{IfErr, List, OnOk};
 ghost use Rattle.snb_schema.specs.declared.row.Row.{Row};
 ghost use Rattle.snb_graph_integrity.specs.Outcomes.{IsWrong};
-ghost use Rattle.snb_graph_model.specs.Soundness.{Held, Sound};
+ghost use Rattle.snb_graph_model.specs.Soundness.{HoldsRefs, Sound};
 
 use snb_graph::Graph;
 use snb_graph_integrity::Unsound;
@@ -21,7 +21,7 @@ pub trait Soundness {
     /// cycle, or hangs below one. `Memory` says that memory doesn't suffice. It doesn't look at
     /// references.
     fn sound(&self) -> Result<(), Unsound>
-        ensures ok { OnOk result (Held (rows self.now) → Sound (rows self.now)) }
+        ensures ok { OnOk result (HoldsRefs (rows self.now) → Sound (rows self.now)) }
         ensures err { IfErr result (IsWrong (rows self.now)) };
 }
 

@@ -13,7 +13,7 @@ use Rattle.snb_schema.specs.declared.table.Kind.{Kind}
 use Rattle.snb_schema.specs.declared.table.Table.{Table}
 use Rattle.snb_schema.specs.Layouts.{shape}
 use Rattle.snb_schema.specs.RowKeys.{RowKey, node_key, row_key, slot}
-use Rattle.snb_schema.specs.RowLines.{table_of}
+use Rattle.snb_schema.specs.RowValues.{table_of}
 use Rattle.snb_schema.specs.TableOrder.{same_table}
 use Rattle.snb_schema.specs.TableRows.{IsTableRow}
 use Rattle.snb_base.proofs.Laws.{contains_cases, contains_map, contains_there, in_filter, in_map}

@@ -25,19 +25,26 @@ pub record IsWhole (ss : List (List Row)) : Type 0 where
 
 -- the parts that a graph keeps
 abbrev pub parts : Inside → List (List Row)
-parts g = g.places.rows ∷ g.tag_classes.rows ∷ g.tags.rows ∷ g.organisations.rows ∷ g.persons.rows ∷ g.forums.rows ∷ g.posts.rows ∷ g.comments.rows ∷ g.edges.rows ∷ g.words.rows ∷ []
+parts g =
+    g.places.rows ∷ g.tag_classes.rows ∷ g.tags.rows ∷ g.organisations.rows ∷ g.persons.rows
+    ∷ g.forums.rows ∷ g.posts.rows ∷ g.comments.rows ∷ g.edges.rows ∷ g.words.rows ∷ []
 
 -- and what copies share of each
 abbrev pub frozen_parts : Inside → List (List Row)
-frozen_parts g = g.places.frozen ∷ g.tag_classes.frozen ∷ g.tags.frozen ∷ g.organisations.frozen ∷ g.persons.frozen ∷ g.forums.frozen ∷ g.posts.frozen ∷ g.comments.frozen ∷ g.edges.frozen ∷ g.words.frozen ∷ []
+frozen_parts g =
+    g.places.frozen ∷ g.tag_classes.frozen ∷ g.tags.frozen ∷ g.organisations.frozen
+    ∷ g.persons.frozen ∷ g.forums.frozen ∷ g.posts.frozen ∷ g.comments.frozen ∷ g.edges.frozen
+    ∷ g.words.frozen ∷ []
 
 -- a row was taken out of a graph, and what is left is a graph
 pub record HasGivenBack (old : List Row) (r : Row) (new : List Row) : Type 0 where
   pub graph : IsGraph new
   pub rows : IsPermutation old (new ++ r ∷ [])
 
--- a row was added, which is frozen only if it went into that half, or all is as it was; what was frozen is
-pub record HasPut {E : Type 0} (half : Layer) (old : Stock) (r : Row) (result : Result (Unit {0}) E) (new : Stock) : Type 0 where
+-- a row was added, which is frozen only if it went into that half, or all is as it was; what was
+-- frozen is
+pub record HasPut {E : Type 0} (half : Layer) (old : Stock) (r : Row) (result : Result (Unit {0}) E)
+    (new : Stock) : Type 0 where
   pub ok : OnOk result (HasGained old.rows (r ∷ []) new.rows)
   pub err : OnErr result (new ≡ old)
   pub frozen : half ≡ layers.Added → new.frozen ≡ old.frozen

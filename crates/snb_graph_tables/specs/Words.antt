@@ -17,4 +17,5 @@ texts_of es = map (λ e. e.0.text) es
 
 -- the texts of a person in a table of words, in byte order
 abbrev pub words_of : List Row → Table → ℕ → List (List ℕ)
-words_of g t person = map (λ r. (row_key r).3) (filter (λ r. nat_eq (row_key r).1 person) (rows g t))
+words_of g t person =
+    map (λ r. (row_key r).3) (filter (λ r. nat_eq (row_key r).1 person) (rows g t))

@@ -2,7 +2,7 @@
 
 ghost use Rattle.std.specs.Prelude.{◌≡◌, IfOk};
 ghost use Rattle.std.specs.Result.{ForOk};
-ghost use Rattle.snb_schema.specs.ReadKinds.{kind_of};
+ghost use Rattle.snb_schema.specs.ReadKinds.{read_kind_of};
 ghost use Rattle.snb_graph_model.specs.Soundness.{Sound};
 ghost use Rattle.snb_read_model.specs.Replies.{IsAnswer};
 
@@ -23,9 +23,9 @@ pub struct Handler {
     /// The kind of the reads.
     pub kind: ReadKind,
     call: Call,
-    ghost callable: { (g : _) (q : _) → Sound g.now → kind_of q.now ≡ kind → pre call g q },
+    ghost callable: { (g : _) (q : _) → Sound g.now → read_kind_of q.now ≡ kind → pre call g q },
     // A fact that is kept beside a box has one proof at most. It is an answer's all the same, since there is one.
-    ghost answers: { (g : _) (q : _) (r : _) → Sound g.now → kind_of q.now ≡ kind → post call g q r → ForOk r (λ a. ∥ IsAnswer g.now q.now a ∥₁) },
+    ghost answers: { (g : _) (q : _) (r : _) → Sound g.now → read_kind_of q.now ≡ kind → post call g q r → ForOk r (λ a. ∥ IsAnswer g.now q.now a ∥₁) },
 }
 
 impl Drop for Handler {
@@ -40,8 +40,9 @@ impl Handler {
     /// The conditions: on each sound graph the closure may be called with each query of the kind, and an answer
     /// that it gives is the definition's. Of an error of it nothing is asked: it is passed on.
     pub fn new(kind: ReadKind, call: Call) -> Handler
-        requires callable { (g : _) (q : _) → Sound g.now → kind_of q.now ≡ kind → pre call g q }
-        requires answers { (g : _) (q : _) (r : _) → Sound g.now → kind_of q.now ≡ kind → post call g q r → IfOk r (IsAnswer g.now q.now) }
+        requires callable { (g : _) (q : _) → Sound g.now → read_kind_of q.now ≡ kind → pre call g q }
+        requires answers { (g : _) (q : _) (r : _) → Sound g.now → read_kind_of q.now ≡ kind → post call g q r
+            → IfOk r (IsAnswer g.now q.now) }
         ensures { result.kind ≡ kind }
     {
         Handler { kind, call }
@@ -50,7 +51,7 @@ impl Handler {
     // What the closure gives. Of its being the answer no more is known than that it holds.
     fn called(&self, graph: &Graph, query: &Query) -> Result<Answer<Text>, AllocError>
         requires sound { Sound graph.now }
-        requires kind { kind_of query.now ≡ self.now.kind }
+        requires kind { read_kind_of query.now ≡ self.now.kind }
         ensures { IfOk result (λ a. ∥ IsAnswer graph.now query.now a ∥₁) }
     {
         (self.call)(graph, query)
@@ -60,7 +61,7 @@ impl Handler {
     /// The conditions: the graph is sound, and the query is of the handler's kind.
     pub fn answer(&self, graph: &Graph, query: &Query) -> Result<Answer<Text>, AllocError>
         requires sound { Sound graph.now }
-        requires kind { kind_of query.now ≡ self.now.kind }
+        requires kind { read_kind_of query.now ≡ self.now.kind }
         ensures { IfOk result (IsAnswer graph.now query.now) }
     {
         graph.known();

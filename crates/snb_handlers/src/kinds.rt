@@ -1,7 +1,7 @@
 //! The order of the kinds of reads.
 
 ghost use Rattle.std.specs.Prelude.{◌≡◌};
-ghost use Rattle.snb_handlers.specs.Table.{place_of};
+ghost use Rattle.snb_handlers.specs.Table.{kind_place};
 
 use snb_schema::ReadKind;
 
@@ -25,7 +25,7 @@ pub const KINDS: [ReadKind; 14] = [
 
 // The place of a kind in that order, from 0.
 pub(crate) fn place_of(kind: ReadKind) -> usize
-    ensures { result ≡ place_of kind }
+    ensures { result ≡ kind_place kind }
 {
     match kind {
         ReadKind::Is1 => 0,

@@ -2,10 +2,10 @@
 
 ghost use Rattle.std.specs.Prelude.{◌≡◌, ◌↔◌, ◌∷◌, ◌++◌, [], Contains, Err, IfOk, IsTrue, MatchOption, OnErr, OnOk};
 ghost use Rattle.std.specs.List.{AllZip};
-ghost use Rattle.snb_schema.specs.ReadKinds.{kind_of};
+ghost use Rattle.snb_schema.specs.ReadKinds.{read_kind_of};
 ghost use Rattle.snb_graph_model.specs.Soundness.{Sound};
 ghost use Rattle.snb_read_model.specs.Replies.{IsAnswer, IsReply};
-ghost use Rattle.snb_handlers.specs.Table.{HasAll, IsFirstMissing, handlers_of, kinds, kinds_in};
+ghost use Rattle.snb_handlers.specs.Table.{HasAll, IsFirstUnhandled, handlers_of, kinds, handled_kinds};
 
 use crate::handler::Handler;
 use crate::handlers::Handlers;
@@ -30,8 +30,8 @@ pub enum Register {
 // The handler of a kind.
 fn find(items: &[Handler], kind: ReadKind) -> Option<&Handler>
     ensures { MatchOption result
-        (¬ Contains (kinds_in items.now) kind)
-        (λ found. (found.now.kind ≡ kind) × Contains (kinds_in items.now) kind) }
+        (¬ Contains (handled_kinds items.now) kind)
+        (λ found. (found.now.kind ≡ kind) × Contains (handled_kinds items.now) kind) }
 {
     for one in items {
         if place_of(one.kind) == place_of(kind) {
@@ -65,7 +65,7 @@ impl Handlers {
     /// The first kind without a handler, in the order of `ReadKind`; None exactly where each kind has one. Takes
     /// no memory.
     pub fn missing(&self) -> Option<ReadKind>
-        ensures { MatchOption result (HasAll (kinds self.now)) (IsFirstMissing (kinds self.now)) }
+        ensures { MatchOption result (HasAll (kinds self.now)) (IsFirstUnhandled (kinds self.now)) }
     {
         for kind in KINDS {
             if !self.has(kind) {
@@ -95,7 +95,7 @@ impl Handlers {
     /// The conditions: the graph is sound, and the kind has a handler.
     pub fn answer(&self, graph: &Graph, query: &Query) -> Result<Answer<Text>, AllocError>
         requires sound { Sound graph.now }
-        requires kind { Contains (kinds self.now) (kind_of query.now) }
+        requires kind { Contains (kinds self.now) (read_kind_of query.now) }
         ensures { IfOk result (IsAnswer graph.now query.now) }
     {
         match find(&self.items, query.kind()) {

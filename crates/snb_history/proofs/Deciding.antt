@@ -9,7 +9,7 @@ use Rattle.snb_history.specs.declared.event.Event.{Event}
 use Rattle.snb_history.specs.declared.event.Event.TheVariants.{Start, Finish, Halt}
 use Rattle.snb_history.specs.Schedule.{Schedule, step_of, IsBefore, is_dependency}
 use Rattle.snb_history.specs.History.{starts, started, finished, halted, hand, last}
-use Rattle.snb_history.specs.Rules.{Rule, V1, V2, V3, V4, V5, V6, V7, V8, V9, number, MayAct, IsHead, IsFront, Obeys}
+use Rattle.snb_history.specs.Rules.{Rule, V1, V2, V3, V4, V5, V6, V7, V8, V9, rule_number, MayAct, LeadsLane, IsFront, Obeys}
 use Rattle.snb_history.specs.Violation.{told_at}
 use Rattle.snb_history.specs.Laws.{FitsOrBreaks, BreaksOne}
 use Rattle.snb_history.proofs.Times.{is_dependency-within}
@@ -70,7 +70,7 @@ may_act workers h worker =
       | inr not_both ↦ inr (λ may. not_both (may.known, may.running))
     ]
 
-is_head : (s : Schedule) (h : List Event) (op : ℕ) → Decided (IsHead s h op)
+is_head : (s : Schedule) (h : List Event) (op : ℕ) → Decided (LeadsLane s h op)
 is_head s h op =
     elim (both (is_false (started h op)) (all_before s op (started h))) [
       | inl head ↦ inl (record { fresh = head.0; led = head.1 })
@@ -120,7 +120,7 @@ pub rule_of : ℕ → Rule
 rule_of n =
     cond (eqb n 1) V1 (cond (eqb n 2) V2 (cond (eqb n 3) V3 (cond (eqb n 4) V4 (cond (eqb n 5) V5 (cond (eqb n 6) V6 (cond (eqb n 7) V7 (cond (eqb n 8) V8 V9)))))))
 
-pub rule_of-number : (r : Rule) → rule_of (number r) ≡ r
+pub rule_of-number : (r : Rule) → rule_of (rule_number r) ≡ r
 unfolding rule_of
 rule_of-number V1 = refl
 rule_of-number V2 = refl
@@ -132,10 +132,10 @@ rule_of-number V7 = refl
 rule_of-number V8 = refl
 rule_of-number V9 = refl
 
-pub number-same : (q r : Rule) → number q ≡ number r → q ≡ r
+pub number-same : (q r : Rule) → rule_number q ≡ rule_number r → q ≡ r
 number-same q r e = sym (rule_of-number q) ∙ ap rule_of e ∙ rule_of-number r
 
-number-bounds : (r : Rule) → (0 < number r) × (number r < 10)
+number-bounds : (r : Rule) → (0 < rule_number r) × (rule_number r < 10)
 number-bounds V1 = (omega arith, omega arith)
 number-bounds V2 = (omega arith, omega arith)
 number-bounds V3 = (omega arith, omega arith)
@@ -147,23 +147,23 @@ number-bounds V8 = (omega arith, omega arith)
 number-bounds V9 = (omega arith, omega arith)
 
 -- all hold, or a first one fails
-first_broken : (P : Rule → Type 0) → ((r : Rule) → Decided (P r)) → ((r : Rule) → P r) ⊎ ((r : Rule) × (P r → ⊥) × ((q : Rule) → number q < number r → P q))
+first_broken : (P : Rule → Type 0) → ((r : Rule) → Decided (P r)) → ((r : Rule) → P r) ⊎ ((r : Rule) × (P r → ⊥) × ((q : Rule) → rule_number q < rule_number r → P q))
 first_broken P decide = elim (up_to 10) [ inl all ↦ inl (λ q. all q (number-bounds q).1) | inr found ↦ inr found ]
   where
-    up_to : (n : ℕ) → ((q : Rule) → number q < n → P q) ⊎ ((r : Rule) × (P r → ⊥) × ((q : Rule) → number q < number r → P q))
+    up_to : (n : ℕ) → ((q : Rule) → rule_number q < n → P q) ⊎ ((r : Rule) × (P r → ⊥) × ((q : Rule) → rule_number q < rule_number r → P q))
     up_to zero = inl (λ q lt. absurd (omega arith))
     up_to (suc n) =
         elim (up_to n) [
           | inr found ↦ inr found
-          | inl all ↦ elim (cases_eq (number (rule_of n)) n) [
-            | inr no_rule ↦ inl (λ q lt. elim (cases_lt (number q) n) [
+          | inl all ↦ elim (cases_eq (rule_number (rule_of n)) n) [
+            | inr no_rule ↦ inl (λ q lt. elim (cases_lt (rule_number q) n) [
               | inl below ↦ all q below
-              | inr here ↦ absurd (no_rule (let e : number q ≡ n = omega arith in ap (λ m. number (rule_of m)) (sym e) ∙ ap number (rule_of-number q) ∙ e))
+              | inr here ↦ absurd (no_rule (let e : rule_number q ≡ n = omega arith in ap (λ m. rule_number (rule_of m)) (sym e) ∙ ap rule_number (rule_of-number q) ∙ e))
             ])
             | inl rule ↦ elim (decide (rule_of n)) [
-              | inl holds ↦ inl (λ q lt. elim (cases_lt (number q) n) [
+              | inl holds ↦ inl (λ q lt. elim (cases_lt (rule_number q) n) [
                 | inl below ↦ all q below
-                | inr here ↦ let e : number q ≡ n = omega arith in subst P (number-same (rule_of n) q (rule ∙ sym e)) holds
+                | inr here ↦ let e : rule_number q ≡ n = omega arith in subst P (number-same (rule_of n) q (rule ∙ sym e)) holds
               ])
               | inr fails ↦ inr (rule_of n, fails, λ q lt. all q (let e = rule in omega arith))
             ]
@@ -179,9 +179,9 @@ fits_or_breaks s workers h e =
 
 pub breaks_one : BreaksOne
 breaks_one s workers h e q r one other first second =
-    let same : q ≡ r = elim (cases_lt (number q) (number r)) [
+    let same : q ≡ r = elim (cases_lt (rule_number q) (rule_number r)) [
       | inl below ↦ absurd (first.broken (second.before q below))
-      | inr above ↦ elim (cases_lt (number r) (number q)) [
+      | inr above ↦ elim (cases_lt (rule_number r) (rule_number q)) [
         | inl below ↦ absurd (second.broken (first.before r below))
         | inr level ↦ number-same q r (omega arith)
       ]

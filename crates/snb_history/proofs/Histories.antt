@@ -5,7 +5,7 @@ use Rattle.snb_history.specs.declared.event.Event.TheVariants.{Halt}
 use Rattle.snb_schema.specs.declared.limits.TheConstants.{MAX_AT}
 use Rattle.snb_history.specs.Schedule.{Schedule}
 use Rattle.snb_history.specs.History.{moment}
-use Rattle.snb_history.specs.Rules.{Rule, V1, V2, V3, V4, V5, V6, V7, V8, V9, MayAct, halt_rules, fact_of, Fits, IsLegal}
+use Rattle.snb_history.specs.Rules.{Rule, V1, V2, V3, V4, V5, V6, V7, V8, V9, MayAct, Obeys, Fits, IsLegal}
 use Rattle.snb_base.proofs.Laws.{push_split}
 
 -- the events before the last are a legal history, and the last fits them
@@ -48,7 +48,7 @@ IsLegal-nil s w = record { bounded = λ a e rest q. absurd (nothing a e rest q);
 pub Fits-halt : (s : Schedule) (w : ℕ) (h : List Event) (worker : ℕ) → MayAct w h worker → Fits s w h (Halt worker)
 Fits-halt s w h worker may = record { obeys = by_rule }
   where
-    by_rule : (q : Rule) → fact_of (halt_rules w h worker) q
+    by_rule : (q : Rule) → Obeys s w h (Halt worker) q
     by_rule V1 = may
     by_rule V2 = tt
     by_rule V3 = tt

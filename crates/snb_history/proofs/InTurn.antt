@@ -5,22 +5,22 @@ use Rattle.snb_history.specs.declared.event.Event.{Event}
 use Rattle.snb_history.specs.declared.event.Event.TheVariants.{Start, Finish, Halt}
 use Rattle.snb_history.specs.Schedule.{Schedule}
 use Rattle.snb_history.specs.History.{starts, started, finished}
-use Rattle.snb_history.specs.Rules.{Fits, IsLegal, IsHead, IsNotBusy, V2, V3}
-use Rattle.snb_history.specs.Laws.{ForumGoesInTurn, LaneStartsInOrder}
+use Rattle.snb_history.specs.Rules.{Fits, IsLegal, LeadsLane, LaneIsFinished, V2, V3}
+use Rattle.snb_history.specs.ScheduleLaws.{ForumGoesInTurn, LaneStartsInOrder}
 use Rattle.snb_history.proofs.Histories.{IsLegal-front, Fits-last}
 use Rattle.snb_history.proofs.Held.{started-push, finished-push}
 use Rattle.snb_base.proofs.Laws.{by_push}
 
 -- what is told of an operation where it starts
-at_start : (s : Schedule) (workers : ℕ) (g : List Event) (e : Event) (k : ℕ) → Fits s workers g e → starts k e ≡ true → IsHead s g k × IsNotBusy s g k
+at_start : (s : Schedule) (workers : ℕ) (g : List Event) (e : Event) (k : ℕ) → Fits s workers g e → starts k e ≡ true → LeadsLane s g k × LaneIsFinished s g k
 at_start s workers g (Start op worker at) k fits hit =
-    subst (λ (i : ℕ). IsHead s g i × IsNotBusy s g i) (eqb-true op k hit) (fits.obeys V2, fits.obeys V3)
+    subst (λ (i : ℕ). LeadsLane s g i × LaneIsFinished s g i) (eqb-true op k hit) (fits.obeys V2, fits.obeys V3)
 at_start s workers g (Finish op worker at front) k fits hit = absurd cc
 at_start s workers g (Halt worker) k fits hit = absurd cc
 
 -- what is true of an operation's lane where it starts, and stays true, is true of each started one
 stays : (s : Schedule) (workers k : ℕ) (P : List Event → Type 0)
-    → ((g : List Event) (e : Event) → IsHead s g k → IsNotBusy s g k → P g) → ((g : List Event) (e : Event) → P g → P (g ++ e ∷ []))
+    → ((g : List Event) (e : Event) → LeadsLane s g k → LaneIsFinished s g k → P g) → ((g : List Event) (e : Event) → P g → P (g ++ e ∷ []))
     → (h : List Event) → IsLegal s workers h → started h k ≡ true → P h
 stays s workers k P first more h =
     by_push (λ g. IsLegal s workers g → started g k ≡ true → P g)

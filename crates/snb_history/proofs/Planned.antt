@@ -5,7 +5,7 @@ use Rattle.std.proofs.lemmas.Bool.{cases_lt, cases_Bool, eq-eqb}
 use Rattle.std.proofs.lemmas.List.Sums.{count_by_more_yes, count_by_more_no}
 use Rattle.snb_history.specs.declared.step.Step.{Step}
 use Rattle.snb_history.specs.Schedule.{Schedule, step_of, no_step, count_before, ComesBefore, IsPlanned}
-use Rattle.snb_history.specs.Laws.{PlannedIsPlaced, PlannedIsTimely}
+use Rattle.snb_history.specs.ScheduleLaws.{PlannedIsPlaced, PlannedIsTimely}
 
 -- a count over a longer list is no smaller, and greater where one more passes
 counts_rise : (p : Step → Bool) (xs : List Step) (j k : ℕ) → j ≤ k → k ≤ length xs → count_by p (take j xs) ≤ count_by p (take k xs)

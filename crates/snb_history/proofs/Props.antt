@@ -4,45 +4,36 @@ use Rattle.std.proofs.Props.{props}
 use Rattle.snb_history.specs.declared.event.Event.{Event}
 use Rattle.snb_history.specs.declared.event.Event.TheVariants.{Start, Finish, Halt}
 use Rattle.snb_history.specs.Schedule.{Schedule}
-use Rattle.snb_history.specs.Rules.{Rule, V1, V2, V3, V4, V5, V6, V7, V8, V9, start_rules, finish_rules, halt_rules, fact_of, Obeys, IsLegal}
-
-start-prop : (s : Schedule) (workers : ℕ) (h : List Event) (op worker at : ℕ) (r : Rule) → IsProp (fact_of (start_rules s workers h op worker at) r)
-start-prop s workers h op worker at V1 = hlevel props
-start-prop s workers h op worker at V2 = hlevel props
-start-prop s workers h op worker at V3 = hlevel props
-start-prop s workers h op worker at V4 = hlevel props
-start-prop s workers h op worker at V5 = hlevel props
-start-prop s workers h op worker at V6 = hlevel props
-start-prop s workers h op worker at V7 = hlevel props
-start-prop s workers h op worker at V8 = hlevel props
-start-prop s workers h op worker at V9 = hlevel props
-
-finish-prop : (s : Schedule) (workers : ℕ) (h : List Event) (op worker at front : ℕ) (r : Rule) → IsProp (fact_of (finish_rules s workers h op worker at front) r)
-finish-prop s workers h op worker at front V1 = hlevel props
-finish-prop s workers h op worker at front V2 = hlevel props
-finish-prop s workers h op worker at front V3 = hlevel props
-finish-prop s workers h op worker at front V4 = hlevel props
-finish-prop s workers h op worker at front V5 = hlevel props
-finish-prop s workers h op worker at front V6 = hlevel props
-finish-prop s workers h op worker at front V7 = hlevel props
-finish-prop s workers h op worker at front V8 = hlevel props
-finish-prop s workers h op worker at front V9 = hlevel props
-
-halt-prop : (workers : ℕ) (h : List Event) (worker : ℕ) (r : Rule) → IsProp (fact_of (halt_rules workers h worker) r)
-halt-prop workers h worker V1 = hlevel props
-halt-prop workers h worker V2 = hlevel props
-halt-prop workers h worker V3 = hlevel props
-halt-prop workers h worker V4 = hlevel props
-halt-prop workers h worker V5 = hlevel props
-halt-prop workers h worker V6 = hlevel props
-halt-prop workers h worker V7 = hlevel props
-halt-prop workers h worker V8 = hlevel props
-halt-prop workers h worker V9 = hlevel props
+use Rattle.snb_history.specs.Rules.{Rule, V1, V2, V3, V4, V5, V6, V7, V8, V9, Obeys, IsLegal}
 
 Obeys-prop : (s : Schedule) (workers : ℕ) (h : List Event) (e : Event) (r : Rule) → IsProp (Obeys s workers h e r)
-Obeys-prop s workers h (Start op worker at) r = start-prop s workers h op worker at r
-Obeys-prop s workers h (Finish op worker at front) r = finish-prop s workers h op worker at front r
-Obeys-prop s workers h (Halt worker) r = halt-prop workers h worker r
+Obeys-prop s workers h (Start op worker at) V1 = hlevel props
+Obeys-prop s workers h (Start op worker at) V2 = hlevel props
+Obeys-prop s workers h (Start op worker at) V3 = hlevel props
+Obeys-prop s workers h (Start op worker at) V4 = hlevel props
+Obeys-prop s workers h (Start op worker at) V5 = hlevel props
+Obeys-prop s workers h (Start op worker at) V6 = hlevel props
+Obeys-prop s workers h (Start op worker at) V7 = hlevel props
+Obeys-prop s workers h (Start op worker at) V8 = hlevel props
+Obeys-prop s workers h (Start op worker at) V9 = hlevel props
+Obeys-prop s workers h (Finish op worker at front) V1 = hlevel props
+Obeys-prop s workers h (Finish op worker at front) V2 = hlevel props
+Obeys-prop s workers h (Finish op worker at front) V3 = hlevel props
+Obeys-prop s workers h (Finish op worker at front) V4 = hlevel props
+Obeys-prop s workers h (Finish op worker at front) V5 = hlevel props
+Obeys-prop s workers h (Finish op worker at front) V6 = hlevel props
+Obeys-prop s workers h (Finish op worker at front) V7 = hlevel props
+Obeys-prop s workers h (Finish op worker at front) V8 = hlevel props
+Obeys-prop s workers h (Finish op worker at front) V9 = hlevel props
+Obeys-prop s workers h (Halt worker) V1 = hlevel props
+Obeys-prop s workers h (Halt worker) V2 = hlevel props
+Obeys-prop s workers h (Halt worker) V3 = hlevel props
+Obeys-prop s workers h (Halt worker) V4 = hlevel props
+Obeys-prop s workers h (Halt worker) V5 = hlevel props
+Obeys-prop s workers h (Halt worker) V6 = hlevel props
+Obeys-prop s workers h (Halt worker) V7 = hlevel props
+Obeys-prop s workers h (Halt worker) V8 = hlevel props
+Obeys-prop s workers h (Halt worker) V9 = hlevel props
 
 pub IsLegal-prop : (s : Schedule) (workers : ℕ) (h : List Event) → IsProp (IsLegal s workers h)
 IsLegal-prop s workers h = hlevel (props, Obeys-prop)

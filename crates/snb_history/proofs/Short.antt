@@ -7,7 +7,7 @@ use Rattle.snb_schema.specs.declared.limits.TheConstants.{MAX_AT}
 use Rattle.snb_history.specs.Schedule.{Schedule}
 use Rattle.snb_history.specs.History.{has_moment, halts, started, finished, halted, moment, last}
 use Rattle.snb_history.specs.Rules.{Fits, IsLegal, V1, V2, V7}
-use Rattle.snb_history.specs.Laws.{LegalIsShort, LastIsBounded}
+use Rattle.snb_history.specs.ScheduleLaws.{LegalIsShort, LastIsBounded}
 use Rattle.snb_history.proofs.Pushes.{list_any-push, find-reverse_push}
 use Rattle.snb_history.proofs.Histories.{IsLegal-front, Fits-last}
 use Rattle.snb_history.proofs.Held.{keeps_legal, started-push, finished-push}

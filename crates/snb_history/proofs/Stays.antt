@@ -5,9 +5,9 @@ use Rattle.std.proofs.lemmas.Bool.{eq-eqb}
 use Rattle.std.proofs.lemmas.List.Elements.{filter-append}
 use Rattle.std.proofs.lemmas.List.Folds.{list_any-append}
 use Rattle.snb_history.specs.declared.event.Event.{Event}
-use Rattle.snb_history.specs.declared.event.Event.TheVariants.{Start}
+use Rattle.snb_history.specs.declared.event.Event.TheVariants.{Start, Finish}
 use Rattle.snb_history.specs.History.{starts, is_by, started, halted, hand}
-use Rattle.snb_history.specs.Rules.{Rule, V1, V2, V3, V4, V5, V6, V7, V8, V9, MayAct, IsFront, finish_rules, fact_of}
+use Rattle.snb_history.specs.Rules.{Rule, V1, V2, V3, V4, V5, V6, V7, V8, V9, MayAct, IsFront, Obeys}
 use Rattle.snb_history.specs.Laws.{FinishStays}
 use Rattle.snb_history.proofs.Times.{start_stays}
 use Rattle.snb_history.proofs.Once.{hand_has_start}
@@ -47,7 +47,7 @@ finish_stays s workers g more op worker at later front fits others moment = reco
     number : position_or_len (starts op) (g ++ more) ≡ position_or_len (starts op) g
     number = start_stays g more op (hand_started g worker op (fits.obeys V7))
 
-    by_rule : (r : Rule) → fact_of (finish_rules s workers (g ++ more) op worker later front) r
+    by_rule : (r : Rule) → Obeys s workers (g ++ more) (Finish op worker later front) r
     by_rule V1 = ((fits.obeys V1).0, record { known = may.known; running = halted_stays g more worker others ∙ may.running })
     by_rule V7 = hand_stays g more worker others ∙ fits.obeys V7
     by_rule V8 = record {

@@ -4,7 +4,7 @@ use Rattle.std.proofs.lemmas.Bool.{cases_Bool, cases_lt}
 use Rattle.snb_history.specs.declared.event.Event.TheVariants.{Start}
 use Rattle.snb_history.specs.Schedule.{IsOperation, step_of}
 use Rattle.snb_history.specs.History.{started, finished, hand, last}
-use Rattle.snb_history.specs.Rules.{Rule, V1, V2, V3, V4, V5, V6, V7, V8, V9, start_rules, fact_of, Fits}
+use Rattle.snb_history.specs.Rules.{Rule, V1, V2, V3, V4, V5, V6, V7, V8, V9, Obeys, Fits}
 use Rattle.snb_history.specs.Laws.{NeverStuck}
 use Rattle.snb_history.proofs.Times.{is_dependency-within}
 use Rattle.snb_history.proofs.Held.{KeepsAt, keeps_legal}
@@ -29,7 +29,7 @@ never_stuck s workers h timely legal idle running k within fresh =
           | inr open_yet ↦ absurd (let w = keeps.open_held j begun open_yet in let i = idle w.0 in let held : hand h w.0 ≡ Some j = w.1 in cc)
         ]
 
-    rule : (op : ℕ) → IsLeastFailing (started h) (length s.steps) op → (worker at : ℕ) → worker < workers → (step_of s op).due ≤ at → last h ≤ at → (r : Rule) → fact_of (start_rules s workers h op worker at) r
+    rule : (op : ℕ) → IsLeastFailing (started h) (length s.steps) op → (worker at : ℕ) → worker < workers → (step_of s op).due ≤ at → last h ≤ at → (r : Rule) → Obeys s workers h (Start op worker at) r
     rule op first worker at known due later V1 = (first.within, record { known = known; running = running worker })
     rule op first worker at known due later V2 = record { fresh = first.fails; led = λ j before. first.before j before.0 }
     rule op first worker at known due later V3 = λ forum j before. done j (first.before j before.0)

@@ -14,7 +14,8 @@ least_of f top p (suc n) = min (if p n then f n else top) (least_of f top p n)
 abbrev pub least_t : Schedule → (ℕ → Bool) → ℕ
 least_t s p = least_of (λ k. (step_of s k).t) (MAX_TIME + 1) p (length s.steps)
 
--- the least number of an operation that passes the test, or the number of operations where none does
+-- the least number of an operation that passes the test, or the number of operations where none
+-- does
 abbrev pub first_op : Schedule → (ℕ → Bool) → ℕ
 first_op s p = least_of (λ k. k) (length s.steps) p (length s.steps)
 
@@ -26,7 +27,8 @@ time_before s p = pos (least_t s p) -ℤ pos 1
 abbrev pub is_left : Schedule → (ℕ → Bool) → ℕ → Bool
 is_left s done k = (step_of s k).dependency && not (done k)
 
--- the least t of a dependency of the plan that isn't done, less one, or MAX_TIME where there is none
+-- the least t of a dependency of the plan that isn't done, less one, or MAX_TIME where there is
+-- none
 abbrev pub time_left : Schedule → (ℕ → Bool) → ℤ
 time_left s done = time_before s (is_left s done)
 
@@ -38,7 +40,8 @@ time_left_in s done lane = time_before s (λ k. ((step_of s k).lane == lane) && 
 abbrev pub is_awaited : Schedule → List Event → ℕ → Bool
 is_awaited s h k = is_left s (finished h) k
 
--- the least t of an unfinished dependency of the plan, less one, so -1 where that t is 0; or MAX_TIME where there is none
+-- the least t of an unfinished dependency of the plan, less one, so -1 where that t is 0; or
+-- MAX_TIME where there is none
 abbrev pub completion : Schedule → List Event → ℤ
 completion s h = time_left s (finished h)
 

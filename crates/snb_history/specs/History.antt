@@ -64,7 +64,8 @@ opened (Some (Finish op worker at front)) = None
 opened (Some (Halt worker)) = None
 opened None = None
 
--- what the worker has in hand: the operation of the worker's last Start or Finish, where that is a Start
+-- what the worker has in hand: the operation of the worker's last Start or Finish, where that is a
+-- Start
 abbrev pub hand : List Event → ℕ → Option ℕ
 hand h w = opened (latest (acts w) h)
 

@@ -2,6 +2,7 @@ pub mod Completion
 pub mod History
 pub mod Lanes
 pub mod Laws
+pub mod ScheduleLaws
 pub mod Rules
 pub mod RunTexts
 pub mod Schedule

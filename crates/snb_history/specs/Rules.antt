@@ -1,5 +1,5 @@
 -- Which event may follow a history.
-use Rattle.std.specs.Prelude.{◌≡◌, ℕ, ◌<◌, ◌≤◌, ◌==◌, List, [], ◌∷◌, ◌++◌, length, Bool, true, false, Some, None}
+use Rattle.std.specs.Prelude.{◌≡◌, ℕ, ◌<◌, ◌≤◌, List, ◌∷◌, ◌++◌, length, true, false, Some, None}
 use Rattle.std.specs.List.{position_or_len}
 use Rattle.snb_history.specs.declared.event.Event.{Event}
 use Rattle.snb_history.specs.declared.event.Event.TheVariants.{Start, Finish, Halt}
@@ -29,16 +29,16 @@ pub data Rule : Type 0 where
   V9 : Rule
 
 -- the number of a rule
-abbrev pub number : Rule → ℕ
-number V1 = 1
-number V2 = 2
-number V3 = 3
-number V4 = 4
-number V5 = 5
-number V6 = 6
-number V7 = 7
-number V8 = 8
-number V9 = 9
+abbrev pub rule_number : Rule → ℕ
+rule_number V1 = 1
+rule_number V2 = 2
+rule_number V3 = 3
+rule_number V4 = 4
+rule_number V5 = 5
+rule_number V6 = 6
+rule_number V7 = 7
+rule_number V8 = 8
+rule_number V9 = 9
 
 -- the worker's number is below the count, and the worker hasn't halted
 pub record MayAct (workers : ℕ) (h : List Event) (worker : ℕ) : Type 0 where
@@ -46,77 +46,54 @@ pub record MayAct (workers : ℕ) (h : List Event) (worker : ℕ) : Type 0 where
   pub running : halted h worker ≡ false
 
 -- the operation isn't started, and all before it in its lane are
-pub record IsHead (s : Schedule) (h : List Event) (op : ℕ) : Type 0 where
+pub record LeadsLane (s : Schedule) (h : List Event) (op : ℕ) : Type 0 where
   pub fresh : started h op ≡ false
   pub led : (j : ℕ) → IsBefore s j op → started h j ≡ true
 
 -- in a forum lane, all before it are finished
-abbrev pub IsNotBusy : Schedule → List Event → ℕ → Type 0
-IsNotBusy s h op = IsInForum s op → (j : ℕ) → IsBefore s j op → finished h j ≡ true
+abbrev pub LaneIsFinished : Schedule → List Event → ℕ → Type 0
+LaneIsFinished s h op = IsInForum s op → (j : ℕ) → IsBefore s j op → finished h j ≡ true
 
--- of a dependent, each dependency of the plan whose t is at most its t_d is finished: the dependency rule of Erling et al., SIGMOD 2015
+-- of a dependent, each dependency of the plan whose t is at most its t_d is finished: the
+-- dependency rule of Erling et al., SIGMOD 2015
 abbrev pub IsCleared : Schedule → List Event → ℕ → Type 0
 IsCleared s h op =
-    (step_of s op).dependent ≡ true → (k : ℕ) → is_dependency s k ≡ true → (step_of s k).t ≤ (step_of s op).t_d → finished h k ≡ true
+    (step_of s op).dependent ≡ true → (k : ℕ) → is_dependency s k ≡ true
+    → (step_of s k).t ≤ (step_of s op).t_d → finished h k ≡ true
 
 -- the front of a read lies after its Start and within the history; that of an insert is 0
 pub record IsFront (s : Schedule) (h : List Event) (op front : ℕ) : Type 0 where
-  pub of_read : (step_of s op).query ≡ true → (position_or_len (starts op) h < front) × (front ≤ length h)
+  pub of_read : (step_of s op).query ≡ true
+      → (position_or_len (starts op) h < front) × (front ≤ length h)
   pub of_insert : (step_of s op).query ≡ false → front ≡ 0
 
--- the rules of a Start, each with what it says of this one
-abbrev pub start_rules : Schedule → ℕ → List Event → ℕ → ℕ → ℕ → List {1} (Rule × Type 0)
-start_rules s workers h op worker at =
-    (V1, IsOperation s op × MayAct workers h worker)
-    ∷ (V2, IsHead s h op)
-    ∷ (V3, IsNotBusy s h op)
-    ∷ (V4, (step_of s op).due ≤ at)
-    ∷ (V5, IsCleared s h op)
-    ∷ (V6, hand h worker ≡ None)
-    ∷ (V9, last h ≤ at)
-    ∷ []
-
--- those of a Finish
-abbrev pub finish_rules : Schedule → ℕ → List Event → ℕ → ℕ → ℕ → ℕ → List {1} (Rule × Type 0)
-finish_rules s workers h op worker at front =
-    (V1, IsOperation s op × MayAct workers h worker)
-    ∷ (V7, hand h worker ≡ Some op)
-    ∷ (V8, IsFront s h op front)
-    ∷ (V9, last h ≤ at)
-    ∷ []
-
--- that of a Halt
-abbrev pub halt_rules : ℕ → List Event → ℕ → List {1} (Rule × Type 0)
-halt_rules workers h worker = (V1, MayAct workers h worker) ∷ []
-
--- the rules of an event, each with what it says of this one at a history
-abbrev pub rules_of : Schedule → ℕ → List Event → Event → List {1} (Rule × Type 0)
-rules_of s workers h (Start op worker at) = start_rules s workers h op worker at
-rules_of s workers h (Finish op worker at front) = finish_rules s workers h op worker at front
-rules_of s workers h (Halt worker) = halt_rules workers h worker
-
--- one fact where a test passes, and another where it fails
-abbrev pub fact_where : Bool → Type 0 → Type 0 → Type 0
-fact_where true fact other = fact
-fact_where false fact other = other
-
--- the fact beside a rule; one that isn't in the list asks nothing
-abbrev pub fact_of : List {1} (Rule × Type 0) → Rule → Type 0
-fact_of [] r = Unit {0}
-fact_of ((rule, fact) ∷ rules) r = fact_where (number rule == number r) fact (fact_of rules r)
-
--- what a rule says of an event at a history
+-- what each rule asks of an event after a history, a line a rule: those of a Start, those of a
+-- Finish and that of a Halt; any other rule asks nothing of it
 abbrev pub Obeys : Schedule → ℕ → List Event → Event → Rule → Type 0
-Obeys s workers h e r = fact_of (rules_of s workers h e) r
+Obeys s workers h (Start op worker at) V1 = IsOperation s op × MayAct workers h worker
+Obeys s workers h (Start op worker at) V2 = LeadsLane s h op
+Obeys s workers h (Start op worker at) V3 = LaneIsFinished s h op
+Obeys s workers h (Start op worker at) V4 = (step_of s op).due ≤ at
+Obeys s workers h (Start op worker at) V5 = IsCleared s h op
+Obeys s workers h (Start op worker at) V6 = hand h worker ≡ None
+Obeys s workers h (Start op worker at) V9 = last h ≤ at
+Obeys s workers h (Finish op worker at front) V1 = IsOperation s op × MayAct workers h worker
+Obeys s workers h (Finish op worker at front) V7 = hand h worker ≡ Some op
+Obeys s workers h (Finish op worker at front) V8 = IsFront s h op front
+Obeys s workers h (Finish op worker at front) V9 = last h ≤ at
+Obeys s workers h (Halt worker) V1 = MayAct workers h worker
+Obeys s workers h e r = Unit {0}
 
--- the event may follow the history
+-- the event may follow the history: it obeys each rule
 pub record Fits (s : Schedule) (workers : ℕ) (h : List Event) (e : Event) : Type 0 where
   pub obeys : (r : Rule) → Obeys s workers h e r
 
 -- each event fits the events before it, and no moment is above the greatest
 pub record IsLegal (s : Schedule) (workers : ℕ) (h : List Event) : Type 0 where
-  pub bounded : (g : List Event) (e : Event) (rest : List Event) → g ++ e ∷ rest ≡ h → moment e ≤ MAX_AT
-  pub fits : (g : List Event) (e : Event) (rest : List Event) → g ++ e ∷ rest ≡ h → Fits s workers g e
+  pub bounded : (g : List Event) (e : Event) (rest : List Event) → g ++ e ∷ rest ≡ h
+      → moment e ≤ MAX_AT
+  pub fits : (g : List Event) (e : Event) (rest : List Event) → g ++ e ∷ rest ≡ h
+      → Fits s workers g e
 
 -- every operation is finished, and nobody has halted
 pub record IsComplete (s : Schedule) (h : List Event) : Type 0 where

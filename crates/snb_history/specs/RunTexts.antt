@@ -9,9 +9,11 @@ use Rattle.snb_history.specs.declared.logged.Logged.{Logged}
 
 -- what the line of an event begins with, whatever the version of the log
 abbrev pub event_text : Event → List ℕ
-event_text (Start op worker at) = codes "S|" ++ decimal op ++ codes "|" ++ decimal worker ++ codes "|" ++ decimal at
+event_text (Start op worker at) =
+    codes "S|" ++ decimal op ++ codes "|" ++ decimal worker ++ codes "|" ++ decimal at
 event_text (Finish op worker at front) =
-    codes "F|" ++ decimal op ++ codes "|" ++ decimal worker ++ codes "|" ++ decimal at ++ codes "|" ++ decimal front
+    codes "F|" ++ decimal op ++ codes "|" ++ decimal worker ++ codes "|" ++ decimal at ++ codes "|"
+    ++ decimal front
 event_text (Halt worker) = codes "H|" ++ decimal worker
 
 -- the column of a count, where there is one
@@ -21,7 +23,9 @@ count_text (Some n) = codes "|" ++ decimal n
 
 -- the line of a header
 abbrev pub header_line : Header → List ℕ
-header_line head = codes "snblog|" ++ decimal head.version ++ codes "|" ++ decimal head.workers ++ count_text head.operations ++ codes "\n"
+header_line head =
+    codes "snblog|" ++ decimal head.version ++ codes "|" ++ decimal head.workers
+    ++ count_text head.operations ++ codes "\n"
 
 -- the line of an event, with its count of rows where it has one
 abbrev pub logged_line : Logged → List ℕ
@@ -33,7 +37,8 @@ text_of_log head logged = header_line head ++ flat_map logged_line logged
 
 -- the header of a log of version 2: so many workers, and so many operations
 abbrev pub header_of : ℕ → ℕ → Header
-header_of workers operations = record { version = 2; workers = workers; operations = Some operations }
+header_of workers operations =
+    record { version = 2; workers = workers; operations = Some operations }
 
 -- the log of a run with so many workers, of a plan with so many operations
 abbrev pub log_text : ℕ → ℕ → List Logged → List ℕ

@@ -13,7 +13,17 @@ pub record Schedule : Type 0 where
 
 -- the step that is read at a number that is no operation
 abbrev pub no_step : Step
-no_step = record { lane = 0; place = 0; t = 0; t_d = 0; due = 0; dependency = false; dependent = false; query = false }
+no_step =
+    record {
+      lane = 0;
+      place = 0;
+      t = 0;
+      t_d = 0;
+      due = 0;
+      dependency = false;
+      dependent = false;
+      query = false;
+    }
 
 -- the step of an operation
 abbrev pub step_of : Schedule → ℕ → Step
@@ -35,7 +45,8 @@ is_dependency s k = (step_of s k).dependency
 abbrev pub IsInForum : Schedule → ℕ → Type 0
 IsInForum s k = slice_get s.kinds (step_of s k).lane ≡ Some Forum
 
--- operations are numbered by their t, due times rise with them, and each dependent's t_d lies below its t
+-- operations are numbered by their t, due times rise with them, and each dependent's t_d lies below
+-- its t
 pub record IsTimely (s : Schedule) : Type 0 where
   pub numbered : (j k : ℕ) → j ≤ k → k < length s.steps → (step_of s j).t ≤ (step_of s k).t
   pub due_rises : (j k : ℕ) → j ≤ k → k < length s.steps → (step_of s j).due ≤ (step_of s k).due
@@ -43,7 +54,8 @@ pub record IsTimely (s : Schedule) : Type 0 where
 
 -- along a lane places rise with numbers
 pub record IsPlaced (s : Schedule) : Type 0 where
-  pub rises : (j k : ℕ) → j < k → k < length s.steps → (step_of s j).lane ≡ (step_of s k).lane → (step_of s j).place < (step_of s k).place
+  pub rises : (j k : ℕ) → j < k → k < length s.steps → (step_of s j).lane ≡ (step_of s k).lane
+      → (step_of s j).place < (step_of s k).place
 
 -- these are the numbers of the lane's operations, rising, each at its place
 pub record IsLane (s : Schedule) (lane : ℕ) (numbers : List ℕ) : Type 0 where
@@ -55,7 +67,8 @@ pub record IsLane (s : Schedule) (lane : ℕ) (numbers : List ℕ) : Type 0 wher
 abbrev pub ComesBefore : Step → Step → Type 0
 ComesBefore one other =
     (one.t < other.t)
-    ⊎ ((one.t ≡ other.t) × ((one.lane < other.lane) ⊎ ((one.lane ≡ other.lane) × (one.place < other.place))))
+    ⊎ ((one.t ≡ other.t)
+    × ((one.lane < other.lane) ⊎ ((one.lane ≡ other.lane) × (one.place < other.place))))
 
 -- how many of the steps before number k stand in the lane
 abbrev pub count_before : Schedule → ℕ → ℕ → ℕ
@@ -69,7 +82,8 @@ max_lanes = 2 * MAX_LANES + 1
 abbrev pub max_steps : ℕ
 max_steps = MAX_ROWS + MAX_READS
 
--- what is true of the steps and kinds of every schedule: its limits, and the order and lanes of its steps
+-- what is true of the steps and kinds of every schedule: its limits, and the order and lanes of its
+-- steps
 pub record IsPlanned (s : Schedule) : Type 0 where
   pub few_lanes : length s.kinds ≤ max_lanes
   pub few_steps : length s.steps ≤ max_steps
@@ -80,4 +94,5 @@ pub record IsPlanned (s : Schedule) : Type 0 where
   pub timed : (k : ℕ) → IsOperation s k → (step_of s k).t ≤ MAX_TIME
   pub needs_timed : (k : ℕ) → IsOperation s k → (step_of s k).t_d ≤ MAX_TIME
   pub due_timed : (k : ℕ) → IsOperation s k → (step_of s k).due ≤ MAX_AT
-  pub reads : (k : ℕ) → IsOperation s k → ((step_of s k).query ≡ true) ↔ (slice_get s.kinds (step_of s k).lane ≡ Some Query)
+  pub reads : (k : ℕ) → IsOperation s k
+      → ((step_of s k).query ≡ true) ↔ (slice_get s.kinds (step_of s k).lane ≡ Some Query)

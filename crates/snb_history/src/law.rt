@@ -1,6 +1,7 @@
 //! Laws of histories, over every schedule and every history.
 
-ghost use Rattle.snb_history.specs.Laws.{BreaksOne, CompletionDecides, CompletionRises, CompletionWaits, FitsOrBreaks, HandIsOwn, HandIsTheirs, LegalIsShort, NeverStuck, OnceEach, PlannedIsTimely, PrefixIsLegal, StartStays};
+ghost use Rattle.snb_history.specs.Laws.{BreaksOne, CompletionDecides, CompletionRises, CompletionWaits, FitsOrBreaks, HandIsOwn, HandIsTheirs, NeverStuck, OnceEach, StartStays};
+ghost use Rattle.snb_history.specs.ScheduleLaws.{LegalIsShort, PlannedIsTimely, PrefixIsLegal};
 
 /// The completion time is below the t of each unfinished dependency.
 pub fn completion_waits()

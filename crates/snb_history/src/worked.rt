@@ -25,7 +25,9 @@ pub fn tie_waits()
 pub fn both_at_one_time()
     ensures none { completion level (Event.Start 0 0 0 ∷ Event.Start 1 1 0 ∷ []) ≡ pos 7999 }
     ensures one { completion level (Event.Start 0 0 0 ∷ Event.Start 1 1 0 ∷ Event.Finish 1 1 0 0 ∷ []) ≡ pos 7999 }
-    ensures two { completion level (Event.Start 0 0 0 ∷ Event.Start 1 1 0 ∷ Event.Finish 1 1 0 0 ∷ Event.Finish 0 0 0 0 ∷ []) ≡ pos 253402300799999 }
+    ensures two { completion level
+        (Event.Start 0 0 0 ∷ Event.Start 1 1 0 ∷ Event.Finish 1 1 0 0 ∷ Event.Finish 0 0 0 0 ∷ [])
+        ≡ pos 253402300799999 }
 {}
 
 /// A dependency that is held keeps the completion time, though later ones are finished.
@@ -41,5 +43,6 @@ pub fn held_keeps_the_time()
 
 /// An event that breaks two rules is told by the first.
 pub fn first_rule_first()
-    ensures { Breaks tie 2 (Event.Start 0 0 3000 ∷ []) (Event.Start 1 1 2000) V5 (record { needs = pos 8000; found = pos 7999 }) }
+    ensures { Breaks tie 2 (Event.Start 0 0 3000 ∷ []) (Event.Start 1 1 2000) V5
+        (record { needs = pos 8000; found = pos 7999 }) }
 {}

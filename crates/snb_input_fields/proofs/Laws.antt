@@ -9,8 +9,8 @@ use Rattle.snb_schema.specs.declared.column.Value.TheVariants.{Digits, SmallDigi
 use Rattle.snb_schema.specs.declared.query.Query.{Query}
 use Rattle.snb_schema.specs.declared.read_kind.ReadKind.{ReadKind}
 use Rattle.snb_schema.specs.Columns.{Spells, SpellsAll, StopsAfter}
-use Rattle.snb_schema.specs.ReadKinds.{kind_of, parameter_columns, parameter_values}
-use Rattle.snb_schema.specs.RowLines.{IsWide}
+use Rattle.snb_schema.specs.ReadKinds.{read_kind_of, parameter_columns, parameter_values}
+use Rattle.snb_schema.specs.RowValues.{IsWide}
 use Rattle.snb_input_lines.specs.Records.{field_at}
 use Rattle.snb_input_fields.specs.Laws.{TakenAgain}
 use Rattle.snb_input_fields.specs.Queries.{query_by}
@@ -84,9 +84,9 @@ pub number_or_not : (x : List ℕ) (most : ℕ) → ((n : ℕ) × Num x n most) 
 number_or_not = number_found
 
 -- a read has the kind and the values that it is made of
-pub made : (kind : ReadKind) (vs : List Value) → (kind_of (query_by kind vs) ≡ kind) × (parameter_values (query_by kind vs) ≡ taken (parameter_columns kind) vs)
+pub made : (kind : ReadKind) (vs : List Value) → (read_kind_of (query_by kind vs) ≡ kind) × (parameter_values (query_by kind vs) ≡ taken (parameter_columns kind) vs)
 made kind vs = search rules
 
 -- and is what is made of them
-pub query_back : (query : Query) → query_by (kind_of query) (parameter_values query) ≡ query
+pub query_back : (query : Query) → query_by (read_kind_of query) (parameter_values query) ≡ query
 query_back query = search rules

@@ -3,7 +3,7 @@ use Rattle.std.proofs.Common.{◌≡◌, ◌∙◌, ◌+◌, ℕ, zero, suc, Lis
 use Rattle.std.proofs.lemmas.List.{append-nil, nil_from_length}
 use Rattle.std.proofs.lemmas.Bool.Decides.{Decides-eqb}
 use Rattle.snb_input_lines.specs.Records.{field_at}
-use Rattle.snb_schema.specs.RowLines.{IsWide, NoneOrEmpty}
+use Rattle.snb_schema.specs.RowValues.{IsWide, NoneOrEmpty}
 
 -- the last field, and those before it
 last_split : (fs : List (List ℕ)) (count : ℕ) (x : List ℕ) → field_at fs count ≡ Some x → length fs ≡ count + 1 → (length (take count fs) ≡ count) × (fs ≡ take count fs ++ x ∷ [])

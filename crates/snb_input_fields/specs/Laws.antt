@@ -7,15 +7,20 @@ use Rattle.snb_input_fields.specs.Values.{taken}
 
 -- values that are taken as their columns say are the values that the fields of these columns spell
 abbrev pub TakenAgain : Type 0
-TakenAgain = (columns : List Column) (xs : List (List ℕ)) (vs : List Value) → SpellsAll columns xs vs → taken columns vs ≡ vs
+TakenAgain =
+    (columns : List Column) (xs : List (List ℕ)) (vs : List Value) → SpellsAll columns xs vs
+    → taken columns vs ≡ vs
 
 -- a text spells a value of a column, or it spells none
 abbrev pub EachIsSpelled : Type 0
-EachIsSpelled = (column : Column) (x : List ℕ) → ((v : Value) × Spells column x v) ⊎ ((v : Value) → ¬ Spells column x v)
+EachIsSpelled =
+    (column : Column) (x : List ℕ) → ((v : Value) × Spells column x v)
+    ⊎ ((v : Value) → ¬ Spells column x v)
 
--- where there is a field for each column, the first fields spell a value of each, or one of them is the first that spells none, and those
--- before it spell values
+-- where there is a field for each column, the first fields spell a value of each, or one of them is
+-- the first that spells none, and those before it spell values
 abbrev pub EachLineIsRead : Type 0
 EachLineIsRead = (columns : List Column) (xs : List (List ℕ)) → length columns ≤ length xs
     → ((vs : List Value) × SpellsAll columns (take (length columns) xs) vs)
-    ⊎ ((n : ℕ) × (vs : List Value) × StopsAfter columns xs n × SpellsAll (take n columns) (take n xs) vs)
+    ⊎ ((n : ℕ) × (vs : List Value) × StopsAfter columns xs n
+    × SpellsAll (take n columns) (take n xs) vs)

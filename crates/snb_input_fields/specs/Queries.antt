@@ -21,5 +21,6 @@ query_by Ic2 vs = queries.Ic2 (first_number vs) (first_number (drop 1 vs))
 query_by Ic7 vs = queries.Ic7 (first_number vs)
 query_by Ic8 vs = queries.Ic8 (first_number vs)
 query_by Ic9 vs = queries.Ic9 (first_number vs) (first_number (drop 1 vs))
-query_by Ic11 vs = queries.Ic11 (first_number vs) (first_text (drop 1 vs)) (first_small (drop 1 (drop 1 vs)))
+query_by Ic11 vs =
+    queries.Ic11 (first_number vs) (first_text (drop 1 vs)) (first_small (drop 1 (drop 1 vs)))
 query_by Ic13 vs = queries.Ic13 (first_number vs) (first_number (drop 1 vs))

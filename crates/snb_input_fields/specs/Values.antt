@@ -1,4 +1,5 @@
--- Values taken from the front of a list. Where the first is of another kind, or there is none, what is taken is 0, none or empty.
+-- Values taken from the front of a list. Where the first is of another kind, or there is none, what
+-- is taken is 0, none or empty.
 use Rattle.std.specs.Prelude.{ℕ, ◌==◌, Bool, false, List, [], ◌∷◌, drop, Option, Some, None}
 use Rattle.snb_schema.specs.declared.column.Column.{Column}
 use Rattle.snb_schema.specs.declared.column.Column.TheVariants.{Number, Small, OptionalId, Date, Day, Words, Word, TextList, IdList, PairList}
@@ -82,7 +83,8 @@ first_pairs (Texts texts ∷ vs) = []
 first_pairs (Ids ids ∷ vs) = []
 first_pairs (Pairs pairs ∷ vs) = pairs
 
--- the first two values are one number; where one of them is another value, or isn't there, they aren't
+-- the first two values are one number; where one of them is another value, or isn't there, they
+-- aren't
 abbrev pub starts_twice : List Value → Bool
 starts_twice [] = false
 starts_twice (Digits one ∷ []) = false

@@ -13,7 +13,7 @@ ghost use Rattle.snb_input_fields.specs.Reading.{IsBadIn, IsBadNext, IsNext, Spe
 use crate::lists::text_of;
 use crate::read::COLUMNS_END;
 use snb_base::{Text, read_number};
-use snb_clock::{read_date, read_day};
+use snb_dates::{read_date, read_day};
 use snb_input_lines::Record;
 use snb_schema::{Column, LineFault};
 use std::alloc::Global;
@@ -86,7 +86,8 @@ impl<'a> FieldReader<'a> {
 
     // Why the next field, which spells no value of its column, is refused.
     fn refusal(&self) -> LineFault
-        requires bad { (column : AnyColumn) × IsNext self.now column × ((v : AnyValue) → ¬ SpellsNext self.now column v) }
+        requires bad { (column : AnyColumn) × IsNext self.now column
+            × ((v : AnyValue) → ¬ SpellsNext self.now column v) }
         ensures column { result ≡ why.Bad (self.now.read + 1) }
         ensures stops { StopsAfter self.now.columns self.now.fields self.now.read }
     {

@@ -35,7 +35,9 @@ fn parts_of<'a>(alloc: Global, field: &'a [u8]) -> Result<Vec<&'a [u8]>, AllocEr
 // Notes a text, and tells whether it is new.
 fn note_text<'a>(seen: &mut BTreeSet<&'a [u8]>, word: &'a [u8]) -> Result<bool, AllocError>
     ensures new { IfOk result (λ new. new ≡ not (list_any (bytes_eq word.now) (map (λ x. x.now) seen.old.keys))) }
-    ensures seen { OnOk result ((q : List ℕ) → list_any (bytes_eq q) (map (λ x. x.now) seen.new.keys) ≡ (bytes_eq q word.now || list_any (bytes_eq q) (map (λ x. x.now) seen.old.keys))) }
+    ensures seen { OnOk result
+        ((q : List ℕ) → list_any (bytes_eq q) (map (λ x. x.now) seen.new.keys)
+        ≡ (bytes_eq q word.now || list_any (bytes_eq q) (map (λ x. x.now) seen.old.keys))) }
 {
     Ok(seen.insert(word)?)
 }
@@ -43,7 +45,8 @@ fn note_text<'a>(seen: &mut BTreeSet<&'a [u8]>, word: &'a [u8]) -> Result<bool, 
 // Notes an id, and tells whether it is new.
 fn note_id(seen: &mut BTreeSet<u64>, id: u64) -> Result<bool, AllocError>
     ensures new { IfOk result (λ new. new ≡ not (list_any (nat_eq id) seen.old.keys)) }
-    ensures seen { OnOk result ((q : ℕ) → list_any (nat_eq q) seen.new.keys ≡ (nat_eq q id || list_any (nat_eq q) seen.old.keys)) }
+    ensures seen { OnOk result
+        ((q : ℕ) → list_any (nat_eq q) seen.new.keys ≡ (nat_eq q id || list_any (nat_eq q) seen.old.keys)) }
 {
     Ok(seen.insert(id)?)
 }
@@ -51,7 +54,8 @@ fn note_id(seen: &mut BTreeSet<u64>, id: u64) -> Result<bool, AllocError>
 // Notes a pair, and tells whether it is new.
 fn note_pair(seen: &mut BTreeSet<(u64, u32)>, pair: (u64, u32)) -> Result<bool, AllocError>
     ensures new { IfOk result (λ new. new ≡ not (list_any (pair_eq pair) seen.old.keys)) }
-    ensures seen { OnOk result ((q : ℕ × ℕ) → list_any (pair_eq q) seen.new.keys ≡ (pair_eq q pair || list_any (pair_eq q) seen.old.keys)) }
+    ensures seen { OnOk result
+        ((q : ℕ × ℕ) → list_any (pair_eq q) seen.new.keys ≡ (pair_eq q pair || list_any (pair_eq q) seen.old.keys)) }
 {
     Ok(seen.insert(pair)?)
 }
@@ -121,7 +125,8 @@ fn read_pair(text: &[u8]) -> Option<(u64, u32)>
 /// The list of texts that a field spells. The one error is want of memory.
 pub fn read_texts(alloc: Global, field: &[u8]) -> Result<Option<Texts>, AllocError>
     requires { IsUtf8 field.now }
-    ensures { IfOk result (λ found. MatchOption found ((texts : List (List ℕ)) → ¬ WordList field.now texts) (WordList field.now)) }
+    ensures { IfOk result
+        (λ found. MatchOption found ((texts : List (List ℕ)) → ¬ WordList field.now texts) (WordList field.now)) }
 {
     let parts = parts_of(alloc, field)?;
     let mut seen = BTreeSet::new(alloc);
@@ -159,7 +164,8 @@ pub fn read_ids(alloc: Global, field: &[u8]) -> Result<Option<Numbers>, AllocErr
 
 /// The list of ids with years that a field spells. The one error is want of memory.
 pub fn read_pairs(alloc: Global, field: &[u8]) -> Result<Option<Pairs>, AllocError>
-    ensures { IfOk result (λ found. MatchOption found ((pairs : List (ℕ × ℕ)) → ¬ PairList field.now pairs) (PairList field.now)) }
+    ensures { IfOk result
+        (λ found. MatchOption found ((pairs : List (ℕ × ℕ)) → ¬ PairList field.now pairs) (PairList field.now)) }
 {
     one_spelling();
     let parts = parts_of(alloc, field)?;

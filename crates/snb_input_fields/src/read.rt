@@ -6,11 +6,11 @@ ghost use Rattle.snb_schema.specs.declared.column.Column.TheVariants.{OptionalId
 ghost use Rattle.snb_schema.specs.declared.column.Value.TheVariants.{Digits, Ids, Pairs as PairsOf, Texts as TextsOf};
 ghost use Rattle.snb_schema.specs.Columns.{Spells, SpellsAll, StopsAfter};
 ghost use Rattle.snb_schema.specs.Faults.{OnBadColumn};
-ghost use Rattle.snb_schema.specs.RowLines.{IsWide};
+ghost use Rattle.snb_schema.specs.RowValues.{IsWide};
 
 use crate::lists::{read_ids, read_pairs, read_texts, text_of};
 use snb_base::{Numbers, Pairs, Texts, read_number};
-use snb_clock::{read_date, read_day};
+use snb_dates::{read_date, read_day};
 use snb_input_lines::Record;
 use snb_schema::limits::MAX_ID;
 use snb_schema::{Column, LineFault, Value};
@@ -36,7 +36,8 @@ pub fn is_wide(count: usize, fields: &Record) -> bool
 /// The field is UTF-8.
 pub fn read_value(alloc: Global, column: Column, field: &[u8]) -> Result<Option<Value>, AllocError>
     requires { IsUtf8 field.now }
-    ensures { IfOk result (λ found. MatchOption found ((v : AnyValue) → ¬ Spells column field.now v) (Spells column field.now)) }
+    ensures { IfOk result
+        (λ found. MatchOption found ((v : AnyValue) → ¬ Spells column field.now v) (Spells column field.now)) }
 {
     match column {
         Column::Number { most } => Ok(digits(read_number(field, most))),
@@ -77,7 +78,8 @@ fn small_digits(field: &[u8], most: u32) -> Option<Value>
 // The text that a field is, where it isn't empty.
 fn read_word(alloc: Global, field: &[u8]) -> Result<Option<Value>, AllocError>
     requires { IsUtf8 field.now }
-    ensures { IfOk result (λ found. MatchOption found ((v : AnyValue) → ¬ Spells Word field.now v) (Spells Word field.now)) }
+    ensures { IfOk result
+        (λ found. MatchOption found ((v : AnyValue) → ¬ Spells Word field.now v) (Spells Word field.now)) }
 {
     if field.is_empty() {
         return Ok(None);

@@ -117,7 +117,8 @@ fn put_cell(cell: &Cell<'_>, line: &mut Vec<u8>) -> Result<(), AllocError>
 
 // Appends the canonical spellings of values, with bars between them.
 fn put_cells(cells: &[Cell<'_>], to: &mut Vec<u8>) -> Result<(), AllocError>
-    ensures ok { OnOk result (to.new.items ≡ to.old.items ++ join_with_byte 124 (map canonical_field (map value_of cells.now))) }
+    ensures ok { OnOk result
+        (to.new.items ≡ to.old.items ++ join_with_byte 124 (map canonical_field (map value_of cells.now))) }
     ensures err { OnErr result (StartsWith to.new.items to.old.items) }
 {
     let Some((first, later)) = cells.split_first() else {
@@ -138,7 +139,8 @@ fn put_cells(cells: &[Cell<'_>], to: &mut Vec<u8>) -> Result<(), AllocError>
 /// Where fields of some line spell these values, the law `own_line` says that this one spells them
 /// too.
 pub fn put_fields(cells: &[Cell<'_>], to: &mut Vec<u8>) -> Result<(), AllocError>
-    ensures ok { OnOk result (to.new.items ≡ to.old.items ++ join_with_byte 124 (map canonical_field (map value_of cells.now))) }
+    ensures ok { OnOk result
+        (to.new.items ≡ to.old.items ++ join_with_byte 124 (map canonical_field (map value_of cells.now))) }
     ensures err { OnErr result (to.new.items ≡ to.old.items) }
 {
     let start = to.len();
@@ -152,7 +154,9 @@ pub fn put_fields(cells: &[Cell<'_>], to: &mut Vec<u8>) -> Result<(), AllocError
 /// Appends the canonical line of the values and its line end: the fields as `put_fields` appends
 /// them, and a line feed. Want of memory leaves the bytes as they were.
 pub fn put_line(cells: &[Cell<'_>], to: &mut Vec<u8>) -> Result<(), AllocError>
-    ensures ok { OnOk result (to.new.items ≡ to.old.items ++ (join_with_byte 124 (map canonical_field (map value_of cells.now)) ++ 10 ∷ [])) }
+    ensures ok { OnOk result
+        (to.new.items ≡ to.old.items ++
+        (join_with_byte 124 (map canonical_field (map value_of cells.now)) ++ 10 ∷ [])) }
     ensures err { OnErr result (to.new.items ≡ to.old.items) }
 {
     let start = to.len();

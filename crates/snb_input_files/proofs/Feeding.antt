@@ -20,7 +20,8 @@ use Rattle.snb_input_files.specs.declared.load.Load.TheVariants.{Refused, ReadFa
 use Rattle.snb_input_files.specs.Format.{Format, Lawful}
 use Rattle.snb_input_files.specs.Loading.{load_for}
 use Rattle.snb_input_files.specs.Pieces.{IsBadPiece, IsFedMore, IsMore, IsStep, OnRefused}
-use Rattle.snb_input_files.specs.Places.{LinesRefuse, opening}
+use Rattle.snb_input_files.specs.Places.{opening}
+use Rattle.snb_input_files.specs.PlaceChecks.{LinesRefuse}
 use Rattle.snb_input_files.proofs.FileFacts.{stopped, too_far}
 
 -- the refusal of a line is that of the loading

@@ -16,14 +16,15 @@ use Rattle.snb_base.specs.FirstOf.{FirstOf}
 use Rattle.snb_input_files.specs.Format.{Format, Lawful}
 use Rattle.snb_input_files.specs.Loading.{IsTakenKnown}
 use Rattle.snb_input_files.specs.Pieces.{Opened}
-use Rattle.snb_input_files.specs.Places.{FileSays, IsBare, Knows, LacksHeader, LineFault, LinesRefuse, LinesSay, Place, Source, file_checks, line_checks, opening}
+use Rattle.snb_input_files.specs.Places.{FileSays, HasKnown, LinesSay, InputPlace, ReadFile, opening}
+use Rattle.snb_input_files.specs.PlaceChecks.{IsBare, LacksHeader, LineFault, LinesRefuse, file_checks, line_checks}
 use Rattle.snb_input_files.proofs.FirstLine.{opens_with}
 use Rattle.snb_input_files.proofs.Reach.{lines_split, longer_split, walked_whole, within_file, within_whole}
 use Rattle.snb_input_files.proofs.Taking.{Stands, knows_one, left, line_bad, line_good, run_heard, says_count, says_knows, says_one}
 use Rattle.snb_base.proofs.Laws.{none_some}
 
 -- a line that is too far is refused so first
-large_first : {K T : Type 0} (g : Format K T) (p : Place) (line : List ℕ) → IsBeyond p.bytes p.size p.before line → FirstOf (line_checks g p line) (TooLarge p.file)
+large_first : {K T : Type 0} (g : Format K T) (p : InputPlace) (line : List ℕ) → IsBeyond p.bytes p.size p.before line → FirstOf (line_checks g p line) (TooLarge p.file)
 large_first g p [] h = inl (h, refl)
 large_first g p (b ∷ bs) h = inl (h, refl)
 
@@ -33,9 +34,9 @@ runs_cut takes file [] ys a c h = (a, refl, h)
 runs_cut takes file (x ∷ xs) ys a c h = let r = runs_cut takes file xs ys h.0 c h.2 in (r.0, (h.0, h.1, r.1), r.2)
 
 module _ {P K T : Type 0} (g : Format K T) (heard : Heard P T) (takes : Takes P T) (refuses : Refuses P T) (hears : Hears takes refuses heard g.rules.own) (lawful : Lawful g)
-    (file : FileId) (bytes rows : ℕ) (past : List Source) (s : RowCount P) (at : Opened g heard rows past s) where
+    (file : FileId) (bytes rows : ℕ) (past : List ReadFile) (s : RowCount P) (at : Opened g heard rows past s) where
   -- where the file begins
-  abbrev pub place : List ℕ → Place
+  abbrev pub place : List ℕ → InputPlace
   place whole = opening file bytes rows past whole
 
   -- after lines that were read the sink stands at their place
@@ -133,7 +134,7 @@ module _ {P K T : Type 0} (g : Format K T) (heard : Heard P T) (takes : Takes P 
       lines_good : (q : Refusal) → ¬ LinesRefuse g (place text) text q
       lines_good q f = (clean text (lines text) items known to says run (λ before line after e. within_file bytes text before line few)).none f.before f.line f.after q f.splits f.fault
 
-      knows : Knows (g.language file).begins (g.language file).heads (filled (lines text)) known
+      knows : HasKnown (g.language file).begins (g.language file).heads (filled (lines text)) known
       knows = says_knows (g.language file) (lines text) (g.language file).begins known 0 items says
 
       headed : (k : K) → known ≡ Some k → (q : Refusal) → ¬ LacksHeader g (place text) text q
@@ -157,7 +158,7 @@ module _ {P K T : Type 0} (g : Format K T) (heard : Heard P T) (takes : Takes P 
             same_refusal q h = cc
 
             by_known : (o : Option K) → known ≡ o → end_fault file o (ends to.sink file) ≡ Some r → FirstOf (LacksHeader g (place text) text ∷ IsBare g (place text) text ∷ []) r
-            by_known None k h = inl (subst (λ (o : Option K). Knows (g.language file).begins (g.language file).heads (filled (lines text)) o) k knows, same_refusal (NoHeader file) h)
+            by_known None k h = inl (subst (λ (o : Option K). HasKnown (g.language file).begins (g.language file).heads (filled (lines text)) o) k knows, same_refusal (NoHeader file) h)
             by_known (Some x) k h = inr (headed x k, inl (items, said x k, sym bare_is ∙ h))
 
         -- nothing is wrong with the file

@@ -26,7 +26,8 @@ use Rattle.snb_base.specs.FirstOf.{FirstOf}
 use Rattle.snb_input_files.specs.Format.{Format, Lawful}
 use Rattle.snb_input_files.specs.Loading.{IsAnswer, IsKnownAnswer, IsTakenKnown, IsTold, load_for}
 use Rattle.snb_input_files.specs.Pieces.{IsBegun, IsEnd, IsFed, IsStep, Opened}
-use Rattle.snb_input_files.specs.Places.{FilesSay, Source, file_checks, opening}
+use Rattle.snb_input_files.specs.Places.{FilesSay, ReadFile, opening}
+use Rattle.snb_input_files.specs.PlaceChecks.{file_checks}
 use Rattle.snb_input_files.proofs.FileFacts.{ended_bad, ended_well, last_stopped}
 use Rattle.snb_input_files.proofs.Taking.{left}
 use Rattle.snb_input_files.proofs.ToldFacts.{IsToldBegun, found, not_nothing, told_nil}
@@ -46,7 +47,7 @@ module _ {P G K T : Type 0} (g : Format K T) (heard : Heard P T) (takes : Takes 
     pub fed : IsFed g takes file grammar start text reader sink
     pub told : IsToldBegun contents name text
 
-  pub opened : (rows : ℕ) (past : List Source) (file_sink : P) → (done : List (List T)) → FilesSay g past done → heard file_sink done [] → Opened g heard rows past (first rows file_sink)
+  pub opened : (rows : ℕ) (past : List ReadFile) (file_sink : P) → (done : List (List T)) → FilesSay g past done → heard file_sink done [] → Opened g heard rows past (first rows file_sink)
   opened rows past file_sink done said fresh = record { done = done; said = said; fresh = fresh; rows_are = refl; most_is = refl }
 
   -- a reader that is new
@@ -71,7 +72,7 @@ module _ {P G K T : Type 0} (g : Format K T) (heard : Heard P T) (takes : Takes 
   }
 
   -- the file isn't held
-  pub going_absent : (contents : Option Files) (name : List ℕ) (most : ℕ) (used : Used) (past : List Source) (file_sink : P) (old new : Reader G K) (had has : RowCount P) → Going contents name (first used.rows file_sink) old had
+  pub going_absent : (contents : Option Files) (name : List ℕ) (most : ℕ) (used : Used) (past : List ReadFile) (file_sink : P) (old new : Reader G K) (had has : RowCount P) → Going contents name (first used.rows file_sink) old had
       → IsStep g heard takes contents name file grammar most old had new has (Ok step.Absent) → IsAnswer g heard contents name file used past file_sink (Ok (Absent has.sink))
   going_absent contents name most used past file_sink old new had has k s =
       (s.3, ap (λ (z : RowCount P). z.sink) (s.1 ∙ unread k.text k.fed.items (none_read k.text (let a = s.2 in let b = k.fed.fed in omega (arith, a, b))) k.fed.says k.fed.runs))
@@ -86,7 +87,7 @@ module _ {P G K T : Type 0} (g : Format K T) (heard : Heard P T) (takes : Takes 
           subst (λ (xs : List T). Runs (RowTakes takes) file (first used.rows file_sink) xs had) none run
 
   -- a read stops the loading
-  pub going_err : (contents : Option Files) (name : List ℕ) (most : ℕ) (used : Used) (past : List Source) (file_sink : P) (old new : Reader G K) (had has : RowCount P) (load : Load) → Going contents name (first used.rows file_sink) old had
+  pub going_err : (contents : Option Files) (name : List ℕ) (most : ℕ) (used : Used) (past : List ReadFile) (file_sink : P) (old new : Reader G K) (had has : RowCount P) (load : Load) → Going contents name (first used.rows file_sink) old had
       → used.bytes + most ≡ MAX_BYTES → (done : List (List T)) → FilesSay g past done → heard file_sink done [] → IsStep g heard takes contents name file grammar most old had new has (Err load)
       → IsAnswer g heard contents name file used past file_sink (Err load)
   going_err contents name most used past file_sink old new had has (Refused r) k all done said fresh s =
@@ -104,9 +105,9 @@ module _ {P G K T : Type 0} (g : Format K T) (heard : Heard P T) (takes : Takes 
       subst (λ (z : RowCount P). IsFed g takes file grammar start text new z) (sym s.1) (subst (λ (z : Reader G K). IsFed g takes file grammar start text z had) (sym s.0) f)
 
   -- the file has ended
-  pub going_end : (contents : Option Files) (name : List ℕ) (most : ℕ) (used : Used) (past : List Source) (file_sink : P) (old new : Reader G K) (had has : RowCount P) (known : Option K) (result : Result (Found P) Load) → Going contents name (first used.rows file_sink) old had
+  pub going_end : (contents : Option Files) (name : List ℕ) (most : ℕ) (used : Used) (past : List ReadFile) (file_sink : P) (old new : Reader G K) (had has : RowCount P) (known : Option K) (result : Result (Found P) Load) → Going contents name (first used.rows file_sink) old had
       → (done : List (List T)) → FilesSay g past done → heard file_sink done [] → IsStep g heard takes contents name file grammar most old had new has (Ok step.End)
-      → ((past : List Source) (start : RowCount P) (text : List ℕ) → Opened g heard used.rows past start → IsFed g takes file grammar start text new has → IsEnd g heard file used past text known result)
+      → ((past : List ReadFile) (start : RowCount P) (text : List ℕ) → Opened g heard used.rows past start → IsFed g takes file grammar start text new has → IsEnd g heard file used past text known result)
       → IsKnownAnswer g heard contents name file used past file_sink known result
   going_end contents name most used past file_sink old new had has known result k done said fresh s end =
       by_result result (end past (first used.rows file_sink) k.text (opened used.rows past file_sink done said fresh) (kept_reader contents name most (first used.rows file_sink) k.text old new had has k.fed s))
@@ -130,7 +131,7 @@ module _ {P G K T : Type 0} (g : Format K T) (heard : Heard P T) (takes : Takes 
   -- what the end of a reader says of the file
   module _ (refuses : Refuses P T) (hears : Hears takes refuses heard g.rules.own) (lawful : Lawful g) (ends : P → FileId → Option Refusal)
       (ended : (z : P) (f : FileId) (done : List (List T)) (mine : List T) → heard z done mine → ends z f ≡ g.rules.bare f mine)
-      (used : Used) (past : List Source) (start : RowCount P) (text : List ℕ) (old : Reader G K) (had : RowCount P) (at : Opened g heard used.rows past start) (f : IsFed g takes file grammar start text old had) (few : used.bytes + old.fed ≤ MAX_BYTES) where
+      (used : Used) (past : List ReadFile) (start : RowCount P) (text : List ℕ) (old : Reader G K) (had : RowCount P) (at : Opened g heard used.rows past start) (f : IsFed g takes file grammar start text old had) (few : used.bytes + old.fed ≤ MAX_BYTES) where
     small : used.bytes + length text ≤ MAX_BYTES
     small = let l = f.fed in omega (arith, few, l)
 
@@ -157,7 +158,7 @@ module _ {P G K T : Type 0} (g : Format K T) (heard : Heard P T) (takes : Takes 
     ]
 
   -- what stops at the end is the loading's
-  pub end_err : (fault : Fault) (load : Load) (used : Used) (past : List Source) (text : List ℕ) (known : Option K) → load ≡ load_for fault → OnBad {A = Unit {0}} (Err fault) (λ r. FirstOf (file_checks g (opening file used.bytes used.rows past text) text) r)
+  pub end_err : (fault : Fault) (load : Load) (used : Used) (past : List ReadFile) (text : List ℕ) (known : Option K) → load ≡ load_for fault → OnBad {A = Unit {0}} (Err fault) (λ r. FirstOf (file_checks g (opening file used.bytes used.rows past text) text) r)
       → IsEnd g heard file used past text known (Err load)
   end_err (fault.Bad r) load used past text known e h = subst (λ (l : Load). IsEnd g heard file used past text known (Err l)) (sym e) h
   end_err fault.Memory load used past text known e h = subst (λ (l : Load). IsEnd g heard file used past text known (Err l)) (sym e) tt
@@ -176,7 +177,7 @@ on_bad_more (fault.Bad r) F G h more = more r h
 on_bad_more fault.Memory F G h more = tt
 
 -- an answer of which more is known is an answer
-pub known_answer : {P K T : Type 0} (g : Format K T) (heard : Heard P T) (contents : Option Files) (name : List ℕ) (file : FileId) (used : Used) (past : List Source) (file_sink : P) (known : Option K) (result : Result (Found P) Load)
+pub known_answer : {P K T : Type 0} (g : Format K T) (heard : Heard P T) (contents : Option Files) (name : List ℕ) (file : FileId) (used : Used) (past : List ReadFile) (file_sink : P) (known : Option K) (result : Result (Found P) Load)
     → IsKnownAnswer g heard contents name file used past file_sink known result → IsAnswer g heard contents name file used past file_sink result
 known_answer g heard contents name file used past file_sink known (Ok (Absent t)) h = h
 known_answer g heard contents name file used past file_sink known (Ok (Whole t now)) h = (h.0, h.1, h.2, h.3.0)

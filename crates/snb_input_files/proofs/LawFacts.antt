@@ -12,7 +12,8 @@ use Rattle.snb_input_files.specs.Files.{FirstFault, held_in}
 use Rattle.snb_base.specs.FirstOf.{FirstOf, NoneOf}
 use Rattle.snb_input_files.specs.Format.{Format, Lawful}
 use Rattle.snb_input_files.specs.Laws.{AreBelow, AreFrom, OneRefusal, RefusedOrNot, StagesJoin}
-use Rattle.snb_input_files.specs.Places.{FailsOwn, HasBadColumn, IsBare, IsNoHeader, LineFault, Place, file_checks, line_checks, opening}
+use Rattle.snb_input_files.specs.Places.{InputPlace, opening}
+use Rattle.snb_input_files.specs.PlaceChecks.{FailsOwn, HasBadColumn, IsBare, HasBadHeader, LineFault, file_checks, line_checks}
 use Rattle.snb_input_files.specs.Ranks.{ordinal}
 use Rattle.snb_input_files.specs.Walk.{Before, Held, IsHeldTold, Look, Role, after_look, file_at, first_role, look_beyond, look_checks, looks_from, series_looks, stage_checks, stage_looks, walk_checks}
 use Rattle.snb_input_files.specs.Walk.Role.{Needed, Further, Beyond}
@@ -69,7 +70,7 @@ fault_one F ls one r q a b =
     ]
 
 module _ {K T : Type 0} (g : Format K T) (lawful : Lawful g) where
-  own_one : (p : Place) (line : List ℕ) (r q : Refusal) → FailsOwn g p line r → FailsOwn g p line q → r ≡ q
+  own_one : (p : InputPlace) (line : List ℕ) (r q : Refusal) → FailsOwn g p line r → FailsOwn g p line q → r ≡ q
   own_one p line r q a b =
       let old : b.done ≡ a.done = files_one g lawful p.past b.done a.done b.said a.said in
       let one = says_one g lawful p.file p.before b.mine a.mine (Some b.known) (Some a.known) b.says a.says in
@@ -82,10 +83,10 @@ module _ {K T : Type 0} (g : Format K T) (lawful : Lawful g) where
       same_known : (o : Option K) (x y : K) → o ≡ Some x → o ≡ Some y → x ≡ y
       same_known o x y e h = cc
 
-  header_one : (p : Place) (line : List ℕ) (r q : Refusal) → IsNoHeader g p line r → IsNoHeader g p line q → r ≡ q
+  header_one : (p : InputPlace) (line : List ℕ) (r q : Refusal) → HasBadHeader g p line r → HasBadHeader g p line q → r ≡ q
   header_one p line r q a b = a.3 ∙ ap (BadLine p.file (length p.before + 1)) (lawful.one_header_column p.file line a.1 b.1 a.2 b.2) ∙ sym b.3
 
-  column_one : (p : Place) (line : List ℕ) (r q : Refusal) → HasBadColumn g p line r → HasBadColumn g p line q → r ≡ q
+  column_one : (p : InputPlace) (line : List ℕ) (r q : Refusal) → HasBadColumn g p line r → HasBadColumn g p line q → r ≡ q
   column_one p line r q a b =
       let known : b.0 ≡ a.0 = same_known (Some b.0) b.0 a.0 refl (knows_one (g.language p.file) (lawful.exact p.file) (g.language p.file).begins (filled p.before) (Some b.0) (Some a.0) b.1 a.1) in
       a.4 ∙ ap (BadLine p.file (length p.before + 1)) (lawful.one_column p.file a.0 line a.2 b.2 a.3 (subst (λ (k : K). (g.language p.file).bad_line k line b.2) known b.3)) ∙ sym b.4
@@ -93,7 +94,7 @@ module _ {K T : Type 0} (g : Format K T) (lawful : Lawful g) where
       same_known : (o : Option K) (x y : K) → o ≡ Some x → o ≡ Some y → x ≡ y
       same_known o x y e h = cc
 
-  line_ones : (p : Place) (line : List ℕ) → Ones (line_checks g p line)
+  line_ones : (p : InputPlace) (line : List ℕ) → Ones (line_checks g p line)
   line_ones p [] = ((λ r q a b. a.1 ∙ sym b.1), tt)
   line_ones p (c ∷ cs) = (
     (λ r q a b. a.1 ∙ sym b.1),
@@ -103,7 +104,7 @@ module _ {K T : Type 0} (g : Format K T) (lawful : Lawful g) where
     ),
   )
 
-  bare_one : (p : Place) (whole : List ℕ) (r q : Refusal) → IsBare g p whole r → IsBare g p whole q → r ≡ q
+  bare_one : (p : InputPlace) (whole : List ℕ) (r q : Refusal) → IsBare g p whole r → IsBare g p whole q → r ≡ q
   bare_one p whole r q a b =
       let items : a.0 ≡ b.0 = (says_one g lawful p.file (lines whole) a.0 b.0 (Some a.1.0) (Some b.1.0) a.1.1 b.1.1).0 in
       same_some (g.rules.bare p.file b.0) r q (subst (λ (xs : List T). g.rules.bare p.file xs ≡ Some r) items a.2) b.2
@@ -111,14 +112,14 @@ module _ {K T : Type 0} (g : Format K T) (lawful : Lawful g) where
       same_some : (o : Option Refusal) (r q : Refusal) → o ≡ Some r → o ≡ Some q → r ≡ q
       same_some o r q a b = cc
 
-  file_ones : (p : Place) (whole : List ℕ) → Ones (file_checks g p whole)
+  file_ones : (p : InputPlace) (whole : List ℕ) → Ones (file_checks g p whole)
   file_ones p whole = (
     fault_one (LineFault g p) (lines whole) (λ before line r q a b. first_one (line_checks g (record p { before = before }) line) (line_ones (record p { before = before }) line) r q a b),
     ((λ r q a b. a.1 ∙ sym b.1), (bare_one p whole, tt)),
   )
 
   -- a file gives one refusal at most
-  pub file_one : (p : Place) (whole : List ℕ) (r q : Refusal) → FirstOf (file_checks g p whole) r → FirstOf (file_checks g p whole) q → r ≡ q
+  pub file_one : (p : InputPlace) (whole : List ℕ) (r q : Refusal) → FirstOf (file_checks g p whole) r → FirstOf (file_checks g p whole) q → r ≡ q
   file_one p whole = first_one (file_checks g p whole) (file_ones p whole)
 
   look_ones : (at : Before) (file : FileId) (role : Role) (held : Option (List ℕ)) → Ones (look_checks g at file role held)

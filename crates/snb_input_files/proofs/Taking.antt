@@ -16,7 +16,8 @@ use Rattle.snb_input_lines.proofs.Laws.{one_reading}
 use Rattle.snb_input_files.specs.Files.{IsBeyond}
 use Rattle.snb_base.specs.FirstOf.{FirstOf}
 use Rattle.snb_input_files.specs.Format.{Format, Lawful}
-use Rattle.snb_input_files.specs.Places.{FailsOwn, FilesSay, HasBadColumn, IsMarked, IsNoHeader, IsRowTooMany, KnownAt, Knows, LinesSay, Place, Source, data_of, line_checks, number, rows_in}
+use Rattle.snb_input_files.specs.Places.{FilesSay, KnownAt, HasKnown, LinesSay, InputPlace, ReadFile, data_of, line_number, counted_rows}
+use Rattle.snb_input_files.specs.PlaceChecks.{FailsOwn, HasBadColumn, IsMarked, HasBadHeader, IsRowTooMany, line_checks}
 use Rattle.snb_base.proofs.Laws.{none_some}
 
 not_both : (b : Bool) → b ≡ true → b ≡ false → ⊥
@@ -41,7 +42,7 @@ module _ {K T : Type 0} (g : Language K T) where
       ap length (h.5 ∙ ap (λ (xs : List T). xs ++ h.1) h.3.1.2) ∙ ap (λ (m : ℕ). suc m) rest
 
   -- what is known after lines is what their header said
-  pub says_knows : (ls : List (List ℕ)) (known new : Option K) (n : ℕ) (items : List T) → Says g known n ls items new → Knows known g.heads (filled ls) new
+  pub says_knows : (ls : List (List ℕ)) (known new : Option K) (n : ℕ) (items : List T) → Says g known n ls items new → HasKnown known g.heads (filled ls) new
   says_knows [] None new n items h = h.1
   says_knows [] (Some k) new n items h = h.1
   says_knows ([] ∷ ls) known new n items h = says_knows ls known new (n + 1) h.1 (subst (λ (o : Option K). Says g o (n + 1) ls h.1 new) h.3.1 h.4)
@@ -49,7 +50,7 @@ module _ {K T : Type 0} (g : Language K T) where
       (h.3.1.0, h.3.1.1, says_knows ls (Some h.3.1.0) new (n + 1) h.1 (subst (λ (o : Option K). Says g o (n + 1) ls h.1 new) h.3.1.3 h.4))
   says_knows ((b ∷ bs) ∷ ls) (Some k) new n items h = says_knows ls (Some k) new (n + 1) h.1 (subst (λ (o : Option K). Says g o (n + 1) ls h.1 new) h.3.1.3 h.4)
 
-  pub knows_one : IsExact g → (known : Option K) (ls : List (List ℕ)) (a b : Option K) → Knows known g.heads ls a → Knows known g.heads ls b → a ≡ b
+  pub knows_one : IsExact g → (known : Option K) (ls : List (List ℕ)) (a b : Option K) → HasKnown known g.heads ls a → HasKnown known g.heads ls b → a ≡ b
   knows_one exact None [] a b p q = p ∙ sym q
   knows_one exact None (l ∷ ls) a b p q = p.2 ∙ ap (λ (k : K). Some k) (exact.one_header l p.0 q.0 p.1 q.1) ∙ sym q.2
   knows_one exact (Some k) ls a b p q = p ∙ sym q
@@ -60,7 +61,7 @@ module _ {K T : Type 0} (g : Format K T) (lawful : Lawful g) where
   says_one file ls xs ys a b p q = (one_reading (g.language file) (lawful.exact file)).one (g.language file).begins a b 0 ls xs ys p q
 
   -- and files say one list each
-  pub files_one : (ss : List Source) (xss yss : List (List T)) → FilesSay g ss xss → FilesSay g ss yss → xss ≡ yss
+  pub files_one : (ss : List ReadFile) (xss yss : List (List T)) → FilesSay g ss xss → FilesSay g ss yss → xss ≡ yss
   files_one [] [] [] p q = refl
   files_one [] [] (ys ∷ yss) p q = absurd q
   files_one [] (xs ∷ xss) yss p q = absurd p
@@ -125,16 +126,16 @@ module _ {P K T : Type 0} (g : Format K T) (heard : Heard P T) (takes : Takes P 
       joined (y ∷ xs) = ap (λ (ys : List T). y ∷ ys) (joined xs)
 
   -- a sink stands at a place, where this is known
-  pub record Stands (p : Place) (known : Option K) (s : RowCount P) : Type 0 where
+  pub record Stands (p : InputPlace) (known : Option K) (s : RowCount P) : Type 0 where
     pub done : List (List T)
     pub said : FilesSay g p.past done
     pub mine : List T
     pub says : LinesSay g p.file p.before mine known
     pub tells : heard s.sink done mine
-    pub rows : s.rows ≡ p.rows + rows_in g p.file p.before
+    pub rows : s.rows ≡ p.rows + counted_rows g p.file p.before
     pub most : s.most ≡ g.rules.limit
 
-  module _ (lawful : Lawful g) (p : Place) (known : Option K) (s : RowCount P) (at : Stands p known s) where
+  module _ (lawful : Lawful g) (p : InputPlace) (known : Option K) (s : RowCount P) (at : Stands p known s) where
     knows : KnownAt g p known
     knows = says_knows (g.language p.file) p.before (g.language p.file).begins known 0 at.mine at.says
 
@@ -148,21 +149,21 @@ module _ {P K T : Type 0} (g : Format K T) (heard : Heard P T) (takes : Takes P 
         let old : f.done ≡ at.done = files_one g lawful p.past f.done at.done f.said at.said in
         (sym one.1, subst (λ (xs : List T). g.rules.own p.file at.done xs f.item r) one.0 (subst (λ (xss : List (List T)). g.rules.own p.file xss f.mine f.item r) old f.fails))
 
-    full_here : IsFull s.most s.rows → IsFull g.rules.limit (p.rows + rows_in g p.file p.before)
-    full_here h = subst (λ (o : Option ℕ). IsFull o (p.rows + rows_in g p.file p.before)) at.most (subst (λ (n : ℕ). IsFull s.most n) at.rows h)
+    full_here : IsFull s.most s.rows → IsFull g.rules.limit (p.rows + counted_rows g p.file p.before)
+    full_here h = subst (λ (o : Option ℕ). IsFull o (p.rows + counted_rows g p.file p.before)) at.most (subst (λ (n : ℕ). IsFull s.most n) at.rows h)
 
-    full_there : IsFull g.rules.limit (p.rows + rows_in g p.file p.before) → IsFull s.most s.rows
-    full_there h = subst (λ (n : ℕ). IsFull s.most n) (sym at.rows) (subst (λ (o : Option ℕ). IsFull o (p.rows + rows_in g p.file p.before)) (sym at.most) h)
+    full_there : IsFull g.rules.limit (p.rows + counted_rows g p.file p.before) → IsFull s.most s.rows
+    full_there h = subst (λ (n : ℕ). IsFull s.most n) (sym at.rows) (subst (λ (o : Option ℕ). IsFull o (p.rows + counted_rows g p.file p.before)) (sym at.most) h)
 
     -- nothing is wrong with a line that is read
-    pub line_good : (new : Option K) (to : RowCount P) (n : ℕ) (line : List ℕ) (items : List T) → n ≡ number p → ReadsLine (g.language p.file) known n line items new → Runs (RowTakes takes) p.file s items to
+    pub line_good : (new : Option K) (to : RowCount P) (n : ℕ) (line : List ℕ) (items : List T) → n ≡ line_number p → ReadsLine (g.language p.file) known n line items new → Runs (RowTakes takes) p.file s items to
         → ¬ IsBeyond p.bytes p.size p.before line → (r : Refusal) → ¬ FirstOf (line_checks g p line) r
     line_good new to n [] items here read run within r (inl large) = within large.0
     line_good new to n [] items here read run within r (inr rest) = rest.1
     line_good new to n (b ∷ bs) items here read run within r bad = by_check bad
       where
         -- of the header
-        headed : (o : Option K) → known ≡ o → LineSays (g.language p.file) o n (b ∷ bs) items new → IsNoHeader g p (b ∷ bs) r → ⊥
+        headed : (o : Option K) → known ≡ o → LineSays (g.language p.file) o n (b ∷ bs) items new → HasBadHeader g p (b ∷ bs) r → ⊥
         headed None e says no_header = (lawful.exact p.file).good_header (b ∷ bs) says.0 no_header.1 says.1 no_header.2
         headed (Some k) e says no_header = none_some known k (knows_same None no_header.0) e
 
@@ -183,7 +184,7 @@ module _ {P K T : Type 0} (g : Format K T) (heard : Heard P T) (takes : Takes P 
         owns (Some k) e says own =
             let w = own_here (b ∷ bs) r own in
             let same : own.known ≡ k = same_some known own.known k w.0 e in
-            let spelled : (g.language p.file).spells k n (b ∷ bs) own.item = subst (λ (m : ℕ). (g.language p.file).spells k m (b ∷ bs) own.item) (sym here) (subst (λ (j : K). (g.language p.file).spells j (number p) (b ∷ bs) own.item) same own.spells) in
+            let spelled : (g.language p.file).spells k n (b ∷ bs) own.item = subst (λ (m : ℕ). (g.language p.file).spells k m (b ∷ bs) own.item) (sym here) (subst (λ (j : K). (g.language p.file).spells j (line_number p) (b ∷ bs) own.item) same own.spells) in
             let item : own.item ≡ says.0 = (lawful.exact p.file).one_item k n (b ∷ bs) own.item says.0 spelled says.1 in
             let one = subst (λ (xs : List T). Runs (RowTakes takes) p.file s xs to) says.2 run in
             hears.passes s.sink one.0.sink p.file says.0 at.done at.mine r at.tells one.1.1 (subst (λ (x : T). g.rules.own p.file at.done at.mine x r) item w.1)
@@ -199,7 +200,7 @@ module _ {P K T : Type 0} (g : Format K T) (heard : Heard P T) (takes : Takes P 
         by_check (inr (c0, inr (c1, inr (c2, inr (c3, inr (c4, inr (c5, inr none))))))) = none.1
 
     -- what a line is refused for is what is wrong with it
-    pub line_bad : (n : ℕ) (line : List ℕ) (r : Refusal) → n ≡ number p → RefusesLine (g.language p.file) (RowRefuses refuses) p.file known s n line r → ¬ IsBeyond p.bytes p.size p.before line
+    pub line_bad : (n : ℕ) (line : List ℕ) (r : Refusal) → n ≡ line_number p → RefusesLine (g.language p.file) (RowRefuses refuses) p.file known s n line r → ¬ IsBeyond p.bytes p.size p.before line
         → FirstOf (line_checks g p line) r
     line_bad n [] r here bad within = absurd (bad.0 refl)
     line_bad n (b ∷ bs) r here bad within =
@@ -213,10 +214,10 @@ module _ {P K T : Type 0} (g : Format K T) (heard : Heard P T) (takes : Takes P 
         by_text (inr (mark, inl h)) = inr (λ q m. mark (BadLine p.file n 1) (m.0, refl), inl (h.0, h.1 ∙ ap (NotUtf8 p.file) here))
         by_text (inr (mark, inr h)) = absurd h.1
 
-        placed : (column : ℕ) → r ≡ BadLine p.file n column → r ≡ BadLine p.file (number p) column
+        placed : (column : ℕ) → r ≡ BadLine p.file n column → r ≡ BadLine p.file (line_number p) column
         placed column e = e ∙ ap (λ (m : ℕ). BadLine p.file m column) here
 
-        no_header : (k : K) → known ≡ Some k → (q : Refusal) → ¬ IsNoHeader g p (b ∷ bs) q
+        no_header : (k : K) → known ≡ Some k → (q : Refusal) → ¬ HasBadHeader g p (b ∷ bs) q
         no_header k e q h = none_some known k (knows_same None h.0) e
 
         by_sink : (k : K) → known ≡ Some k → (x : T) → (g.language p.file).spells k n (b ∷ bs) x → RowRefuses refuses s p.file x r → FirstOf (IsRowTooMany g p ∷ FailsOwn g p (b ∷ bs) ∷ []) r
@@ -238,7 +239,7 @@ module _ {P K T : Type 0} (g : Format K T) (heard : Heard P T) (takes : Takes P 
             )
 
         by_known : (o : Option K) → known ≡ o → RefusesAs (g.language p.file) (RowRefuses refuses) p.file o s n (b ∷ bs) r
-            → FirstOf (IsNoHeader g p (b ∷ bs) ∷ HasBadColumn g p (b ∷ bs) ∷ IsRowTooMany g p ∷ FailsOwn g p (b ∷ bs) ∷ []) r
+            → FirstOf (HasBadHeader g p (b ∷ bs) ∷ HasBadColumn g p (b ∷ bs) ∷ IsRowTooMany g p ∷ FailsOwn g p (b ∷ bs) ∷ []) r
         by_known None e h = inl (subst (λ (o : Option K). KnownAt g p o) e knows, h.0, h.1, placed h.0 h.2)
         by_known (Some k) e (inl h) = inr (no_header k e, inl (k, subst (λ (o : Option K). KnownAt g p o) e knows, h.0, h.1, placed h.0 h.2))
         by_known (Some k) e (inr h) =

@@ -17,7 +17,8 @@ use Rattle.snb_input_lines.specs.Sinks.{Heard}
 use Rattle.snb_input_files.specs.Format.{Format}
 use Rattle.snb_input_files.specs.Loading.{IsAnswer, IsTold}
 use Rattle.snb_input_files.specs.Looking.{Agrees, AreTold, IsFileTold, IsLook, Rises, look_of}
-use Rattle.snb_input_files.specs.Places.{FileSays, FilesSay, Source, file_checks, opening, rows_in}
+use Rattle.snb_input_files.specs.Places.{FileSays, FilesSay, ReadFile, opening, counted_rows}
+use Rattle.snb_input_files.specs.PlaceChecks.{file_checks}
 use Rattle.snb_input_files.specs.Ranks.{rank}
 use Rattle.snb_input_files.specs.Stages.{Walked}
 use Rattle.snb_input_files.specs.Walk.{Before, Held, Look, Role, after_look, after_walk, first_role, look_checks, walk_checks, with_file}
@@ -84,7 +85,7 @@ module _ {K T : Type 0} (g : Format K T) where
       (none_append (walk_checks g at xs) (look_checks g (after_walk g at xs) file role held ++ []) none (none_append (look_checks g (after_walk g at xs) file role held) [] more tt))
 
   -- what files say, and one file more
-  pub say_more : (ss : List Source) (xss : List (List T)) (s : Source) (xs : List T) → FilesSay g ss xss → FileSays g s xs → FilesSay g (ss ++ s ∷ []) (xss ++ xs ∷ [])
+  pub say_more : (ss : List ReadFile) (xss : List (List T)) (s : ReadFile) (xs : List T) → FilesSay g ss xss → FileSays g s xs → FilesSay g (ss ++ s ∷ []) (xss ++ xs ∷ [])
   say_more [] [] s xs p q = (q, tt)
   say_more [] (ys ∷ xss) s xs p q = absurd p
   say_more (t ∷ ss) [] s xs p q = absurd p
@@ -157,7 +158,7 @@ module _ {K T : Type 0} (g : Format K T) where
         walked = record {
           clean = snoc_none start looked file (first_role needed) (Some b) k.clean (subst NoneOf (ap (λ p. file_checks g p b) (placed b) ∙ sym (there_checks at file needed b)) whole.clean);
           bytes_are = bytes ∙ ap (λ (n : ℕ). n + length b) k.bytes_are ∙ ap (λ (z : Before). z.bytes) same;
-          rows_are = whole.counted ∙ ap (λ (n : ℕ). n + rows_in g file (lines b)) k.rows_are ∙ ap (λ (z : Before). z.rows) same;
+          rows_are = whole.counted ∙ ap (λ (n : ℕ). n + counted_rows g file (lines b)) k.rows_are ∙ ap (λ (z : Before). z.rows) same;
           done = whole.done ++ whole.mine ∷ [];
           said = subst (λ (z : Before). FilesSay g z.past (whole.done ++ whole.mine ∷ [])) same (say_more at.past whole.done (record { file = file; bytes = b }) whole.mine whole.said whole.says);
           fresh = put whole.done whole.mine whole.tells;

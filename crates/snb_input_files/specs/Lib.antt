@@ -6,6 +6,7 @@ pub mod Looking
 pub mod Names
 pub mod Pieces
 pub mod Places
+pub mod PlaceChecks
 pub mod Ranks
 pub mod Stages
 pub mod Walk

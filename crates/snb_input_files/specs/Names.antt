@@ -9,7 +9,8 @@ use Rattle.snb_input_files.specs.Walk.{file_at}
 abbrev pub Allows : Names → (List ℕ → Type 0) → Type 0
 Allows names named = (name : List ℕ) → named name → names name ≡ true
 
--- a file of the stage has this name in the folder: one of a series by its part, or the one too many, which is only looked for
+-- a file of the stage has this name in the folder: one of a series by its part, or the one too
+-- many, which is only looked for
 pub record IsNameIn (stage : List Series) (folder name : List ℕ) : Type 0 where
   pub series : Series
   pub among : Contains stage series

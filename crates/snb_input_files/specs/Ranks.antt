@@ -11,8 +11,8 @@ abbrev pub tables_before : List Tables → Tables → ℕ
 tables_before [] t = zero
 tables_before (u ∷ us) t = if same_table u t then zero else suc (tables_before us t)
 
--- the number of a kind of file: the tables in their order, the streams of persons, those of the other inserts, the parameter files by
--- their queries, the log, the cases
+-- the number of a kind of file: the tables in their order, the streams of persons, those of the
+-- other inserts, the parameter files by their queries, the log, the cases
 abbrev pub ordinal : FileKind → ℕ
 ordinal (Table t) = tables_before all_tables t
 ordinal PersonStream = 33

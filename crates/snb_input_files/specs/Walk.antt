@@ -1,4 +1,5 @@
--- The files of a stage of an input in the order in which they are looked for, and what is wrong with the first of them that isn't right.
+-- The files of a stage of an input in the order in which they are looked for, and what is wrong
+-- with the first of them that isn't right.
 use Rattle.std.specs.Prelude.{◌≡◌, ℕ, zero, suc, ◌+◌, Bool, true, false, List, [], ◌∷◌, ◌++◌, length, Option, Some, None, IfSome}
 use Rattle.snb_base.specs.Shelf.{Files}
 use Rattle.snb_schema.specs.declared.file.FileId.{FileId}
@@ -9,7 +10,8 @@ use Rattle.snb_schema.specs.Lines.{lines}
 use Rattle.snb_input_files.specs.declared.series.Series.{Series}
 use Rattle.snb_input_files.specs.Files.{held_in}
 use Rattle.snb_input_files.specs.Format.{Format}
-use Rattle.snb_input_files.specs.Places.{Source, file_checks, opening, rows_in}
+use Rattle.snb_input_files.specs.Places.{ReadFile, opening, counted_rows}
+use Rattle.snb_input_files.specs.PlaceChecks.{file_checks}
 
 -- the bytes of each file of a folder, where it is held
 abbrev pub Held : Type 0
@@ -17,9 +19,11 @@ Held = FileId → Option (List ℕ)
 
 -- these are the files that the folder holds, where the shelf tells what it holds
 abbrev pub IsHeldTold : Option Files → List ℕ → Held → Type 0
-IsHeldTold contents folder held = IfSome contents (λ files. (file : FileId) → held file ≡ held_in folder files file)
+IsHeldTold contents folder held =
+    IfSome contents (λ files. (file : FileId) → held file ≡ held_in folder files file)
 
--- whether a file that is looked for must be there, may be there, or is one too many where it is there
+-- whether a file that is looked for must be there, may be there, or is one too many where it is
+-- there
 pub data Role : Type 0 where
   Needed : Role
   Further : Role
@@ -35,10 +39,11 @@ pub record Look : Type 0 where
 pub record Before : Type 0 where
   pub bytes : ℕ
   pub rows : ℕ
-  pub past : List Source
+  pub past : List ReadFile
 
 -- what is tried of a file in a role, which is held or not
-abbrev pub look_checks : {K T : Type 0} → Format K T → Before → FileId → Role → Option (List ℕ) → List {1} (Refusal → Type 0)
+abbrev pub look_checks : {K T : Type 0} → Format K T → Before → FileId → Role → Option (List ℕ)
+    → List {1} (Refusal → Type 0)
 look_checks g at file Needed None = (λ r. r ≡ Absent file) ∷ []
 look_checks g at file Needed (Some b) = file_checks g (opening file at.bytes at.rows at.past b) b
 look_checks g at file Further None = []
@@ -50,12 +55,13 @@ look_checks g at file (Beyond what) (Some b) = (λ r. r ≡ TooMany what) ∷ []
 abbrev pub with_file : {K T : Type 0} → Format K T → Before → FileId → List ℕ → Before
 with_file g at file b = record {
   bytes = at.bytes + length b;
-  rows = at.rows + rows_in g file (lines b);
+  rows = at.rows + counted_rows g file (lines b);
   past = at.past ++ record { file = file; bytes = b } ∷ [];
 }
 
 -- what was read after a look: a file that isn't held isn't read, nor is one too many
-abbrev pub after_look : {K T : Type 0} → Format K T → Before → FileId → Role → Option (List ℕ) → Before
+abbrev pub after_look : {K T : Type 0} → Format K T → Before → FileId → Role → Option (List ℕ)
+    → Before
 after_look g at file Needed None = at
 after_look g at file Needed (Some b) = with_file g at file b
 after_look g at file Further None = at
@@ -63,9 +69,11 @@ after_look g at file Further (Some b) = with_file g at file b
 after_look g at file (Beyond what) held = at
 
 -- what is tried of files that are looked for one after the other
-abbrev pub walk_checks : {K T : Type 0} → Format K T → Before → List Look → List {1} (Refusal → Type 0)
+abbrev pub walk_checks : {K T : Type 0} → Format K T → Before → List Look
+    → List {1} (Refusal → Type 0)
 walk_checks g at [] = []
-walk_checks g at (l ∷ ls) = look_checks g at l.file l.role l.held ++ walk_checks g (after_look g at l.file l.role l.held) ls
+walk_checks g at (l ∷ ls) =
+    look_checks g at l.file l.role l.held ++ walk_checks g (after_look g at l.file l.role l.held) ls
 
 -- what was read after them
 abbrev pub after_walk : {K T : Type 0} → Format K T → Before → List Look → Before
@@ -81,12 +89,15 @@ abbrev pub first_role : Bool → Role
 first_role true = Needed
 first_role false = Further
 
--- the look for the file of this number that would be one too many, where there may be too many of something
+-- the look for the file of this number that would be one too many, where there may be too many of
+-- something
 abbrev pub look_beyond : Held → Series → ℕ → Option Counted → List Look
 look_beyond held s i None = []
-look_beyond held s i (Some what) = record { file = file_at s i; role = Beyond what; held = held (file_at s i) } ∷ []
+look_beyond held s i (Some what) =
+    record { file = file_at s i; role = Beyond what; held = held (file_at s i) } ∷ []
 
--- the looks for the files of a series from this number on, of which so many may be there: up to the first that isn't held, or one too many
+-- the looks for the files of a series from this number on, of which so many may be there: up to the
+-- first that isn't held, or one too many
 unfoldable pub looks_from : Held → Series → ℕ → ℕ → Role → List Look
 looks_from held s zero i role = look_beyond held s i s.what
 looks_from held s (suc n) i role =
@@ -102,6 +113,8 @@ abbrev pub stage_looks : Held → List Series → List Look
 stage_looks held [] = []
 stage_looks held (s ∷ ss) = series_looks held s ++ stage_looks held ss
 
--- what is tried of a stage of an input, in order: the stage is refused by the first of these that refuses
-abbrev pub stage_checks : {K T : Type 0} → Format K T → Before → Held → List Series → List {1} (Refusal → Type 0)
+-- what is tried of a stage of an input, in order: the stage is refused by the first of these that
+-- refuses
+abbrev pub stage_checks : {K T : Type 0} → Format K T → Before → Held → List Series
+    → List {1} (Refusal → Type 0)
 stage_checks g at held ss = walk_checks g at (stage_looks held ss)

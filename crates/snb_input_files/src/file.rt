@@ -1,7 +1,7 @@
 //! The loading of one file.
 
 ghost use Rattle.std.specs.Prelude.{◌≡◌, ◌+◌, ◌≤◌, ◌<◌, ℕ, [], List, IfOk, vec_len, None, false, true};
-ghost use Rattle.snb_base.specs.Reads.{IsRead};
+ghost use Rattle.snb_base.specs.Reads.{IsShelfRead};
 ghost use Rattle.snb_schema.specs.declared.limits.TheConstants.{MAX_BYTES};
 ghost use Rattle.snb_input_lines.specs.Counts.{IsUnder};
 ghost use Rattle.snb_input_lines.specs.declared.counted.RowCount.{RowCount as Row};
@@ -9,7 +9,7 @@ ghost use Rattle.snb_input_lines.specs.Feeding.{at_begin};
 ghost use Rattle.snb_input_files.specs.Format.{AreTakers, format_in};
 ghost use Rattle.snb_input_files.specs.Loading.{IsAnswer, IsKnownAnswer, IsWithin, is_read_fault};
 ghost use Rattle.snb_input_files.specs.Pieces.{IsEnd, IsFed, Opened};
-ghost use Rattle.snb_input_files.specs.Places.{FilesSay, Source};
+ghost use Rattle.snb_input_files.specs.Places.{FilesSay, ReadFile};
 
 use crate::file_sink::FileSink;
 use crate::found::Found;
@@ -45,11 +45,12 @@ fn end_file<G: Grammar + Drop, P: FileSink<G> + Drop>(
     requires few { used.bytes + reader.old.fed ≤ MAX_BYTES }
     requires goes_on { reader.old.over ≡ false }
     requires good { reader.old.fault ≡ None }
-    ensures end { (begun : P) (past : List Source) (start : Row P) (text : List ℕ)
+    ensures end { (begun : P) (past : List ReadFile) (start : Row P) (text : List ℕ)
         → Opened (format_in G.language P.stage begun) (P.stage.heard begun) used.rows past start
         → IsFed (format_in G.language P.stage begun) P.meaning.takes file (P.stage.grammar_of file) start text reader.old sink
         → IsEnd (format_in G.language P.stage begun) (P.stage.heard begun) file used past text reader.new.known result }
-    ensures within { (begun : P) (start : Row P) (text : List ℕ) → start.most ≡ P.stage.limit → IsUnder P.stage.limit start.rows
+    ensures within { (begun : P) (start : Row P) (text : List ℕ) → start.most ≡ P.stage.limit
+        → IsUnder P.stage.limit start.rows
         → IsFed (format_in G.language P.stage begun) P.meaning.takes file (P.stage.grammar_of file) start text reader.old sink
         → IfOk result (IsWithin P.stage.limit) }
     ensures fault { is_read_fault result ≡ false }
@@ -98,10 +99,11 @@ pub fn load_file<S: Shelf, G: Grammar + Drop, P: FileSink<G> + Drop>(
     requires bytes { used.bytes ≤ MAX_BYTES }
     requires rows { IsUnder P.stage.limit used.rows }
     requires allowed { S.may shelf.old path.now ≡ true }
-    ensures answer { (begun : P) (past : List Source) (done : List (List G.Item)) → FilesSay (format_in G.language P.stage begun) past done → P.stage.heard begun file_sink done []
+    ensures answer { (begun : P) (past : List ReadFile) (done : List (List G.Item))
+        → FilesSay (format_in G.language P.stage begun) past done → P.stage.heard begun file_sink done []
         → IsAnswer (format_in G.language P.stage begun) (P.stage.heard begun) (S.contents shelf.old) path.now file used past file_sink result }
     ensures within { IfOk result (IsWithin P.stage.limit) }
-    ensures read { IsRead (is_read_fault result) S.Shelf shelf.old shelf.new }
+    ensures read { IsShelfRead (is_read_fault result) S.Shelf shelf.old shelf.new }
 {
     let mut reader = LineReader::of_file(alloc, file, file_sink.grammar(file));
     load_known(alloc, shelf, path, file, used, &mut reader, file_sink)
@@ -120,14 +122,16 @@ pub fn load_known<S: Shelf, G: Grammar + Drop, P: FileSink<G> + Drop>(
     file_sink: P,
 ) -> Result<Found<P>, Load>
     requires right { AreTakers G.language P.stage P.meaning }
-    requires begins { reader.old ≡ at_begin file (P.stage.grammar_of file) (G.language (P.stage.grammar_of file)).begins }
+    requires begins { reader.old ≡ at_begin file (P.stage.grammar_of file)
+        (G.language (P.stage.grammar_of file)).begins }
     requires bytes { used.bytes ≤ MAX_BYTES }
     requires rows { IsUnder P.stage.limit used.rows }
     requires allowed { S.may shelf.old path.now ≡ true }
-    ensures answer { (begun : P) (past : List Source) (done : List (List G.Item)) → FilesSay (format_in G.language P.stage begun) past done → P.stage.heard begun file_sink done []
+    ensures answer { (begun : P) (past : List ReadFile) (done : List (List G.Item))
+        → FilesSay (format_in G.language P.stage begun) past done → P.stage.heard begun file_sink done []
         → IsKnownAnswer (format_in G.language P.stage begun) (P.stage.heard begun) (S.contents shelf.old) path.now file used past file_sink reader.new.known result }
     ensures within { IfOk result (IsWithin P.stage.limit) }
-    ensures read { IsRead (is_read_fault result) S.Shelf shelf.old shelf.new }
+    ensures read { IsShelfRead (is_read_fault result) S.Shelf shelf.old shelf.new }
 {
     let most = MAX_BYTES - used.bytes;
     let mut buffer = piece_buffer(alloc)?;

@@ -1,7 +1,7 @@
 //! The pieces of a file, fed to its reader as they come.
 
 ghost use Rattle.std.specs.Prelude.{◌≡◌, ◌+◌, ◌<◌, ◌≤◌, IfOk, OnOk, length, None, false, true};
-ghost use Rattle.snb_base.specs.Reads.{IsRead};
+ghost use Rattle.snb_base.specs.Reads.{IsShelfRead};
 ghost use Rattle.snb_schema.specs.declared.limits.TheConstants.{MAX_BYTES};
 ghost use Rattle.snb_input_files.specs.Format.{AreTakers, format_in};
 ghost use Rattle.snb_input_files.specs.Loading.{is_read_fault};
@@ -42,7 +42,10 @@ fn feed_piece<G: Grammar + Drop, P: FileSink<G> + Drop>(
     requires few { reader.old.fed ≤ most }
     requires goes_on { reader.old.over ≡ false }
     requires good { reader.old.fault ≡ None }
-    ensures ok { (begun : P) → OnOk result (IsFedMore (format_in G.language P.stage begun) P.meaning.takes file (P.stage.grammar_of file) reader.old sink.old piece.now reader.new sink.new) }
+    ensures ok { (begun : P)
+        → OnOk result
+        (IsFedMore (format_in G.language P.stage begun) P.meaning.takes file (P.stage.grammar_of file) reader.old
+        sink.old piece.now reader.new sink.new) }
     ensures fed { OnOk result (reader.new.fed ≡ reader.old.fed + length piece.now) }
     ensures few { OnOk result (reader.new.fed ≤ most) }
     ensures goes_on { OnOk result (reader.new.over ≡ false) }
@@ -92,7 +95,8 @@ pub fn read_piece<S: Shelf, G: Grammar + Drop, P: FileSink<G> + Drop>(
     requires good { reader.old.fault ≡ None }
     requires room { 0 < length buffer.old }
     requires allowed { S.may shelf.old name.now ≡ true }
-    ensures step { (begun : P) → IsStep (format_in G.language P.stage begun) (P.stage.heard begun) P.meaning.takes (S.contents shelf.old) name.now file (P.stage.grammar_of file) most
+    ensures step { (begun : P) → IsStep (format_in G.language P.stage begun) (P.stage.heard begun) P.meaning.takes
+        (S.contents shelf.old) name.now file (P.stage.grammar_of file) most
         reader.old sink.old reader.new sink.new result }
     ensures more { IfOk result (λ step. step ≡ Step.More → reader.old.fed < reader.new.fed) }
     ensures few { OnOk result (reader.new.fed ≤ most) }
@@ -100,7 +104,7 @@ pub fn read_piece<S: Shelf, G: Grammar + Drop, P: FileSink<G> + Drop>(
     ensures good { OnOk result (reader.new.fault ≡ None) }
     ensures of_file { reader.new.file ≡ file }
     ensures by_grammar { reader.new.grammar ≡ P.stage.grammar_of file }
-    ensures read { IsRead (is_read_fault result) S.Shelf shelf.old shelf.new }
+    ensures read { IsShelfRead (is_read_fault result) S.Shelf shelf.old shelf.new }
 {
     match shelf.read(name, reader.fed(), buffer) {
         Got::Failed => Err(Load::ReadFault),

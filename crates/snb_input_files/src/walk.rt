@@ -1,7 +1,7 @@
 //! The files of a stage of an input, looked for in order.
 
 ghost use Rattle.std.specs.Prelude.{◌≡◌, ◌++◌, ◌∷◌, ◌≤◌, ◌<◌, ◌^◌, ℕ, [], List, IfOk, string_bytes, true};
-ghost use Rattle.snb_base.specs.Reads.{IsRead};
+ghost use Rattle.snb_base.specs.Reads.{IsShelfRead};
 ghost use Rattle.snb_schema.specs.declared.limits.TheConstants.{MAX_BYTES};
 ghost use Rattle.snb_input_lines.specs.Counts.{IsUnder};
 ghost use Rattle.snb_schema.specs.FileNames.{name_of};
@@ -45,7 +45,7 @@ fn is_held<S: Shelf>(alloc: Global, shelf: &mut S, folder: &str, file: FileId) -
     requires allowed { S.may shelf.old (folder.now ++ 47 ∷ name_of file) ≡ true }
     ensures told { IfOk result (IsPeek (S.contents shelf.old) folder.now file) }
     ensures refused { IsNotRefused result }
-    ensures read { IsRead (is_read_fault result) S.Shelf shelf.old shelf.new }
+    ensures read { IsShelfRead (is_read_fault result) S.Shelf shelf.old shelf.new }
 {
     let path = path_of(alloc, folder, file)?;
     let mut buffer = [0u8; 1];
@@ -70,10 +70,11 @@ fn look<S: Shelf, G: Grammar + Drop, P: FileSink<G> + Drop>(
     requires bytes { walk.used.bytes ≤ MAX_BYTES }
     requires rows { IsUnder P.stage.limit walk.used.rows }
     requires allowed { S.may shelf.old (folder.now ++ 47 ∷ name_of file) ≡ true }
-    ensures answer { (begun : P) (start : Before) (looked : List Look) → Walked (format_in G.language P.stage begun) (P.stage.heard begun) start looked walk
+    ensures answer { (begun : P) (start : Before) (looked : List Look)
+        → Walked (format_in G.language P.stage begun) (P.stage.heard begun) start looked walk
         → IsLook (format_in G.language P.stage begun) (P.stage.heard begun) (S.contents shelf.old) folder.now file needed start looked walk.used result }
     ensures within { IfOk result (IsWithin P.stage.limit) }
-    ensures read { IsRead (is_read_fault result) S.Shelf shelf.old shelf.new }
+    ensures read { IsShelfRead (is_read_fault result) S.Shelf shelf.old shelf.new }
 {
     let path = path_of(alloc, folder, file)?;
     match load_file(alloc, shelf, path.as_str(), file, walk.used, walk.file_sink) {
@@ -112,10 +113,11 @@ fn walk_series<S: Shelf, G: Grammar + Drop, P: FileSink<G> + Drop>(
     requires rows { IsUnder P.stage.limit walk.used.rows }
     requires few { series.most < 2 ^ 32 }
     requires allowed { Allows (S.may shelf.old) (IsNameIn (series ∷ []) folder.now) }
-    ensures answer { (begun : P) (start : Before) (looked : List Look) → Walked (format_in G.language P.stage begun) (P.stage.heard begun) start looked walk
+    ensures answer { (begun : P) (start : Before) (looked : List Look)
+        → Walked (format_in G.language P.stage begun) (P.stage.heard begun) start looked walk
         → IsSeries (format_in G.language P.stage begun) (P.stage.heard begun) (S.contents shelf.old) folder.now series start looked result }
     ensures within { IfOk result (IsWalkWithin P.stage.limit) }
-    ensures read { IsRead (is_read_fault result) S.Shelf shelf.old shelf.new }
+    ensures read { IsShelfRead (is_read_fault result) S.Shelf shelf.old shelf.new }
 {
     let mut so_far = walk;
     let mut needed = series.needed;
@@ -179,7 +181,7 @@ pub fn walk_stage<S: Shelf, G: Grammar + Drop, P: FileSink<G> + Drop>(
     ensures answer { P.stage.heard file_sink file_sink [] []
         → IsStage (format_in G.language P.stage file_sink) (P.stage.heard file_sink) (S.contents shelf.old) folder.now stage.now (before used) result }
     ensures within { IfOk result (IsWalkWithin P.stage.limit) }
-    ensures read { IsRead (is_read_fault result) S.Shelf shelf.old shelf.new }
+    ensures read { IsShelfRead (is_read_fault result) S.Shelf shelf.old shelf.new }
 {
     let mut so_far = Walk { used, file_sink };
     for series in stage {

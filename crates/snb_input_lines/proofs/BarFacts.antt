@@ -12,7 +12,7 @@ use Rattle.csv.specs.declared.parser.State.{State}
 use Rattle.csv.specs.declared.parser.State.TheVariants as st
 use Rattle.std.specs.List.{onto_first}
 use Rattle.snb_schema.specs.Lines.{fields}
-use Rattle.snb_input_lines.specs.Bars.{MayStand, Source, Stands, bar_config, bytes_of}
+use Rattle.snb_input_lines.specs.Bars.{MayStand, PieceChain, Stands, bar_config, bytes_of}
 use Rattle.snb_input_lines.specs.Ended.{AnyStands, AreUtf8, IsLeft}
 use Rattle.snb_schema.specs.Lines.{HasNoEnd}
 use Rattle.snb_base.proofs.Laws.{all_back}
@@ -113,7 +113,7 @@ reads-next cfg a b xs (Some ys) p found f e r =
     (n.0, n.1, n.2, ap Some n.3)
 
 -- a read of a reader that stands before a record
-pub takes : (a b : Reader Source) (text : List ℕ) (p : Read) (found : Bool) (f : List (List ℕ))
+pub takes : (a b : Reader PieceChain) (text : List ℕ) (p : Read) (found : Bool) (f : List (List ℕ))
     → Stands a text → next_record bar_config st.StartRecord [] [] text ≡ Some p
     → ReadRecord bytes_of a b found f
     → (found ≡ true) × (f ≡ p.0) × (reader_state b ≡ p.1) × (source_of bytes_of b ≡ Some p.2)
@@ -122,7 +122,7 @@ takes a b text p found f h e r =
     (n.0, n.1, n.2, rw r.1 n.3)
 
 -- and then it stands before the text after that record
-pub stands-after : (a b : Reader Source) (text after : List ℕ) (fs : List (List ℕ)) (found : Bool) (f : List (List ℕ))
+pub stands-after : (a b : Reader PieceChain) (text after : List ℕ) (fs : List (List ℕ)) (found : Bool) (f : List (List ℕ))
     → Stands a text → next_record bar_config st.StartRecord [] [] text ≡ Some (fs, st.StartRecord, after)
     → ReadRecord bytes_of a b found f → is_flexible b ≡ is_flexible a → Ready b
     → Stands b after
@@ -140,7 +140,7 @@ stands-after a b text after fs found f h e r flexible ready =
     }
 
 -- past an empty line a reader stands as it did
-pub stands-empty : (s : Reader Source) (rest : List ℕ) → Stands s (10 ∷ rest) → Stands s rest
+pub stands-empty : (s : Reader PieceChain) (rest : List ℕ) → Stands s (10 ∷ rest) → Stands s rest
 stands-empty s rest h = record {
   config = h.config;
   plain = h.plain;
@@ -174,11 +174,11 @@ end-unmarked (a ∷ []) = refl
 end-unmarked (a ∷ b ∷ text) = refl
 
 -- past the fields of a line, or past an empty line, a reader stands before what follows
-pub stands-past : (s : Reader Source) (line rest : List ℕ) → line ≡ [] → MayStand s (line ++ 10 ∷ rest) → MayStand s rest
+pub stands-past : (s : Reader PieceChain) (line rest : List ℕ) → line ≡ [] → MayStand s (line ++ 10 ∷ rest) → MayStand s rest
 stands-past s line rest n may fresh = stands-empty s rest (subst (λ (l : List ℕ). Stands s (l ++ 10 ∷ rest)) n (may fresh))
 
 -- then the text after it has no first line that is apart
-pub rest-left : (reader : Option (Reader Source)) (rest : List ℕ) (known : Bool) → AnyStands reader rest → AreUtf8 known rest → IsLeft reader [] rest known
+pub rest-left : (reader : Option (Reader PieceChain)) (rest : List ℕ) (known : Bool) → AnyStands reader rest → AreUtf8 known rest → IsLeft reader [] rest known
 rest-left reader rest known stands utf8 = record { stands = stands; one_line = All-nil (λ (b : ℕ). b ≢ 10); ends = λ none. absurd (none refl); utf8 = utf8 }
 
 -- where no line is left that is ended, none is apart

@@ -1,4 +1,5 @@
--- How `csv` is set up to read the fields of lines, and where it stands. Cited by contracts of private functions alone.
+-- How `csv` is set up to read the fields of lines, and where it stands. Cited by contracts of
+-- private functions alone.
 use Rattle.std.specs.Prelude.{◌≡◌, ℕ, true, false, List, [], Option, None, Some}
 use Rattle.std.specs.Borrow.{Bor}
 use Rattle.std.specs.declared.io.traits.Chain.{Chain}
@@ -24,17 +25,17 @@ bar_config = record {
 }
 
 -- what is read from: a line end, and two texts after it
-abbrev pub Source : Type 0
-Source = Chain (Chain (Bor (List ℕ)) (Bor (List ℕ))) (Bor (List ℕ))
+abbrev pub PieceChain : Type 0
+PieceChain = Chain (Chain (Bor (List ℕ)) (Bor (List ℕ))) (Bor (List ℕ))
 
 abbrev pub text_of : Bor (List ℕ) → Option (List ℕ)
 text_of r = Some r.now
 
-abbrev pub bytes_of : Source → Option (List ℕ)
+abbrev pub bytes_of : PieceChain → Option (List ℕ)
 bytes_of = chain_remaining (chain_remaining text_of text_of) text_of
 
 -- a reader reads lines of fields, and what it has left reads as this text does
-pub record Stands (s : Reader Source) (text : List ℕ) : Type 0 where
+pub record Stands (s : Reader PieceChain) (text : List ℕ) : Type 0 where
   pub config : reader_config s ≡ bar_config
   pub plain : reader_trim s ≡ trim.None
   pub any_length : is_flexible s ≡ true
@@ -42,8 +43,9 @@ pub record Stands (s : Reader Source) (text : List ℕ) : Type 0 where
   pub starts : reader_state s ≡ st.StartRecord
   pub left : List ℕ
   pub source : source_of bytes_of s ≡ Some left
-  pub same : next_record bar_config st.StartRecord [] [] left ≡ next_record bar_config st.StartRecord [] [] text
+  pub same : next_record bar_config st.StartRecord [] [] left
+      ≡ next_record bar_config st.StartRecord [] [] text
 
 -- a reader stands before this text, unless it failed
-abbrev pub MayStand : Reader Source → List ℕ → Type 0
+abbrev pub MayStand : Reader PieceChain → List ℕ → Type 0
 MayStand s text = has_failed s ≡ false → Stands s text

@@ -1,4 +1,5 @@
--- How many data lines are read, where they may be so many at most, and what a sink does that counts them.
+-- How many data lines are read, where they may be so many at most, and what a sink does that counts
+-- them.
 use Rattle.std.specs.Prelude.{◌≡◌, ◌+◌, ◌<◌, ◌≤◌, ℕ, [], ◌∷◌, Option, Some, None}
 use Rattle.snb_base.specs.FirstOf.{FirstOf}
 use Rattle.snb_schema.specs.declared.refusal.Counted.TheVariants.{Rows}
@@ -28,11 +29,14 @@ counted (Some most) n = n
 
 -- an item is counted, and the sink takes it
 abbrev pub RowTakes : {S T : Type 0} → Takes S T → Takes (RowCount S) T
-RowTakes takes old file item new = CountsOne old.most old.rows new.rows × takes old.sink file item new.sink × (new.most ≡ old.most)
+RowTakes takes old file item new =
+    CountsOne old.most old.rows new.rows × takes old.sink file item new.sink × (new.most ≡ old.most)
 
 -- an item is one too many, or else the sink refuses it
 abbrev pub RowRefuses : {S T : Type 0} → Refuses S T → Refuses (RowCount S) T
-RowRefuses refuses old file item r = FirstOf ((λ q. IsFull old.most old.rows × (q ≡ TooMany Rows)) ∷ refuses old.sink file item ∷ []) r
+RowRefuses refuses old file item r =
+    FirstOf ((λ q. IsFull old.most old.rows × (q ≡ TooMany Rows)) ∷ refuses old.sink file item ∷ [])
+    r
 
 -- as many are counted, and the sinks were told the same
 abbrev pub RowSame : {S : Type 0} → (S → S → Type 0) → RowCount S → RowCount S → Type 0

@@ -10,9 +10,9 @@ use Rattle.snb_input_lines.specs.Language.{Language}
 use Rattle.snb_input_lines.specs.Reading.{EndsBad, ReadsSome, Says, Stops}
 use Rattle.snb_input_lines.specs.Sinks.{Refuses, Runs, Takes}
 
--- what a contract sees of a reader of lines: its file and grammar, how many bytes it was fed, how many
--- lines ended, the bytes of the line begun, what the header said, whether the file has ended, and the
--- fault that it keeps
+-- what a contract sees of a reader of lines: its file and grammar, how many bytes it was fed, how
+-- many lines ended, the bytes of the line begun, what the header said, whether the file has ended,
+-- and the fault that it keeps
 pub record Reader (G K : Type 0) : Type 0 where
   pub file : FileId
   pub grammar : G
@@ -69,9 +69,10 @@ pub record HasRead {G K S T : Type 0} (g : Language K T) (takes : Takes S T) (li
   pub says : Says g old.known old.ended lines items new.known
   pub runs : Runs takes old.file had items has
 
--- the reader has stopped at the first of the lines that is refused, and keeps that refusal; the sink
--- has the items of the lines before it
-pub record HasStopped {G K S T : Type 0} (g : Language K T) (takes : Takes S T) (refuses : Refuses S T) (same : S → S → Type 0) (lines : List (List ℕ))
+-- the reader has stopped at the first of the lines that is refused, and keeps that refusal; the
+-- sink has the items of the lines before it
+pub record HasStopped {G K S T : Type 0} (g : Language K T) (takes : Takes S T)
+    (refuses : Refuses S T) (same : S → S → Type 0) (lines : List (List ℕ))
     (old : Reader G K) (had : S) (new : Reader G K) (has : S) (r : Refusal) : Type 0 where
   pub items : List T
   pub mid : S
@@ -79,9 +80,10 @@ pub record HasStopped {G K S T : Type 0} (g : Language K T) (takes : Takes S T) 
   pub left : same mid has
   pub kept : new.fault ≡ Some (Bad r)
 
--- the reader has stopped at the last line or at the end of the file, and keeps that refusal; the sink
--- has the items of the lines before it
-pub record HasStoppedAtEnd {G K S T : Type 0} (g : Language K T) (takes : Takes S T) (refuses : Refuses S T) (same : S → S → Type 0)
+-- the reader has stopped at the last line or at the end of the file, and keeps that refusal; the
+-- sink has the items of the lines before it
+pub record HasStoppedAtEnd {G K S T : Type 0} (g : Language K T) (takes : Takes S T)
+    (refuses : Refuses S T) (same : S → S → Type 0)
     (ends : S → FileId → Option Refusal) (lines : List (List ℕ))
     (old : Reader G K) (had : S) (new : Reader G K) (has : S) (r : Refusal) : Type 0 where
   pub items : List T
@@ -93,7 +95,8 @@ pub record HasStoppedAtEnd {G K S T : Type 0} (g : Language K T) (takes : Takes 
   pub kept : new.fault ≡ Some (Bad r)
 
 -- memory ran out, and the reader keeps that; the sink has the items of a first few of the lines
-pub record HasRunOut {G K S T : Type 0} (g : Language K T) (takes : Takes S T) (same : S → S → Type 0) (lines : List (List ℕ))
+pub record HasRunOut {G K S T : Type 0} (g : Language K T) (takes : Takes S T)
+    (same : S → S → Type 0) (lines : List (List ℕ))
     (old : Reader G K) (had : S) (new : Reader G K) (has : S) : Type 0 where
   pub items : List T
   pub mid : S
@@ -102,7 +105,8 @@ pub record HasRunOut {G K S T : Type 0} (g : Language K T) (takes : Takes S T) (
   pub kept : new.fault ≡ Some Memory
 
 -- a reader that keeps a fault answers it, and neither the reader nor the sink changes
-abbrev pub KeepsFault : {G K S A : Type 0} → Result A Fault → Reader G K → S → Reader G K → S → Type 0
+abbrev pub KeepsFault : {G K S A : Type 0} → Result A Fault → Reader G K → S → Reader G K → S
+    → Type 0
 KeepsFault result old had new has =
     (fault : Fault) → old.fault ≡ Some fault → (result ≡ Err fault) × (new ≡ old) × (has ≡ had)
 

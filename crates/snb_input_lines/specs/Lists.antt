@@ -16,13 +16,17 @@ BadColumn g None line column = g.bad_header line column
 BadColumn g (Some k) line column = g.bad_line k line column
 
 -- the line of this number is refused, for its bytes or for its bad column
-abbrev pub RefusesLine : {K T : Type 0} → Language K T → FileId → Option K → ℕ → List ℕ → Refusal → Type 0
+abbrev pub RefusesLine : {K T : Type 0} → Language K T → FileId → Option K → ℕ → List ℕ → Refusal
+    → Type 0
 RefusesLine g file known number line r =
     (line ≢ [])
-    × (RefusesText file number line r ⊎ (IsText line × (column : ℕ) × BadColumn g known line column × (r ≡ BadLine file number column)))
+    × (RefusesText file number line r
+    ⊎ (IsText line × (column : ℕ) × BadColumn g known line column
+    × (r ≡ BadLine file number column)))
 
 -- the lines say these items up to a first one that is refused
-pub record Stops {K T : Type 0} (g : Language K T) (file : FileId) (known : Option K) (ended : ℕ) (lines : List (List ℕ)) (items : List T) (r : Refusal) : Type 0 where
+pub record Stops {K T : Type 0} (g : Language K T) (file : FileId) (known : Option K) (ended : ℕ)
+    (lines : List (List ℕ)) (items : List T) (r : Refusal) : Type 0 where
   pub before : List (List ℕ)
   pub line : List ℕ
   pub after : List (List ℕ)
@@ -32,12 +36,14 @@ pub record Stops {K T : Type 0} (g : Language K T) (file : FileId) (known : Opti
   pub refused : RefusesLine g file now (ended + length before + 1) line r
 
 -- the lines say these items, and at the end of the file a header is due
-pub record LacksHeader {K T : Type 0} (g : Language K T) (file : FileId) (known : Option K) (ended : ℕ) (lines : List (List ℕ)) (items : List T) (r : Refusal) : Type 0 where
+pub record LacksHeader {K T : Type 0} (g : Language K T) (file : FileId) (known : Option K)
+    (ended : ℕ) (lines : List (List ℕ)) (items : List T) (r : Refusal) : Type 0 where
   pub says : Says g known ended lines items None
   pub refused : r ≡ NoHeader file
 
 -- a first few of the lines say these items
-pub record SaysSome {K T : Type 0} (g : Language K T) (known : Option K) (ended : ℕ) (lines : List (List ℕ)) (items : List T) : Type 0 where
+pub record SaysSome {K T : Type 0} (g : Language K T) (known : Option K) (ended : ℕ)
+    (lines : List (List ℕ)) (items : List T) : Type 0 where
   pub before : List (List ℕ)
   pub after : List (List ℕ)
   pub now : Option K
@@ -51,8 +57,8 @@ pub record HasAppended {G K T : Type 0} (g : Language K T) (lines : List (List �
   pub says : Says g old.known old.ended lines items new.known
   pub appended : has ≡ had ++ items
 
--- the reader has stopped at the first of the lines that is refused, and keeps that refusal; what the
--- lines before it say is appended
+-- the reader has stopped at the first of the lines that is refused, and keeps that refusal; what
+-- the lines before it say is appended
 pub record HasStoppedAfter {G K T : Type 0} (g : Language K T) (lines : List (List ℕ))
     (old : Reader G K) (had : List T) (new : Reader G K) (has : List T) (r : Refusal) : Type 0 where
   pub items : List T
@@ -64,7 +70,8 @@ pub record HasStoppedAfter {G K T : Type 0} (g : Language K T) (lines : List (Li
 pub record HasStoppedAfterAll {G K T : Type 0} (g : Language K T) (lines : List (List ℕ))
     (old : Reader G K) (had : List T) (new : Reader G K) (has : List T) (r : Refusal) : Type 0 where
   pub items : List T
-  pub stops : Stops g old.file old.known old.ended lines items r ⊎ LacksHeader g old.file old.known old.ended lines items r
+  pub stops : Stops g old.file old.known old.ended lines items r
+      ⊎ LacksHeader g old.file old.known old.ended lines items r
   pub appended : has ≡ had ++ items
   pub kept : new.fault ≡ Some (Bad r)
 

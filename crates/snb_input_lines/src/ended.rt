@@ -49,7 +49,8 @@ fn take_any_fields(
 ) -> Result<(), AllocError>
     requires one_line { HasNoEnd line.now }
     requires stands { (rest : List ℕ) × AnyStands reader.old (line.now ++ 10 ∷ rest) }
-    ensures ok { OnOk result ((rest : List ℕ) → AnyStands reader.old (line.now ++ 10 ∷ rest) → AnyStands reader.new rest) }
+    ensures ok { OnOk result
+        ((rest : List ℕ) → AnyStands reader.old (line.now ++ 10 ∷ rest) → AnyStands reader.new rest) }
     ensures fields { OnOk result (line.now ≢ [] → FieldsAs (is_some reader.old) line.now (row.new)) }
     ensures err { OnErr result ((text : List ℕ) → AnyStands reader.new text) }
     ensures splits { is_some reader.new ≡ is_some reader.old }

@@ -129,7 +129,8 @@ impl<G: Grammar> LineReader<G> {
         ensures was_good { OnOk result (self.old.fault ≡ None) }
         ensures ok { OnOk result
             (HasRead (G.language self.old.grammar) S.meaning.takes (left_lines self.old) self.old sink.old self.new sink.new) }
-        ensures ends { OnOk result (end_fault self.old.file self.new.known (S.meaning.ends sink.new self.old.file) ≡ None) }
+        ensures ends { OnOk result
+            (end_fault self.old.file self.new.known (S.meaning.ends sink.new self.old.file) ≡ None) }
         ensures after { OnOk result (self.new ≡ at_file_end self.old self.new.known) }
         ensures bad { self.old.fault ≡ None → OnBad result
             (HasStoppedAtEnd (G.language self.old.grammar) S.meaning.takes S.meaning.refuses S.meaning.same S.meaning.ends (left_lines self.old) self.old sink.old self.new sink.new) }

@@ -85,8 +85,11 @@ fn take_text<G: Grammar, S: Sink<G::Item>>(
 ) -> Result<(), Fault>
     requires text { IsTextLine (G.language of.now.grammar).splits line.now (row.now) }
     requires fits { Fits (G.language of.now.grammar) S.meaning.fits }
-    ensures ok { OnOk result (TextTaken (G.language of.now.grammar) S.meaning.takes of.now.file number line.now at.old sink.old at.new sink.new) }
-    ensures bad { OnBad result (RefusesAs (G.language of.now.grammar) S.meaning.refuses of.now.file at.old.known sink.old number line.now) }
+    ensures ok { OnOk result
+        (TextTaken (G.language of.now.grammar) S.meaning.takes of.now.file number line.now at.old sink.old at.new
+        sink.new) }
+    ensures bad { OnBad result
+        (RefusesAs (G.language of.now.grammar) S.meaning.refuses of.now.file at.old.known sink.old number line.now) }
     ensures same { OnErr result (S.meaning.same sink.old sink.new) }
     ensures ended { at.new.ended ≡ at.old.ended }
     ensures begun { at.new.begun.items ≡ at.old.begun.items }
@@ -120,8 +123,10 @@ fn take_line<G: Grammar, S: Sink<G::Item>>(
     requires utf8 { known ≡ true → IsUtf8 line.now }
     requires split { line.now ≢ [] → FieldsAs (G.language of.now.grammar).splits line.now (row.now) }
     requires fits { Fits (G.language of.now.grammar) S.meaning.fits }
-    ensures ok { OnOk result (LineTaken (G.language of.now.grammar) S.meaning.takes of.now.file line.now at.old sink.old at.new sink.new) }
-    ensures bad { OnBad result (LineRefused (G.language of.now.grammar) S.meaning.refuses of.now.file line.now at.old sink.old) }
+    ensures ok { OnOk result
+        (LineTaken (G.language of.now.grammar) S.meaning.takes of.now.file line.now at.old sink.old at.new sink.new) }
+    ensures bad { OnBad result
+        (LineRefused (G.language of.now.grammar) S.meaning.refuses of.now.file line.now at.old sink.old) }
     ensures same { OnErr result (S.meaning.same sink.old sink.new) }
     ensures ended { OnOk result (at.new.ended ≡ at.old.ended + 1) }
     ensures begun { at.new.begun.items ≡ at.old.begun.items }
@@ -144,8 +149,11 @@ fn take_last<G: Grammar, S: Sink<G::Item>>(
     requires room { at.old.ended + 1 < 2 ^ 32 }
     requires one_line { HasNoEnd at.old.begun.items }
     requires fits { Fits (G.language of.now.grammar) S.meaning.fits }
-    ensures ok { OnOk result (LineTaken (G.language of.now.grammar) S.meaning.takes of.now.file at.old.begun.items at.old sink.old at.new sink.new) }
-    ensures bad { OnBad result (LineRefused (G.language of.now.grammar) S.meaning.refuses of.now.file at.old.begun.items at.old sink.old) }
+    ensures ok { OnOk result
+        (LineTaken (G.language of.now.grammar) S.meaning.takes of.now.file at.old.begun.items at.old sink.old at.new
+        sink.new) }
+    ensures bad { OnBad result
+        (LineRefused (G.language of.now.grammar) S.meaning.refuses of.now.file at.old.begun.items at.old sink.old) }
     ensures same { OnErr result (S.meaning.same sink.old sink.new) }
     ensures ended { OnOk result (at.new.ended ≡ at.old.ended + 1) }
     ensures begun { at.new.begun.items ≡ [] }
@@ -167,9 +175,15 @@ fn take_lines<G: Grammar, S: Sink<G::Item>>(
     requires fresh { at.old.begun.items ≡ [] }
     requires room { at.old.ended + length text.old.text ≤ MAX_BYTES }
     requires fits { Fits (G.language of.now.grammar) S.meaning.fits }
-    ensures ok { OnOk result (LinesTaken (G.language of.now.grammar) S.meaning.takes of.now.file (whole_lines text.old.text) at.old sink.old at.new sink.new) }
-    ensures bad { OnBad result (LinesStopped (G.language of.now.grammar) S.meaning.takes S.meaning.refuses S.meaning.same of.now.file (whole_lines text.old.text) at.old sink.old sink.new) }
-    ensures memory { OnMemory result (LinesRunOut (G.language of.now.grammar) S.meaning.takes S.meaning.same of.now.file (whole_lines text.old.text) at.old sink.old sink.new) }
+    ensures ok { OnOk result
+        (LinesTaken (G.language of.now.grammar) S.meaning.takes of.now.file (whole_lines text.old.text) at.old
+        sink.old at.new sink.new) }
+    ensures bad { OnBad result
+        (LinesStopped (G.language of.now.grammar) S.meaning.takes S.meaning.refuses S.meaning.same of.now.file
+        (whole_lines text.old.text) at.old sink.old sink.new) }
+    ensures memory { OnMemory result
+        (LinesRunOut (G.language of.now.grammar) S.meaning.takes S.meaning.same of.now.file
+        (whole_lines text.old.text) at.old sink.old sink.new) }
     ensures ended { OnOk result (at.new.ended ≡ at.old.ended + length (whole_lines text.old.text)) }
     ensures begun { OnOk result (at.new.begun.items ≡ rest_of text.old.text) }
 {
@@ -195,9 +209,15 @@ fn take_ended<G: Grammar, S: Sink<G::Item>>(
     requires fresh { at.old.begun.items ≡ [] }
     requires room { at.old.ended + length (first.now ++ others.now) ≤ MAX_BYTES }
     requires fits { Fits (G.language of.now.grammar) S.meaning.fits }
-    ensures ok { OnOk result (LinesTaken (G.language of.now.grammar) S.meaning.takes of.now.file (whole_lines (first.now ++ others.now)) at.old sink.old at.new sink.new) }
-    ensures bad { OnBad result (LinesStopped (G.language of.now.grammar) S.meaning.takes S.meaning.refuses S.meaning.same of.now.file (whole_lines (first.now ++ others.now)) at.old sink.old sink.new) }
-    ensures memory { OnMemory result (LinesRunOut (G.language of.now.grammar) S.meaning.takes S.meaning.same of.now.file (whole_lines (first.now ++ others.now)) at.old sink.old sink.new) }
+    ensures ok { OnOk result
+        (LinesTaken (G.language of.now.grammar) S.meaning.takes of.now.file (whole_lines (first.now ++ others.now))
+        at.old sink.old at.new sink.new) }
+    ensures bad { OnBad result
+        (LinesStopped (G.language of.now.grammar) S.meaning.takes S.meaning.refuses S.meaning.same of.now.file
+        (whole_lines (first.now ++ others.now)) at.old sink.old sink.new) }
+    ensures memory { OnMemory result
+        (LinesRunOut (G.language of.now.grammar) S.meaning.takes S.meaning.same of.now.file
+        (whole_lines (first.now ++ others.now)) at.old sink.old sink.new) }
     ensures ended { OnOk result (at.new.ended ≡ at.old.ended + length (whole_lines (first.now ++ others.now))) }
     ensures begun { OnOk result (at.new.begun.items ≡ rest_of (first.now ++ others.now)) }
 {

@@ -80,7 +80,8 @@ pub(crate) fn take_fields(
 
 /// The bytes up to the first line end, and what begins with that line end.
 pub fn cut_at_end<'a>(text: &'a [u8]) -> Option<(&'a [u8], &'a [u8])>
-    ensures { MatchOption result (HasNoEnd text.entry.now) (λ parts. IsCutAtEnd text.entry.now parts.0.now parts.1.now) }
+    ensures { MatchOption result (HasNoEnd text.entry.now)
+        (λ parts. IsCutAtEnd text.entry.now parts.0.now parts.1.now) }
 {
     match memchr(b'\n', text) {
         None => None,

@@ -14,7 +14,7 @@ use Rattle.snb_schema.specs.RowKeys.{node_key}
 use Rattle.snb_graph.specs.Additions.{IsFirstAlone}
 use Rattle.snb_graph_adjacency.specs.Links.{message_of}
 use Rattle.snb_graph_model.specs.Graphs.{HasKey}
-use Rattle.snb_graph_model.specs.Soundness.{Held}
+use Rattle.snb_graph_model.specs.Soundness.{HoldsRefs}
 use Rattle.snb_inserts.specs.Laws.{MessagesAreAlone}
 use Rattle.snb_inserts.proofs.Owners.{IsHere}
 use Rattle.snb_inserts.proofs.TakenLemmas.{two_held}
@@ -22,11 +22,11 @@ use Rattle.snb_base.proofs.Laws.{first_same}
 use Rattle.std.proofs.lemmas.Option.{same_Some}
 
 -- the node from which an edge leads is held
-from_here : (g : List Row) → Held g → (t : Table) (k : Kind) (id to : ℕ) → from_kind t ≡ Some k → Contains g (row.Link t id to) → HasKey g (node_key k id)
+from_here : (g : List Row) → HoldsRefs g → (t : Table) (k : Kind) (id to : ℕ) → from_kind t ≡ Some k → Contains g (row.Link t id to) → HasKey g (node_key k id)
 from_here g held t k id to is c = All-head (IsHere g) (1, ref k id) (end_ref 2 (to_kind t) to) (subst (λ o. All (IsHere g) (end_ref 1 o id ++ end_ref 2 (to_kind t) to)) is (held (row.Link t id to) c))
 
 -- the first of rows is a message that isn't held, or none
-new_message : (g : List Row) (first : Row) (more : List Row) (k : Kind) (id date : ℕ) → Held g → message_of first ≡ Some (k, id, date) → ¬ HasKey g (node_key k id) → IsFirstAlone g (first ∷ more)
+new_message : (g : List Row) (first : Row) (more : List Row) (k : Kind) (id date : ℕ) → HoldsRefs g → message_of first ≡ Some (k, id, date) → ¬ HasKey g (node_key k id) → IsFirstAlone g (first ∷ more)
 new_message g first more k id date held is none r rest e j n d message t from to c =
     let same = same_Some (k, id, date) (j, n, d) (sym is ∙ ap message_of (first_same first r more rest e) ∙ message) in
     none (subst (λ (m : Kind × ℕ × ℕ). HasKey g (node_key m.0 m.1)) (sym same) (from_here g held t j n to from c))

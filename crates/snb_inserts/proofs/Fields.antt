@@ -14,8 +14,8 @@ use Rattle.snb_schema.specs.declared.limits.TheConstants.{MAX_ID, MAX_YEAR}
 use Rattle.snb_schema.specs.declared.op.Op.{Op}
 use Rattle.snb_schema.specs.Columns.{Spells, SpellsAll}
 use Rattle.snb_schema.specs.Lines.{fields}
-use Rattle.snb_schema.specs.TableRows.{IsFieldText, IsWithin}
-use Rattle.snb_schema.specs.UpdateLines.{insert_columns, kind_of, line_columns, line_values, op_values}
+use Rattle.snb_schema.specs.TableRows.{IsFieldText, IsInBounds}
+use Rattle.snb_schema.specs.InsertLines.{insert_columns, kind_of, line_columns, line_values, op_values}
 use Rattle.snb_columns.proofs.Laws.{listed_all}
 use Rattle.snb_columns.specs.Laws.{HasPlainFields}
 use Rattle.snb_inserts.specs.Applying.{HasLine}
@@ -39,7 +39,7 @@ IsProper IdList (Ids ids) = AllByRecursion (λ id. id ≤ MAX_ID) ids × AreApar
 IsProper IdList value = Unit {0}
 IsProper PairList (Pairs pairs) = AllByRecursion IsYearly pairs × AreApart (λ pair. pair.0) pairs
 IsProper PairList value = Unit {0}
-IsProper column value = IsWithin column value
+IsProper column value = IsInBounds column value
 
 -- and so is each value
 abbrev pub AreProper : List Column → List Value → Type 0

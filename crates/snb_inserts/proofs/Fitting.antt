@@ -11,7 +11,8 @@ use Rattle.snb_schema.specs.declared.op.Parent.TheVariants as parents
 use Rattle.snb_schema.specs.declared.row.Row.TheVariants as row
 use Rattle.snb_schema.specs.declared.table.Table.TheVariants as table
 use Rattle.snb_schema.specs.TableRows.{IsTableRow}
-use Rattle.snb_schema.specs.UpdateLines.{IsOfTwo, insert_columns, kind_of, op_values, parent_comment, parent_post}
+use Rattle.snb_schema.specs.UpdateLines.{IsOfTwo}
+use Rattle.snb_schema.specs.InsertLines.{insert_columns, kind_of, op_values, parent_comment, parent_post}
 use Rattle.snb_columns.specs.Laws.{HasPlainFields}
 use Rattle.snb_schema.specs.Inserts.{parent_row, rows_of}
 use Rattle.snb_inserts.proofs.ListRows.{links, stays, words}

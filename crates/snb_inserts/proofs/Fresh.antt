@@ -14,7 +14,7 @@ use Rattle.snb_graph_integrity.proofs.Laws.{table_decides}
 use Rattle.snb_graph_model.proofs.Laws.{of_each}
 use Rattle.snb_graph_model.specs.Graphs.{HasSlot, IsGraph}
 use Rattle.snb_inserts.proofs.ListRows.{links, stays, words}
-use Rattle.snb_graph_model.specs.Soundness.{Held}
+use Rattle.snb_graph_model.specs.Soundness.{HoldsRefs}
 use Rattle.snb_inserts.proofs.Apart.{AreApart, apart_before, apart_both, apart_mapped}
 use Rattle.snb_inserts.proofs.Lists.{each_both, each_given, each_weaker}
 use Rattle.snb_inserts.proofs.Owners.{none_owned, owner}
@@ -88,7 +88,7 @@ are_new g ts more fresh clash = elim (Contains-append_cases g clash.before clash
 -- in a graph whose references are held the node's slot isn't filled
 pub record IsAbsent (g : List Row) (k : Kind) (id : ℕ) : Type 0 where
   pub graph : IsGraph g
-  pub held : Held g
+  pub held : HoldsRefs g
   pub free : ¬ HasSlot g (slot (node_key k id))
 
 -- no slot of an edge or a word that begins with the node's id is filled

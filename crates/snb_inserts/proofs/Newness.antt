@@ -10,11 +10,11 @@ use Rattle.snb_schema.specs.declared.table.Kind.TheVariants as kinds
 use Rattle.snb_schema.specs.declared.table.Table.{Table}
 use Rattle.snb_schema.specs.declared.table.Table.TheVariants as table
 use Rattle.snb_inserts.proofs.Keys.{key_of}
-use Rattle.snb_schema.specs.UpdateLines.{insert_columns, kind_of, op_values}
+use Rattle.snb_schema.specs.InsertLines.{insert_columns, kind_of, op_values}
 use Rattle.snb_columns.specs.Laws.{HasPlainFields}
 use Rattle.snb_graph_model.specs.Graphs.{IsGraph}
 use Rattle.snb_schema.specs.Inserts.{parent_row, rows_of}
-use Rattle.snb_graph_model.specs.Soundness.{Held}
+use Rattle.snb_graph_model.specs.Soundness.{HoldsRefs}
 use Rattle.snb_inserts.specs.Laws.{RowsAreNew}
 use Rattle.snb_inserts.proofs.Fields.{AreProper, op_proper}
 use Rattle.snb_inserts.proofs.TakenLemmas.{IsKeyFilled, filled_taken}
@@ -25,7 +25,7 @@ parent_fresh {id} new (parents.Post to) = edge_fresh new table.CommentReplyOfPos
 parent_fresh {id} new (parents.Comment to) = edge_fresh new table.CommentReplyOfPost (row.Link table.CommentReplyOfComment id to) refl refl
 
 -- the rows that an insert adds whose key isn't held
-fresh : (g : List Row) (op : Op) → IsGraph g → Held g → AreProper (insert_columns (kind_of op)) (op_values op) → ¬ IsKeyFilled g (key_of op) → (ts : List Table) × AreFresh g ts (rows_of op)
+fresh : (g : List Row) (op : Op) → IsGraph g → HoldsRefs g → AreProper (insert_columns (kind_of op)) (op_values op) → ¬ IsKeyFilled g (key_of op) → (ts : List Table) × AreFresh g ts (rows_of op)
 fresh g (ops.AddPerson id first last gender birthday created ip browser city languages emails tags study work) graph held (i, (f, (l, (s, (b, (d, (p, (w, (c, (spoken, (mailed, (tagged, (studied, (worked, end)))))))))))))) free =
     let new : IsAbsent g kinds.Person id = record { graph = graph; held = held; free = free } in (
       _,

@@ -15,11 +15,11 @@ use Rattle.snb_schema.specs.declared.table.Table.TheVariants as table
 use Rattle.snb_schema.specs.Layouts.{key_columns, shape}
 use Rattle.snb_schema.specs.References.{end_ref, from_kind, ref, to_kind}
 use Rattle.snb_schema.specs.RowKeys.{RowKey, edge_key, node_key, row_key, sharing, slot}
-use Rattle.snb_schema.specs.RowLines.{table_of}
+use Rattle.snb_schema.specs.RowValues.{table_of}
 use Rattle.snb_schema.specs.TableRows.{IsTableRow}
 use Rattle.snb_graph_rows.specs.Keyed.{key_table}
 use Rattle.snb_graph_model.specs.Graphs.{HasKey, HasSlot, IsGraph}
-use Rattle.snb_graph_model.specs.Soundness.{Held}
+use Rattle.snb_graph_model.specs.Soundness.{HoldsRefs}
 use Rattle.snb_base.proofs.Laws.{contains_here}
 
 -- ---- tables
@@ -76,7 +76,7 @@ module _ (g : List Row) (t : Table) (k : Kind) where
   owned_first s FirstTwo same fit other is = is
 
 -- the node of the first id in the key of an edge or a word is held
-owner_held : (g : List Row) → Held g → (r : Row) → Contains g r → IsTableRow r → (k : Kind) → owner (table_of r) ≡ Some k → HasKey g (node_key k (row_key r).1)
+owner_held : (g : List Row) → HoldsRefs g → (r : Row) → Contains g r → IsTableRow r → (k : Kind) → owner (table_of r) ≡ Some k → HasKey g (node_key k (row_key r).1)
 owner_held g held (row.Link t from to) c fit k is = link_owned g t k (key_columns t) from to is (held (row.Link t from to) c)
 owner_held g held (row.Dated t from to date) c fit k is = first_here g t k from (end_ref 2 (to_kind t) to) (owned_first g t k shapes.Dated (key_columns t) refl fit.shaped (λ e. cc) is) (held (row.Dated t from to date) c)
 owner_held g held (row.Yeared t from to year) c fit k is = first_here g t k from (end_ref 2 (to_kind t) to) (owned_first g t k shapes.Yeared (key_columns t) refl fit.shaped (λ e. cc) is) (held (row.Yeared t from to year) c)
@@ -84,7 +84,7 @@ owner_held g held (row.Word t person text) c fit k is = word_here g t k person (
 owner_held g held r c fit k is = absurd cc
 
 -- no row fills a slot of an edge or a word that begins with the id of a node whose slot isn't filled
-pub none_owned : (g : List Row) → IsGraph g → Held g → (k : Kind) (id : ℕ) → ¬ HasSlot g (slot (node_key k id)) → (s : RowKey) → owner s.0 ≡ Some k → s.1 ≡ id → ¬ HasSlot g s
+pub none_owned : (g : List Row) → IsGraph g → HoldsRefs g → (k : Kind) (id : ℕ) → ¬ HasSlot g (slot (node_key k id)) → (s : RowKey) → owner s.0 ≡ Some k → s.1 ≡ id → ¬ HasSlot g s
 none_owned g graph held k id free s owned same has =
     free (record { it = node.it; held = node.held; fills = ap slot (node.keyed ∙ ap (λ n. node_key k n) (ap (λ (j : RowKey). j.1) has.fills ∙ same)) })
   where

@@ -15,14 +15,14 @@ use Rattle.snb_schema.specs.declared.table.Table.{Table}
 use Rattle.snb_schema.specs.declared.table.Table.TheVariants as table
 use Rattle.snb_schema.specs.References.{parent_ref, refs_of}
 use Rattle.snb_schema.specs.RowKeys.{RowKey, node_key, row_key, slot, slot_of}
-use Rattle.snb_schema.specs.RowLines.{table_of}
+use Rattle.snb_schema.specs.RowValues.{table_of}
 use Rattle.snb_schema.specs.TableOrder.{all_tables, same_table}
 use Rattle.snb_graph_integrity.proofs.Laws.{fills_decides, in_flat_map}
 use Rattle.snb_graph_model.proofs.Laws.{of_each}
 use Rattle.snb_graph_model.specs.Graphs.{HasGained, HasKey, HasSlot, fills, rows}
 use Rattle.snb_schema.specs.Inserts.{parent_row, rows_of}
 use Rattle.snb_inserts.proofs.ListRows.{links, stays, words}
-use Rattle.snb_graph_model.specs.Soundness.{IsComplete, IsRooted, Need, Sound, edges_of, needs, needs_of}
+use Rattle.snb_graph_model.specs.Soundness.{HasNeededEdges, IsRooted, Need, Sound, edges_of, needs, needs_of}
 use Rattle.snb_inserts.specs.Applying.{IsThere, IsWelcome}
 use Rattle.snb_inserts.specs.Laws.{SoundIsKept}
 use Rattle.snb_inserts.proofs.Gained.{held_cases, more_held, old_held, root_kept, slot_kept}
@@ -133,7 +133,7 @@ rows_settled g (ops.AddFriend one other date) holds rooted = (settled g (row.Dat
 -- ---- the graph
 
 -- the slot of each edge that a node must have is filled
-need_filled : (g : List Row) → IsComplete g → (need : Need) → Contains (needs g) need → fills g (slot (need.2, need.1, 0, [])) ≡ true
+need_filled : (g : List Row) → HasNeededEdges g → (need : Need) → Contains (needs g) need → fills g (slot (need.2, need.1, 0, [])) ≡ true
 need_filled g complete need c = by (fills g (slot (need.2, need.1, 0, []))) refl
   where
     by : (b : Bool) → fills g (slot (need.2, need.1, 0, [])) ≡ b → fills g (slot (need.2, need.1, 0, [])) ≡ true
@@ -164,7 +164,7 @@ module _ (g now : List Row) (op : Op) (sound : Sound g) (welcome : IsWelcome g o
       let own = of_each (IsSettled now) (rows_of op) all_settled r new in
       subst (λ (n : Need). HasSlot now (slot (n.2, n.1, 0, []))) edge.2 (of_each (λ e. HasSlot now (slot (e, (row_key r).1, 0, []))) (edges_of (row_key r).0) own.edges edge.0 edge.1)
 
-  none_missing : IsComplete now
+  none_missing : HasNeededEdges now
   none_missing = none_kept (λ (need : Need). not (fills now (slot (need.2, need.1, 0, [])))) (needs now) (λ need c.
       let part = in_flat (λ t. flat_map needs_of (rows now t)) all_tables need c in
       let one = in_flat needs_of (rows now part.0) need part.2 in

@@ -5,7 +5,7 @@ ghost use Rattle.snb_schema.specs.References.{refs_of};
 ghost use Rattle.snb_schema.specs.declared.refusal.Missing.{Missing as MissingNode};
 ghost use Rattle.snb_graph_model.specs.Graphs.{HasGained};
 ghost use Rattle.snb_schema.specs.Inserts.{rows_of as rows_of_op};
-ghost use Rattle.snb_graph_model.specs.Soundness.{Held, Sound};
+ghost use Rattle.snb_graph_model.specs.Soundness.{HoldsRefs, Sound};
 ghost use Rattle.snb_inserts.specs.Applying.{HasLine, IsDuplicate, IsFirstMissing, IsWelcome};
 
 use crate::applied::Applied;
@@ -30,10 +30,11 @@ use std::alloc::{AllocError, Global};
 pub fn apply(alloc: Global, graph: &mut Graph, op: &Op) -> Result<(), Applied>
     requires line { HasLine op.now }
     ensures ok { OnOk result (HasGained graph.old (rows_of_op op.now) graph.new) }
-    ensures missing { (missing : MissingNode) → (result ≡ Err (Applied.Missing missing)) ↔ IsFirstMissing graph.old (refs_of op.now) missing }
-    ensures duplicate { Held graph.old → (result ≡ Err Applied.Duplicate) ↔ IsDuplicate graph.old op.now }
+    ensures missing { (missing : MissingNode) → (result ≡ Err (Applied.Missing missing))
+        ↔ IsFirstMissing graph.old (refs_of op.now) missing }
+    ensures duplicate { HoldsRefs graph.old → (result ≡ Err Applied.Duplicate) ↔ IsDuplicate graph.old op.now }
     ensures err { OnErr result (graph.new ≡ graph.old) }
-    ensures held { OnOk result (Held graph.old → Held graph.new) }
+    ensures held { OnOk result (HoldsRefs graph.old → HoldsRefs graph.new) }
     ensures sound { OnOk result (Sound graph.old → Sound graph.new) }
 {
     graph.known();

@@ -126,7 +126,9 @@ fn put_person(
     study: &[(u64, u32)],
     work: &[(u64, u32)],
 ) -> Result<(), AllocError>
-    ensures { OnOk result (rows.new.items ≡ rows.old.items ++ (row.Link table.PersonIsLocatedInPlace id city ∷ map (row.Word table.PersonEmailEmailAddress id) emails.now
+    ensures { OnOk result
+        (rows.new.items ≡ rows.old.items
+        ++ (row.Link table.PersonIsLocatedInPlace id city ∷ map (row.Word table.PersonEmailEmailAddress id) emails.now
         ++ map (row.Word table.PersonSpeaksLanguage id) languages.now ++ map (row.Link table.PersonHasInterestTag id) tags.now
         ++ map (λ s. row.Yeared table.PersonStudyAtOrganisation id s.0 s.1) study.now ++ map (λ s. row.Yeared table.PersonWorkAtOrganisation id s.0 s.1) work.now)) }
 {
@@ -153,7 +155,9 @@ fn forum_row(id: u64, title: &Text, creation_date: u64) -> Result<Row, AllocErro
 
 // Appends the edges of a forum.
 fn put_forum(rows: &mut Vec<Row>, id: u64, moderator: u64, tags: &[u64]) -> Result<(), AllocError>
-    ensures { OnOk result (rows.new.items ≡ rows.old.items ++ row.Link table.ForumHasModeratorPerson id moderator ∷ map (row.Link table.ForumHasTagTag id) tags.now) }
+    ensures { OnOk result
+        (rows.new.items ≡ rows.old.items ++ row.Link table.ForumHasModeratorPerson id moderator
+        ∷ map (row.Link table.ForumHasTagTag id) tags.now) }
 {
     put_link(rows, Table::ForumHasModeratorPerson, id, moderator)?;
     put_links(rows, Table::ForumHasTagTag, id, tags)
@@ -204,7 +208,9 @@ fn put_post(
     country: u64,
     tags: &[u64],
 ) -> Result<(), AllocError>
-    ensures { OnOk result (rows.new.items ≡ rows.old.items ++ row.Link table.ForumContainerOfPost forum id ∷ row.Link table.PostHasCreatorPerson id author
+    ensures { OnOk result
+        (rows.new.items ≡ rows.old.items ++ row.Link table.ForumContainerOfPost forum id
+        ∷ row.Link table.PostHasCreatorPerson id author
         ∷ row.Link table.PostIsLocatedInPlace id country ∷ map (row.Link table.PostHasTagTag id) tags.now) }
 {
     put_link(rows, Table::ForumContainerOfPost, forum, id)?;

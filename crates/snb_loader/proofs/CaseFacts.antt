@@ -14,7 +14,7 @@ use Rattle.snb_schema.specs.References.{refs_of_row}
 use Rattle.snb_schema.specs.RowKeys.{RowKey, node_key, row_key}
 use Rattle.snb_graph_integrity.proofs.Laws.{key_decides}
 use Rattle.snb_graph_model.specs.Graphs.{HasKey, same_key}
-use Rattle.snb_loader.specs.Tables.{IsAmissBeside, IsFirstLacking, IsSecond, IsThere}
+use Rattle.snb_loader.specs.Tables.{IsAmissBeside, IsFirstLacking, IsSecond, IsAmongRows}
 use Rattle.snb_loader.proofs.LackingFacts.{none_first}
 
 -- one of the rows has the key, or none has
@@ -37,12 +37,12 @@ held_or_not g k = elim (cases_Bool (held g k)) [
 ]
 
 -- the nodes of all references are there, or a first one is lacking
-there_or_lacking : (rows : List Row) (refs : List (ℕ × Missing)) → All (IsThere rows) refs ⊎ ((column : ℕ) × IsFirstLacking rows refs column)
-there_or_lacking rows [] = inl (All-nil (IsThere rows))
+there_or_lacking : (rows : List Row) (refs : List (ℕ × Missing)) → All (IsAmongRows rows) refs ⊎ ((column : ℕ) × IsFirstLacking rows refs column)
+there_or_lacking rows [] = inl (All-nil (IsAmongRows rows))
 there_or_lacking rows ((column, ref) ∷ refs) = elim (held_or_not rows (node_key ref.kind ref.id)) [
-  | inr none ↦ inr (column, record { before = []; ref = ref; after = refs; splits = refl; there = All-nil (IsThere rows); lacking = none })
+  | inr none ↦ inr (column, record { before = []; ref = ref; after = refs; splits = refl; there = All-nil (IsAmongRows rows); lacking = none })
   | inl here ↦ elim (there_or_lacking rows refs) [
-    | inl all ↦ inl (All-cons (IsThere rows) (column, ref) refs here all)
+    | inl all ↦ inl (All-cons (IsAmongRows rows) (column, ref) refs here all)
     | inr later ↦
         let first : IsFirstLacking rows refs later.0 = later.1 in
         inr (
@@ -52,7 +52,7 @@ there_or_lacking rows ((column, ref) ∷ refs) = elim (held_or_not rows (node_ke
             ref = first.ref;
             after = first.after;
             splits = ap (λ (zs : List (ℕ × Missing)). (column, ref) ∷ zs) first.splits;
-            there = All-cons (IsThere rows) (column, ref) first.before here first.there;
+            there = All-cons (IsAmongRows rows) (column, ref) first.before here first.there;
             lacking = first.lacking;
           },
         )
@@ -63,7 +63,7 @@ there_or_lacking rows ((column, ref) ∷ refs) = elim (held_or_not rows (node_ke
 abbrev pub IsAmissCase : List Row → FileId → Placed → Refusal → Type 0
 IsAmissCase rows file p r =
     ((column : ℕ) × IsFirstLacking rows (refs_of_row p.row p.turned) column × (r ≡ Dangling file p.line column))
-    ⊎ (All (IsThere rows) (refs_of_row p.row p.turned) × IsSecond rows p.row × (r ≡ Duplicate file p.line))
+    ⊎ (All (IsAmongRows rows) (refs_of_row p.row p.turned) × IsSecond rows p.row × (r ≡ Duplicate file p.line))
 
 -- such a case is the first that is so
 pub from_case : (rows : List Row) (file : FileId) (p : Placed) (r : Refusal) → IsAmissCase rows file p r → IsAmissBeside rows file p r
@@ -74,7 +74,7 @@ from_case rows file p r (inr a) = inr (λ q w. none_first rows (refs_of_row p.ro
 pub to_case : (rows : List Row) (file : FileId) (p : Placed) (r : Refusal) → IsAmissBeside rows file p r → IsAmissCase rows file p r
 to_case rows file p r (inl a) = inl a
 to_case rows file p r (inr (lacking, inl a)) =
-    let there : All (IsThere rows) (refs_of_row p.row p.turned) = elim (there_or_lacking rows (refs_of_row p.row p.turned)) [
+    let there : All (IsAmongRows rows) (refs_of_row p.row p.turned) = elim (there_or_lacking rows (refs_of_row p.row p.turned)) [
       | inl all ↦ all
       | inr first ↦ absurd (lacking (Dangling file p.line first.0) (first.0, first.1, refl))
     ] in

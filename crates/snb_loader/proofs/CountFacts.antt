@@ -8,7 +8,7 @@ use Rattle.snb_streams.specs.Lines.{stream_language}
 use Rattle.snb_input_files.specs.declared.load.Used.{Used}
 use Rattle.snb_input_files.specs.declared.series.Series.{Series}
 use Rattle.snb_input_files.specs.declared.walk.Walk.{Walk}
-use Rattle.snb_input_files.specs.Places.{FilesSay, Source, rows_in}
+use Rattle.snb_input_files.specs.Places.{FilesSay, ReadFile, counted_rows}
 use Rattle.snb_input_files.specs.Stages.{Walked, before}
 use Rattle.snb_input_files.specs.Walk.{Before, Held, Look, after_walk, stage_looks}
 use Rattle.snb_input_files.proofs.Laws.{says_count}
@@ -20,13 +20,13 @@ abbrev pub concat : List (List Line) → List Line
 concat lists = flat_map (λ lines. lines) lists
 
 -- files say a line for each of their lines that has a byte
-files_count : (ss : List Source) (xss : List (List Line)) → FilesSay stream_format ss xss → length (concat xss) ≡ data_count stream_format ss
+files_count : (ss : List ReadFile) (xss : List (List Line)) → FilesSay stream_format ss xss → length (concat xss) ≡ data_count stream_format ss
 files_count [] [] h = refl
 files_count [] (xs ∷ xss) h = absurd h
 files_count (s ∷ ss) [] h = absurd h
 files_count (s ∷ ss) (xs ∷ xss) h =
     let both = length-append xs (concat xss) in
-    let here : length xs ≡ rows_in stream_format s.file (lines s.bytes) = says_count (stream_language s.file.kind) (lines s.bytes) (Some tt) (Some h.0.0) 0 xs h.0.1 in
+    let here : length xs ≡ counted_rows stream_format s.file (lines s.bytes) = says_count (stream_language s.file.kind) (lines s.bytes) (Some tt) (Some h.0.0) 0 xs h.0.1 in
     let more = files_count ss xss h.1 in
     omega (arith, both, here, more)
 
@@ -38,7 +38,7 @@ said_by at looked w k = subst (λ (xss : List (List Line)). FilesSay stream_form
 pub walk_count : (s : Series) (used : Used) (held : Held) (w : Walk StreamLines) → Walked stream_format IsHeard (before used) (stage_looks held (s ∷ [])) w → w.used.rows ≡ used.rows + length (concat w.file_sink.done)
 walk_count s used held w k =
     let grown = stage_read stream_format held s (before used) in
-    let lines_are = files_count grown.more w.file_sink.done (subst (λ (ss : List Source). FilesSay stream_format ss w.file_sink.done) grown.past (said_by (before used) (stage_looks held (s ∷ [])) w k)) in
+    let lines_are = files_count grown.more w.file_sink.done (subst (λ (ss : List ReadFile). FilesSay stream_format ss w.file_sink.done) grown.past (said_by (before used) (stage_looks held (s ∷ [])) w k)) in
     let rows = grown.rows in
     let are = k.rows_are in
     omega (arith, lines_are, rows, are)

@@ -10,7 +10,7 @@ use Rattle.snb_input_files.specs.declared.load.Load.TheVariants.{Refused, ReadFa
 use Rattle.snb_input_files.specs.declared.load.Used.{Used}
 use Rattle.snb_input_files.specs.declared.walk.Walk.{Walk}
 use Rattle.snb_input_files.specs.Laws.{OneSaying}
-use Rattle.snb_input_files.specs.Places.{Source}
+use Rattle.snb_input_files.specs.Places.{ReadFile}
 use Rattle.snb_input_files.specs.Stages.{AreRising, IsStage, Walked, before}
 use Rattle.snb_input_files.specs.Walk.{stage_checks, stage_looks}
 use Rattle.snb_input_files.proofs.Laws.{first_anyway, first_later, none_append}
@@ -18,7 +18,7 @@ use Rattle.snb_graph_integrity.specs.declared.unsound.Unsound.{Unsound}
 use Rattle.snb_graph_integrity.specs.declared.unsound.Unsound.TheVariants as unsound
 use Rattle.snb_graph_integrity.specs.Outcomes.{IsWrong}
 use Rattle.snb_graph_model.specs.Laws.{GraphsAreTheirRows}
-use Rattle.snb_graph_model.specs.Soundness.{Held as IsHeldAll, Sound, missing}
+use Rattle.snb_graph_model.specs.Soundness.{HoldsRefs as IsHeldAll, Sound, missing}
 use Rattle.snb_loader.specs.Order.{table_series}
 use Rattle.snb_loader.specs.Dataset.{IsDatasetAnswer, IsRefusedGraph, IsUnsound, after_tables, refusal_for}
 use Rattle.snb_loader.specs.Dataset.IsRefusedGraph.{lacks, cycle}
@@ -47,7 +47,7 @@ module _ (contents : Option Files) (folder : List ℕ) (old : Used) (w : Walk (L
   walked = tables.2
 
   -- the files that were read
-  abbrev sources : List Source
+  abbrev sources : List ReadFile
   sources = (after_tables (before old) tables.0).past
 
   unsound_first : (r : Refusal) → IsRefusedGraph w.file_sink r → IsDatasetAnswer contents folder old old (Err (Refused r))

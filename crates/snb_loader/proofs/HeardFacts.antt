@@ -17,8 +17,8 @@ use Rattle.snb_schema.specs.RowKeys.{RowKey, node_key, slot_of}
 use Rattle.snb_graph_tables.proofs.Laws.{contains_gained}
 use Rattle.snb_input_lines.specs.Sinks.{Hears}
 use Rattle.snb_graph_model.specs.Graphs.{HasGained, HasKey, HasSlot, IsGraph}
-use Rattle.snb_graph_model.specs.Soundness.{Held}
-use Rattle.snb_loader.specs.Tables.{HasTaken, IsAmiss, IsAmissBeside, IsFirstLacking, IsHeard, IsRepeat, IsSecond, IsThere, TakesPlaced, said_rows}
+use Rattle.snb_graph_model.specs.Soundness.{HoldsRefs}
+use Rattle.snb_loader.specs.Tables.{HasTaken, IsAmiss, IsAmissBeside, IsFirstLacking, IsHeard, IsRepeat, IsSecond, IsAmongRows, TakesPlaced, said_rows}
 use Rattle.snb_loader.proofs.CaseFacts.{IsAmissCase, from_case, to_case}
 use Rattle.snb_loader.proofs.LackingFacts.{none_first}
 
@@ -53,8 +53,8 @@ module _ (one other : List Row) (to : (r : Row) → Contains one r → Contains 
   slot_moved : (s : RowKey) → HasSlot one s → HasSlot other s
   slot_moved s h = record { it = h.it; held = to h.it h.held; fills = h.fills }
 
-  there_moved : (refs : List (ℕ × Missing)) → All (IsThere one) refs → All (IsThere other) refs
-  there_moved refs all = All-weaker (IsThere one) (IsThere other) (λ z h. key_moved (node_key z.1.kind z.1.id) h) refs all
+  there_moved : (refs : List (ℕ × Missing)) → All (IsAmongRows one) refs → All (IsAmongRows other) refs
+  there_moved refs all = All-weaker (IsAmongRows one) (IsAmongRows other) (λ z h. key_moved (node_key z.1.kind z.1.id) h) refs all
 
   repeat_moved : (r : Row) → IsRepeat one r → IsRepeat other r
   repeat_moved r h = (h.0, to r h.1)
@@ -78,22 +78,22 @@ module _ (one other : List Row) (same : (r : Row) → Contains one r ↔ Contain
 -- ---- the references of a row, by its line and by the row
 
 -- the columns of references don't matter for whether their nodes are there
-other_column : (g : List Row) (a b : ℕ) (k : Option Kind) (n : ℕ) → All (IsThere g) (end_ref a k n) → All (IsThere g) (end_ref b k n)
+other_column : (g : List Row) (a b : ℕ) (k : Option Kind) (n : ℕ) → All (IsAmongRows g) (end_ref a k n) → All (IsAmongRows g) (end_ref b k n)
 other_column g a b None n all = all
-other_column g a b (Some k) n all = All-cons (IsThere g) (b, ref k n) [] (All-head (IsThere g) (a, ref k n) [] all) (All-nil (IsThere g))
+other_column g a b (Some k) n all = All-cons (IsAmongRows g) (b, ref k n) [] (All-head (IsAmongRows g) (a, ref k n) [] all) (All-nil (IsAmongRows g))
 
 left_of : {X : Type 0} (P : X → Type 0) (xs ys : List X) → All P (xs ++ ys) → All P xs
 left_of P [] ys all = All-nil P
 left_of P (x ∷ xs) ys all = All-cons P x xs (All-head P x (xs ++ ys) all) (left_of P xs ys (All-tail P x (xs ++ ys) all))
 
-edge_straight : (g : List Row) (a b : Option Kind) (from to : ℕ) → All (IsThere g) (end_ref 1 b to ++ end_ref 2 a from) → All (IsThere g) (end_ref 1 a from ++ end_ref 2 b to)
+edge_straight : (g : List Row) (a b : Option Kind) (from to : ℕ) → All (IsAmongRows g) (end_ref 1 b to ++ end_ref 2 a from) → All (IsAmongRows g) (end_ref 1 a from ++ end_ref 2 b to)
 edge_straight g a b from to all =
-    All-append (IsThere g) (end_ref 1 a from) (end_ref 2 b to)
-    (other_column g 2 1 a from (all_back (IsThere g) (end_ref 1 b to) (end_ref 2 a from) all))
-    (other_column g 1 2 b to (left_of (IsThere g) (end_ref 1 b to) (end_ref 2 a from) all))
+    All-append (IsAmongRows g) (end_ref 1 a from) (end_ref 2 b to)
+    (other_column g 2 1 a from (all_back (IsAmongRows g) (end_ref 1 b to) (end_ref 2 a from) all))
+    (other_column g 1 2 b to (left_of (IsAmongRows g) (end_ref 1 b to) (end_ref 2 a from) all))
 
 -- the nodes of a line's references are those of its row's
-straight : (g : List Row) (r : Row) (turned : Bool) → All (IsThere g) (refs_of_row r turned) → All (IsThere g) (refs_of_row r false)
+straight : (g : List Row) (r : Row) (turned : Bool) → All (IsAmongRows g) (refs_of_row r turned) → All (IsAmongRows g) (refs_of_row r false)
 straight g r false all = all
 straight g (row.Link t from to) true all = edge_straight g (from_kind t) (to_kind t) from to all
 straight g (row.Dated t from to date) true all = edge_straight g (from_kind t) (to_kind t) from to all
@@ -169,13 +169,13 @@ module _ (g : List Row) (done : List (List Placed)) (mine : List Placed) (p : Pl
         ],
       )
 
-      still_held : Held new
+      still_held : HoldsRefs new
       still_held r c = elim (contains_gained g new p.row r gained.rows c) [
         | inl a ↦ there_moved g new kept (refs_of_row r false) (h.held r a)
-        | inr e ↦ subst (λ (x : Row). All (IsThere new) (refs_of_row x false)) e (there_moved g new kept (refs_of_row p.row false) (straight g p.row p.turned taken.0))
+        | inr e ↦ subst (λ (x : Row). All (IsAmongRows new) (refs_of_row x false)) e (there_moved g new kept (refs_of_row p.row false) (straight g p.row p.turned taken.0))
       ]
 
-    by_rows : IsGraph new → Held new → ((r : Row) → Contains new r ↔ Contains (said_rows done mine ++ p.row ∷ []) r) → IsHeard new done (mine ++ p ∷ [])
+    by_rows : IsGraph new → HoldsRefs new → ((r : Row) → Contains new r ↔ Contains (said_rows done mine ++ p.row ∷ []) r) → IsHeard new done (mine ++ p ∷ [])
     by_rows graph held same = record {
       graph = graph;
       held = held;
@@ -184,7 +184,7 @@ module _ (g : List Row) (done : List (List Placed)) (mine : List Placed) (p : Pl
 
     by_taking : HasTaken g p.row new → IsHeard new done (mine ++ p ∷ [])
     by_taking (inl again) =
-        by_rows (subst IsGraph (sym again.1) h.graph) (subst Held (sym again.1) h.held)
+        by_rows (subst IsGraph (sym again.1) h.graph) (subst HoldsRefs (sym again.1) h.held)
         (subst (λ (z : List Row). (r : Row) → Contains z r ↔ Contains (said_rows done mine ++ p.row ∷ []) r) (sym again.1) (heard_again again.0))
     by_taking (inr more) = by_rows more.0.graph (still_held more.0) (is_said more.0)
 

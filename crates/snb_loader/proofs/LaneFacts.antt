@@ -18,7 +18,7 @@ use Rattle.snb_input_files.specs.declared.series.Series.{Series}
 use Rattle.snb_input_files.specs.declared.walk.Walk.{Walk}
 use Rattle.snb_base.specs.FirstOf.{FirstOf}
 use Rattle.snb_input_files.specs.Laws.{AreBelow, AreFrom, Joined, StagesJoin}
-use Rattle.snb_input_files.specs.Places.{FilesSay, Source}
+use Rattle.snb_input_files.specs.Places.{FilesSay, ReadFile}
 use Rattle.snb_input_files.specs.Stages.{IsStage, Walked, before}
 use Rattle.snb_input_files.specs.Walk.{Before, Held, IsHeldTold, Look, after_walk, stage_checks, stage_looks, walk_checks}
 use Rattle.snb_input_files.proofs.Laws.{first_anyway, first_later, none_append}
@@ -40,7 +40,7 @@ few_of : (s : Series) (used : Used) (held : Held) (w : Walk StreamLines) → Wal
 few_of s used held w k =
     let grown = stage_read stream_format held s (before used) in
     let same = says_length stream_format (after_walk stream_format (before used) (stage_looks held (s ∷ []))).past w.file_sink.done (said_by (before used) (stage_looks held (s ∷ [])) w k) in
-    let more = ap (λ (ss : List Source). length ss) grown.past in
+    let more = ap (λ (ss : List ReadFile). length ss) grown.past in
     let few = grown.few in
     omega (arith, same, more, few)
 
@@ -56,7 +56,7 @@ forums_few contents folder used w (held, told, k) = few_of _ used held w k
 inserts_of_series : (s : Series) (used : Used) (held : Held) (w : Walk StreamLines) → Walked stream_format IsHeard (before used) (stage_looks held (s ∷ [])) w → All (λ lines. AreInserts (allowed_in s.kind) lines) w.file_sink.done
 inserts_of_series s used held w k =
     let grown = stage_read stream_format held s (before used) in
-    files_inserts s.kind grown.more w.file_sink.done grown.kinds (subst (λ (ss : List Source). FilesSay stream_format ss w.file_sink.done) grown.past (said_by (before used) (stage_looks held (s ∷ [])) w k))
+    files_inserts s.kind grown.more w.file_sink.done grown.kinds (subst (λ (ss : List ReadFile). FilesSay stream_format ss w.file_sink.done) grown.past (said_by (before used) (stage_looks held (s ∷ [])) w k))
 
 abbrev line_count : List Line → ℕ
 line_count lines = length lines

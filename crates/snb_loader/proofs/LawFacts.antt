@@ -11,7 +11,7 @@ use Rattle.snb_streams.specs.Parameters.{params_file}
 use Rattle.snb_input_files.specs.declared.series.Series.{Series}
 use Rattle.snb_input_files.specs.Format.{Format}
 use Rattle.snb_input_files.specs.Laws.{OneRefusal, OneSaying, RefusedOrNot}
-use Rattle.snb_input_files.specs.Places.{FileSays, Source}
+use Rattle.snb_input_files.specs.Places.{FileSays, ReadFile}
 use Rattle.snb_input_files.specs.Walk.{Before, Held, stage_checks}
 use Rattle.snb_graph_model.specs.Laws.{GraphsAreTheirRows}
 use Rattle.snb_graph_model.specs.Soundness.{Need, missing}
@@ -50,7 +50,7 @@ module _ (one : OneSaying table_format) (apart : GraphsAreTheirRows) where
       let b = subst (λ (rs : List (List Placed)). IsHeard h rs []) (sym e) c in
       apart g h a.graph b.graph (λ r. (λ x. (b.same r).1 ((a.same r).0 x), λ x. (a.same r).1 ((b.same r).0 x)))
 
-  one_unsound : (ss : List Source) (r q : Refusal) → IsUnsound ss r → IsUnsound ss q → r ≡ q
+  one_unsound : (ss : List ReadFile) (r q : Refusal) → IsUnsound ss r → IsUnsound ss q → r ≡ q
   one_unsound ss r q u v =
       let e = same_graph u.rows v.rows u.graph v.graph (one ss u.rows v.rows u.said v.said) u.heard v.heard in
       one_graph u.graph r q u.refused (subst (λ (g : List Row). IsRefusedGraph g q) (sym e) v.refused)
@@ -88,7 +88,7 @@ module _ (one : OneSaying params_format) where
       let bytes : b.0 ≡ a.0 = cc_some a.0 b.0 (sym a.1 ∙ b.1) in
       first_same xs ys [] [] (one (source a.0 ∷ []) (xs ∷ []) (ys ∷ []) (a.2, tt) (subst (λ (z : List ℕ). FileSays params_format (source z) ys) bytes b.2, tt))
     where
-      source : List ℕ → Source
+      source : List ℕ → ReadFile
       source bytes = record { file = params_file q; bytes = bytes }
 
       cc_some : (x y : List ℕ) → Some x ≡ Some y → y ≡ x

@@ -14,11 +14,11 @@ use Rattle.snb_schema.specs.declared.refusal.Refusal.{Refusal}
 use Rattle.snb_schema.specs.declared.refusal.Refusal.TheVariants.{OutOfOrder}
 use Rattle.snb_schema.specs.Lines.{lines}
 use Rattle.snb_schema.specs.StreamLines.{AreInserts, AreOfStream, IsOfLine, NeverFalls}
-use Rattle.snb_schema.specs.UpdateLines.{kind_of}
+use Rattle.snb_schema.specs.InsertLines.{kind_of}
 use Rattle.snb_input_lines.proofs.Laws.{says_each}
 use Rattle.snb_streams.specs.Lines.{stream_language}
 use Rattle.snb_streams.specs.Updates.{allowed_in}
-use Rattle.snb_input_files.specs.Places.{FileSays, FilesSay, Source}
+use Rattle.snb_input_files.specs.Places.{FileSays, FilesSay, ReadFile}
 use Rattle.snb_loader.specs.Lanes.{AreTaken, Falls, IsLastOf, stream_format}
 use Rattle.snb_loader.proofs.PastFacts.{AreOfKind}
 
@@ -83,12 +83,12 @@ stream_more done new lane e all one =
     (All-append AreTaken (map (λ v. v.items) done) (lane.items ∷ []) all (All-cons AreTaken lane.items [] one (All-nil AreTaken)))
 
 -- the lines of a file are inserts of its kind
-says_inserts : (s : Source) (xs : List Line) → FileSays stream_format s xs → AreInserts (allowed_in s.file.kind) xs
+says_inserts : (s : ReadFile) (xs : List Line) → FileSays stream_format s xs → AreInserts (allowed_in s.file.kind) xs
 says_inserts s xs h =
     says_each (stream_language s.file.kind) (λ (x : Line). Contains (allowed_in s.file.kind) (kind_of x.op)) (λ k number line x spells. spells.spells.0) (lines s.bytes) (Some tt) (Some h.0) 0 xs h.1
 
 -- what files of a kind say are inserts of that kind
-pub files_inserts : (kind : FileKind) (ss : List Source) (xss : List (List Line)) → AreOfKind kind ss → FilesSay stream_format ss xss → All (λ xs. AreInserts (allowed_in kind) xs) xss
+pub files_inserts : (kind : FileKind) (ss : List ReadFile) (xss : List (List Line)) → AreOfKind kind ss → FilesSay stream_format ss xss → All (λ xs. AreInserts (allowed_in kind) xs) xss
 files_inserts kind [] [] k h = All-nil (λ (xs : List Line). AreInserts (allowed_in kind) xs)
 files_inserts kind [] (xs ∷ xss) k h = absurd h
 files_inserts kind (s ∷ ss) [] k h = absurd h

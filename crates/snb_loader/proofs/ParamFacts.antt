@@ -18,7 +18,7 @@ use Rattle.snb_input_files.specs.declared.series.Series.{Series}
 use Rattle.snb_input_files.specs.declared.walk.Walk.{Walk}
 use Rattle.snb_base.specs.FirstOf.{NoneOf}
 use Rattle.snb_input_files.specs.Format.{Lawful}
-use Rattle.snb_input_files.specs.Places.{FileSays, FilesSay, Source}
+use Rattle.snb_input_files.specs.Places.{FileSays, FilesSay, ReadFile}
 use Rattle.snb_input_files.specs.Stages.{IsStage, before}
 use Rattle.snb_input_files.specs.Walk.{Before, Held, Look, after_walk, looks_from, series_looks, stage_looks, walk_checks, with_file}
 use Rattle.snb_input_files.specs.Walk.Role.{Needed}
@@ -56,7 +56,7 @@ params_lawful one right bad = record {
 }
 
 -- these files are those of the queries, and each that says something says one thing at least
-abbrev pub AreTold : Held → List ℕ → List Source → Type 0
+abbrev pub AreTold : Held → List ℕ → List ReadFile → Type 0
 AreTold held [] [] = Unit {0}
 AreTold held [] (s ∷ ss) = ⊥
 AreTold held (q ∷ qs) [] = ⊥
@@ -64,7 +64,7 @@ AreTold held (q ∷ qs) (s ∷ ss) = (s.file ≡ params_file q) × (held (params
 
 -- what was read between two moments
 abbrev pub AreRead : Held → List ℕ → Before → Before → Type 0
-AreRead held qs a b = (more : List Source) × (b.past ≡ a.past ++ more) × AreTold held qs more
+AreRead held qs a b = (more : List ReadFile) × (b.past ≡ a.past ++ more) × AreTold held qs more
 
 some_said : (file : FileId) (b : List ℕ) → ((r : _) → ¬ ((items : List Query) × FileSays params_format (record { file = file; bytes = b }) items × (params_format.rules.bare file items ≡ Some r))) → (items : List Query) → FileSays params_format (record { file = file; bytes = b }) items → 0 < length items
 some_said file b no_bare [] s = absurd (no_bare (NoParameters file) ([], s, refl))
@@ -75,7 +75,7 @@ one_told : (held : Held) (q : ℕ) (qs : List ℕ) (at : Before) (rest : List Lo
     → AreRead held (q ∷ qs) at (after_walk params_format at ((record { file = params_file q; role = Needed; held = o } ∷ (elim o [ None ↦ [] | Some b ↦ [] ])) ++ rest))
 one_told held q qs at rest None e k h = absurd (h.0 (Absent (params_file q)) refl)
 one_told held q qs at rest (Some b) e k h =
-    let s : Source = record { file = params_file q; bytes = b } in
+    let s : ReadFile = record { file = params_file q; bytes = b } in
     let more = k (with_file params_format at (params_file q) b) h.1.1.1 in
     (s ∷ more.0, more.1 ∙ append_assoc at.past (s ∷ []) more.0, (refl, e, some_said (params_file q) b h.1.1.0, more.2))
 
@@ -85,10 +85,10 @@ walk_told held [] at h = ([], sym (append-nil at.past), tt)
 walk_told held (q ∷ qs) at h = one_told held q qs at (stage_looks held (map params_series qs)) (held (params_file q)) refl (λ next k. walk_told held qs next k) h
 
 -- what a file says are queries of its number
-says_of : (s : Source) (xs : List Query) → FileSays params_format s xs → AreOf (query_in s.file.kind) xs
+says_of : (s : ReadFile) (xs : List Query) → FileSays params_format s xs → AreOf (query_in s.file.kind) xs
 says_of s xs h = says_each (params_language (query_in s.file.kind)) (λ x. number_of_query x ≡ query_in s.file.kind) (λ k number line x spells. spells.1.0) (lines s.bytes) None (Some h.0) 0 xs h.1
 
-of_each : (held : Held) (qs : List ℕ) (ss : List Source) (xss : List (List Query)) → AreTold held qs ss → FilesSay params_format ss xss → AreOfEach qs xss
+of_each : (held : Held) (qs : List ℕ) (ss : List ReadFile) (xss : List (List Query)) → AreTold held qs ss → FilesSay params_format ss xss → AreOfEach qs xss
 of_each held [] [] [] t h = tt
 of_each held [] [] (xs ∷ xss) t h = absurd h
 of_each held [] (s ∷ ss) xss t h = absurd t
@@ -97,7 +97,7 @@ of_each held (q ∷ qs) (s ∷ ss) [] t h = absurd h
 of_each held (q ∷ qs) (s ∷ ss) (xs ∷ xss) t h =
     (subst (λ (file : FileId). AreOf (query_in file.kind) xs) t.0 (says_of s xs h.0), of_each held qs ss xss t.3 h.1)
 
-said_each : (held : Held) (f : ℕ → List Query) (qs : List ℕ) (ss : List Source) → AreTold held qs ss → FilesSay params_format ss (map f qs) → Each (λ q. IsListSaid held q (f q) × (0 < length (f q))) qs
+said_each : (held : Held) (f : ℕ → List Query) (qs : List ℕ) (ss : List ReadFile) → AreTold held qs ss → FilesSay params_format ss (map f qs) → Each (λ q. IsListSaid held q (f q) × (0 < length (f q))) qs
 said_each held f [] ss t h = tt
 said_each held f (q ∷ qs) [] t h = absurd t
 said_each held f (q ∷ qs) (s ∷ ss) t h =
@@ -121,11 +121,11 @@ pub of_stage : (contents : Option Files) (folder : List ℕ) (table : FrequencyT
 of_stage contents folder table old w stage items e f h = subst (λ (ss : List Series). IsStage params_format HasHeard contents folder ss (before old) (Ok w)) (e ∙ f) h
 
 module _ (contents : Option Files) (folder : List ℕ) (table : FrequencyTable) (old : Used) (w : Walk ParamLines) (answer : IsStage params_format HasHeard contents folder (params_stage table) (before old) (Ok w)) where
-  files : (more : List Source) × ((after_walk params_format (before old) (stage_looks answer.0 (params_stage table))).past ≡ more) × AreTold answer.0 (asked table) more
+  files : (more : List ReadFile) × ((after_walk params_format (before old) (stage_looks answer.0 (params_stage table))).past ≡ more) × AreTold answer.0 (asked table) more
   files = walk_told answer.0 (asked table) (before old) answer.2.clean
 
   said : FilesSay params_format files.0 w.file_sink.done
-  said = let k = answer.2 in subst (λ (z : List Source × List (List Query)). FilesSay params_format z.0 z.1) (λ i. (files.1 i, sym k.fresh.0 i)) k.said
+  said = let k = answer.2 in subst (λ (z : List ReadFile × List (List Query)). FilesSay params_format z.0 z.1) (λ i. (files.1 i, sym k.fresh.0 i)) k.said
 
   -- each list has queries of its kind
   pub kinds_done : AreOfEach (asked table) w.file_sink.done

@@ -6,23 +6,23 @@ use Rattle.snb_schema.specs.declared.refusal.Counted.{Counted}
 use Rattle.snb_input_files.specs.declared.series.Series.{Series}
 use Rattle.snb_input_files.specs.Format.{Format}
 use Rattle.snb_schema.specs.Lines.{lines}
-use Rattle.snb_input_files.specs.Places.{FilesSay, Source, rows_in}
+use Rattle.snb_input_files.specs.Places.{FilesSay, ReadFile, counted_rows}
 use Rattle.snb_input_files.specs.Walk.{Before, Held, Look, Role, after_look, after_walk, file_at, first_role, look_beyond, looks_from, series_looks, stage_looks, with_file}
 use Rattle.snb_input_files.specs.Walk.Role.{Needed, Further, Beyond}
 
 -- the files are of this kind
-abbrev pub AreOfKind : FileKind → List Source → Type 0
+abbrev pub AreOfKind : FileKind → List ReadFile → Type 0
 AreOfKind kind [] = Unit {0}
 AreOfKind kind (s ∷ ss) = (s.file.kind ≡ kind) × AreOfKind kind ss
 
 -- how many data lines the files have
-abbrev pub data_count : {K T : Type 0} → Format K T → List Source → ℕ
+abbrev pub data_count : {K T : Type 0} → Format K T → List ReadFile → ℕ
 data_count g [] = 0
-data_count g (s ∷ ss) = rows_in g s.file (lines s.bytes) + data_count g ss
+data_count g (s ∷ ss) = counted_rows g s.file (lines s.bytes) + data_count g ss
 
 -- between two moments at most so many files of a kind were read
 pub record Grown {K T : Type 0} (g : Format K T) (kind : FileKind) (n : ℕ) (a b : Before) : Type 0 where
-  pub more : List Source
+  pub more : List ReadFile
   pub past : b.past ≡ a.past ++ more
   pub few : length more ≤ n
   pub kinds : AreOfKind kind more
@@ -71,7 +71,7 @@ module _ {K T : Type 0} (g : Format K T) where
   stage_read held s at = subst (λ (ls : List Look). Grown g s.kind s.most at (after_walk g at ls)) (sym (append-nil (series_looks held s))) (series_read held s at)
 
   -- as many files, so many lists of items
-  pub says_length : (ss : List Source) (xss : List (List T)) → FilesSay g ss xss → length xss ≡ length ss
+  pub says_length : (ss : List ReadFile) (xss : List (List T)) → FilesSay g ss xss → length xss ≡ length ss
   says_length [] [] h = refl
   says_length [] (xs ∷ xss) h = absurd h
   says_length (s ∷ ss) [] h = absurd h

@@ -9,7 +9,8 @@ use Rattle.snb_schema.specs.Columns.{SpellsAll}
 use Rattle.snb_schema.specs.Lines.{HasNoBar, HasNoEnd, fields}
 use Rattle.snb_schema.specs.StreamLines.{IsOfLine}
 use Rattle.snb_schema.specs.TableRows.{IsFieldText}
-use Rattle.snb_schema.specs.UpdateLines.{canonical_line, kind_of, line_columns, line_values}
+use Rattle.snb_schema.specs.UpdateLines.{canonical_line}
+use Rattle.snb_schema.specs.InsertLines.{kind_of, line_columns, line_values}
 use Rattle.snb_columns.specs.Laws.{OwnLineOfValues}
 use Rattle.snb_streams.specs.Laws.{InsertsAreRight, OneFault, OneInsertOfFields}
 use Rattle.snb_input_lines.proofs.Laws.{fields_plain}

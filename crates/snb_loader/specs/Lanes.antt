@@ -25,7 +25,9 @@ use Rattle.snb_loader.specs.Order.{forum_series, person_series}
 
 -- the line before has a greater t
 abbrev pub Falls : FileId → List (List Line) → List Line → Line → Refusal → Type 0
-Falls file done mine x r = (0 < length mine) × (x.t < (slice_index_or mine (length mine - 1) x).t) × (r ≡ OutOfOrder file x.number)
+Falls file done mine x r =
+    (0 < length mine) × (x.t < (slice_index_or mine (length mine - 1) x).t)
+    × (r ≡ OutOfOrder file x.number)
 
 -- what the inserts of streams are refused for
 abbrev pub stream_rules : Rules Line
@@ -37,7 +39,9 @@ stream_format = record { language = λ file. stream_language file.kind; rules = 
 
 -- an insert that texts of fields spell is that of some line
 abbrev pub InsertsOfFieldsFit : Type 0
-InsertsOfFieldsFit = (allowed : List InsertKind) (fs : List (List ℕ)) (x : Line) → All IsFieldText fs → SpellsInsert allowed fs x.t x.t_d x.op → IsOfLine x
+InsertsOfFieldsFit =
+    (allowed : List InsertKind) (fs : List (List ℕ)) (x : Line) → All IsFieldText fs
+    → SpellsInsert allowed fs x.t x.t_d x.op → IsOfLine x
 
 -- some text is each line, and t never falls
 pub record AreTaken (lines : List Line) : Type 0 where
@@ -96,11 +100,14 @@ abbrev pub next_stage : Before → Before
 next_stage at = record { bytes = at.bytes; rows = at.rows; past = [] }
 
 abbrev pub after_lanes : Before → Held → Before
-after_lanes at held = after_walk stream_format (next_stage (after_persons at held)) (stage_looks held forum_series)
+after_lanes at held =
+    after_walk stream_format (next_stage (after_persons at held)) (stage_looks held forum_series)
 
 -- what is tried of the streams, in order: the person streams, then the forum streams
 abbrev pub lane_checks : Before → Held → List {1} (Refusal → Type 0)
-lane_checks at held = stage_checks stream_format at held person_series ++ stage_checks stream_format (next_stage (after_persons at held)) held forum_series
+lane_checks at held =
+    stage_checks stream_format at held person_series
+    ++ stage_checks stream_format (next_stage (after_persons at held)) held forum_series
 
 -- nothing is wrong with the streams, and these are their lanes
 pub record AreLanes (at : Before) (held : Held) (lanes : LineLanes) : Type 0 where
@@ -108,8 +115,9 @@ pub record AreLanes (at : Before) (held : Held) (lanes : LineLanes) : Type 0 whe
   pub persons : FilesSay stream_format (after_persons at held).past lanes.persons
   pub forums : FilesSay stream_format (after_lanes at held).past lanes.forums
 
--- what the loading of the streams answers: there are files in the folder, which are those that the shelf tells where it tells any, of
--- which nothing is wrong and these are the lanes, or which are refused so
+-- what the loading of the streams answers: there are files in the folder, which are those that the
+-- shelf tells where it tells any, of which nothing is wrong and these are the lanes, or which are
+-- refused so
 abbrev pub IsLanesAnswer : Option Files → List ℕ → Used → Used → Result LineLanes Load → Type 0
 IsLanesAnswer contents folder old new (Ok lanes) =
     (held : Held)
@@ -117,6 +125,7 @@ IsLanesAnswer contents folder old new (Ok lanes) =
     × AreLanes (before old) held lanes
     × (new.bytes ≡ (after_lanes (before old) held).bytes)
     × (new.rows ≡ (after_lanes (before old) held).rows)
-IsLanesAnswer contents folder old new (Err (Refused r)) = (held : Held) × IsHeldTold contents folder held × FirstOf (lane_checks (before old) held) r
+IsLanesAnswer contents folder old new (Err (Refused r)) =
+    (held : Held) × IsHeldTold contents folder held × FirstOf (lane_checks (before old) held) r
 IsLanesAnswer contents folder old new (Err ReadFault) = Unit {0}
 IsLanesAnswer contents folder old new (Err Memory) = Unit {0}

@@ -22,7 +22,8 @@ DatasetRefusesOnce = (at : Before) (held : Held) → RefuseOnce (dataset_checks 
 
 -- and has one graph at most
 abbrev pub DatasetIsOne : Type 0
-DatasetIsOne = (at : Before) (held : Held) (g h : List Row) → IsDataset at held g → IsDataset at held h → g ≡ h
+DatasetIsOne =
+    (at : Before) (held : Held) (g h : List Row) → IsDataset at held g → IsDataset at held h → g ≡ h
 
 -- the streams are refused in one way at most, or not
 abbrev pub LanesRefuseOnce : Type 0
@@ -30,12 +31,16 @@ LanesRefuseOnce = (at : Before) (held : Held) → RefuseOnce (lane_checks at hel
 
 -- and they are the same lanes
 abbrev pub LanesAreOne : Type 0
-LanesAreOne = (at : Before) (held : Held) (a b : LineLanes) → AreLanes at held a → AreLanes at held b → a ≡ b
+LanesAreOne =
+    (at : Before) (held : Held) (a b : LineLanes) → AreLanes at held a → AreLanes at held b → a ≡ b
 
 -- the parameter files are refused in one way at most, or not
 abbrev pub ParamsRefuseOnce : Type 0
-ParamsRefuseOnce = (at : Before) (held : Held) (table : FrequencyTable) → RefuseOnce (params_checks at held table)
+ParamsRefuseOnce =
+    (at : Before) (held : Held) (table : FrequencyTable) → RefuseOnce (params_checks at held table)
 
 -- and they are the same lists
 abbrev pub ParamsAreOne : Type 0
-ParamsAreOne = (at : Before) (held : Held) (table : FrequencyTable) (a b : QueryLists) → AreParams at held table a → AreParams at held table b → a ≡ b
+ParamsAreOne =
+    (at : Before) (held : Held) (table : FrequencyTable) (a b : QueryLists)
+    → AreParams at held table a → AreParams at held table b → a ≡ b

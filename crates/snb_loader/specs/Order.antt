@@ -10,7 +10,13 @@ use Rattle.snb_input_files.specs.declared.series.Series.{Series}
 
 -- the parts of a table
 abbrev pub parts_of : Table → Series
-parts_of t = record { kind = kinds.Table t; needed = (layout t).is_needed; most = MAX_PARTS; what = Some Parts }
+parts_of t =
+    record {
+      kind = kinds.Table t;
+      needed = (layout t).is_needed;
+      most = MAX_PARTS;
+      what = Some Parts;
+    }
 
 -- the parts of all tables
 abbrev pub table_series : List Series
@@ -18,10 +24,12 @@ table_series = map parts_of all_tables
 
 -- the person streams, and the forum streams: there may be none, and at most MAX_LANES of each
 abbrev pub person_series : List Series
-person_series = record { kind = kinds.PersonStream; needed = false; most = MAX_LANES; what = Some Lanes } ∷ []
+person_series =
+    record { kind = kinds.PersonStream; needed = false; most = MAX_LANES; what = Some Lanes } ∷ []
 
 abbrev pub forum_series : List Series
-forum_series = record { kind = kinds.ForumStream; needed = false; most = MAX_LANES; what = Some Lanes } ∷ []
+forum_series =
+    record { kind = kinds.ForumStream; needed = false; most = MAX_LANES; what = Some Lanes } ∷ []
 
 -- all streams
 abbrev pub stream_series : List Series

@@ -48,7 +48,8 @@ params_rules = record { limit = Some MAX_ROWS; own = λ file done mine x r. ⊥;
 
 -- what parameter files say, and what their parameters are refused for
 abbrev pub params_format : Format (Unit {0}) Query
-params_format = record { language = λ file. params_language (query_in file.kind); rules = params_rules }
+params_format =
+    record { language = λ file. params_language (query_in file.kind); rules = params_rules }
 
 -- what the files before said, and what this one has said so far
 pub record ParamLines : Type 0 where
@@ -99,25 +100,33 @@ params_checks at held table = stage_checks params_format at held (params_stage t
 
 -- the parameter file of the query is there, and says this list
 abbrev pub IsListSaid : Held → ℕ → List Query → Type 0
-IsListSaid held q list = (bytes : List ℕ) × (held (params_file q) ≡ Some bytes) × FileSays params_format (record { file = params_file q; bytes = bytes }) list
+IsListSaid held q list =
+    (bytes : List ℕ) × (held (params_file q) ≡ Some bytes)
+    × FileSays params_format (record { file = params_file q; bytes = bytes }) list
 
 -- nothing is wrong with the parameter files, and these are the lists of parameters
-pub record AreParams (at : Before) (held : Held) (table : FrequencyTable) (lists : QueryLists) : Type 0 where
+pub record AreParams (at : Before) (held : Held) (table : FrequencyTable) (lists : QueryLists)
+    : Type 0 where
   pub clean : NoneOf (params_checks at held table)
   -- the list of a query with a frequency is what its file says
-  pub said : (query : ℕ) → 0 < frequency_at table query → IsListSaid held query (list_of lists query)
+  pub said : (query : ℕ) → 0 < frequency_at table query
+      → IsListSaid held query (list_of lists query)
   -- any other is empty
   pub others : (query : ℕ) → frequency_at table query ≡ 0 → list_of lists query ≡ []
 
--- what the loading of the parameter files answers: there are files in the folder, which are those that the shelf tells where it tells
--- any, of which nothing is wrong and these are the lists of parameters, or which are refused so
-abbrev pub IsParamsAnswer : Option Files → List ℕ → FrequencyTable → Used → Used → Result QueryLists Load → Type 0
+-- what the loading of the parameter files answers: there are files in the folder, which are those
+-- that the shelf tells where it tells any, of which nothing is wrong and these are the lists of
+-- parameters, or which are refused so
+abbrev pub IsParamsAnswer : Option Files → List ℕ → FrequencyTable → Used → Used
+    → Result QueryLists Load → Type 0
 IsParamsAnswer contents folder table old new (Ok lists) =
     (held : Held)
     × IsHeldTold contents folder held
     × AreParams (before old) held table lists
     × (new.bytes ≡ (after_params (before old) held table).bytes)
     × (new.rows ≡ (after_params (before old) held table).rows)
-IsParamsAnswer contents folder table old new (Err (Refused r)) = (held : Held) × IsHeldTold contents folder held × FirstOf (params_checks (before old) held table) r
+IsParamsAnswer contents folder table old new (Err (Refused r)) =
+    (held : Held) × IsHeldTold contents folder held
+    × FirstOf (params_checks (before old) held table) r
 IsParamsAnswer contents folder table old new (Err ReadFault) = Unit {0}
 IsParamsAnswer contents folder table old new (Err Memory) = Unit {0}

@@ -1,7 +1,7 @@
 //! The update streams of a folder, read into lanes.
 
 ghost use Rattle.std.specs.Prelude.{◌≡◌, ◌≤◌, ◌+◌, All, IfOk, OnErr, OnOk, length};
-ghost use Rattle.snb_base.specs.Reads.{IsRead};
+ghost use Rattle.snb_base.specs.Reads.{IsShelfRead};
 ghost use Rattle.snb_schema.specs.declared.limits.TheConstants.{MAX_BYTES, MAX_LANES, MAX_ROWS};
 ghost use Rattle.snb_schema.specs.LineLanes.{update_count};
 ghost use Rattle.snb_schema.specs.StreamLines.{AreOfStreams};
@@ -73,7 +73,7 @@ pub fn load_lanes<S: Shelf>(
     ensures counted { IfOk result (λ lanes. used.new.rows ≡ used.old.rows + update_count lanes) }
     ensures within { OnOk result ((used.new.bytes ≤ MAX_BYTES) × (used.new.rows ≤ MAX_ROWS)) }
     ensures err { OnErr result (used.new ≡ used.old) }
-    ensures read { IsRead (is_read_fault result) S.Shelf shelf.old shelf.new }
+    ensures read { IsShelfRead (is_read_fault result) S.Shelf shelf.old shelf.new }
 {
     stages_join();
     let persons = match load_stage(alloc, shelf, folder, &PERSON_STREAMS, *used) {

@@ -1,7 +1,7 @@
 //! The parameter files of a folder, read into lists.
 
 ghost use Rattle.std.specs.Prelude.{◌≡◌, ◌≢◌, ◌≤◌, ◌++◌, ℕ, [], IfOk, OnErr, OnOk, map};
-ghost use Rattle.snb_base.specs.Reads.{IsRead};
+ghost use Rattle.snb_base.specs.Reads.{IsShelfRead};
 ghost use Rattle.snb_schema.specs.declared.limits.TheConstants.{MAX_BYTES, MAX_ROWS};
 ghost use Rattle.snb_schema.specs.Frequencies.{frequency_at};
 ghost use Rattle.snb_schema.specs.Queries.{IsComplex};
@@ -157,7 +157,8 @@ fn lists_of(
 ) -> Result<Lists, AllocError>
     requires kinds { AreOfEach (asked frequencies.now) file_sink.done }
     ensures lists { IfOk result (λ lists. map (list_of lists) (asked frequencies.now) ≡ file_sink.done) }
-    ensures others { IfOk result (λ lists. (query : ℕ) → frequency_at frequencies.now query ≡ 0 → list_of lists query ≡ []) }
+    ensures others { IfOk result
+        (λ lists. (query : ℕ) → frequency_at frequencies.now query ≡ 0 → list_of lists query ≡ []) }
 {
     let mut lists = Lists::new(alloc);
     let mut left = file_sink.done.into_iter();
@@ -204,7 +205,7 @@ pub fn load_params<S: Shelf>(
     ensures full { IfOk result (λ lists. HaveParameters lists frequencies.now) }
     ensures within { OnOk result ((used.new.bytes ≤ MAX_BYTES) × (used.new.rows ≤ MAX_ROWS)) }
     ensures err { OnErr result (used.new ≡ used.old) }
-    ensures read { IsRead (is_read_fault result) S.Shelf shelf.old shelf.new }
+    ensures read { IsShelfRead (is_read_fault result) S.Shelf shelf.old shelf.new }
 {
     params_are_lawful();
     let stage = stage_of(alloc, frequencies)?;

@@ -1,7 +1,7 @@
 //! What takes the lines of the update streams of a folder.
 
 ghost use Rattle.std.specs.Prelude.{◌≡◌, ◌≤◌, [], All, IfOk, Some, map};
-ghost use Rattle.snb_base.specs.Reads.{IsRead};
+ghost use Rattle.snb_base.specs.Reads.{IsShelfRead};
 ghost use Rattle.snb_schema.specs.declared.limits.TheConstants.{MAX_BYTES, MAX_ROWS};
 ghost use Rattle.snb_input_files.specs.Format.{Lawful};
 ghost use Rattle.snb_input_files.specs.Loading.{is_read_fault};
@@ -165,7 +165,7 @@ pub(crate) fn load_stage<S: Shelf>(
     requires allowed { Allows (S.may shelf.old) (IsNameIn stage.now folder.now) }
     ensures answer { IsStage stream_format IsHeard (S.contents shelf.old) folder.now stage.now (before used) result }
     ensures within { IfOk result (IsWalkWithin (Some MAX_ROWS)) }
-    ensures read { IsRead (is_read_fault result) S.Shelf shelf.old shelf.new }
+    ensures read { IsShelfRead (is_read_fault result) S.Shelf shelf.old shelf.new }
 {
     streams_are_lawful();
     walk_stage::<S, StreamLines, StreamFileSink>(

@@ -1,7 +1,7 @@
 //! The tables of a dataset, read into a graph.
 
 ghost use Rattle.std.specs.Prelude.{◌≡◌, ◌≤◌, [], OnErr, OnOk, IfOk, Some};
-ghost use Rattle.snb_base.specs.Reads.{IsRead};
+ghost use Rattle.snb_base.specs.Reads.{IsShelfRead};
 ghost use Rattle.snb_input_files.specs.Format.{Lawful};
 ghost use Rattle.snb_input_files.specs.Loading.{is_read_fault};
 ghost use Rattle.snb_input_files.specs.Names.{Allows, IsNameIn};
@@ -165,7 +165,7 @@ pub fn load_tables<S: Shelf>(
     requires allowed { Allows (S.may shelf.old) (IsNameIn table_series folder.now) }
     ensures answer { IsStage table_format IsHeard (S.contents shelf.old) folder.now table_series (before used) result }
     ensures within { IfOk result (IsWalkWithin (Some MAX_ROWS)) }
-    ensures read { IsRead (is_read_fault result) S.Shelf shelf.old shelf.new }
+    ensures read { IsShelfRead (is_read_fault result) S.Shelf shelf.old shelf.new }
 {
     tables_are_lawful();
     let series = table_series(alloc)?;

@@ -7,7 +7,7 @@ use Rattle.std.proofs.lemmas.List.{drop-map, drop-take, get_or_default, take-app
 use Rattle.std.proofs.lemmas.List.Elements.{Contains-push_cases}
 use Rattle.std.proofs.lemmas.List.Sorted.{IsPermutation-refl}
 use Rattle.std.proofs.lemmas.Option.{same_Some}
-use Rattle.snb_read_model.specs.Cells.{Cell}
+use Rattle.snb_read_model.specs.Cells.{ByteCell}
 use Rattle.snb_read_model.specs.Replies.{IsAnswer, IsReply}
 use Rattle.snb_history.specs.declared.event.Event.{Event}
 use Rattle.snb_history.specs.declared.event.Event.TheVariants.{Start, Finish, Halt}
@@ -15,13 +15,13 @@ use Rattle.snb_history.specs.declared.logged.Logged.{Logged}
 use Rattle.snb_schema.specs.declared.limits.TheConstants.{MAX_WORKERS}
 use Rattle.snb_schema.specs.declared.query.Query.{Query}
 use Rattle.snb_schema.specs.declared.row.Row.{Row}
-use Rattle.snb_history.specs.Laws.{PrefixIsLegal}
+use Rattle.snb_history.specs.ScheduleLaws.{PrefixIsLegal}
 use Rattle.snb_history.specs.Rules.{IsLegal}
 use Rattle.snb_graph_model.specs.Graphs.{HoldsKey, IsGraph}
 use Rattle.snb_graph_model.specs.Laws.{GraphsAreTheirRows}
 use Rattle.snb_graph_model.specs.Soundness.{Sound}
 use Rattle.snb_plan.specs.Closed.{IsClosed}
-use Rattle.snb_plan.specs.Plans.{Ask, Insert, Operation, Plan, Work, schedule_of, updates_in}
+use Rattle.snb_plan.specs.Plans.{AskWork, InsertWork, Operation, Plan, Work, schedule_of, updates_in}
 use Rattle.snb_read_laws.specs.Laws.{OneAnswer, OneReply, SomeReply}
 use Rattle.snb_workers_replay.specs.Laws.{IsReplayed, PrefixesAreSound}
 use Rattle.snb_workers_replay.specs.Replay.{IsAfter}
@@ -55,8 +55,8 @@ has_laws base plan workers h rows prefixes replies graph sound replayed legal = 
 
 module _ (base : List Row) (plan : Plan) (h : List Event) (laws : HasLaws base plan h) where
   one_count_of : (front : ℕ) (work : Work) (n m : ℕ) → IsCountOf base plan h front work n → IsCountOf base plan h front work m → n ≡ m
-  one_count_of front (Insert line) n m a b = a ∙ sym b
-  one_count_of front (Ask query) n m (g, after, reply, is, size) (other, later, second, replies, count) =
+  one_count_of front (InsertWork line) n m a b = a ∙ sym b
+  one_count_of front (AskWork query) n m (g, after, reply, is, size) (other, later, second, replies, count) =
       let same : other ≡ g = same_gain laws.rows base _ other g later after in
       let one : reply ≡ second = laws.replies g query reply second after.graph (laws.sound front g after) is (subst (λ (x : List Row). IsReply x query second) same replies) in
       size ∙ (ap first_rows one ∙ sym count)
@@ -75,15 +75,15 @@ count_is_one one rows sound_after base plan workers h e m n graph sound replayed
 -- ---- the count of a tally
 
 -- the rows of a read's own answer are those of the first answer of its reply
-pub rows_of_own : OneAnswer → SomeReply → (graph : List Row) → IsGraph graph → Sound graph → (query : Query) (own : List (List Cell)) (n : ℕ) → IsAnswer graph query own → n ≡ length own → HasRows graph (Ask query) n
+pub rows_of_own : OneAnswer → SomeReply → (graph : List Row) → IsGraph graph → Sound graph → (query : Query) (own : List (List ByteCell)) (n : ℕ) → IsAnswer graph query own → n ≡ length own → HasRows graph (AskWork query) n
 rows_of_own one some graph is sound query own n answer size =
     let (reply, replied) = some graph query is sound in
     (reply, replied, size ∙ (ap length (one graph query own replied.own is sound answer replied.answer) ∙ ap first_rows (sym replied.is)))
 
 -- what is counted on the graph after a front is the count there
 rows_counted : (base : List Row) (plan : Plan) (h : List Event) (front : ℕ) (graph : List Row) → IsAfter base plan (take front h) graph → (work : Work) (n : ℕ) → HasRows graph work n → IsCountOf base plan h front work n
-rows_counted base plan h front graph after (Insert line) n has = has
-rows_counted base plan h front graph after (Ask query) n (reply, is, size) = (graph, after, reply, is, size)
+rows_counted base plan h front graph after (InsertWork line) n has = has
+rows_counted base plan h front graph after (AskWork query) n (reply, is, size) = (graph, after, reply, is, size)
 
 -- what a replica at the front of a tally counts is the count of its Finish
 pub tally_counts : (base : List Row) (plan : Plan) (logged : List Logged) (r : Taken) (t : Tally) (n : ℕ) → IsAlong base plan (events_of logged) r → r.front ≡ t.front → CountsRows plan r.graph t.op n

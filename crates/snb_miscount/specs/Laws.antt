@@ -12,5 +12,7 @@ use Rattle.snb_replica.specs.Counts.{IsCount}
 -- in a legal history of a plan that is closed over a sound graph, a Finish has one count
 abbrev pub OneCount : Type 0
 OneCount =
-    (base : List Row) (plan : Plan) (workers : ℕ) (h : List Event) (e : Event) (m n : ℕ) → IsGraph base → Sound base → IsReplayed base plan
-    → IsLegal (schedule_of plan) workers h → IsCount base plan h e m → IsCount base plan h e n → m ≡ n
+    (base : List Row) (plan : Plan) (workers : ℕ) (h : List Event) (e : Event) (m n : ℕ)
+    → IsGraph base → Sound base → IsReplayed base plan
+    → IsLegal (schedule_of plan) workers h → IsCount base plan h e m → IsCount base plan h e n
+    → m ≡ n

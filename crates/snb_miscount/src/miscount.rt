@@ -129,7 +129,8 @@ fn least_among<A: Replies>(
     requires ready { A.ready answers.now }
     requires sound { Sound base.now }
     requires closed { IsClosed (HoldsKey base.now) (updates_in plan.now) }
-    requires legal { (workers : ℕ) × IsCountable workers (events_of logged.now) × IsLegal (schedule_of plan.now) workers (events_of logged.now) }
+    requires legal { (workers : ℕ) × IsCountable workers (events_of logged.now)
+        × IsLegal (schedule_of plan.now) workers (events_of logged.now) }
     requires each { All (IsTally logged.now) tallies.now }
     requires rises { IsNonDecreasingBy (λ t. t.front) tallies.now }
     ensures { IfOk result (IsLeastAmong base.now plan.now logged.now tallies.now) }

@@ -1,12 +1,12 @@
 //! Cases that are checked by the graph's own reads.
 
 ghost use Rattle.std.specs.Prelude.{◌≡◌, ◌↔◌, Err, OnErr, OnOk, true};
-ghost use Rattle.snb_base.specs.Reads.{IsRead};
+ghost use Rattle.snb_base.specs.Reads.{IsShelfRead};
 ghost use Rattle.snb_schema.specs.declared.refusal.Missing.{Missing as MissingNode};
 ghost use Rattle.snb_input_files.specs.Loading.{is_read_fault};
 ghost use Rattle.snb_graph_model.specs.Soundness.{Sound};
 ghost use Rattle.snb_validation_check.specs.CasesFile.{IsCasesAnswer};
-ghost use Rattle.snb_validation_check.specs.Steps.{Checked, HasText, IsTaken, IsUnmet, Steps};
+ghost use Rattle.snb_validation_check.specs.Steps.{Checked, HasText, CaseRepeats, IsUnmet, Steps};
 
 use snb_base::Shelf;
 use snb_graph::Graph;
@@ -32,8 +32,9 @@ pub trait OwnChecker {
     fn step(&mut self, case: &Case, number: u32) -> Result<(), StepFault>
         requires text { HasText case.now }
         ensures ok { OnOk result (Steps (checked self.old) case.now number (checked self.new)) }
-        ensures missing { (missing : MissingNode) → (result ≡ Err (StepFault.Missing missing)) ↔ IsUnmet (checked self.old).graph case.now missing }
-        ensures duplicate { (result ≡ Err StepFault.Duplicate) ↔ IsTaken (checked self.old).graph case.now }
+        ensures missing { (missing : MissingNode) → (result ≡ Err (StepFault.Missing missing))
+            ↔ IsUnmet (checked self.old).graph case.now missing }
+        ensures duplicate { (result ≡ Err StepFault.Duplicate) ↔ CaseRepeats (checked self.old).graph case.now }
         ensures err { OnErr result (self.new ≡ self.old) };
 }
 
@@ -58,7 +59,7 @@ pub fn check_cases<S: Shelf>(
     requires sound { Sound graph }
     requires allowed { S.may shelf.old path.now ≡ true }
     ensures answer { IsCasesAnswer (S.contents shelf.old) path.now graph result }
-    ensures read { IsRead (is_read_fault result) S.Shelf shelf.old shelf.new }
+    ensures read { IsShelfRead (is_read_fault result) S.Shelf shelf.old shelf.new }
 {
     check_cases_via(alloc, shelf, path, graph, &OwnReads)
 }

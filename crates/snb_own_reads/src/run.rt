@@ -45,7 +45,8 @@ pub fn work<R: Wait, C: Clock, G: Gate>(
     requires free { IsFree seat.old }
     requires following { (base : List Row) × IsFollowing base plan.now seat.old.seen replica.old }
     ensures later { IsLater seat.old seat.new }
-    ensures follows { (base : List Row) → IsFollowing base plan.now seat.old.seen replica.old → IsFollowing base plan.now seat.new.seen replica.new }
+    ensures follows { (base : List Row) → IsFollowing base plan.now seat.old.seen replica.old
+        → IsFollowing base plan.now seat.new.seen replica.new }
     ensures timely { AreTimely (C.moments clock.now) seat.old.worker (length seat.old.seen) seat.new.seen }
     ensures ok { IfOk result (HasWorked plan.now (C.moments clock.now) seat.old seat.new replica.old replica.new) }
     ensures err { OnErr result (HasStopped seat.new) }

@@ -18,8 +18,9 @@ use Rattle.snb_schema.specs.StreamLines.{AreOfStream, AreOfStreams, IsOfLine, Ne
 use Rattle.snb_schema.specs.UpdateLines.{forum_inserts, person_inserts}
 use Rattle.snb_plan.specs.declared.instances.Instance.{Instance}
 use Rattle.snb_plan.specs.declared.positions.Position.{Position}
-use Rattle.snb_plan.specs.Plans.{AreReads, IsInstance, IsSooner, lane_of, numbered_lanes, read_lane}
-use Rattle.snb_plan.specs.Positions.{AreAllPositions, AreUpdatePositions, IsReadPosition, IsPositionBefore, IsUpdatePosition, lane_positions, line_at, no_instance, no_line, no_position, read_positions, position_t}
+use Rattle.snb_plan.specs.Merging.{AreReads, IsInstance, IsSooner, lane_of, numbered_lanes, read_lane}
+use Rattle.snb_plan.specs.Positions.{AreAllPositions, AreUpdatePositions, IsReadPosition, IsPositionBefore, IsUpdatePosition, line_at, position_t}
+use Rattle.snb_plan.specs.Instances.{lane_positions, no_instance, no_line, no_position, read_positions}
 use Rattle.snb_plan.proofs.Ordered.{same_list}
 use Rattle.snb_plan.proofs.Positioning.{in_lane, lane_length, read_at, reads_length, reads_those, position, position_at}
 use Rattle.snb_plan.proofs.Streams.{line_times}

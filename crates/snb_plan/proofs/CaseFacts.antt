@@ -4,14 +4,14 @@ use Rattle.snb_schema.specs.declared.refusal.Missing.{Missing}
 use Rattle.snb_schema.specs.declared.refusal.Refusal.{Refusal}
 use Rattle.snb_schema.specs.declared.refusal.Refusal.TheVariants.{LateDependency, Duplicate, Unmet}
 use Rattle.snb_schema.specs.References.{refs_of}
-use Rattle.snb_plan.specs.Closed.{Update, IsFirstUnmet, IsLate, IsWrongBy}
+use Rattle.snb_plan.specs.Closed.{Update, IsFirstUnmet, DependsTooLate, IsWrongBy}
 
 -- each case with what isn't so before it
 abbrev pub IsWrongCase : (Update → Type 0) → (Update → Missing → Type 0) → Update → Refusal → Type 0
 IsWrongCase taken met u r =
-    (IsLate u × (r ≡ LateDependency u.file u.line.number))
-    ⊎ (¬ IsLate u × taken u × (r ≡ Duplicate u.file u.line.number))
-    ⊎ (¬ IsLate u × ¬ taken u × ((node : Missing) × IsFirstUnmet (met u) (refs_of u.line.op) node × (r ≡ Unmet u.file u.line.number node)))
+    (DependsTooLate u × (r ≡ LateDependency u.file u.line.number))
+    ⊎ (¬ DependsTooLate u × taken u × (r ≡ Duplicate u.file u.line.number))
+    ⊎ (¬ DependsTooLate u × ¬ taken u × ((node : Missing) × IsFirstUnmet (met u) (refs_of u.line.op) node × (r ≡ Unmet u.file u.line.number node)))
 
 -- such a case is the first that is so
 pub from_case : (taken : Update → Type 0) (met : Update → Missing → Type 0) (u : Update) (r : Refusal) → IsWrongCase taken met u r → IsWrongBy taken met u r

@@ -17,7 +17,7 @@ use Rattle.snb_schema.specs.Inserts.{keys_of}
 use Rattle.snb_schema.specs.References.{added_node, ref, refs_of}
 use Rattle.snb_plan.specs.declared.added.Added.{Added}
 use Rattle.snb_plan.specs.declared.added.Mark.{Mark}
-use Rattle.snb_plan.specs.Closed.{Update, IsClosed, IsClosedAt, IsFirstUnmet, IsFirstWrong, IsLate, IsMet, IsTaken, IsWrong, IsWrongBy}
+use Rattle.snb_plan.specs.Closed.{Update, IsClosed, IsClosedAt, IsFirstUnmet, IsFirstWrong, DependsTooLate, IsMet, IsTaken, IsWrong, IsWrongBy}
 use Rattle.snb_plan.specs.Added.{mark_at, mark_of, HasMore, IsFine, IsMetBy, IsTakenBy}
 use Rattle.snb_plan.proofs.CaseFacts.{IsWrongCase, from_case, to_case}
 use Rattle.snb_plan.proofs.Slots.{among}
@@ -148,7 +148,7 @@ met_by holds all i u node added rises lt is timely s (inr (inr (kind, v))) =
     inr (mark v.0, s.has v.0 (Node node.kind node.id) v.1 (node_is_taken v.0.line.op node v.3), (v.3, inr (kind, v.2)))
 
 -- what isn't late is in time
-timely_from : (u : Update) → (IsLate u → ⊥) → waits u.line.op ≡ true → u.line.t_d < u.line.t
+timely_from : (u : Update) → (DependsTooLate u → ⊥) → waits u.line.op ≡ true → u.line.t_d < u.line.t
 timely_from u not_late dependent = elim (cases_lt u.line.t_d u.line.t) [ inl lt ↦ lt | inr ge ↦ absurd (not_late (dependent, ge)) ]
 
 -- at first nothing is kept

@@ -17,8 +17,11 @@ use Rattle.snb_history.specs.Schedule.{Schedule, ComesBefore, no_step}
 use Rattle.snb_schema.specs.StreamLines.{AreOfStreams}
 use Rattle.snb_plan.specs.declared.instances.Instance.{Instance}
 use Rattle.snb_plan.specs.declared.positions.Position.{Position}
-use Rattle.snb_plan.specs.Plans.{AreInOrder, AreReads, AreUpdates, IsEarlier, IsInstance, IsLineOf, IsPlan, IsRead, IsUpdate, Operation, Placed, first_t, lane_of, read_lane, read_operation, update_operation}
-use Rattle.snb_plan.specs.Positions.{AreKept, AreUpdatePositions, IsKept, IsReadPosition, IsScheduled, IsPositionBefore, IsUpdatePosition, instance_at, line_at, no_instance, no_line, no_position, operation_of, query_at, read_step, position_step, position_t, update_step}
+use Rattle.snb_plan.specs.Plans.{IsPlan, IsRead, IsUpdate, Operation, first_t, read_operation, update_operation}
+use Rattle.snb_plan.specs.Merging.{AreInOrder, AreReads, AreUpdates, IsEarlier, IsInstance, IsLineHere, PlacedLine, lane_of, read_lane}
+use Rattle.snb_plan.specs.Positions.{AreUpdatePositions, IsReadPosition, IsPositionBefore, IsUpdatePosition, instance_at, line_at, operation_of, query_at, read_step, position_step, position_t, update_step}
+use Rattle.snb_plan.specs.Scheduled.{AreKept, IsKept, IsScheduled}
+use Rattle.snb_plan.specs.Instances.{no_instance, no_line, no_position}
 use Rattle.snb_plan.proofs.Assembly.{ArePositionsOf, reads_within}
 use Rattle.snb_plan.proofs.Planned.{at_line, at_read, step_is, steps_before}
 use Rattle.snb_schema.proofs.Laws.{frequent_complex}
@@ -78,7 +81,7 @@ all_kept lanes lists fr ratio reads schedule have is = subst (AreKept lanes list
 -- ---- updates
 
 -- the line at a position
-abbrev pub placed_at : LineLanes → Position → Placed
+abbrev pub placed_at : LineLanes → Position → PlacedLine
 placed_at lanes s = record { lane = s.lane; place = s.place; line = line_at lanes s.lane s.place }
 
 earlier : (lanes : LineLanes) (a b : Position) → IsUpdatePosition lanes a → IsUpdatePosition lanes b → IsPositionBefore a b → IsEarlier (placed_at lanes a) (placed_at lanes b)
@@ -93,19 +96,19 @@ placed_all lanes updates are = record { ordered = ordered; those = λ p. (to p, 
     ordered i j d below lt =
         let within : j < length updates = omega (arith, lt, length-map updates (placed_at lanes)) in
         let before : i < length updates = omega (arith, below, within) in
-        subst (λ (p : Placed). IsEarlier p (get_or (map (placed_at lanes) updates) j d)) (sym (get_or-map (placed_at lanes) updates i no_position d before))
+        subst (λ (p : PlacedLine). IsEarlier p (get_or (map (placed_at lanes) updates) j d)) (sym (get_or-map (placed_at lanes) updates i no_position d before))
         (subst (IsEarlier (placed_at lanes (get_or updates i no_position))) (sym (get_or-map (placed_at lanes) updates j no_position d within))
         (earlier lanes (get_or updates i no_position) (get_or updates j no_position)
         ((are.those (get_or updates i no_position)).0 (Contains-get_or updates i no_position before)) ((are.those (get_or updates j no_position)).0 (Contains-get_or updates j no_position within))
         (are.ordered i j no_position below within)))
 
-    to : (p : Placed) → Contains (map (placed_at lanes) updates) p → IsLineOf lanes p
+    to : (p : PlacedLine) → Contains (map (placed_at lanes) updates) p → IsLineHere lanes p
     to p at =
         let s = from_map (placed_at lanes) updates no_position p at in
         let u : IsUpdatePosition lanes s.0 = (are.those s.0).0 s.1 in
-        subst (IsLineOf lanes) (sym s.2) (record { in_lanes = u.in_lanes; here = slice_get-get_or (lane_of lanes s.0.lane) s.0.place no_line u.within })
+        subst (IsLineHere lanes) (sym s.2) (record { in_lanes = u.in_lanes; here = slice_get-get_or (lane_of lanes s.0.lane) s.0.place no_line u.within })
 
-    from : (p : Placed) → IsLineOf lanes p → Contains (map (placed_at lanes) updates) p
+    from : (p : PlacedLine) → IsLineHere lanes p → Contains (map (placed_at lanes) updates) p
     from p l =
         let is : line_at lanes p.lane p.place ≡ p.line = get_or_from_slice_get (lane_of lanes p.lane) p.place p.line no_line l.here in
         let u : IsUpdatePosition lanes (record { t = p.line.t; lane = p.lane; place = p.place }) = record {
@@ -224,7 +227,7 @@ operation_is lanes lists fr ratio t0 updates reads positions have are o = (to, f
         ∙ get_or_from_slice_get (list_of lists read.instance.query) ((read.instance.turn - 1) % length (list_of lists read.instance.query)) read.query (Is1 0) read.asked in
         subst (Contains (map (operation_at lanes lists reads ratio t0) positions))
         (read_at_position lanes lists updates reads ratio t0 (record { t = (with_at updates (get_or reads read.place no_instance)).t; lane = read_lane lanes; place = read.place }) read.with.line.t r
-        (w.1.at_t ∙ ap (λ (p : Placed). p.line.t) with)
+        (w.1.at_t ∙ ap (λ (p : PlacedLine). p.line.t) with)
         ∙ ap (read_operation lanes ratio t0 read.place read.with.line.t) query ∙ sym read.is)
         (contains_map (operation_at lanes lists reads ratio t0) positions (record { t = (with_at updates (get_or reads read.place no_instance)).t; lane = read_lane lanes; place = read.place })
         ((are.are_all.those (record { t = (with_at updates (get_or reads read.place no_instance)).t; lane = read_lane lanes; place = read.place })).1 (inr r)))

@@ -9,11 +9,12 @@ use Rattle.snb_schema.specs.QueryLists.{QueryLists}
 use Rattle.snb_history.specs.Schedule.{ComesBefore}
 use Rattle.snb_plan.specs.declared.instances.Instance.{Instance}
 use Rattle.snb_plan.specs.PlanLaws.{PlanIsOne}
-use Rattle.snb_plan.specs.Plans.{AreInOrder, AreUpdates, IsEarlier, IsInstance, IsLineOf, IsRead, IsSooner, IsUpdate, Operation, Placed, first_t, update_operation}
+use Rattle.snb_plan.specs.Plans.{IsRead, IsUpdate, Operation, first_t, update_operation}
+use Rattle.snb_plan.specs.Merging.{AreInOrder, AreUpdates, IsEarlier, IsInstance, IsLineHere, IsSooner, PlacedLine}
 use Rattle.snb_plan.proofs.Ordered.{one_order}
 use Rattle.snb_history.proofs.Laws.{t_rises}
 
-earlier_strict : (x y : Placed) → IsEarlier x y → IsEarlier y x → ⊥
+earlier_strict : (x y : PlacedLine) → IsEarlier x y → IsEarlier y x → ⊥
 earlier_strict x y (inl a) (inl b) = omega (arith, a, b)
 earlier_strict x y (inl a) (inr (t, rest)) = omega (arith, a, t)
 earlier_strict x y (inr (t, rest)) (inl b) = omega (arith, t, b)
@@ -37,25 +38,25 @@ step_strict x y (inr (t, inl a)) (inr (u, inr (lane, b))) = omega (arith, a, lan
 step_strict x y (inr (t, inr (lane, a))) (inr (u, inl b)) = omega (arith, lane, b)
 step_strict x y (inr (t, inr (lane, a))) (inr (u, inr (same, b))) = omega (arith, a, b)
 
-placed_t : (x y : Placed) → IsEarlier x y → x.line.t ≤ y.line.t
+placed_t : (x y : PlacedLine) → IsEarlier x y → x.line.t ≤ y.line.t
 placed_t x y (inl lt) = omega (arith, lt)
 placed_t x y (inr (t, rest)) = omega (arith, t)
 
 -- the first of all is at the t of the first update
-update_t : List Placed → ℕ
+update_t : List PlacedLine → ℕ
 update_t [] = 0
 update_t (p ∷ updates) = p.line.t
 
-least_update : (p q : Placed) (updates : List Placed) → AllPairs IsEarlier (p ∷ updates) → Contains (p ∷ updates) q → p.line.t ≤ q.line.t
+least_update : (p q : PlacedLine) (updates : List PlacedLine) → AllPairs IsEarlier (p ∷ updates) → Contains (p ∷ updates) q → p.line.t ≤ q.line.t
 least_update p q updates ordered at = elim (contains_cases p updates q at) [
-  | inl e ↦ let t = ap (λ (x : Placed). x.line.t) e in omega (arith, t)
+  | inl e ↦ let t = ap (λ (x : PlacedLine). x.line.t) e in omega (arith, t)
   | inr later ↦ placed_t p q (All-contains (IsEarlier p) updates q (pairs_head IsEarlier p updates ordered) later)
 ]
 
-abbrev Is : LineLanes → QueryLists → ℕ → ℕ → List Placed → List Instance → Operation → Type 0
+abbrev Is : LineLanes → QueryLists → ℕ → ℕ → List PlacedLine → List Instance → Operation → Type 0
 Is lanes lists ratio t0 updates reads o = IsUpdate lanes ratio t0 updates o ⊎ IsRead lanes lists ratio t0 updates reads o
 
-first_is : (lanes : LineLanes) (lists : QueryLists) (ratio t0 : ℕ) (updates : List Placed) (reads : List Instance) (ops : List Operation) → AreUpdates lanes updates
+first_is : (lanes : LineLanes) (lists : QueryLists) (ratio t0 : ℕ) (updates : List PlacedLine) (reads : List Instance) (ops : List Operation) → AreUpdates lanes updates
     → AreInOrder (λ (one other : Operation). ComesBefore one.step other.step) (Is lanes lists ratio t0 updates reads) ops → first_t ops ≡ update_t updates
 unfolding update_t
 first_is lanes lists ratio t0 [] reads [] are all = refl
@@ -91,11 +92,11 @@ pub plan_is_one : PlanIsOne
 plan_is_one lanes lists fr ratio p q a b = λ i. record { kinds = kinds i; operations = operations i }
   where
     updates : a.updates ≡ b.updates
-    updates = one_order IsEarlier (IsLineOf lanes) earlier_strict a.updates b.updates a.are_updates b.are_updates
+    updates = one_order IsEarlier (IsLineHere lanes) earlier_strict a.updates b.updates a.are_updates b.are_updates
 
     reads : a.reads ≡ b.reads
     reads = one_order IsSooner (IsInstance fr (length b.updates)) sooner_strict a.reads b.reads
-        (subst (λ (us : List Placed). AreInOrder IsSooner (IsInstance fr (length us)) a.reads) updates a.are_reads) b.are_reads
+        (subst (λ (us : List PlacedLine). AreInOrder IsSooner (IsInstance fr (length us)) a.reads) updates a.are_reads) b.are_reads
 
     kinds : p.kinds ≡ q.kinds
     kinds = a.lane_kinds ∙ sym b.lane_kinds
@@ -108,6 +109,6 @@ plan_is_one lanes lists fr ratio p q a b = λ i. record { kinds = kinds i; opera
     operations = one_order (λ (one other : Operation). ComesBefore one.step other.step) (Is lanes lists ratio (first_t q.operations) b.updates b.reads)
         (λ x y. step_strict x.step y.step) p.operations q.operations
         (subst (λ (t : ℕ). AreInOrder (λ (one other : Operation). ComesBefore one.step other.step) (Is lanes lists ratio t b.updates b.reads) p.operations) t0
-        (subst (λ (us : List Placed). AreInOrder (λ (one other : Operation). ComesBefore one.step other.step) (Is lanes lists ratio (first_t p.operations) us b.reads) p.operations) updates
+        (subst (λ (us : List PlacedLine). AreInOrder (λ (one other : Operation). ComesBefore one.step other.step) (Is lanes lists ratio (first_t p.operations) us b.reads) p.operations) updates
         (subst (λ (rs : List Instance). AreInOrder (λ (one other : Operation). ComesBefore one.step other.step) (Is lanes lists ratio (first_t p.operations) a.updates rs) p.operations) reads a.numbered)))
         b.numbered

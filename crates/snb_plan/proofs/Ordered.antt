@@ -10,7 +10,7 @@ use Rattle.std.proofs.lemmas.List.Edits.{length-swap, swapped_from_swap}
 use Rattle.std.proofs.lemmas.List.Elements.{All-contains}
 use Rattle.std.proofs.lemmas.List.Sorted.{Contains-permutation, IsPermutation-keeps, IsPermutation-sym, ranks_by, sorted_far}
 use Rattle.snb_base.proofs.Laws.{compares_less, contains_cases, contains_here, contains_there, none_in, pairs_head, pairs_tail}
-use Rattle.snb_plan.specs.Plans.{AreInOrder}
+use Rattle.snb_plan.specs.Merging.{AreInOrder}
 
 -- ---- one list
 

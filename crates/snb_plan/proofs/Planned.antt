@@ -21,8 +21,10 @@ use Rattle.snb_history.specs.Schedule.{ComesBefore, IsPlanned, max_lanes, max_st
 use Rattle.snb_schema.specs.StreamLines.{AreOfStreams}
 use Rattle.snb_plan.specs.declared.instances.Instance.{Instance}
 use Rattle.snb_plan.specs.declared.positions.Position.{Position}
-use Rattle.snb_plan.specs.Plans.{AreReads, kinds_of, read_lane}
-use Rattle.snb_plan.specs.Positions.{AreAllPositions, AreUpdatePositions, IsReadPosition, IsPositionBefore, IsThere, IsUpdatePosition, line_at, no_line, no_position, read_step, position_step, position_t, update_step}
+use Rattle.snb_plan.specs.Merging.{AreReads, kinds_of, read_lane}
+use Rattle.snb_plan.specs.Positions.{AreAllPositions, AreUpdatePositions, IsReadPosition, IsPositionBefore, IsUpdatePosition, line_at, read_step, position_step, position_t, update_step}
+use Rattle.snb_plan.specs.Scheduled.{IsThere}
+use Rattle.snb_plan.specs.Instances.{no_line, no_position}
 use Rattle.snb_plan.proofs.Assembly.{ArePositionsOf, all_timed, lane_lines, place_counted, position_rises}
 use Rattle.snb_plan.proofs.Streams.{line_times}
 

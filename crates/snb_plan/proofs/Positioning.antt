@@ -12,8 +12,9 @@ use Rattle.snb_schema.specs.declared.op.Line.{Line}
 use Rattle.snb_schema.specs.LineLanes.{LineLanes}
 use Rattle.snb_plan.specs.declared.instances.Instance.{Instance}
 use Rattle.snb_plan.specs.declared.positions.Position.{Position}
-use Rattle.snb_plan.specs.Plans.{numbered_lanes, read_lane}
-use Rattle.snb_plan.specs.Positions.{all_positions, lane_positions, no_instance, no_line, no_position, read_positions, AreUpdatePositions, IsReadPosition, IsPositionBefore, IsUpdatePosition}
+use Rattle.snb_plan.specs.Merging.{numbered_lanes, read_lane}
+use Rattle.snb_plan.specs.Positions.{AreUpdatePositions, IsReadPosition, IsPositionBefore, IsUpdatePosition}
+use Rattle.snb_plan.specs.Instances.{all_positions, lane_positions, no_instance, no_line, no_position, read_positions}
 use Rattle.snb_plan.proofs.Ordered.{Distinct, by_three, distinct_from_pairs, distinct_permutation, pairs_from_sorted, same_elements}
 use Rattle.snb_base.proofs.Laws.{none_in, pairs_append}
 

@@ -9,7 +9,7 @@ use Rattle.snb_schema.specs.declared.op.Line.{Line}
 use Rattle.snb_schema.specs.Columns.{SpellsAll}
 use Rattle.snb_schema.specs.Lines.{fields}
 use Rattle.snb_schema.specs.StreamLines.{IsOfLine}
-use Rattle.snb_schema.specs.UpdateLines.{insert_columns, kind_of, op_number}
+use Rattle.snb_schema.specs.InsertLines.{insert_columns, kind_of, op_number}
 
 times : (t t_d : ℕ) (cs : List Column) (vs : List Value) (fs : List (List ℕ)) → SpellsAll (Number MAX_TIME ∷ Number MAX_TIME ∷ cs) fs (Digits t ∷ Digits t_d ∷ vs)
     → (t ≤ MAX_TIME) × (t_d ≤ MAX_TIME)

@@ -17,7 +17,8 @@ use Rattle.snb_history.specs.Schedule.{ComesBefore, no_step, step_of}
 use Rattle.snb_history.proofs.Laws.{never_stuck, t_rises}
 use Rattle.snb_plan.specs.Closed.{IsClosed, Update}
 use Rattle.snb_plan.specs.PlanLaws.{ClosedPlanIsNotStuck, ClosedPlanIsTimely}
-use Rattle.snb_plan.specs.Plans.{IsPlan, IsRead, IsUpdate, Operation, Placed, Plan, file_of, first_t, schedule_of, update_from, updates_in}
+use Rattle.snb_plan.specs.Plans.{IsPlan, IsRead, IsUpdate, Operation, Plan, first_t, schedule_of, update_from, updates_in}
+use Rattle.snb_plan.specs.Merging.{PlacedLine, file_of}
 use Rattle.snb_plan.proofs.Planned.{due_rises}
 use Rattle.snb_base.proofs.Laws.{some_got, split_at}
 
@@ -75,7 +76,7 @@ module _ {lanes : LineLanes} {lists : QueryLists} {frequencies : FrequencyTable}
   timely_here : (holds : Key → Type 0) (k : ℕ) (o : Operation) → IsClosed holds (updates_in plan) → slice_get plan.operations k ≡ Some o → o.step.dependent ≡ true → o.step.t_d < o.step.t
   timely_here holds k o closed e q = elim (kind_of k o e) [
     | inl update ↦ (
-        let p : Placed = update.0 in
+        let p : PlacedLine = update.0 in
         let u : Update = record { lane = p.lane; file = file_of lanes p.lane; line = p.line } in
         let is : update_of o ≡ Some u = ap update_of update.2 in
         let step = ap (λ (x : Operation). x.step) update.2 in

@@ -15,8 +15,8 @@ use Rattle.snb_schema.specs.Queries.{IsComplex}
 use Rattle.snb_schema.specs.QueryPlaces.{complex_queries}
 use Rattle.snb_schema.proofs.Laws.{frequent_complex}
 use Rattle.snb_plan.specs.declared.instances.Instance.{Instance}
-use Rattle.snb_plan.specs.Plans.{AreReads, IsInstance, IsSooner, read_count, share}
-use Rattle.snb_plan.specs.Positions.{all_instances, instance_of, instances_of}
+use Rattle.snb_plan.specs.Merging.{AreReads, IsInstance, IsSooner, read_count, share}
+use Rattle.snb_plan.specs.Instances.{all_instances, instance_of, instances_of}
 use Rattle.snb_plan.proofs.Ordered.{Distinct, by_three, distinct_from_pairs, distinct_permutation, pairs_from_sorted, same_elements}
 use Rattle.snb_base.proofs.Laws.{pairs_append}
 

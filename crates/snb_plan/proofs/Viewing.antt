@@ -16,8 +16,12 @@ use Rattle.snb_history.specs.Schedule.{Schedule, IsPlanned, no_step}
 use Rattle.snb_plan.specs.declared.instances.Instance.{Instance}
 use Rattle.snb_plan.specs.declared.plan.Source.{Source}
 use Rattle.snb_plan.specs.Closed.{Update}
-use Rattle.snb_plan.specs.Plans.{Ask, Insert, IsSource, Operation, Plan, file_of, lane_of, query_from, schedule_of, update_from, updates_in}
-use Rattle.snb_plan.specs.Positions.{AreKept, AreLines, IsKept, StepsRise, instance_at, line_at, no_instance, no_line, operation_of, query_at, update_at, updates_at}
+use Rattle.snb_plan.specs.Plans.{AskWork, InsertWork, Operation, Plan, query_from, schedule_of, update_from, updates_in}
+use Rattle.snb_plan.specs.Tasks.{IsSource}
+use Rattle.snb_plan.specs.Merging.{file_of, lane_of}
+use Rattle.snb_plan.specs.Positions.{instance_at, line_at, operation_of, query_at}
+use Rattle.snb_plan.specs.Scheduled.{AreKept, AreLines, IsKept, StepsRise, update_at, updates_at}
+use Rattle.snb_plan.specs.Instances.{no_instance, no_line}
 use Rattle.snb_history.proofs.Laws.{t_rises}
 
 -- the steps of the operations are the steps
@@ -45,11 +49,11 @@ operation_here lanes lists reads schedule plan k d is lt =
     lt
 
 -- what a read and an update do, and where an update comes from
-pub asks : (lanes : LineLanes) (lists : QueryLists) (reads : List Instance) (s : Step) → s.query ≡ true → (operation_of lanes lists reads s).work ≡ Ask (query_at lists (instance_at reads s.place))
-asks lanes lists reads s e = λ i. if e i then Ask (query_at lists (instance_at reads s.place)) else Insert (line_at lanes s.lane s.place)
+pub asks : (lanes : LineLanes) (lists : QueryLists) (reads : List Instance) (s : Step) → s.query ≡ true → (operation_of lanes lists reads s).work ≡ AskWork (query_at lists (instance_at reads s.place))
+asks lanes lists reads s e = λ i. if e i then AskWork (query_at lists (instance_at reads s.place)) else InsertWork (line_at lanes s.lane s.place)
 
-pub inserts : (lanes : LineLanes) (lists : QueryLists) (reads : List Instance) (s : Step) → s.query ≡ false → (operation_of lanes lists reads s).work ≡ Insert (line_at lanes s.lane s.place)
-inserts lanes lists reads s e = λ i. if e i then Ask (query_at lists (instance_at reads s.place)) else Insert (line_at lanes s.lane s.place)
+pub inserts : (lanes : LineLanes) (lists : QueryLists) (reads : List Instance) (s : Step) → s.query ≡ false → (operation_of lanes lists reads s).work ≡ InsertWork (line_at lanes s.lane s.place)
+inserts lanes lists reads s e = λ i. if e i then AskWork (query_at lists (instance_at reads s.place)) else InsertWork (line_at lanes s.lane s.place)
 
 abbrev source_at : LineLanes → Step → Source
 source_at lanes s = record { file = file_of lanes s.lane; line = (line_at lanes s.lane s.place).number }
@@ -67,7 +71,7 @@ line_read lines k x lt is = get_or_default lines k no_line x lt ∙ sym is
 -- ---- updates
 
 by_query : (lanes : LineLanes) (lists : QueryLists) (reads : List Instance) (s : Step) (b : Bool)
-    → update_from s (if b then Ask (query_at lists (instance_at reads s.place)) else Insert (line_at lanes s.lane s.place)) (if b then None else Some (source_at lanes s))
+    → update_from s (if b then AskWork (query_at lists (instance_at reads s.place)) else InsertWork (line_at lanes s.lane s.place)) (if b then None else Some (source_at lanes s))
     ≡ (if b then None else Some (record { lane = s.lane; file = file_of lanes s.lane; line = line_at lanes s.lane s.place }))
 by_query lanes lists reads s true = refl
 by_query lanes lists reads s false = refl
@@ -143,17 +147,17 @@ line_source lanes lists reads schedule plan now k d is same lt update kept file 
 pub line_task : (lanes : LineLanes) (lists : QueryLists) (reads : List Instance) (schedule : Schedule) (plan : Plan) (now : List Step) (k : ℕ) (d : Step)
     → shown lanes lists reads schedule ≡ plan → now ≡ schedule.steps → k < length plan.operations → (get_or now k d).query ≡ false → AreKept lanes lists reads schedule.steps
     → (lines : List Line) (line : Line) → lines ≡ lane_of lanes (get_or now k d).lane → line ≡ get_or lines (get_or now k d).place line
-    → (o : Operation) × (slice_get plan.operations k ≡ Some o) × (o.work ≡ Insert line)
+    → (o : Operation) × (slice_get plan.operations k ≡ Some o) × (o.work ≡ InsertWork line)
 line_task lanes lists reads schedule plan now k d is same lt update kept lines line is_lines is_line =
     let here : (get_or schedule.steps k d).query ≡ false = subst (λ (steps : List Step). (get_or steps k d).query ≡ false) same update in
     let at = line_here lanes lists reads schedule plan now k d is same lt update kept lines line is_lines is_line in
-    (operation_of lanes lists reads (get_or schedule.steps k d), operation_here lanes lists reads schedule plan k d is lt, inserts lanes lists reads (get_or schedule.steps k d) here ∙ ap Insert (sym at))
+    (operation_of lanes lists reads (get_or schedule.steps k d), operation_here lanes lists reads schedule plan k d is lt, inserts lanes lists reads (get_or schedule.steps k d) here ∙ ap InsertWork (sym at))
 
 pub read_task : (lanes : LineLanes) (lists : QueryLists) (reads : List Instance) (schedule : Schedule) (plan : Plan) (now : List Step) (k : ℕ) (d : Step)
     → shown lanes lists reads schedule ≡ plan → now ≡ schedule.steps → k < length plan.operations → (get_or now k d).query ≡ true → AreKept lanes lists reads schedule.steps
     → (one : Instance) (list : List Query) (query : Query) → one ≡ get_or reads (get_or now k d).place one → list ≡ list_of lists one.query
     → query ≡ get_or list ((one.turn - 1) % length list) query
-    → (o : Operation) × (slice_get plan.operations k ≡ Some o) × (o.work ≡ Ask query)
+    → (o : Operation) × (slice_get plan.operations k ≡ Some o) × (o.work ≡ AskWork query)
 read_task lanes lists reads schedule plan now k d is same lt read kept one list query is_one is_list is_query =
     let here : (get_or schedule.steps k d).query ≡ true = subst (λ (steps : List Step). (get_or steps k d).query ≡ true) same read in
     let size : k < length schedule.steps = shown_length lanes lists reads schedule plan k is lt in
@@ -167,13 +171,13 @@ read_task lanes lists reads schedule plan now k d is same lt read kept one list 
     is_query ∙ get_or_default list ((one.turn - 1) % length list) query (Is1 0) within ∙ ap (λ (qs : List Query). get_or qs ((one.turn - 1) % length qs) (Is1 0)) is_list in (
       operation_of lanes lists reads (get_or schedule.steps k d),
       operation_here lanes lists reads schedule plan k d is lt,
-      asks lanes lists reads (get_or schedule.steps k d) here ∙ ap Ask (ap (query_at lists) (sym instance) ∙ sym asked),
+      asks lanes lists reads (get_or schedule.steps k d) here ∙ ap AskWork (ap (query_at lists) (sym instance) ∙ sym asked),
     )
 
 -- ---- how many there are
 
 asks_query : (lanes : LineLanes) (lists : QueryLists) (reads : List Instance) (s : Step) (b : Bool)
-    → query_from (if b then Ask (query_at lists (instance_at reads s.place)) else Insert (line_at lanes s.lane s.place)) ≡ (if b then Some (query_at lists (instance_at reads s.place)) else None)
+    → query_from (if b then AskWork (query_at lists (instance_at reads s.place)) else InsertWork (line_at lanes s.lane s.place)) ≡ (if b then Some (query_at lists (instance_at reads s.place)) else None)
 asks_query lanes lists reads s true = refl
 asks_query lanes lists reads s false = refl
 

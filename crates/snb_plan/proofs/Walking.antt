@@ -19,8 +19,10 @@ use Rattle.snb_plan.specs.declared.added.Added.{Added}
 use Rattle.snb_plan.specs.Added.{mark_of, HasMore, IsFine, IsMetBy, IsTakenBy}
 use Rattle.snb_plan.specs.Closed.{Update, IsClosed, IsFirstWrong, IsWrongBy}
 use Rattle.snb_schema.specs.declared.file.FileId.{FileId}
-use Rattle.snb_plan.specs.Plans.{file_of, lane_of}
-use Rattle.snb_plan.specs.Positions.{line_at, no_line, update_at, updates_at, AreLines, StepsRise}
+use Rattle.snb_plan.specs.Merging.{file_of, lane_of}
+use Rattle.snb_plan.specs.Positions.{line_at}
+use Rattle.snb_plan.specs.Scheduled.{update_at, updates_at, AreLines, StepsRise}
+use Rattle.snb_plan.specs.Instances.{no_line}
 use Rattle.snb_plan.proofs.ClosedLemmas.{Rises, Stands, first_wrong, stands_next}
 
 -- ---- a list that is cut

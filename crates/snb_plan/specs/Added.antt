@@ -17,19 +17,24 @@ use Rattle.snb_schema.specs.TableOrder.{table_order}
 use Rattle.snb_plan.specs.declared.added.Added.{Added}
 use Rattle.snb_plan.specs.declared.added.Mark.{Mark}
 use Rattle.snb_plan.specs.declared.added.Slot.{Slot}
-use Rattle.snb_plan.specs.Closed.{Update, is_in_lane, IsLate}
+use Rattle.snb_plan.specs.Closed.{Update, is_in_lane, DependsTooLate}
 
 -- how a key stands in the map
 abbrev pub slot_of : Key → Slot
 slot_of (Node kind id) = record { table = kind_table kind; first = id; second = 0 }
 slot_of (Knows low high) = record { table = table.PersonKnowsPerson; first = low; second = high }
-slot_of (LikesPost person post) = record { table = table.PersonLikesPost; first = person; second = post }
-slot_of (LikesComment person comment) = record { table = table.PersonLikesComment; first = person; second = comment }
-slot_of (Member forum person) = record { table = table.ForumHasMemberPerson; first = forum; second = person }
+slot_of (LikesPost person post) =
+    record { table = table.PersonLikesPost; first = person; second = post }
+slot_of (LikesComment person comment) =
+    record { table = table.PersonLikesComment; first = person; second = comment }
+slot_of (Member forum person) =
+    record { table = table.ForumHasMemberPerson; first = forum; second = person }
 
 -- by table, then by the ids
 abbrev pub slot_cmp : Slot → Slot → Ordering
-slot_cmp a b = ordering_then (table_order a.table b.table) (ordering_then (nat_cmp a.first b.first) (nat_cmp a.second b.second))
+slot_cmp a b =
+    ordering_then (table_order a.table b.table)
+    (ordering_then (nat_cmp a.first b.first) (nat_cmp a.second b.second))
 
 -- the mark that is kept at a key
 abbrev pub mark_at : Added → Key → Option Mark
@@ -59,17 +64,21 @@ IsKeyTaken holds added key = holds key ⊎ ((m : Mark) × (mark_at added key ≡
 
 -- a key that the update takes is so
 abbrev pub IsTakenBy : (Key → Type 0) → Added → Update → Type 0
-IsTakenBy holds added u = (key : Key) × Contains (keys_of u.line.op) key × IsKeyTaken holds added key
+IsTakenBy holds added u =
+    (key : Key) × Contains (keys_of u.line.op) key × IsKeyTaken holds added key
 
 -- the update with this mark meets a reference with this t_d in this lane
 abbrev pub MeetsBy : Mark → ℕ → ℕ → Missing → Type 0
 MeetsBy m lane t_d node =
-    (m.node ≡ Some node) × (((is_awaited node.kind ≡ true) × (m.t ≤ t_d)) ⊎ ((is_in_lane node.kind ≡ true) × (m.lane ≡ lane)))
+    (m.node ≡ Some node)
+    × (((is_awaited node.kind ≡ true) × (m.t ≤ t_d))
+    ⊎ ((is_in_lane node.kind ≡ true) × (m.lane ≡ lane)))
 
 -- the node is held, or the mark at its key meets the reference
 abbrev pub IsMetAt : (Key → Type 0) → Added → ℕ → ℕ → Missing → Type 0
 IsMetAt holds added lane t_d node =
-    holds (Node node.kind node.id) ⊎ ((m : Mark) × (mark_at added (Node node.kind node.id) ≡ Some m) × MeetsBy m lane t_d node)
+    holds (Node node.kind node.id) ⊎
+    ((m : Mark) × (mark_at added (Node node.kind node.id) ≡ Some m) × MeetsBy m lane t_d node)
 
 -- the node that the update refers to is so
 abbrev pub IsMetBy : (Key → Type 0) → Added → Update → Missing → Type 0
@@ -81,6 +90,6 @@ update_of lane file line = record { lane = lane; file = file; line = line }
 
 -- nothing is wrong with the update
 pub record IsFine (holds : Key → Type 0) (added : Added) (u : Update) : Type 0 where
-  pub timely : ¬ IsLate u
+  pub timely : ¬ DependsTooLate u
   pub new : ¬ IsTakenBy holds added u
   pub met : All (IsMetBy holds added u) (refs_of u.line.op)

@@ -1,5 +1,9 @@
 pub mod Added
 pub mod Closed
 pub mod PlanLaws
+pub mod Merging
 pub mod Plans
+pub mod Tasks
+pub mod Instances
 pub mod Positions
+pub mod Scheduled

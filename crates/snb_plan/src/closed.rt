@@ -4,7 +4,7 @@ ghost use Rattle.std.specs.Prelude.{◌≡◌, ◌↔◌, IsTrue, MatchOption, O
 ghost use Rattle.snb_schema.specs.Awaiting.{is_awaited};
 ghost use Rattle.snb_schema.specs.Faults.{OnBad};
 ghost use Rattle.snb_schema.specs.References.{refs_of};
-ghost use Rattle.snb_plan.specs.Closed.{is_in_lane, IsFirstUnmet, IsLate, IsWrongBy};
+ghost use Rattle.snb_plan.specs.Closed.{is_in_lane, IsFirstUnmet, DependsTooLate, IsWrongBy};
 ghost use Rattle.snb_plan.specs.Added.{update_of, HasAdded, IsFine, IsKeyTaken, IsMetAt, IsMetBy, IsTakenBy, MeetsBy};
 
 use crate::added::{Added, Mark};
@@ -34,7 +34,7 @@ fn is_in_lane(kind: Kind) -> bool
 
 // Whether an update that waits has a t_d that isn't below its t.
 fn is_late(lane: u32, file: FileId, line: &Line) -> bool
-    ensures { IsTrue result ↔ IsLate (update_of lane file line.now) }
+    ensures { IsTrue result ↔ DependsTooLate (update_of lane file line.now) }
 {
     waits(&line.op) && line.t <= line.t_d
 }
@@ -146,7 +146,9 @@ pub fn check_update<H: Held>(
 ) -> Result<(), Fault>
     ensures fine { OnOk result (IsFine (H.holds held.now) added.old (update_of lane file line.now)) }
     ensures more { OnOk result (HasAdded added.old lane line.now added.new) }
-    ensures bad { OnBad result (IsWrongBy (IsTakenBy (H.holds held.now) added.old) (IsMetBy (H.holds held.now) added.old) (update_of lane file line.now)) }
+    ensures bad { OnBad result
+        (IsWrongBy (IsTakenBy (H.holds held.now) added.old) (IsMetBy (H.holds held.now) added.old)
+        (update_of lane file line.now)) }
 {
     if let Some(refusal) = wrong_with(held, added, lane, file, line) {
         return Err(Fault::Bad { refusal });

@@ -1,8 +1,8 @@
 //! The instances of the complex queries that go with updates.
 
 ghost use Rattle.std.specs.Prelude.{◌≡◌, ◌≤◌, ◌++◌, length, IfOk, OnOk};
-ghost use Rattle.snb_plan.specs.Plans.{read_count, share, AreReads};
-ghost use Rattle.snb_plan.specs.Positions.{all_instances, instances_of};
+ghost use Rattle.snb_plan.specs.Merging.{read_count, share, AreReads};
+ghost use Rattle.snb_plan.specs.Instances.{all_instances, instances_of};
 
 use snb_schema::{COMPLEX_QUERIES, Frequencies};
 use std::alloc::{AllocError, Global};

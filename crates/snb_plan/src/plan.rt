@@ -10,8 +10,11 @@ ghost use Rattle.snb_schema.specs.LineLanes.{update_count};
 ghost use Rattle.snb_schema.specs.QueryLists.{HaveParameters};
 ghost use Rattle.snb_schema.specs.StreamLines.{AreOfStreams};
 ghost use Rattle.snb_plan.specs.Closed.{IsClosed, IsFirstWrong};
-ghost use Rattle.snb_plan.specs.Plans.{kinds_of, queries_in, read_count, schedule_of, updates_in, IsOfStreams, IsPlan, IsSource, IsTask, OnRefused};
-ghost use Rattle.snb_plan.specs.Positions.{read_step, position_step, position_t, update_step, updates_at, AreLines, IsScheduled, IsThere, StepsRise};
+ghost use Rattle.snb_plan.specs.Plans.{queries_in, schedule_of, updates_in, IsOfStreams, IsPlan};
+ghost use Rattle.snb_plan.specs.Tasks.{IsSource, IsTask, OnRefused};
+ghost use Rattle.snb_plan.specs.Merging.{kinds_of, read_count};
+ghost use Rattle.snb_plan.specs.Positions.{read_step, position_step, position_t, update_step};
+ghost use Rattle.snb_plan.specs.Scheduled.{updates_at, AreLines, IsScheduled, IsThere, StepsRise};
 
 use crate::added::Added;
 use crate::closed::check_update;
@@ -139,7 +142,8 @@ fn position_steps(
     requires there { All (IsThere lanes.now) positions.now }
     requires order { All (λ s. position_t positions.now ≤ s.t) positions.now }
     requires last { All (λ s. s.t ≤ MAX_TIME) positions.now }
-    ensures steps { IfOk result (λ steps. steps.items ≡ map (position_step lanes.now ratio (position_t positions.now)) positions.now) }
+    ensures steps { IfOk result
+        (λ steps. steps.items ≡ map (position_step lanes.now ratio (position_t positions.now)) positions.now) }
     ensures due { IfOk result (λ steps. All (λ step. step.due ≤ MAX_AT) steps.items) }
 {
     let t0 = position_t(positions);
@@ -161,7 +165,8 @@ fn schedule_of(
     requires streams { AreOfStreams lanes.now }
     ensures planned { IfOk result (λ pair. IsScheduled lanes.now frequencies.now ratio pair.0.items pair.1) }
     ensures reads { OnOk result (read_count frequencies.now (update_count lanes.now) ≤ MAX_READS) }
-    ensures refused { OnRefused result (λ r. (r ≡ TooMany Reads) × (MAX_READS < read_count frequencies.now (update_count lanes.now))) }
+    ensures refused { OnRefused result
+        (λ r. (r ≡ TooMany Reads) × (MAX_READS < read_count frequencies.now (update_count lanes.now))) }
 {
     let updates = update_positions(alloc, lanes)?;
     let count = updates.len() as u32;
@@ -217,7 +222,8 @@ impl Drop for Plan {
 impl Model for Plan {
     ghost use Rattle.std.specs.Prelude.{map};
     ghost use Rattle.snb_plan.specs.Plans.{Plan as AnyPlan, IsOfStreams};
-    ghost use Rattle.snb_plan.specs.Positions.{operation_of, AreKept};
+    ghost use Rattle.snb_plan.specs.Positions.{operation_of};
+    ghost use Rattle.snb_plan.specs.Scheduled.{AreKept};
 
     ghost Value = { AnyPlan };
 
@@ -246,7 +252,8 @@ impl Plan {
         requires parameters { HaveParameters lists frequencies }
         ensures plan { IfOk result (IsPlan lanes lists frequencies ratio) }
         ensures reads { OnOk result (read_count frequencies (update_count lanes) ≤ MAX_READS) }
-        ensures refused { OnRefused result (λ r. (r ≡ TooMany Reads) × (MAX_READS < read_count frequencies (update_count lanes))) }
+        ensures refused { OnRefused result
+            (λ r. (r ≡ TooMany Reads) × (MAX_READS < read_count frequencies (update_count lanes))) }
     {
         let (reads, schedule) = schedule_of(alloc, &lanes, &frequencies, ratio)?;
         Ok(Plan {

@@ -4,8 +4,9 @@ ghost use Rattle.std.specs.Prelude.{◌≡◌, ◌+◌, ◌<◌, ◌≤◌, ◌+
 ghost use Rattle.snb_schema.specs.declared.limits.TheConstants.{MAX_READS, MAX_ROWS};
 ghost use Rattle.snb_schema.specs.LineLanes.{update_count};
 ghost use Rattle.snb_history.specs.Schedule.{max_lanes};
-ghost use Rattle.snb_plan.specs.Plans.{file_of, kinds_of, lane_of, numbered_lanes, read_lane, AreReads};
-ghost use Rattle.snb_plan.specs.Positions.{all_positions, lane_positions, read_positions, AreAllPositions, AreUpdatePositions};
+ghost use Rattle.snb_plan.specs.Merging.{file_of, kinds_of, lane_of, numbered_lanes, read_lane, AreReads};
+ghost use Rattle.snb_plan.specs.Positions.{AreAllPositions, AreUpdatePositions};
+ghost use Rattle.snb_plan.specs.Instances.{all_positions, lane_positions, read_positions};
 
 use crate::instances::Instance;
 use snb_history::LaneKind;
@@ -122,7 +123,8 @@ fn push_reads(
 ) -> Result<(), AllocError>
     requires reads { All (λ i. (1 ≤ i.at) × (i.at ≤ length positions.old.items)) reads.now }
     requires few { length reads.now ≤ MAX_READS }
-    ensures { OnOk result (positions.new.items ≡ positions.old.items ++ read_positions positions.old.items lane 0 reads.now) }
+    ensures { OnOk result
+        (positions.new.items ≡ positions.old.items ++ read_positions positions.old.items lane 0 reads.now) }
 {
     for place in 0..reads.len() {
         let instance = reads[place];

@@ -6,7 +6,7 @@ use Rattle.std.specs.List.{AllByRecursion}
 use Rattle.snb_base.specs.Calendar.{IsDigit}
 use Rattle.snb_base.specs.Spellings.{Num}
 use Rattle.snb_base.proofs.Laws.{one_cut}
-use Rattle.snb_ratio.specs.Chances.{Falling, OneChance, SpellsChance}
+use Rattle.snb_ratio.specs.Chances.{ChanceFall, OneChance, SpellsChance}
 
 abbrev HasNoColon : List ℕ → Type 0
 HasNoColon x = All (λ b. b ≢ 58) x
@@ -19,13 +19,13 @@ no_colon (b ∷ bs) h =
     All-cons (λ b. b ≢ 58) b bs other (no_colon bs h.1)
 
 -- a text without a colon spells no chance
-pub no_chance : (x : List ℕ) → HasNoColon x → (chance : Falling) → ¬ SpellsChance x chance
+pub no_chance : (x : List ℕ) → HasNoColon x → (chance : ChanceFall) → ¬ SpellsChance x chance
 no_chance x h chance s =
     let within : length s.first < length x = omega (arith, ap length s.splits, length-append s.first (58 ∷ s.fall)) in
     h (length s.first) 0 within (ap (λ (t : List ℕ). get_or t (length s.first) 0) s.splits ∙ get_or-append_seam s.first 58 s.fall 0)
 
 -- a text spells what its parts before and after the colon spell
-pub parts_spell : (x before after : List ℕ) (chance : Falling) → HasNoColon before → x ≡ before ++ 58 ∷ after → SpellsChance x chance
+pub parts_spell : (x before after : List ℕ) (chance : ChanceFall) → HasNoColon before → x ≡ before ++ 58 ∷ after → SpellsChance x chance
     → Num before chance.start 1000000 × Num after chance.down 1000000 × (1 ≤ chance.down)
 parts_spell x before after chance bare e s =
     let same = one_cut 58 before after s.first s.fall bare (no_colon s.first s.begins.digits) (sym e ∙ s.splits) in (

@@ -9,6 +9,10 @@ use Rattle.snb_ratio.specs.declared.ratio.TheConstants.{MOST_MILLIONTHS, MOST_UN
 abbrev pub most_millionths : ℕ
 most_millionths = MOST_MILLIONTHS
 
+-- the ratio 1, in millionths: a run takes as long as the span of its streams
+abbrev pub real_time : ℕ
+real_time = 1000000
+
 -- x is one to six decimal digits, which stand after a point and are worth n millionths
 pub record SpellsPart (x : List ℕ) (n : ℕ) : Type 0 where
   pub digits : AllByRecursion IsDigit x
@@ -21,13 +25,15 @@ abbrev pub SpellsMillionths : List ℕ → ℕ → Type 0
 SpellsMillionths x n =
     (whole : List ℕ) × (units : ℕ) × Num whole units MOST_UNITS
     × (((x ≡ whole) × (n ≡ 1000000 * units))
-    ⊎ ((part : List ℕ) × (rest : ℕ) × (x ≡ whole ++ 46 ∷ part) × SpellsPart part rest × (n ≡ 1000000 * units + rest)))
+    ⊎ ((part : List ℕ) × (rest : ℕ) × (x ≡ whole ++ 46 ∷ part) × SpellsPart part rest
+    × (n ≡ 1000000 * units + rest)))
 
 -- x spells the ratio of num millionths, from a millionth to a thousand
 abbrev pub SpellsRatio : List ℕ → ℕ → Type 0
 SpellsRatio x num = (1 ≤ num) × (num ≤ most_millionths) × SpellsMillionths x num
 
--- under a ratio of num millionths that begins at t0, what is planned for t is due so many milliseconds after the start
+-- under a ratio of num millionths that begins at t0, what is planned for t is due so many
+-- milliseconds after the start
 abbrev pub due_of : ℕ → ℕ → ℕ → ℕ
 due_of num t0 t = (t - t0) * num / 1000000
 

@@ -2,7 +2,7 @@
 
 ghost use Rattle.std.specs.Prelude.{◌≡◌, ◌≢◌, ◌≤◌, ◌∷◌, ◌++◌, MatchOption};
 ghost use Rattle.std.specs.List.{All};
-ghost use Rattle.snb_ratio.specs.Chances.{Falling, SpellsChance};
+ghost use Rattle.snb_ratio.specs.Chances.{ChanceFall, SpellsChance};
 
 use snb_base::read_number;
 use std::marker::Model;
@@ -19,9 +19,9 @@ pub struct Chance {
 }
 
 impl Model for Chance {
-    ghost use Rattle.snb_ratio.specs.Chances.{Falling, IsBounded};
+    ghost use Rattle.snb_ratio.specs.Chances.{ChanceFall, IsBounded};
 
-    ghost Value = { Falling };
+    ghost Value = { ChanceFall };
 
     ghost view = { λ c. record { start = c.start; down = c.down } };
 
@@ -35,7 +35,7 @@ impl Chance {
     /// 1000000, and D what it falls by with each step, from 1 to 1000000, both in millionths. None exactly
     /// where the text isn't such. Takes no memory.
     pub fn read(text: &[u8]) -> Option<Chance>
-        ensures { MatchOption result ((chance : Falling) → ¬ SpellsChance text.now chance) (SpellsChance text.now) }
+        ensures { MatchOption result ((chance : ChanceFall) → ¬ SpellsChance text.now chance) (SpellsChance text.now) }
     {
         let (first, fall) = at_colon(text)?;
         let start = read_number(first, CERTAIN)?;

@@ -3,7 +3,7 @@
 ghost use Rattle.std.specs.Prelude.{◌≡◌, ◌≢◌, ℕ, ◌≤◌, ◌∷◌, ◌++◌, MatchOption};
 ghost use Rattle.std.specs.List.{All};
 ghost use Rattle.snb_base.specs.Spellings.{last_time};
-ghost use Rattle.snb_ratio.specs.Ratios.{SpellsPart, SpellsMillionths, SpellsRatio, due_of, most_millionths};
+ghost use Rattle.snb_ratio.specs.Ratios.{SpellsPart, SpellsMillionths, SpellsRatio, due_of, most_millionths, real_time};
 
 use snb_base::bounds::LAST_AT;
 use snb_base::read_number;
@@ -35,7 +35,7 @@ impl Model for Ratio {
 impl Ratio {
     /// The ratio 1, under which a run takes as long as its schedule.
     pub fn one() -> Ratio
-        ensures { result ≡ 1000000 }
+        ensures { result ≡ real_time }
     {
         Ratio { num: 1_000_000 }
     }

@@ -14,7 +14,7 @@ use Rattle.std.specs.List.Sorted.{IsNonDecreasingBy, IsPermutation}
 use Rattle.std.specs.Map.{keys_of, lookup}
 use Rattle.snb_schema.specs.declared.row.Row.{Row}
 use Rattle.snb_graph_model.specs.Around.{is_friend}
-use Rattle.snb_read_model.specs.Distance.{IsDistance, IsPerson, IsWithin, Walk}
+use Rattle.snb_read_model.specs.Distance.{IsDistance, IsPerson, IsWithin, FriendPath}
 use Rattle.snb_reach.proofs.WalkLemmas.{last_step, no_step, one_distance, walk_end, walk_start}
 use Rattle.snb_reach.specs.Distances.{AreDistances}
 use Rattle.snb_reach.specs.Levels.{HasMet, IsGrowing, IsGrown, StaysMet}
@@ -28,7 +28,7 @@ module _ (g : List Row) (start : ℕ) where
     -- a friend of the level before that isn't met yet is at the level
     at_level : (p q m : ℕ) → level ≡ suc m → IsDistance g start p m → is_friend g p q ≡ true → IsPerson g q → met q ≡ None → IsDistance g start q level
     at_level p q m up near knows is none = record {
-      walk = rw up (Walk.step start p q m near.walk knows is);
+      walk = rw up (FriendPath.step start p q m near.walk knows is);
       least = λ n w. elim (cases_lt n level) as (λ _. level ≤ n) [ inl low ↦ absurd (none_some (met q) none (growing.nearer q n w low)) | inr high ↦ high ];
     }
 
@@ -96,18 +96,18 @@ module _ (g : List Row) (start : ℕ) where
     level_all = growing.level_all;
   }
     where
-      by_last : (q b : ℕ) → Walk g start b m → is_friend g b q ≡ true → IsPerson g q → (o : Option ℕ) → met b ≡ o → IsSome o → IsSome (met' q)
+      by_last : (q b : ℕ) → FriendPath g start b m → is_friend g b q ≡ true → IsPerson g q → (o : Option ℕ) → met b ≡ o → IsSome o → IsSome (met' q)
       by_last q b w knows is None e h = cc
       by_last q b w knows is (Some n) e h =
           let (at, low) = grown.told b n e in
           elim (cases_lt n m) as (λ _. IsSome (met' q)) [
-            | inl less ↦ growing.nearer q (suc n) (Walk.step start b q n at.walk knows is) (omega arith)
+            | inl less ↦ growing.nearer q (suc n) (FriendPath.step start b q n at.walk knows is) (omega arith)
             | inr more ↦ (let same : n ≡ m = omega (arith, at.least m w) in
                 let here : met b ≡ Some m = rw (← same) e in
                 All-contains (λ p. (q : ℕ) → is_friend g p q ≡ true → IsSome (met' q)) last b all (grown.level_all b here) q knows)
           ]
 
-      near : (q n : ℕ) → Walk g start q n → n ≤ level → IsSome (met' q)
+      near : (q n : ℕ) → FriendPath g start q n → n ≤ level → IsSome (met' q)
       near q n w high = elim (cases_lt n level) as (λ _. IsSome (met' q)) [
         | inl less ↦ growing.nearer q n w less
         | inr more ↦ (let same : n ≡ suc m = omega arith in
@@ -115,7 +115,7 @@ module _ (g : List Row) (start : ℕ) where
             by_last q b before knows (walk_end g start q n w) (met b) refl (grown.near b m before (omega arith)))
       ]
 
-  pub no_walk : ¬ IsPerson g start → (q n : ℕ) → Walk g start q n → ⊥
+  pub no_walk : ¬ IsPerson g start → (q n : ℕ) → FriendPath g start q n → ⊥
   no_walk none q n w = none (walk_start g start q n w)
 
   -- at first the start alone is met
@@ -129,7 +129,7 @@ module _ (g : List Row) (start : ℕ) where
   }
     where
       own : IsDistance g start start 0
-      own = record { walk = Walk.stay start is; least = λ m w. omega arith }
+      own = record { walk = FriendPath.stay start is; least = λ m w. omega arith }
 
       told_by : (q n : ℕ) (b : Bool) → (start == q) ≡ b → ◌≡◌ {A = Option ℕ} (cond b (Some 0) None) (Some n) → IsDistance g start q n × (n ≤ 0)
       told_by q n true same e =

@@ -9,7 +9,7 @@ use Rattle.snb_schema.specs.declared.row.Row.{Row}
 use Rattle.snb_schema.specs.declared.row.Row.TheVariants as row
 use Rattle.snb_schema.specs.declared.table.Kind.TheVariants as kinds
 use Rattle.snb_schema.specs.declared.table.Table.TheVariants as table
-use Rattle.snb_graph_model.specs.Soundness.{Held}
+use Rattle.snb_graph_model.specs.Soundness.{HoldsRefs}
 use Rattle.snb_graph_model.specs.Around.{friends, is_friend}
 use Rattle.snb_read_model.specs.Distance.{IsPerson}
 use Rattle.snb_graph_model.proofs.Laws.{Friendship, friend_here, friend_tells, friend_there, friend_told}
@@ -21,7 +21,7 @@ pub record IsLooking (g : List Row) (p : ℕ) (left : List (ℕ × ℕ)) (IsMet 
   pub others : (q : ℕ) → is_friend g p q ≡ true → IsMet q ⊎ ((d : ℕ) × Contains left (q, d))
 
 module _ (g : List Row) (p : ℕ) where
-  pub looks : (left : List (ℕ × ℕ)) (IsMet : ℕ → Type 0) → Held g → IsPermutation (friends g p) left → IsLooking g p left IsMet
+  pub looks : (left : List (ℕ × ℕ)) (IsMet : ℕ → Type 0) → HoldsRefs g → IsPermutation (friends g p) left → IsLooking g p left IsMet
   looks left IsMet held are = record {
     friends = λ q d c. (let f = friend_there g p q d (Contains-permutation left (friends g p) (q, d) (IsPermutation-sym (friends g p) left are) c) in (friend_tells g p q d f, known q d f));
     others = λ q e. (let (d, f) = friend_told g p q e in inr (d, Contains-permutation (friends g p) left (q, d) are (friend_here g p q d f)));

@@ -8,7 +8,7 @@ use Rattle.std.specs.Map.{lookup}
 use Rattle.std.specs.Option.{is_some}
 use Rattle.snb_schema.specs.declared.row.Row.{Row}
 use Rattle.snb_graph_model.specs.Around.{is_friend}
-use Rattle.snb_read_model.specs.Distance.{IsDistance, IsPerson, Walk}
+use Rattle.snb_read_model.specs.Distance.{IsDistance, IsPerson, FriendPath}
 use Rattle.snb_reach.proofs.LevelLemmas.{one_key}
 use Rattle.snb_reach.proofs.WalkLemmas.{last_step, no_step, walk_cut, walk_end, walk_joined, walk_turned}
 use Rattle.snb_reach.specs.declared.sides.End.{End}
@@ -37,7 +37,7 @@ met_other q mark met met' next next' false e h = cc
 module _ (g : List Row) (start : ℕ) (mark : Bool) where
   module _ (level : ℕ) (met : ℕ → Option Bool) (next : List ℕ) (side : IsSide g start mark level level met next) where
     -- a friend of the level before is met
-    pub marked : (p q m : ℕ) (met' : ℕ → Option Bool) (next' : List ℕ) → level ≡ suc m → Walk g start p m → is_friend g p q ≡ true → IsPerson g q
+    pub marked : (p q m : ℕ) (met' : ℕ → Option Bool) (next' : List ℕ) → level ≡ suc m → FriendPath g start p m → is_friend g p q ≡ true → IsPerson g q
         → HasMarked q mark met next false met' next' → IsSide g start mark level level met' next' × KeepsMark mark met met' × SameOthers mark met met' × (met' q ≡ Some mark)
     marked p q m met' next' up walk knows is (inl (here, same, still)) = (
       record {
@@ -53,17 +53,17 @@ module _ (g : List Row) (start : ℕ) (mark : Bool) where
       record {
         reached = λ r e. rw more (by_test r (q == r) refl (sym (puts r) ∙ e));
         near = λ r n w low. puts r ∙ kept r (q == r) refl (side.near r n w low);
-        ends = rw more (All-push (λ r. Walk g start r level) next q side.ends there);
+        ends = rw more (All-push (λ r. FriendPath g start r level) next q side.ends there);
       },
       λ r e. puts r ∙ kept r (q == r) refl e,
       λ r. (λ e. others r (q == r) refl (sym (puts r) ∙ e), λ e. puts r ∙ others_back r (q == r) refl e),
       puts q ∙ own (q == q) refl,
     )
       where
-        there : Walk g start q level
-        there = rw up (Walk.step start p q m walk knows is)
+        there : FriendPath g start q level
+        there = rw up (FriendPath.step start p q m walk knows is)
 
-        by_test : (r : ℕ) (b : Bool) → (q == r) ≡ b → cond b (Some mark) (met r) ≡ Some mark → ((n : ℕ) × Walk g start r n × (n < level)) ⊎ Contains (next ++ q ∷ []) r
+        by_test : (r : ℕ) (b : Bool) → (q == r) ≡ b → cond b (Some mark) (met r) ≡ Some mark → ((n : ℕ) × FriendPath g start r n × (n < level)) ⊎ Contains (next ++ q ∷ []) r
         by_test r true same e = inr (rw (← eqb-true q r same) (Contains-push next q))
         by_test r false same e = elim (side.reached r e) [ inl h ↦ inl h | inr c ↦ inr (Contains-append_left next (q ∷ []) r c) ]
 
@@ -88,10 +88,10 @@ module _ (g : List Row) (start : ℕ) (mark : Bool) where
   begins level m met last up side = record {
     reached = λ q e. elim (side.reached q e) [
       | inl (n, w, low) ↦ inl (n, w, omega arith)
-      | inr c ↦ inl (m, All-contains (λ q. Walk g start q m) last q side.ends c, omega arith)
+      | inr c ↦ inl (m, All-contains (λ q. FriendPath g start q m) last q side.ends c, omega arith)
     ];
     near = side.near;
-    ends = All-nil (λ q. Walk g start q level);
+    ends = All-nil (λ q. FriendPath g start q level);
   }
 
   -- and ends, where all friends of the level before are met
@@ -99,22 +99,22 @@ module _ (g : List Row) (start : ℕ) (mark : Bool) where
       → All (λ p. (q : ℕ) → is_friend g p q ≡ true → met' q ≡ Some mark) last → IsSide g start mark level (level + 1) met' next
   ends_level level m met met' last next up before side all = record { reached = side.reached; near = near; ends = side.ends }
     where
-      near : (q n : ℕ) → Walk g start q n → n < level + 1 → met' q ≡ Some mark
+      near : (q n : ℕ) → FriendPath g start q n → n < level + 1 → met' q ≡ Some mark
       near q n w low = elim (cases_lt n level) as (λ _. met' q ≡ Some mark) [
         | inl less ↦ side.near q n w less
         | inr more ↦ (let same : n ≡ suc m = omega arith in
             let (b, v, knows) = last_step g start q n w m same in
             elim (before.reached b (before.near b m v (omega arith))) as (λ _. met' q ≡ Some mark) [
-              | inl (k, u, short) ↦ side.near q (suc k) (Walk.step start b q k u knows (walk_end g start q n w)) (omega arith)
+              | inl (k, u, short) ↦ side.near q (suc k) (FriendPath.step start b q k u knows (walk_end g start q n w)) (omega arith)
               | inr c ↦ All-contains (λ p. (q : ℕ) → is_friend g p q ≡ true → met' q ≡ Some mark) last b all c q knows
             ])
       ]
 
   -- where nobody is the last, all who can be reached are met
-  pub all_reached : (level : ℕ) (met : ℕ → Option Bool) (last : List ℕ) → last ≡ [] → IsSide g start mark level (level + 1) met last → (q n : ℕ) → Walk g start q n → met q ≡ Some mark
-  all_reached level met last none side _ _ (Walk.stay _ is) = side.near start 0 (Walk.stay start is) (omega arith)
-  all_reached level met last none side _ _ (Walk.step _ b q n w knows is) = elim (side.reached b (all_reached level met last none side b n w)) as (λ _. met q ≡ Some mark) [
-    | inl (k, u, short) ↦ side.near q (suc k) (Walk.step start b q k u knows is) (omega arith)
+  pub all_reached : (level : ℕ) (met : ℕ → Option Bool) (last : List ℕ) → last ≡ [] → IsSide g start mark level (level + 1) met last → (q n : ℕ) → FriendPath g start q n → met q ≡ Some mark
+  all_reached level met last none side _ _ (FriendPath.stay _ is) = side.near start 0 (FriendPath.stay start is) (omega arith)
+  all_reached level met last none side _ _ (FriendPath.step _ b q n w knows is) = elim (side.reached b (all_reached level met last none side b n w)) as (λ _. met q ≡ Some mark) [
+    | inl (k, u, short) ↦ side.near q (suc k) (FriendPath.step start b q k u knows is) (omega arith)
     | inr c ↦ (let there : Contains [] b = rw none at c in absurd (omega (arith, there.1)))
   ]
 
@@ -124,20 +124,20 @@ module _ (g : List Row) (start : ℕ) (mark : Bool) where
   first_side met last is one here only = record {
     reached = λ q e. inr (let same = one q e in rw (only, same) (0, omega arith, refl));
     near = λ q n w low. (let none : n ≡ 0 = omega arith in let same = no_step g start q n w none in rw same here);
-    ends = rw only (All-cons (λ q. Walk g start q 0) start [] (Walk.stay start is) (All-nil (λ q. Walk g start q 0)));
+    ends = rw only (All-cons (λ q. FriendPath g start q 0) start [] (FriendPath.stay start is) (All-nil (λ q. FriendPath g start q 0)));
   }
 
 -- two searches, each of which has come so far
 module _ (g : List Row) (a b : ℕ) (mark : Bool) (i j : ℕ) (met : ℕ → Option Bool) (mine theirs : List ℕ)
     (near : IsSide g a mark i (i + 1) met mine) (far : IsSide g b (not mark) j (j + 1) met theirs) where
   -- nobody is met from both ends, so no walk is as short as both levels together
-  pub far_apart : IsPerson g b → (n : ℕ) → Walk g a b n → i + j < n
+  pub far_apart : IsPerson g b → (n : ℕ) → FriendPath g a b n → i + j < n
   far_apart held n w = elim (cases_lt (i + j) n) as (λ _. i + j < n) [
     | inl more ↦ more
     | inr low ↦ elim (cases_lt i n) as (λ _. i + j < n) [
       | inl long ↦ (let (r, v, u) = walk_cut g a b n i (omega arith) w in
           absurd (two_marks (met r) mark (near.near r i v (omega arith)) (far.near r (n - i) (walk_turned g r b (n - i) u) (omega arith))))
-      | inr short ↦ absurd (two_marks (met b) mark (near.near b n w (omega arith)) (far.near b 0 (Walk.stay b held) (omega arith)))
+      | inr short ↦ absurd (two_marks (met b) mark (near.near b n w (omega arith)) (far.near b 0 (FriendPath.stay b held) (omega arith)))
     ]
   ]
 
@@ -145,23 +145,23 @@ module _ (g : List Row) (a b : ℕ) (mark : Bool) (i j : ℕ) (met : ℕ → Opt
   pub meeting_distance : (level : ℕ) → level ≡ i + 1 → IsPerson g b → IsMeeting g a mark level met → IsDistance g a b (level + j)
   meeting_distance level up held meeting = by_side (far.reached meeting.person meeting.other)
     where
-      through : (k : ℕ) → k ≤ j → Walk g b meeting.person k → IsDistance g a b (level + j)
+      through : (k : ℕ) → k ≤ j → FriendPath g b meeting.person k → IsDistance g a b (level + j)
       through k low u =
           let whole = walk_joined g a meeting.person b level k meeting.walk (walk_turned g b meeting.person k u) in
           let apart = far_apart held (level + k) whole in
           let same : level + k ≡ level + j = omega arith in
           record { walk = rw (← same) whole; least = λ n w. (let above = far_apart held n w in omega arith) }
 
-      by_side : ((k : ℕ) × Walk g b meeting.person k × (k < j)) ⊎ Contains theirs meeting.person → IsDistance g a b (level + j)
+      by_side : ((k : ℕ) × FriendPath g b meeting.person k × (k < j)) ⊎ Contains theirs meeting.person → IsDistance g a b (level + j)
       by_side (inl (k, u, low)) = through k (omega arith) u
-      by_side (inr c) = through j (omega arith) (All-contains (λ q. Walk g b q j) theirs meeting.person far.ends c)
+      by_side (inr c) = through j (omega arith) (All-contains (λ q. FriendPath g b q j) theirs meeting.person far.ends c)
 
   -- where one of them has nobody left, there is no walk
-  pub no_walk_near : IsPerson g b → mine ≡ [] → (n : ℕ) → ¬ Walk g a b n
-  no_walk_near held none n w = two_marks (met b) mark (all_reached g a mark i met mine none near b n w) (far.near b 0 (Walk.stay b held) (omega arith))
+  pub no_walk_near : IsPerson g b → mine ≡ [] → (n : ℕ) → ¬ FriendPath g a b n
+  no_walk_near held none n w = two_marks (met b) mark (all_reached g a mark i met mine none near b n w) (far.near b 0 (FriendPath.stay b held) (omega arith))
 
-  pub no_walk_far : IsPerson g a → theirs ≡ [] → (n : ℕ) → ¬ Walk g a b n
-  no_walk_far held none n w = two_marks (met a) mark (near.near a 0 (Walk.stay a held) (omega arith)) (all_reached g b (not mark) j met theirs none far a n (walk_turned g a b n w))
+  pub no_walk_far : IsPerson g a → theirs ≡ [] → (n : ℕ) → ¬ FriendPath g a b n
+  no_walk_far held none n w = two_marks (met a) mark (near.near a 0 (FriendPath.stay a held) (omega arith)) (all_reached g b (not mark) j met theirs none far a n (walk_turned g a b n w))
 
 not_not : (b : Bool) → b ≡ not (not b)
 not_not true = refl
@@ -174,7 +174,7 @@ pub record IsSearch (g : List Row) (from to a i : ℕ) (mark : Bool) (mine : Lis
   pub there : IsPerson g b
   pub near : IsSide g a mark i (i + 1) met mine
   pub far : IsSide g b (not mark) j (j + 1) met theirs
-  pub walks : (n : ℕ) → Walk g a b n ↔ Walk g from to n
+  pub walks : (n : ℕ) → FriendPath g a b n ↔ FriendPath g from to n
 
 module _ (g : List Row) (from to a i : ℕ) (mark : Bool) (mine : List ℕ) (b j : ℕ) (other : Bool) (theirs : List ℕ) (met : ℕ → Option Bool)
     (search_is : IsSearch g from to a i mark mine b j other theirs met) where
@@ -211,7 +211,7 @@ module _ (g : List Row) (from to a i : ℕ) (mark : Bool) (mine : List ℕ) (b j
       record { walk = (search_is.walks (level + j)).0 d.walk; least = λ n w. d.least n ((search_is.walks n).1 w) }
 
   -- or one of them has nobody left
-  pub search_ends : (mine ≡ []) ⊎ (theirs ≡ []) → (n : ℕ) → ¬ Walk g from to n
+  pub search_ends : (mine ≡ []) ⊎ (theirs ≡ []) → (n : ℕ) → ¬ FriendPath g from to n
   search_ends (inl none) n w = no_walk_near g a b mark i j met mine theirs search_is.near search_is.far search_is.there none n ((search_is.walks n).1 w)
   search_ends (inr none) n w = no_walk_far g a b mark i j met mine theirs search_is.near search_is.far search_is.here none n ((search_is.walks n).1 w)
 

@@ -6,7 +6,7 @@ ghost use Rattle.std.specs.List.{filter};
 ghost use Rattle.snb_graph_model.specs.Around.{is_friend};
 ghost use Rattle.snb_read_model.specs.Distance.{IsDistance};
 ghost use Rattle.snb_reach.specs.Levels.{HasMet, IsGrowing, IsGrown, StaysMet};
-ghost use Rattle.snb_graph_model.specs.Soundness.{Held};
+ghost use Rattle.snb_graph_model.specs.Soundness.{HoldsRefs};
 
 use crate::near::Near;
 use snb_graph::Graph;
@@ -20,7 +20,8 @@ fn meet(
     met: &mut HashMap<u64, u64>,
     next: &mut Vec<u64>,
 ) -> Result<(), AllocError>
-    ensures { OnOk result (HasMet person level (get nat_eq met.old) next.old.items (get nat_eq met.new) next.new.items) }
+    ensures { OnOk result
+        (HasMet person level (get nat_eq met.old) next.old.items (get nat_eq met.new) next.new.items) }
 {
     if met.contains_key(&person) {
         return Ok(());
@@ -39,7 +40,7 @@ fn meet_friends(
     met: &mut HashMap<u64, u64>,
     next: &mut Vec<u64>,
 ) -> Result<(), AllocError>
-    requires held { Held graph.now }
+    requires held { HoldsRefs graph.now }
     requires above { 0 < level }
     requires reached { IsDistance graph.now start person (level - 1) }
     requires growing { IsGrowing graph.now start level (get nat_eq met.old) next.old.items }
@@ -63,7 +64,7 @@ pub(crate) fn grow(
     last: &[u64],
     met: &mut HashMap<u64, u64>,
 ) -> Result<Vec<u64>, AllocError>
-    requires held { Held graph.now }
+    requires held { HoldsRefs graph.now }
     requires above { 0 < level }
     requires grown { IsGrown graph.now start (level - 1) (get nat_eq met.old) last.now }
     ensures { IfOk result (λ next. IsGrown graph.now start level (get nat_eq met.new) next.items) }

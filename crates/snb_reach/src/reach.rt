@@ -3,10 +3,10 @@
 ghost use Rattle.std.specs.Prelude.{ℕ, List, IfOk, nat_eq};
 ghost use Rattle.std.specs.HashMap.{get};
 ghost use Rattle.snb_schema.specs.declared.row.Row.{Row};
-ghost use Rattle.snb_read_model.specs.ComplexReads.{Ic13};
+ghost use Rattle.snb_read_model.specs.ComplexReads.{Ic13Answer};
 ghost use Rattle.snb_read_model.specs.Distance.{IsLength, IsWithin};
 ghost use Rattle.snb_reach.specs.Distances.{AreDistances};
-ghost use Rattle.snb_graph_model.specs.Soundness.{Held};
+ghost use Rattle.snb_graph_model.specs.Soundness.{HoldsRefs};
 
 use crate::levels::{grow, others};
 use crate::near::{Near, by_id};
@@ -25,7 +25,7 @@ pub fn distances(
     start: u64,
     steps: u32,
 ) -> Result<HashMap<u64, u64>, AllocError>
-    requires held { Held graph.now }
+    requires held { HoldsRefs graph.now }
     ensures { IfOk result (λ met. AreDistances graph.now start steps (get nat_eq met)) }
 {
     let mut met = HashMap::new(alloc);
@@ -43,7 +43,9 @@ pub fn distances(
 
 /// Those met within a number of steps, as `distances` has them, without the start, by rising id.
 pub fn listed(alloc: Global, met: &HashMap<u64, u64>) -> Result<Near, AllocError>
-    ensures { IfOk result (λ near. (g : List Row) (start steps : ℕ) → AreDistances g start steps (get nat_eq met.now) → IsWithin g start steps near) }
+    ensures { IfOk result
+        (λ near. (g : List Row) (start steps : ℕ) → AreDistances g start steps (get nat_eq met.now)
+        → IsWithin g start steps near) }
 {
     let near = others(alloc, met)?;
     Ok(by_id(alloc, near))
@@ -53,7 +55,7 @@ pub fn listed(alloc: Global, met: &HashMap<u64, u64>) -> Result<Near, AllocError
 /// near a person that isn't held.
 /// The condition: each node that a row of the graph refers to is held.
 pub fn within(alloc: Global, graph: &Graph, start: u64, steps: u32) -> Result<Near, AllocError>
-    requires held { Held graph.now }
+    requires held { HoldsRefs graph.now }
     ensures { IfOk result (IsWithin graph.now start steps) }
 {
     let met = distances(alloc, graph, start, steps)?;
@@ -64,7 +66,7 @@ pub fn within(alloc: Global, graph: &Graph, start: u64, steps: u32) -> Result<Ne
 /// where one of them isn't held.
 /// The condition: each node that a row of the graph refers to is held.
 pub fn shortest(alloc: Global, graph: &Graph, from: u64, to: u64) -> Result<i64, AllocError>
-    requires held { Held graph.now }
+    requires held { HoldsRefs graph.now }
     ensures { IfOk result (IsLength graph.now from to) }
 {
     let Some(_) = graph.person(from) else {
@@ -88,8 +90,8 @@ pub fn ic13(
     from: u64,
     to: u64,
 ) -> Result<Answer<CowText<'_>>, AllocError>
-    requires held { Held graph.now }
-    ensures { IfOk result (Ic13 graph.now from to) }
+    requires held { HoldsRefs graph.now }
+    ensures { IfOk result (Ic13Answer graph.now from to) }
 {
     let value = shortest(alloc, graph, from, to)?;
     let cells = vec![in alloc; Cell::Number { value }]?;

@@ -3,9 +3,9 @@
 
 ghost use Rattle.std.specs.Prelude.{◌≡◌, ◌≢◌, ◌⊎◌, ◌∷◌, ◌+◌, ◌-◌, ◌<◌, [], MatchBool, MatchOption, OnOk, IfOk, IfSome, ℕ, length, nat_eq, not, vec_len};
 ghost use Rattle.std.specs.HashMap.{get, hash_map_len};
-ghost use Rattle.snb_read_model.specs.Distance.{IsLength, IsPerson, Walk};
+ghost use Rattle.snb_read_model.specs.Distance.{IsLength, IsPerson, FriendPath};
 ghost use Rattle.snb_reach.specs.Sides.{HasGrown, HasMarked, HasMetFriends, IsMeeting, IsSide};
-ghost use Rattle.snb_graph_model.specs.Soundness.{Held};
+ghost use Rattle.snb_graph_model.specs.Soundness.{HoldsRefs};
 
 use snb_graph::Graph;
 use std::alloc::{AllocError, Global};
@@ -20,8 +20,10 @@ fn meet(
     met: &mut HashMap<u64, bool>,
     next: &mut Vec<u64>,
 ) -> Result<bool, AllocError>
-    ensures met { IfOk result (λ other. HasMarked person mark (get nat_eq met.old) next.old.items other (get nat_eq met.new) next.new.items) }
-    ensures len { OnOk result (hash_map_len met.new + length next.old.items ≡ hash_map_len met.old + length next.new.items) }
+    ensures met { IfOk result
+        (λ other. HasMarked person mark (get nat_eq met.old) next.old.items other (get nat_eq met.new) next.new.items) }
+    ensures len { OnOk result
+        (hash_map_len met.new + length next.old.items ≡ hash_map_len met.old + length next.new.items) }
 {
     if let Some(by) = met.get(&person) {
         return Ok(*by != mark);
@@ -42,13 +44,14 @@ fn meet_friends(
     met: &mut HashMap<u64, bool>,
     next: &mut Vec<u64>,
 ) -> Result<bool, AllocError>
-    requires held { Held graph.now }
+    requires held { HoldsRefs graph.now }
     requires above { 0 < level }
-    requires reached { Walk graph.now start person (level - 1) }
+    requires reached { FriendPath graph.now start person (level - 1) }
     requires side { IsSide graph.now start mark level level (get nat_eq met.old) next.old.items }
     ensures met { IfOk result (λ other. MatchBool other (IsMeeting graph.now start mark level (get nat_eq met.old))
         (HasMetFriends graph.now start mark person level (get nat_eq met.old) (get nat_eq met.new) next.new.items)) }
-    ensures len { OnOk result (hash_map_len met.new + length next.old.items ≡ hash_map_len met.old + length next.new.items) }
+    ensures len { OnOk result
+        (hash_map_len met.new + length next.old.items ≡ hash_map_len met.old + length next.new.items) }
 {
     for (friend, _) in graph.friends(person) {
         if meet(friend, mark, met, next)? {
@@ -69,12 +72,13 @@ fn grow(
     last: &[u64],
     met: &mut HashMap<u64, bool>,
 ) -> Result<Option<Vec<u64>>, AllocError>
-    requires held { Held graph.now }
+    requires held { HoldsRefs graph.now }
     requires above { 0 < level }
     requires side { IsSide graph.now start mark (level - 1) level (get nat_eq met.old) last.now }
     ensures met { IfOk result (λ grown. MatchOption grown (IsMeeting graph.now start mark level (get nat_eq met.old))
         (λ next. HasGrown graph.now start mark level (get nat_eq met.old) (get nat_eq met.new) next.items)) }
-    ensures len { IfOk result (λ grown. IfSome grown (λ next. hash_map_len met.new ≡ hash_map_len met.old + vec_len next)) }
+    ensures len { IfOk result
+        (λ grown. IfSome grown (λ next. hash_map_len met.new ≡ hash_map_len met.old + vec_len next)) }
 {
     let mut next = Vec::new(alloc);
     for person in last {
@@ -106,7 +110,8 @@ impl Drop for End {
 
 // The end of a search that has met its start alone.
 fn end_at(alloc: Global, start: u64, mark: bool) -> Result<End, AllocError>
-    ensures { IfOk result (λ end. (end.start ≡ start) × (end.mark ≡ mark) × (end.level ≡ 0) × (end.last.items ≡ start ∷ [])) }
+    ensures { IfOk result
+        (λ end. (end.start ≡ start) × (end.mark ≡ mark) × (end.level ≡ 0) × (end.last.items ≡ start ∷ [])) }
 {
     let mut last = Vec::new(alloc);
     last.push(start)?;
@@ -139,7 +144,7 @@ fn is_over(near: &End, far: &End) -> bool
 /// fewer persons to go on from takes the next step.
 /// The conditions: each node that a row of the graph refers to is held, and so are the persons, who are two.
 pub(crate) fn between(alloc: Global, graph: &Graph, from: u64, to: u64) -> Result<i64, AllocError>
-    requires held { Held graph.now }
+    requires held { HoldsRefs graph.now }
     requires from_held { IsPerson graph.now from }
     requires to_held { IsPerson graph.now to }
     requires apart { from ≢ to }

@@ -5,14 +5,14 @@ use Rattle.std.proofs.lemmas.List.Elements.{All-cons}
 use Rattle.snb_schema.specs.declared.query.Query.{Query}
 use Rattle.snb_schema.specs.declared.query.Query.TheVariants as queries
 use Rattle.snb_schema.specs.declared.row.Row.{Row}
-use Rattle.snb_read_model.specs.Cells.{Cell}
-use Rattle.snb_read_model.specs.Order.{Answers, Cut, Way, by}
+use Rattle.snb_read_model.specs.Cells.{ByteCell}
+use Rattle.snb_read_model.specs.Order.{ReadAnswers, Cut, Way, by}
 use Rattle.snb_read_model.specs.Replies.{IsAnswer}
 use Rattle.snb_read_order.proofs.Laws.{chosen}
 use Rattle.snb_read_model.specs.Columns.{HasColumns, HaveColumns}
 
 -- what each thing shows has a property, so all rows have it
-pub zip_rows : {X : Type 0} (Shows : X → List Cell → Type 0) (P : List Cell → Type 0) → ((x : X) (cells : List Cell) → Shows x cells → P cells) → (xs : List X) (rows : List (List Cell))
+pub zip_rows : {X : Type 0} (Shows : X → List ByteCell → Type 0) (P : List ByteCell → Type 0) → ((x : X) (cells : List ByteCell) → Shows x cells → P cells) → (xs : List X) (rows : List (List ByteCell))
     → AllZip Shows xs rows → All P rows
 zip_rows Shows P each [] [] z = λ k d lt. absurd (omega (arith, lt))
 zip_rows Shows P each [] (row ∷ rows) z = absurd z
@@ -20,11 +20,11 @@ zip_rows Shows P each (x ∷ xs) [] z = absurd z
 zip_rows Shows P each (x ∷ xs) (row ∷ rows) z = All-cons P row rows (each x row z.0) (zip_rows Shows P each xs rows z.1)
 
 -- and so have those of an answer
-pub rows_have : {X : Type 0} (counted : List X) (Shows : X → List Cell → Type 0) (order : List Way) (cut : Cut) (answer : List (List Cell)) (P : List Cell → Type 0)
-    → ((x : X) (cells : List Cell) → Shows x cells → P cells) → Answers counted Shows order cut answer → All P answer
+pub rows_have : {X : Type 0} (counted : List X) (Shows : X → List ByteCell → Type 0) (order : List Way) (cut : Cut) (answer : List (List ByteCell)) (P : List ByteCell → Type 0)
+    → ((x : X) (cells : List ByteCell) → Shows x cells → P cells) → ReadAnswers counted Shows order cut answer → All P answer
 rows_have counted Shows order cut answer P each a = chosen P (by order) cut a.rows answer (zip_rows Shows P each counted a.rows a.shown) a.first
 
-pub columns_of_answer : (g : List Row) (q : Query) (answer : List (List Cell)) → IsAnswer g q answer → HaveColumns q answer
+pub columns_of_answer : (g : List Row) (q : Query) (answer : List (List ByteCell)) → IsAnswer g q answer → HaveColumns q answer
 columns_of_answer g (queries.Is1 person) answer a =
     rows_have _ _ _ _ answer (HasColumns (queries.Is1 person)) (λ x cells s. subst (HasColumns (queries.Is1 person)) (sym s.is) (tt, (tt, (tt, (tt, (tt, (tt, (tt, (tt, tt))))))))) a
 columns_of_answer g (queries.Is2 person) answer a =

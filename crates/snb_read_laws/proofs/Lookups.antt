@@ -19,15 +19,16 @@ use Rattle.snb_schema.specs.declared.table.Table.{Table}
 use Rattle.snb_schema.specs.declared.table.Table.TheVariants as table
 use Rattle.snb_schema.specs.Layouts.{key_columns, shape}
 use Rattle.snb_schema.specs.RowKeys.{RowKey, edge_key, node_key, row_key, sharing, slot, slot_of}
-use Rattle.snb_schema.specs.RowLines.{row_shape, table_of}
+use Rattle.snb_schema.specs.RowValues.{row_shape, table_of}
 use Rattle.snb_schema.specs.TableRows.{IsTableRow}
 use Rattle.snb_graph_rows.specs.Keyed.{key_table}
 use Rattle.snb_graph_integrity.specs.SoundLaws.{HasOneEdge, MessagesAreOfOneKind}
 use Rattle.snb_graph_model.specs.Graphs.{HasKey, IsGraph, rows}
 use Rattle.snb_graph_model.specs.Messages.{HasMessage, Wrote}
-use Rattle.snb_graph_model.specs.Soundness.{Held}
+use Rattle.snb_graph_model.specs.Soundness.{HoldsRefs}
 use Rattle.snb_graph_model.proofs.Laws.{comment_alone, comment_author, comment_only, forum_only, in_rows, one_chosen, organisation_row, person_only, place_row, post_author, post_only, rows_apart}
-use Rattle.snb_graph_model.specs.Around.{Message, authors, comment_shown, comments, forums, message_in, organisation_in, organisations, person_in, persons, place_in, places, post_shown, with_id}
+use Rattle.snb_graph_model.specs.Around.{authors, comments, forums, organisations, persons, places, with_id}
+use Rattle.snb_graph_model.specs.RowParts.{Message, comment_shown, message_in, organisation_in, person_in, place_in, post_shown}
 use Rattle.snb_read_model.specs.Distance.{IsPerson}
 use Rattle.snb_base.proofs.Laws.{given_by}
 use Rattle.std.proofs.lemmas.Option.{cond_some}
@@ -169,7 +170,7 @@ module _ (g : List Row) (graph : IsGraph g) where
       (to, subst (λ n. Contains g (row.Link t n to)) first c)
 
   -- the author of a message
-  pub written : MessagesAreOfOneKind → Held g → (m a : ℕ) → Wrote g a m → authors g m ≡ a ∷ []
+  pub written : MessagesAreOfOneKind → HoldsRefs g → (m a : ℕ) → Wrote g a m → authors g m ≡ a ∷ []
   written one held m a (inl c) =
       post_author g m a graph c (λ b d. one g graph m (held (row.Link table.PostHasCreatorPerson m a) c 0 any (omega arith)) (held (row.Link table.CommentHasCreatorPerson m b) d 0 any (omega arith)))
   written one held m a (inr c) =

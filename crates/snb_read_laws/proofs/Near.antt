@@ -6,7 +6,7 @@ use Rattle.std.proofs.lemmas.List.Kept.{AllPairs-cons}
 use Rattle.std.specs.List.{AllPairs, Contains}
 use Rattle.snb_schema.specs.declared.row.Row.{Row}
 use Rattle.snb_base.proofs.Laws.{contains_cases, contains_here, contains_there, Decided, none_in}
-use Rattle.snb_read_model.specs.Distance.{IsDistance, IsLength, IsPerson, IsWithin, Walk}
+use Rattle.snb_read_model.specs.Distance.{IsDistance, IsLength, IsPerson, IsWithin, FriendPath}
 use Rattle.snb_read_laws.proofs.Walks.{among_ids, distance, ids, walk_end}
 
 -- a number above all of a list
@@ -32,7 +32,7 @@ module _ (g : List Row) (start steps : ℕ) where
       same : (n m : ℕ) → IsDistance g start p n → IsDistance g start p m → n ≡ m
       same n m d e = (let low = d.least m e.walk in let high = e.least n d.walk in omega (arith, low, high))
 
-      by : ((n : ℕ) × IsDistance g start p n) ⊎ ((n : ℕ) → ¬ Walk g start p n) → Decided ((n : ℕ) × IsAway p n)
+      by : ((n : ℕ) × IsDistance g start p n) ⊎ ((n : ℕ) → ¬ FriendPath g start p n) → Decided ((n : ℕ) × IsAway p n)
       by (inr none) = inr (λ a. none a.0 a.1.0.walk)
       by (inl (n, is)) = elim (cases_lt n 1) [
         | inl none ↦ inr (λ a. (let e = same n a.0 is a.1.0 in let one = a.1.1 in omega (arith, none, one, e)))

@@ -4,7 +4,7 @@ use Rattle.std.specs.List.{AllZip}
 use Rattle.snb_schema.specs.declared.query.Query.TheVariants as query
 use Rattle.snb_graph_integrity.specs.SoundLaws.{MessagesHaveOneAuthor, MessagesHaveOneRoot, RepliesAreHeld}
 use Rattle.snb_read_order.specs.Laws.{OneFirst}
-use Rattle.snb_read_model.specs.Cells.{Cell}
+use Rattle.snb_read_model.specs.Cells.{ByteCell}
 use Rattle.snb_read_model.specs.declared.cell.Cell.TheVariants as cell
 use Rattle.snb_read_model.specs.ComplexReads.{Stay}
 use Rattle.snb_read_model.specs.Replies.{IsAnswer, tail_reads}
@@ -15,7 +15,7 @@ use Rattle.snb_read_laws.proofs.OneSent.{one_ic2, one_ic7, one_ic8, one_ic9}
 use Rattle.snb_read_laws.proofs.OneShort.{one_is1, one_is2, one_is3, one_is4, one_is5, one_is6, one_is7}
 use Rattle.snb_read_laws.specs.Laws.{OneAnswer, OneReply}
 
-module _ (cells : OneFirst (List Cell)) (texts : OneFirst (List ℕ)) (stays : OneFirst Stay)
+module _ (cells : OneFirst (List ByteCell)) (texts : OneFirst (List ℕ)) (stays : OneFirst Stay)
     (authors : MessagesHaveOneAuthor) (roots : MessagesHaveOneRoot) (held : RepliesAreHeld) where
   pub one_answer : OneAnswer
   one_answer g (query.Is1 person) a b graph sound f h = one_is1 cells g graph person a b f h
@@ -39,5 +39,5 @@ module _ (cells : OneFirst (List Cell)) (texts : OneFirst (List ℕ)) (stays : O
   one_reply g q a b graph sound f h =
       let own : f.own ≡ h.own = one_answer g q f.own h.own graph sound f.answer h.answer in
       let tail : f.tail ≡ h.tail = same_zip (IsAnswer g) (λ follower x y r s. one_answer g follower x y graph sound r s) (tail_reads q h.own) f.tail h.tail
-      (subst (λ (answer : List (List Cell)). AllZip (IsAnswer g) (tail_reads q answer) f.tail) own f.follow) h.follow in
+      (subst (λ (answer : List (List ByteCell)). AllZip (IsAnswer g) (tail_reads q answer) f.tail) own f.follow) h.follow in
       f.is ∙ (λ i. own i ∷ tail i) ∙ sym h.is

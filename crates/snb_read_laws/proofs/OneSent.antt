@@ -10,10 +10,11 @@ use Rattle.snb_read_order.specs.Laws.{OneFirst}
 use Rattle.snb_read_model.specs.declared.cell.Cell.TheVariants as cell
 use Rattle.snb_read_model.specs.declared.like.Like.{Like}
 use Rattle.snb_read_model.specs.declared.sent.Sent.{Sent}
-use Rattle.snb_graph_model.specs.Around.{Message, comments, friends, is_friend, likes, messages, persons, replies, with_id}
-use Rattle.snb_read_model.specs.Cells.{Cell, column, number}
-use Rattle.snb_read_model.specs.ComplexReads.{Ic2, Ic7, Ic8, Ic9, IsAnswered, IsLiked, IsSent, beats, best_likes, latest, liked, messages_of, minutes}
-use Rattle.snb_read_model.specs.Order.{Answers, Falling, First, Rising}
+use Rattle.snb_graph_model.specs.Around.{comments, friends, is_friend, likes, messages, persons, replies, with_id}
+use Rattle.snb_graph_model.specs.RowParts.{Message}
+use Rattle.snb_read_model.specs.Cells.{ByteCell, column, number_cell}
+use Rattle.snb_read_model.specs.MessageReads.{Ic2Answer, Ic7Answer, Ic8Answer, Ic9Answer, ShowsReply, IsLiked, IsSent, beats, best_likes, newest_first, liked, messages_of, minutes}
+use Rattle.snb_read_model.specs.Order.{ReadAnswers, Falling, FirstRows, Rising}
 use Rattle.snb_read_laws.proofs.OneAnswers.{one_answers}
 use Rattle.snb_read_laws.proofs.OneWithin.{one_within}
 use Rattle.snb_read_laws.proofs.OneThings.{one_author, one_sender, sent_date}
@@ -28,16 +29,16 @@ in_messages g passes ps s c =
     let (m, kept, is) = in_map {X = ℕ × ℕ} {Y = Sent} (λ m. record { person = p.0; message = m.0; date = m.1 }) (filter (λ (m : ℕ × ℕ). passes m.1) (messages g p.0)) s d in
     subst (λ (z : Sent). Contains (messages g z.person) (z.message, z.date)) is ((in_filter (λ (m : ℕ × ℕ). passes m.1) (messages g p.0) m).0 kept).0
 
-one_sent : (g : List Row) (m : Sent) (a b : List Cell) → IsSent g m a → IsSent g m b → a ≡ b
+one_sent : (g : List Row) (m : Sent) (a b : List ByteCell) → IsSent g m a → IsSent g m b → a ≡ b
 one_sent g m a b r s =
     let person : r.person ≡ s.person = one_only (persons g m.person) r.person s.person r.held s.held in
     let message : r.message ≡ s.message = one_only (with_id g m.message) r.message s.message r.sent s.sent in
-    r.is ∙ (λ i. number m.person ∷ cell.Words ((person i).first_name) ∷ cell.Words ((person i).last_name) ∷ number m.message ∷ cell.Words ((message i).content) ∷ number m.date ∷ []) ∙ sym s.is
+    r.is ∙ (λ i. number_cell m.person ∷ cell.Words ((person i).first_name) ∷ cell.Words ((person i).last_name) ∷ number_cell m.message ∷ cell.Words ((message i).content) ∷ number_cell m.date ∷ []) ∙ sym s.is
 
-module _ (first : OneFirst (List Cell)) (authors : MessagesHaveOneAuthor) (g : List Row) (graph : IsGraph g) (sound : Sound g) where
-  one_latest : (passes : ℕ → Bool) (ps : List (ℕ × ℕ)) (a b : List (List Cell)) → Answers (messages_of g passes ps) (IsSent g) latest (First 20) a
-      → Answers (messages_of g passes ps) (IsSent g) latest (First 20) b → a ≡ b
-  one_latest passes ps = one_answers first (messages_of g passes ps) (IsSent g) latest (First 20) (one_sent g)
+module _ (first : OneFirst (List ByteCell)) (authors : MessagesHaveOneAuthor) (g : List Row) (graph : IsGraph g) (sound : Sound g) where
+  one_latest : (passes : ℕ → Bool) (ps : List (ℕ × ℕ)) (a b : List (List ByteCell)) → ReadAnswers (messages_of g passes ps) (IsSent g) newest_first (FirstRows 20) a
+      → ReadAnswers (messages_of g passes ps) (IsSent g) newest_first (FirstRows 20) b → a ≡ b
+  one_latest passes ps = one_answers first (messages_of g passes ps) (IsSent g) newest_first (FirstRows 20) (one_sent g)
       (λ x y a b c d r s e.
       (let (dates, ids) = two_ties (Falling 6) (Rising 4) a b e in
       let date = falling 6 a b x.date y.date (ap (column 6) r.is) (ap (column 6) s.is) dates in
@@ -46,31 +47,31 @@ module _ (first : OneFirst (List Cell)) (authors : MessagesHaveOneAuthor) (g : L
       let same : x ≡ y = λ i. record { person = sender i; message = id i; date = date i } in
       one_sent g y a b (subst (λ (z : Sent). IsSent g z a) same r) s))
 
-  pub one_ic2 : (person max_date : ℕ) (a b : List (List Cell)) → Ic2 g person max_date a → Ic2 g person max_date b → a ≡ b
+  pub one_ic2 : (person max_date : ℕ) (a b : List (List ByteCell)) → Ic2Answer g person max_date a → Ic2Answer g person max_date b → a ≡ b
   one_ic2 person max_date = one_latest (λ date. nat_le date max_date) (friends g person)
 
-  pub one_ic9 : (person max_date : ℕ) (a b : List (List Cell)) → Ic9 g person max_date a → Ic9 g person max_date b → a ≡ b
+  pub one_ic9 : (person max_date : ℕ) (a b : List (List ByteCell)) → Ic9Answer g person max_date a → Ic9Answer g person max_date b → a ≡ b
   one_ic9 person max_date a b f h =
       let near = one_within g person 2 f.near h.near f.within h.within in
-      one_latest (λ date. nat_lt date max_date) h.near a b (subst (λ (ps : List (ℕ × ℕ)). Answers (messages_of g (λ date. nat_lt date max_date) ps) (IsSent g) latest (First 20) a) near f.answers) h.answers
+      one_latest (λ date. nat_lt date max_date) h.near a b (subst (λ (ps : List (ℕ × ℕ)). ReadAnswers (messages_of g (λ date. nat_lt date max_date) ps) (IsSent g) newest_first (FirstRows 20) a) near f.answers) h.answers
 
 -- ---- replies to a person's messages
 
-one_answered : (g : List Row) (c : ℕ × ℕ) (a b : List Cell) → IsAnswered g c a → IsAnswered g c b → a ≡ b
+one_answered : (g : List Row) (c : ℕ × ℕ) (a b : List ByteCell) → ShowsReply g c a → ShowsReply g c b → a ≡ b
 one_answered g c a b r s =
     let author = one_author g c.0 r.author s.author r.wrote s.wrote in
     let comment : r.comment ≡ s.comment = one_only (comments g c.0) r.comment s.comment r.held s.held in
-    r.is ∙ (λ i. number ((author i).id) ∷ cell.Words ((author i).first_name) ∷ cell.Words ((author i).last_name) ∷ number c.1 ∷ number c.0
+    r.is ∙ (λ i. number_cell ((author i).id) ∷ cell.Words ((author i).first_name) ∷ cell.Words ((author i).last_name) ∷ number_cell c.1 ∷ number_cell c.0
     ∷ cell.Words ((comment i).content) ∷ []) ∙ sym s.is
 
-pub one_ic8 : OneFirst (List Cell) → (g : List Row) (person : ℕ) (a b : List (List Cell)) → Ic8 g person a → Ic8 g person b → a ≡ b
-one_ic8 first g person = one_answers first (flat_map (λ (m : ℕ × ℕ). replies g m.0) (messages g person)) (IsAnswered g) (Falling 4 ∷ Rising 5 ∷ []) (First 20) (one_answered g)
+pub one_ic8 : OneFirst (List ByteCell) → (g : List Row) (person : ℕ) (a b : List (List ByteCell)) → Ic8Answer g person a → Ic8Answer g person b → a ≡ b
+one_ic8 first g person = one_answers first (flat_map (λ (m : ℕ × ℕ). replies g m.0) (messages g person)) (ShowsReply g) (Falling 4 ∷ Rising 5 ∷ []) (FirstRows 20) (one_answered g)
     (λ x y a b c d r s e.
     (let (dates, ids) = two_ties (Falling 4) (Rising 5) a b e in
     let date = falling 4 a b x.1 y.1 (ap (column 4) r.is) (ap (column 4) s.is) dates in
     let id = rising 5 a b x.0 y.0 (ap (column 5) r.is) (ap (column 5) s.is) ids in
     let same : x ≡ y = λ i. (id i, date i) in
-    one_answered g y a b (subst (λ (z : ℕ × ℕ). IsAnswered g z a) same r) s))
+    one_answered g y a b (subst (λ (z : ℕ × ℕ). ShowsReply g z a) same r) s))
 
 -- ---- likes
 
@@ -105,16 +106,16 @@ same_best g person k l c d who date = elim (cases_order k.message l.message) [
   ]
 ]
 
-module _ (first : OneFirst (List Cell)) (g : List Row) (graph : IsGraph g) where
-  one_liked : (start : ℕ) (l : Like) (a b : List Cell) → IsLiked g start l a → IsLiked g start l b → a ≡ b
+module _ (first : OneFirst (List ByteCell)) (g : List Row) (graph : IsGraph g) where
+  one_liked : (start : ℕ) (l : Like) (a b : List ByteCell) → IsLiked g start l a → IsLiked g start l b → a ≡ b
   one_liked start l a b r s =
       let person : r.person ≡ s.person = one_only (persons g l.person) r.person s.person r.held s.held in
       let message : r.message ≡ s.message = one_only (with_id g l.message) r.message s.message r.sent s.sent in
-      r.is ∙ (λ i. number l.person ∷ cell.Words ((person i).first_name) ∷ cell.Words ((person i).last_name) ∷ number l.date ∷ number l.message
+      r.is ∙ (λ i. number_cell l.person ∷ cell.Words ((person i).first_name) ∷ cell.Words ((person i).last_name) ∷ number_cell l.date ∷ number_cell l.message
       ∷ cell.Words ((message i).content) ∷ cell.Number (minutes l.date l.sent) ∷ cell.Flag (not (is_friend g start l.person)) ∷ []) ∙ sym s.is
 
-  pub one_ic7 : (person : ℕ) (a b : List (List Cell)) → Ic7 g person a → Ic7 g person b → a ≡ b
-  one_ic7 person = one_answers first (best_likes g person) (IsLiked g person) (Falling 4 ∷ Rising 1 ∷ []) (First 20) (one_liked person)
+  pub one_ic7 : (person : ℕ) (a b : List (List ByteCell)) → Ic7Answer g person a → Ic7Answer g person b → a ≡ b
+  one_ic7 person = one_answers first (best_likes g person) (IsLiked g person) (Falling 4 ∷ Rising 1 ∷ []) (FirstRows 20) (one_liked person)
       (λ x y a b c d r s e.
       (let (dates, ids) = two_ties (Falling 4) (Rising 1) a b e in
       let date = falling 4 a b x.date y.date (ap (column 4) r.is) (ap (column 4) s.is) dates in

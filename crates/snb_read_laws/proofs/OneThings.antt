@@ -17,7 +17,8 @@ use Rattle.snb_graph_model.specs.Soundness.{Sound}
 use Rattle.snb_graph_integrity.specs.SoundLaws.{MessagesHaveOneAuthor, MessagesHaveOneRoot, RepliesAreHeld}
 use Rattle.snb_graph_model.proofs.Laws.{comment_only, in_rows, person_only, person_row, post_only, sent_there}
 use Rattle.snb_base.proofs.Laws.{given_by, in_one, one_only}
-use Rattle.snb_graph_model.specs.Around.{Message, authors, comment_shown, message_in, messages, person_in, persons, post_shown, with_id}
+use Rattle.snb_graph_model.specs.Around.{authors, messages, persons, with_id}
+use Rattle.snb_graph_model.specs.RowParts.{Message, comment_shown, message_in, person_in, post_shown}
 use Rattle.snb_read_model.specs.ShortReads.{IsAuthor}
 use Rattle.std.proofs.lemmas.Option.{cond_some}
 

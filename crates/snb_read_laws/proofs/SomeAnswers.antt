@@ -3,8 +3,8 @@ use Rattle.std.proofs.Common.{List, [], ◌∷◌}
 use Rattle.std.specs.List.{AllZip, Contains}
 use Rattle.snb_read_order.specs.Laws.{SomeFirst}
 use Rattle.snb_base.proofs.Laws.{contains_here, contains_there}
-use Rattle.snb_read_model.specs.Cells.{Cell}
-use Rattle.snb_read_model.specs.Order.{Answers, Cut, Way, by}
+use Rattle.snb_read_model.specs.Cells.{ByteCell}
+use Rattle.snb_read_model.specs.Order.{ReadAnswers, Cut, Way, by}
 use Rattle.snb_read_laws.proofs.Ties.{by_total}
 
 -- ---- rows beside things
@@ -18,8 +18,8 @@ module _ {X Y : Type 0} (R : X → Y → Type 0) where
       (y ∷ ys, (here, rest))
 
 -- where each thing that counts shows a row, there is an answer
-pub some_answers : {X : Type 0} → SomeFirst (List Cell) → (counted : List X) (Shows : X → List Cell → Type 0) (order : List Way) (cut : Cut)
-    → ((x : X) → Contains counted x → (row : List Cell) × Shows x row) → (answer : List (List Cell)) × Answers counted Shows order cut answer
+pub some_answers : {X : Type 0} → SomeFirst (List ByteCell) → (counted : List X) (Shows : X → List ByteCell → Type 0) (order : List Way) (cut : Cut)
+    → ((x : X) → Contains counted x → (row : List ByteCell) × Shows x row) → (answer : List (List ByteCell)) × ReadAnswers counted Shows order cut answer
 some_answers some counted Shows order cut each =
     let (rows, shown) = some_zip Shows counted each in
     let (answer, first) = some (by order) cut rows (by_total order) in

@@ -16,11 +16,13 @@ use Rattle.snb_graph_model.specs.Graphs.{HasKey, IsGraph, rows}
 use Rattle.snb_graph_model.specs.Soundness.{Sound}
 use Rattle.snb_read_order.specs.Laws.{SomeFirst}
 use Rattle.snb_graph_model.proofs.Laws.{end_only, in_rows, stay_row}
-use Rattle.snb_read_model.specs.Cells.{Cell}
-use Rattle.snb_graph_model.specs.Around.{ends, places, stay_in, study, words, work}
-use Rattle.snb_read_model.specs.ComplexReads.{AreStays, Ic1, Ic11, Ic9, IsJob, IsNamesake, IsStay, Stay, is_in, is_named, jobs, stay_cmp}
+use Rattle.snb_read_model.specs.Cells.{ByteCell}
+use Rattle.snb_graph_model.specs.Around.{ends, places, study, words, work}
+use Rattle.snb_graph_model.specs.RowParts.{stay_in}
+use Rattle.snb_read_model.specs.ComplexReads.{AreStays, Ic1Answer, Ic11Answer, IsJob, IsNamesake, IsStay, Stay, is_in, is_named, jobs, stay_cmp}
+use Rattle.snb_read_model.specs.MessageReads.{Ic9Answer}
 use Rattle.snb_read_model.specs.Distance.{IsPerson}
-use Rattle.snb_read_model.specs.Order.{Falling, First, Rising, Whole}
+use Rattle.snb_read_model.specs.Order.{Falling, FirstRows, Rising, AllRows}
 use Rattle.snb_read_laws.proofs.Lookups.{any, link_at, organisation_at, person_at, place_at, sites}
 use Rattle.snb_read_laws.proofs.Near.{near_held, some_within}
 use Rattle.snb_read_laws.proofs.SomeAnswers.{some_answers, some_zip}
@@ -62,7 +64,7 @@ module _ (g : List Row) (graph : IsGraph g) (sound : Sound g) where
     some_stays : SomeFirst Stay → (stays : List (ℕ × ℕ)) → ((s : ℕ × ℕ) → Contains stays s → HasKey g (node_key kinds.Organisation s.0)) → (shown : List Stay) × AreStays g stays shown
     some_stays some stays all =
         let (named, zip) = some_zip (IsStay g) stays (λ s c. some_stay s (all s c)) in
-        let (shown, first) = some stay_cmp Whole named stay_total in
+        let (shown, first) = some stay_cmp AllRows named stay_total in
         (shown, record { named = named; each = zip; first = first })
 
     -- where a person lives
@@ -72,12 +74,12 @@ module _ (g : List Row) (graph : IsGraph g) (sound : Sound g) where
         let (place, there) = place_at g graph city (sound.held (row.Link table.PersonIsLocatedInPlace p city) link 1 any (omega arith)) in
         (city, place, city_only g graph sound p city link, there)
 
-    pub some_namesake : SomeFirst (List ℕ) → SomeFirst Stay → (n : ℕ × ℕ) → IsPerson g n.0 → (row : List Cell) × IsNamesake g n row
+    pub some_namesake : SomeFirst (List ℕ) → SomeFirst Stay → (n : ℕ × ℕ) → IsPerson g n.0 → (row : List ByteCell) × IsNamesake g n row
     some_namesake texts some n h =
         let (p, is, named) = person_at g graph n.0 h in
         let (city, place, home, there) = some_home n.0 h in
-        let (emails, mails) = texts (slice_cmp nat_cmp) Whole (words g table.PersonEmailEmailAddress n.0) nat_list_cmp_total in
-        let (languages, speaks) = texts (slice_cmp nat_cmp) Whole (words g table.PersonSpeaksLanguage n.0) nat_list_cmp_total in
+        let (emails, mails) = texts (slice_cmp nat_cmp) AllRows (words g table.PersonEmailEmailAddress n.0) nat_list_cmp_total in
+        let (languages, speaks) = texts (slice_cmp nat_cmp) AllRows (words g table.PersonSpeaksLanguage n.0) nat_list_cmp_total in
         let (universities, studied) = some_stays some (study g n.0) (study_held n.0) in
         let (companies, worked) = some_stays some (work g n.0) (work_held n.0) in (
           _,
@@ -109,24 +111,24 @@ module _ (g : List Row) (graph : IsGraph g) (sound : Sound g) where
       subst (λ (z : ℕ × ℕ × ℕ). IsPerson g z.0 × HasKey g (node_key kinds.Organisation z.1)) is
       (all p there, work_held p.0 w ((in_filter (λ (w : ℕ × ℕ). nat_lt w.1 year && is_in g country w.0) (work g p.0) w).0 kept).0)
 
-  module _ (some : SomeFirst (List Cell)) where
-    pub some_ic1 : RequiredEdgesAreThere → SomeFirst (List ℕ) → SomeFirst Stay → (person : ℕ) (first_name : List ℕ) → (answer : List (List Cell)) × Ic1 g person first_name answer
+  module _ (some : SomeFirst (List ByteCell)) where
+    pub some_ic1 : RequiredEdgesAreThere → SomeFirst (List ℕ) → SomeFirst Stay → (person : ℕ) (first_name : List ℕ) → (answer : List (List ByteCell)) × Ic1Answer g person first_name answer
     some_ic1 required texts stays person first_name =
         let (near, within) = some_within g person 3 in
-        let (answer, answers) = some_answers some (filter (is_named g first_name) near) (IsNamesake g) (Rising 3 ∷ Rising 2 ∷ Rising 1 ∷ []) (First 20) (λ n c.
+        let (answer, answers) = some_answers some (filter (is_named g first_name) near) (IsNamesake g) (Rising 3 ∷ Rising 2 ∷ Rising 1 ∷ []) (FirstRows 20) (λ n c.
         some_namesake required texts stays n (near_held g person 3 near within n ((in_filter (is_named g first_name) near n).0 c).0)) in
         (answer, record { near = near; within = within; answers = answers })
 
-    pub some_ic9 : (person max_date : ℕ) → (answer : List (List Cell)) × Ic9 g person max_date answer
+    pub some_ic9 : (person max_date : ℕ) → (answer : List (List ByteCell)) × Ic9Answer g person max_date answer
     some_ic9 person max_date =
         let (near, within) = some_within g person 2 in
         let (answer, answers) = some_latest g graph sound some (λ date. nat_lt date max_date) near (near_held g person 2 near within) in
         (answer, record { near = near; within = within; answers = answers })
 
-    pub some_ic11 : (person : ℕ) (country : List ℕ) (year : ℕ) → (answer : List (List Cell)) × Ic11 g person country year answer
+    pub some_ic11 : (person : ℕ) (country : List ℕ) (year : ℕ) → (answer : List (List ByteCell)) × Ic11Answer g person country year answer
     some_ic11 person country year =
         let (near, within) = some_within g person 2 in
-        let (answer, answers) = some_answers some (jobs g country year near) (IsJob g) (Rising 5 ∷ Rising 1 ∷ Falling 4 ∷ []) (First 10) (λ j c.
+        let (answer, answers) = some_answers some (jobs g country year near) (IsJob g) (Rising 5 ∷ Rising 1 ∷ Falling 4 ∷ []) (FirstRows 10) (λ j c.
         (let (who, at) = job_held country year near j (near_held g person 2 near within) c in
         let (p, is, named) = person_at g graph j.0 who in
         let (o, here) = organisation_at g graph j.1 at in

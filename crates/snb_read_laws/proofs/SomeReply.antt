@@ -7,7 +7,7 @@ use Rattle.snb_graph_integrity.specs.SoundLaws.{MessagesAreOfOneKind, MessagesHa
 use Rattle.snb_graph_model.specs.Graphs.{IsGraph}
 use Rattle.snb_graph_model.specs.Soundness.{Sound}
 use Rattle.snb_read_order.specs.Laws.{SomeFirst}
-use Rattle.snb_read_model.specs.Cells.{Cell}
+use Rattle.snb_read_model.specs.Cells.{ByteCell}
 use Rattle.snb_read_model.specs.ComplexReads.{Stay}
 use Rattle.snb_read_model.specs.Replies.{IsAnswer, tail_reads}
 use Rattle.snb_read_laws.proofs.Near.{some_length}
@@ -17,9 +17,9 @@ use Rattle.snb_read_laws.proofs.SomeSent.{some_ic2, some_ic7, some_ic8}
 use Rattle.snb_read_laws.proofs.SomeShort.{some_is1, some_is2, some_is3, some_is4, some_is5, some_is6, some_is7}
 use Rattle.snb_read_laws.specs.Laws.{SomeReply}
 
-module _ (some : SomeFirst (List Cell)) (texts : SomeFirst (List ℕ)) (stays : SomeFirst Stay)
+module _ (some : SomeFirst (List ByteCell)) (texts : SomeFirst (List ℕ)) (stays : SomeFirst Stay)
     (one : MessagesAreOfOneKind) (required : RequiredEdgesAreThere) (author : MessagesHaveOneAuthor) (roots : MessagesHaveOneRoot) where
-  some_answer : (g : List Row) → IsGraph g → Sound g → (q : Query) → (answer : List (List Cell)) × IsAnswer g q answer
+  some_answer : (g : List Row) → IsGraph g → Sound g → (q : Query) → (answer : List (List ByteCell)) × IsAnswer g q answer
   some_answer g graph sound (query.Is1 person) = some_is1 g graph sound some required person
   some_answer g graph sound (query.Is2 person) = some_is2 g graph sound some one author roots person
   some_answer g graph sound (query.Is3 person) = some_is3 g graph sound some person

@@ -14,11 +14,11 @@ use Rattle.snb_graph_model.specs.Messages.{HasMessage, IsRoot}
 use Rattle.snb_graph_model.specs.Soundness.{Sound}
 use Rattle.snb_read_order.specs.Laws.{SomeFirst}
 use Rattle.snb_graph_model.proofs.Laws.{city_alone, container_alone, container_only, end_only, friend_there, moderator_alone, replied_there, sent_there}
-use Rattle.snb_read_model.specs.Cells.{Cell}
+use Rattle.snb_read_model.specs.Cells.{ByteCell}
 use Rattle.snb_graph_model.specs.Around.{containers, ends, forums, friends, messages, persons, replies, with_id}
 use Rattle.snb_read_model.specs.Distance.{IsPerson}
-use Rattle.snb_read_model.specs.Order.{Falling, First, Rising, Whole}
-use Rattle.snb_read_model.specs.ShortReads.{Is1, Is2, Is3, Is4, Is5, Is6, Is7, IsAuthor, IsCreator, IsForum, IsFriend, IsProfile, IsRecent, IsReplyTo}
+use Rattle.snb_read_model.specs.Order.{Falling, FirstRows, Rising, AllRows}
+use Rattle.snb_read_model.specs.ShortReads.{Is1Answer, Is2Answer, Is3Answer, Is4Answer, Is5Answer, Is6Answer, Is7Answer, IsAuthor, IsCreator, IsForum, IsFriend, IsProfile, IsRecent, IsReplyTo}
 use Rattle.snb_read_laws.proofs.Lookups.{any, comment_at, forum_at, link_at, link_of, message_at, message_shown, person_at, person_held, written}
 use Rattle.snb_read_laws.proofs.SomeAnswers.{some_answers}
 
@@ -101,25 +101,25 @@ module _ (g : List Row) (graph : IsGraph g) (sound : Sound g) where
       renamed : (p : Person) (id : ℕ) → p.id ≡ id → (ends g table.ForumHasModeratorPerson forum ≡ id ∷ []) × (persons g id ≡ p ∷ []) → Moderates forum p
       renamed p id named all = subst (λ n. (ends g table.ForumHasModeratorPerson forum ≡ n ∷ []) × (persons g n ≡ p ∷ [])) (sym named) all
 
-  module _ (some : SomeFirst (List Cell)) where
-    pub some_is1 : RequiredEdgesAreThere → (person : ℕ) → (answer : List (List Cell)) × Is1 g person answer
-    some_is1 required person = some_answers some (persons g person) (IsProfile g) [] Whole (λ p c.
+  module _ (some : SomeFirst (List ByteCell)) where
+    pub some_is1 : RequiredEdgesAreThere → (person : ℕ) → (answer : List (List ByteCell)) × Is1Answer g person answer
+    some_is1 required person = some_answers some (persons g person) (IsProfile g) [] AllRows (λ p c.
         (let (city, link) = lives required p.id (person_held g person p c) in (_, record { city = city; lives = city_only p.id city link; is = refl })))
 
-    pub some_is3 : (person : ℕ) → (answer : List (List Cell)) × Is3 g person answer
-    some_is3 person = some_answers some (friends g person) (IsFriend g) (Falling 4 ∷ Rising 1 ∷ []) Whole (λ f c.
+    pub some_is3 : (person : ℕ) → (answer : List (List ByteCell)) × Is3Answer g person answer
+    some_is3 person = some_answers some (friends g person) (IsFriend g) (Falling 4 ∷ Rising 1 ∷ []) AllRows (λ f c.
         (let (p, is, named) = person_at g graph f.0 (friend_held person f c) in (_, record { friend = p; held = is; is = refl })))
 
-    pub some_is4 : (message : ℕ) → (answer : List (List Cell)) × Is4 g message answer
-    some_is4 message = some_answers some (with_id g message) _ [] Whole (λ m c. (_, refl))
+    pub some_is4 : (message : ℕ) → (answer : List (List ByteCell)) × Is4Answer g message answer
+    some_is4 message = some_answers some (with_id g message) _ [] AllRows (λ m c. (_, refl))
 
     module _ (one : MessagesAreOfOneKind) (author : MessagesHaveOneAuthor) where
-      pub some_is5 : (message : ℕ) → (answer : List (List Cell)) × Is5 g message answer
-      some_is5 message = some_answers some (with_id g message) (λ m. IsCreator g m.id) [] Whole (λ m c.
+      pub some_is5 : (message : ℕ) → (answer : List (List ByteCell)) × Is5Answer g message answer
+      some_is5 message = some_answers some (with_id g message) (λ m. IsCreator g m.id) [] AllRows (λ m c.
           (let (p, wrote) = some_author one author m.id (message_shown g message m c) in (_, record { author = p; wrote = wrote; is = refl })))
 
-      pub some_is7 : (message : ℕ) → (answer : List (List Cell)) × Is7 g message answer
-      some_is7 message = some_answers some (replies g message) (IsReplyTo g message) (Falling 3 ∷ Rising 4 ∷ Rising 1 ∷ []) Whole (λ c d.
+      pub some_is7 : (message : ℕ) → (answer : List (List ByteCell)) × Is7Answer g message answer
+      some_is7 message = some_answers some (replies g message) (IsReplyTo g message) (Falling 3 ∷ Rising 4 ∷ Rising 1 ∷ []) AllRows (λ c d.
           (let (held, parent) = reply_held message c d in
           let (comment, is) = comment_at g graph c.0 held in
           let (p, wrote) = some_author one author c.0 (inr held) in
@@ -127,15 +127,15 @@ module _ (g : List Row) (graph : IsGraph g) (sound : Sound g) where
           (_, record { comment = comment; held = is; author = p; wrote = wrote; answered = answered.id; created = answered.created; is = refl })))
 
       module _ (roots : MessagesHaveOneRoot) where
-        pub some_is2 : (person : ℕ) → (answer : List (List Cell)) × Is2 g person answer
-        some_is2 person = some_answers some (messages g person) (IsRecent g) (Falling 3 ∷ Falling 1 ∷ []) (First 10) (λ m c.
+        pub some_is2 : (person : ℕ) → (answer : List (List ByteCell)) × Is2Answer g person answer
+        some_is2 person = some_answers some (messages g person) (IsRecent g) (Falling 3 ∷ Falling 1 ∷ []) (FirstRows 10) (λ m c.
             (let held = sent_held person m c in
             let (message, is) = message_at g graph m.0 held in
             let root = roots g graph sound m.0 held in
             let (p, wrote) = some_author one author root.post (inl root.held) in
             (_, record { message = message; held = is; root = root.post; from = root.root; author = p; wrote = wrote; is = refl })))
 
-        forum_shown : RequiredEdgesAreThere → (m : ℕ) → HasMessage g m → (row : List Cell) × IsForum g m row
+        forum_shown : RequiredEdgesAreThere → (m : ℕ) → HasMessage g m → (row : List ByteCell) × IsForum g m row
         forum_shown required m h =
             let root = roots g graph sound m h in
             let (from, edge) = container_of required root.post root.held in
@@ -144,7 +144,7 @@ module _ (g : List Row) (graph : IsGraph g) (sound : Sound g) where
             let p = moderates f.0.id who leads in
             shown root.post root.root f.0 f.1 p.0 p.1
           where
-            shown : (post : ℕ) → IsRoot g m post → (f : Forum) → Inside post f → (p : Person) → Moderates f.id p → (row : List Cell) × IsForum g m row
+            shown : (post : ℕ) → IsRoot g m post → (f : Forum) → Inside post f → (p : Person) → Moderates f.id p → (row : List ByteCell) × IsForum g m row
             shown post from f inside p known = (
               _,
               record {
@@ -160,5 +160,5 @@ module _ (g : List Row) (graph : IsGraph g) (sound : Sound g) where
               },
             )
 
-        pub some_is6 : RequiredEdgesAreThere → (message : ℕ) → (answer : List (List Cell)) × Is6 g message answer
-        some_is6 required message = some_answers some (with_id g message) (λ m. IsForum g m.id) [] Whole (λ m c. forum_shown required m.id (message_shown g message m c))
+        pub some_is6 : RequiredEdgesAreThere → (message : ℕ) → (answer : List (List ByteCell)) × Is6Answer g message answer
+        some_is6 required message = some_answers some (with_id g message) (λ m. IsForum g m.id) [] AllRows (λ m c. forum_shown required m.id (message_shown g message m c))

@@ -7,7 +7,7 @@ use Rattle.std.specs.Ordering.{int_cmp, nat_cmp, ordering_then}
 use Rattle.std.specs.declared.cmp.Ordering.TheVariants.{Equal}
 use Rattle.snb_read_order.proofs.Laws.{int_nat}
 use Rattle.snb_read_model.specs.declared.cell.Cell.TheVariants.{Words}
-use Rattle.snb_read_model.specs.Cells.{Cell, cell_cmp, column, number, number_in, text_in}
+use Rattle.snb_read_model.specs.Cells.{ByteCell, cell_cmp, column, number_cell, number_in, text_in}
 use Rattle.snb_read_model.specs.ComplexReads.{Stay, stay_cmp}
 use Rattle.snb_read_model.specs.Order.{Falling, Rising, Way, by, way_cmp}
 use Rattle.snb_base.proofs.Laws.{then_equal}
@@ -53,7 +53,7 @@ equal_stays s t e =
     let place = equal_texts s.2 t.2 places in
     λ i. (name i, year i, place i)
 
-number_tie : (m n : ℕ) → cell_cmp (number m) (number n) ≡ Equal → m ≡ n
+number_tie : (m n : ℕ) → cell_cmp (number_cell m) (number_cell n) ≡ Equal → m ≡ n
 number_tie m n e = equal_numbers m n (sym (int_nat m n) ∙ (then_equal (int_cmp (pos m) (pos n)) Equal e).0)
 
 text_tie : (s t : List ℕ) → cell_cmp (Words s) (Words t) ≡ Equal → s ≡ t
@@ -61,24 +61,24 @@ text_tie s t e = equal_texts s t (then_equal (int_cmp (pos 0) (pos 0)) (slice_cm
 
 -- ---- columns that compare equal
 
-module _ (k : ℕ) (a b : List Cell) (m n : ℕ) (left : column k a ≡ number m) (right : column k b ≡ number n) where
+module _ (k : ℕ) (a b : List ByteCell) (m n : ℕ) (left : column k a ≡ number_cell m) (right : column k b ≡ number_cell n) where
   pub rising : way_cmp (Rising k) a b ≡ Equal → m ≡ n
   rising e = number_tie m n ((λ i. cell_cmp (sym left i) (sym right i)) ∙ e)
 
   pub falling : way_cmp (Falling k) a b ≡ Equal → m ≡ n
   falling e = sym (number_tie n m ((λ i. cell_cmp (sym right i) (sym left i)) ∙ e))
 
-pub falling_words : (k : ℕ) (a b : List Cell) (s t : List ℕ) → column k a ≡ Words s → column k b ≡ Words t → way_cmp (Falling k) a b ≡ Equal → s ≡ t
+pub falling_words : (k : ℕ) (a b : List ByteCell) (s t : List ℕ) → column k a ≡ Words s → column k b ≡ Words t → way_cmp (Falling k) a b ≡ Equal → s ≡ t
 falling_words k a b s t left right e = sym (text_tie t s ((λ i. cell_cmp (sym right i) (sym left i)) ∙ e))
 
 -- two columns of an order, and three
-pub two_ties : (v w : Way) (a b : List Cell) → by (v ∷ w ∷ []) a b ≡ Equal → (way_cmp v a b ≡ Equal) × (way_cmp w a b ≡ Equal)
+pub two_ties : (v w : Way) (a b : List ByteCell) → by (v ∷ w ∷ []) a b ≡ Equal → (way_cmp v a b ≡ Equal) × (way_cmp w a b ≡ Equal)
 two_ties v w a b e =
     let (first, rest) = then_equal (way_cmp v a b) (by (w ∷ []) a b) e in
     let (second, none) = then_equal (way_cmp w a b) Equal rest in
     (first, second)
 
-pub three_ties : (u v w : Way) (a b : List Cell) → by (u ∷ v ∷ w ∷ []) a b ≡ Equal → (way_cmp u a b ≡ Equal) × (way_cmp v a b ≡ Equal) × (way_cmp w a b ≡ Equal)
+pub three_ties : (u v w : Way) (a b : List ByteCell) → by (u ∷ v ∷ w ∷ []) a b ≡ Equal → (way_cmp u a b ≡ Equal) × (way_cmp v a b ≡ Equal) × (way_cmp w a b ≡ Equal)
 three_ties u v w a b e =
     let (first, rest) = then_equal (way_cmp u a b) (by (v ∷ w ∷ []) a b) e in
     let (second, third) = two_ties v w a b rest in

@@ -17,7 +17,7 @@ use Rattle.snb_graph_integrity.proofs.Laws.{fills_decides}
 use Rattle.snb_graph_model.specs.Graphs.{HasSlot, fills}
 use Rattle.snb_base.proofs.Laws.{both, contains_cases, contains_here, contains_there, Decided, is_true, none_in}
 use Rattle.snb_graph_model.specs.Around.{is_friend}
-use Rattle.snb_read_model.specs.Distance.{IsDistance, IsPerson, Walk}
+use Rattle.snb_read_model.specs.Distance.{IsDistance, IsPerson, FriendPath}
 
 -- ---- decisions
 
@@ -62,48 +62,48 @@ module _ (g : List Row) where
       by false d = inr (λ h. (let e : false ≡ true = d.1 (record { it = h.it; held = h.held; fills = ap slot h.keyed }) in absurd cc))
 
   module _ (start : ℕ) where
-    pub walk_end : (q n : ℕ) → Walk g start q n → IsPerson g q
-    walk_end _ _ (Walk.stay _ is) = is
-    walk_end _ _ (Walk.step _ b c n w f is) = is
+    pub walk_end : (q n : ℕ) → FriendPath g start q n → IsPerson g q
+    walk_end _ _ (FriendPath.stay _ is) = is
+    walk_end _ _ (FriendPath.step _ b c n w f is) = is
 
-    last_step : (q n m : ℕ) → Walk g start q n → n ≡ suc m → (b : ℕ) × Walk g start b m × (is_friend g b q ≡ true)
-    last_step _ _ m (Walk.stay _ is) e = absurd (omega arith)
-    last_step _ _ m (Walk.step _ b c n w f is) e = let same : n ≡ m = omega arith in (b, rw same at w, f)
+    last_step : (q n m : ℕ) → FriendPath g start q n → n ≡ suc m → (b : ℕ) × FriendPath g start b m × (is_friend g b q ≡ true)
+    last_step _ _ m (FriendPath.stay _ is) e = absurd (omega arith)
+    last_step _ _ m (FriendPath.step _ b c n w f is) e = let same : n ≡ m = omega arith in (b, rw same at w, f)
 
-    no_step : (q n : ℕ) → Walk g start q n → n ≡ 0 → start ≡ q
-    no_step _ _ (Walk.stay _ is) e = refl
-    no_step _ _ (Walk.step _ b c n w f is) e = absurd (omega arith)
+    no_step : (q n : ℕ) → FriendPath g start q n → n ≡ 0 → start ≡ q
+    no_step _ _ (FriendPath.stay _ is) e = refl
+    no_step _ _ (FriendPath.step _ b c n w f is) e = absurd (omega arith)
 
     -- a walk of a length to a person who knows another
     abbrev Leads : ℕ → ℕ → ℕ → Type 0
-    Leads n q b = Walk g start b n × (is_friend g b q ≡ true)
+    Leads n q b = FriendPath g start b n × (is_friend g b q ≡ true)
 
     -- whether there is a walk of a length
-    walk_decided : (n q : ℕ) → Decided (Walk g start q n)
+    walk_decided : (n q : ℕ) → Decided (FriendPath g start q n)
     walk_decided zero q = by (start == q) refl (person_decided start)
       where
-        by : (b : Bool) → (start == q) ≡ b → Decided (IsPerson g start) → Decided (Walk g start q zero)
-        by true e (inl is) = inl (subst (λ r. Walk g start r zero) (eqb-true start q e) (Walk.stay start is))
+        by : (b : Bool) → (start == q) ≡ b → Decided (IsPerson g start) → Decided (FriendPath g start q zero)
+        by true e (inl is) = inl (subst (λ r. FriendPath g start r zero) (eqb-true start q e) (FriendPath.stay start is))
         by true e (inr none) = inr (λ w. none (subst (IsPerson g) (sym (eqb-true start q e)) (walk_end q zero w)))
         by false e is = inr (λ w. (let same = no_step q zero w refl in let other = eqb-false start q e in absurd (omega (arith, same, other))))
     walk_decided (suc n) q = by (both (some_of (Leads n q) ids (λ b. both (walk_decided n b) (is_true (is_friend g b q)))) (person_decided q))
       where
-        by : Decided (((b : ℕ) × Contains ids b × Leads n q b) × IsPerson g q) → Decided (Walk g start q (suc n))
-        by (inl ((b, c, (w, f)), is)) = inl (Walk.step start b q n w f is)
+        by : Decided (((b : ℕ) × Contains ids b × Leads n q b) × IsPerson g q) → Decided (FriendPath g start q (suc n))
+        by (inl ((b, c, (w, f)), is)) = inl (FriendPath.step start b q n w f is)
         by (inr none) = inr (λ w. (let (b, before, f) = last_step q (suc n) n w refl in none ((b, among_ids b (walk_end b n before), (before, f)), walk_end q (suc n) w)))
 
     -- the shortest walk below a length, or that there is none
     abbrev Below : ℕ → ℕ → Type 0
-    Below q k = ((n : ℕ) × IsDistance g start q n × (n < k)) ⊎ ((n : ℕ) → n < k → ¬ Walk g start q n)
+    Below q k = ((n : ℕ) × IsDistance g start q n × (n < k)) ⊎ ((n : ℕ) → n < k → ¬ FriendPath g start q n)
 
     shortest : (q k : ℕ) → Below q k
     shortest q zero = inr (λ n low w. omega (arith, low))
     shortest q (suc k) = by (shortest q k) (walk_decided k q)
       where
-        by : Below q k → Decided (Walk g start q k) → Below q (suc k)
+        by : Below q k → Decided (FriendPath g start q k) → Below q (suc k)
         by (inl (n, is, low)) d = inl (n, is, omega (arith, low))
         by (inr none) (inl w) = inl (k, record { walk = w; least = λ m v. elim (cases_lt m k) as (λ _. k ≤ m) [ inl less ↦ absurd (none m less v) | inr more ↦ more ] }, omega arith)
-        by (inr none) (inr never) = inr (λ n low w. elim (cases_lt n k) [ inl less ↦ none n less w | inr more ↦ (let same : n ≡ k = omega (arith, low, more) in never (subst (λ m. Walk g start q m) same w)) ])
+        by (inr none) (inr never) = inr (λ n low w. elim (cases_lt n k) [ inl less ↦ none n less w | inr more ↦ (let same : n ≡ k = omega (arith, low, more) in never (subst (λ m. FriendPath g start q m) same w)) ])
 
     -- ---- a shortest walk meets each person once
 
@@ -126,7 +126,7 @@ module _ (g : List Row) where
     before_last n q is =
         let (b, w, f) = last_step q (suc n) n is.walk refl in
         let end = walk_end q (suc n) is.walk in
-        (b, record { walk = w; least = λ m v. (let more = is.least (suc m) (Walk.step start b q m v f end) in omega (arith, more)) })
+        (b, record { walk = w; least = λ m v. (let more = is.least (suc m) (FriendPath.step start b q m v f end) in omega (arith, more)) })
 
     other : (n q r : ℕ) → IsDistance g start q (suc n) → IsNear n r → (q == r) ≡ false
     other n q r is near = by (q == r) refl
@@ -134,7 +134,7 @@ module _ (g : List Row) where
         by : (b : Bool) → (q == r) ≡ b → b ≡ false
         by false e = refl
         by true e =
-            let far = is.least near.after (subst (λ p. Walk g start p near.after) (sym (eqb-true q r e)) near.is.walk) in
+            let far = is.least near.after (subst (λ p. FriendPath g start p near.after) (sym (eqb-true q r e)) near.is.walk) in
             let low = near.low in
             absurd (omega (arith, far, low))
 
@@ -172,13 +172,13 @@ module _ (g : List Row) where
         omega (arith, long, most)
 
     -- the distance to a person, or that no walk leads there
-    pub distance : (q : ℕ) → ((n : ℕ) × IsDistance g start q n) ⊎ ((n : ℕ) → ¬ Walk g start q n)
+    pub distance : (q : ℕ) → ((n : ℕ) × IsDistance g start q n) ⊎ ((n : ℕ) → ¬ FriendPath g start q n)
     distance q = by (shortest q (length ids))
       where
-        none_at : ((n : ℕ) → n < length ids → ¬ Walk g start q n) → (n : ℕ) → Below q (suc n) → ¬ Walk g start q n
+        none_at : ((n : ℕ) → n < length ids → ¬ FriendPath g start q n) → (n : ℕ) → Below q (suc n) → ¬ FriendPath g start q n
         none_at none n (inl (m, is, low)) w = none m (short m q is) is.walk
         none_at none n (inr never) w = never n (omega arith) w
 
-        by : Below q (length ids) → ((n : ℕ) × IsDistance g start q n) ⊎ ((n : ℕ) → ¬ Walk g start q n)
+        by : Below q (length ids) → ((n : ℕ) × IsDistance g start q n) ⊎ ((n : ℕ) → ¬ FriendPath g start q n)
         by (inl (n, is, low)) = inl (n, is)
         by (inr none) = inr (λ n. none_at none n (shortest q (suc n)))

@@ -10,39 +10,39 @@ use Rattle.snb_schema.specs.declared.row.Row.{Row}
 use Rattle.snb_schema.specs.declared.row.Row.TheVariants as row
 use Rattle.snb_schema.specs.declared.table.Table.{Table}
 use Rattle.snb_schema.specs.declared.table.Table.TheVariants as table
-use Rattle.snb_schema.specs.Layouts.{shape_columns}
-use Rattle.snb_schema.specs.RowLines.{values}
+use Rattle.snb_schema.specs.TableColumns.{shape_columns}
+use Rattle.snb_schema.specs.RowValues.{values}
 use Rattle.snb_schema.specs.TableRows.{AreWithin, IsTableRow}
 use Rattle.snb_graph_model.specs.Graphs.{IsGraph, rows}
-use Rattle.snb_read_model.specs.Cells.{Cell}
+use Rattle.snb_read_model.specs.Cells.{ByteCell}
 use Rattle.snb_read_model.specs.declared.cell.Cell.TheVariants as cell
-use Rattle.snb_graph_model.specs.Around.{stay_in}
+use Rattle.snb_graph_model.specs.RowParts.{stay_in}
 use Rattle.snb_read_model.specs.ComplexReads.{AreStays, IsNamesake, IsStay, Stay, stay_cmp}
-use Rattle.snb_read_model.specs.Order.{Whole}
+use Rattle.snb_read_model.specs.Order.{AllRows}
 use Rattle.snb_read_model.specs.Replies.{IsAnswer}
 use Rattle.snb_graph_model.proofs.Laws.{in_rows}
 use Rattle.snb_read_order.proofs.Laws.{chosen}
-use Rattle.snb_read_model.specs.Columns.{Column, Stays, IsOfColumn, columns_of}
+use Rattle.snb_read_model.specs.Columns.{CellKind, Stays, IsOfColumn, columns_of}
 use Rattle.snb_read_laws.specs.Laws.{AnswersHaveYears, HasYears}
 use Rattle.snb_read_laws.proofs.ColumnFacts.{columns_of_answer, rows_have}
 use Rattle.snb_base.proofs.Laws.{given_by}
 
 -- ---- rows without stays
 
-abbrev is_plain : Column → Bool
+abbrev is_plain : CellKind → Bool
 is_plain Stays = false
 is_plain other = true
 
-abbrev are_plain : List Column → Bool
+abbrev are_plain : List CellKind → Bool
 are_plain [] = true
 are_plain (c ∷ cs) = is_plain c && are_plain cs
 
-plain_cell : (c : Column) (x : Cell) → is_plain c ≡ true → IsOfColumn c x → HasYears x
+plain_cell : (c : CellKind) (x : ByteCell) → is_plain c ≡ true → IsOfColumn c x → HasYears x
 plain_cell Stays (cell.Stays stays) plain of = absurd cc
 plain_cell c (cell.Stays stays) plain of = absurd of
 plain_cell c x plain of = tt
 
-plain_row : (cs : List Column) (xs : List Cell) → are_plain cs ≡ true → AllZip IsOfColumn cs xs → AllByRecursion HasYears xs
+plain_row : (cs : List CellKind) (xs : List ByteCell) → are_plain cs ≡ true → AllZip IsOfColumn cs xs → AllByRecursion HasYears xs
 plain_row [] [] plain of = tt
 plain_row [] (x ∷ xs) plain of = absurd of
 plain_row (c ∷ cs) [] plain of = absurd of
@@ -82,17 +82,17 @@ named g (s ∷ ss) (n ∷ ns) z all = (subst IsYear (sym z.0.is) all.0, named g 
 stays_have : (g : List Row) (p : ℕ) (t : Table) (shown : List Stay) → IsGraph g → AreStays g (filter_map (stay_in p) (rows g t)) shown → HasYears (cell.Stays shown)
 stays_have g p t shown graph are =
     recursion_from_All IsYear shown
-    (chosen IsYear stay_cmp Whole are.named shown
+    (chosen IsYear stay_cmp AllRows are.named shown
     (All-from_recursion IsYear are.named (named g _ are.named are.each (recursion_from_All IsBounded (filter_map (stay_in p) (rows g t)) (of_rows g p t graph)))) are.first)
 
-namesake : (g : List Row) (n : ℕ × ℕ) (cells : List Cell) → IsGraph g → IsNamesake g n cells → AllByRecursion HasYears cells
+namesake : (g : List Row) (n : ℕ × ℕ) (cells : List ByteCell) → IsGraph g → IsNamesake g n cells → AllByRecursion HasYears cells
 namesake g n cells graph s =
     subst (AllByRecursion HasYears) (sym s.is)
     (tt, (tt, (tt, (tt, (tt, (tt, (tt, (tt, (tt, (tt, (tt, (stays_have g n.0 table.PersonStudyAtOrganisation s.universities graph s.studied, (stays_have g n.0 table.PersonWorkAtOrganisation s.companies graph s.worked, tt)))))))))))))
 
 -- ---- answers
 
-rows_years : (g : List Row) (query : Query) (answer : List (List Cell)) → IsGraph g → IsAnswer g query answer → All (AllByRecursion HasYears) answer
+rows_years : (g : List Row) (query : Query) (answer : List (List ByteCell)) → IsGraph g → IsAnswer g query answer → All (AllByRecursion HasYears) answer
 rows_years g (queries.Ic1 person first_name) answer graph a =
     rows_have _ _ _ _ answer (AllByRecursion HasYears) (λ n cells s. namesake g n cells graph s) a.answers
 rows_years g query answer graph a = λ k d lt. plain_row (columns_of query) (get_or answer k d) refl (columns_of_answer g query answer a k d lt)

@@ -18,16 +18,17 @@ use Rattle.snb_schema.specs.declared.table.Table.{Table}
 use Rattle.snb_schema.specs.declared.table.Table.TheVariants as table
 use Rattle.snb_schema.specs.Layouts.{shape}
 use Rattle.snb_schema.specs.RowKeys.{RowKey, node_key, row_key, sharing}
-use Rattle.snb_schema.specs.RowLines.{row_shape, table_of}
+use Rattle.snb_schema.specs.RowValues.{row_shape, table_of}
 use Rattle.snb_schema.specs.TableRows.{IsTableRow}
 use Rattle.snb_graph_rows.specs.Keyed.{key_table}
 use Rattle.snb_graph_integrity.specs.SoundLaws.{HasOneEdge, MessagesAreOfOneKind, NumbersFit}
 use Rattle.snb_graph_model.specs.Graphs.{HasKey, IsGraph}
 use Rattle.snb_graph_model.specs.Messages.{Wrote, HasMessage}
-use Rattle.snb_graph_model.specs.Soundness.{Held}
+use Rattle.snb_graph_model.specs.Soundness.{HoldsRefs}
 use Rattle.snb_graph_model.proofs.Laws.{comment_author, comment_only, container_only, end_only, forum_only, friend_tells, friend_there, friend_told, Friendship, friendship_rises, person_only, post_author, post_only, Sent, sent_there}
-use Rattle.snb_graph_model.specs.Around.{Message, containers, friends, is_friend, messages, or_else, persons, with_id}
-use Rattle.snb_read_model.specs.Distance.{IsPerson, IsWithin, Walk}
+use Rattle.snb_graph_model.specs.Around.{containers, friends, is_friend, messages, persons, with_id}
+use Rattle.snb_graph_model.specs.RowParts.{Message, or_else}
+use Rattle.snb_read_model.specs.Distance.{IsPerson, IsWithin, FriendPath}
 use Rattle.snb_read_lookups.specs.Lookups.{IsCellNumber, IsOnlyAuthor, IsOnlyCity, IsOnlyForum, IsOnlyMessage, IsOnlyModerator, IsOnlyPerson}
 use Rattle.snb_read_lookups.specs.Found.{IsFriendFound, IsMessageFound}
 use Rattle.std.specs.Ordering.{flip_args, nat_cmp, on, then_cmp}
@@ -125,19 +126,19 @@ module _ (g : List Row) (graph : IsGraph g) where
 
   -- ---- authors
 
-  pub post_written : MessagesAreOfOneKind → Held g → (m a : ℕ) → Contains g (row.Link table.PostHasCreatorPerson m a) → IsOnlyAuthor g m a
+  pub post_written : MessagesAreOfOneKind → HoldsRefs g → (m a : ℕ) → Contains g (row.Link table.PostHasCreatorPerson m a) → IsOnlyAuthor g m a
   post_written one held m a c = record {
     only = post_author g m a graph c (λ b d. one g graph m (held (row.Link table.PostHasCreatorPerson m a) c 0 any (omega arith)) (held (row.Link table.CommentHasCreatorPerson m b) d 0 any (omega arith)));
     held = held (row.Link table.PostHasCreatorPerson m a) c 1 any (omega arith);
   }
 
-  pub comment_written : MessagesAreOfOneKind → Held g → (m a : ℕ) → Contains g (row.Link table.CommentHasCreatorPerson m a) → IsOnlyAuthor g m a
+  pub comment_written : MessagesAreOfOneKind → HoldsRefs g → (m a : ℕ) → Contains g (row.Link table.CommentHasCreatorPerson m a) → IsOnlyAuthor g m a
   comment_written one held m a c = record {
     only = comment_author g m a graph c (λ b d. one g graph m (held (row.Link table.PostHasCreatorPerson m b) d 0 any (omega arith)) (held (row.Link table.CommentHasCreatorPerson m a) c 0 any (omega arith)));
     held = held (row.Link table.CommentHasCreatorPerson m a) c 1 any (omega arith);
   }
 
-  pub written : MessagesAreOfOneKind → Held g → (m a : ℕ) → Wrote g a m → IsOnlyAuthor g m a
+  pub written : MessagesAreOfOneKind → HoldsRefs g → (m a : ℕ) → Wrote g a m → IsOnlyAuthor g m a
   written one held m a (inl c) = post_written one held m a c
   written one held m a (inr c) = comment_written one held m a c
 
@@ -154,10 +155,10 @@ module _ (g : List Row) (graph : IsGraph g) where
     fits = fit g graph (row.Link table.PersonIsLocatedInPlace p c) held 1 NoId (omega arith);
   }
 
-  pub found_container : Held g → (forum post : ℕ) → Contains g (row.Link table.ForumContainerOfPost forum post) → (containers g post ≡ forum ∷ []) × HasKey g (node_key kinds.Forum forum)
+  pub found_container : HoldsRefs g → (forum post : ℕ) → Contains g (row.Link table.ForumContainerOfPost forum post) → (containers g post ≡ forum ∷ []) × HasKey g (node_key kinds.Forum forum)
   found_container held forum post c = (container_only g forum post graph c, held (row.Link table.ForumContainerOfPost forum post) c 0 any (omega arith))
 
-  pub found_moderator : Held g → (f m : ℕ) → Contains g (row.Link table.ForumHasModeratorPerson f m) → IsOnlyModerator g f m
+  pub found_moderator : HoldsRefs g → (f m : ℕ) → Contains g (row.Link table.ForumHasModeratorPerson f m) → IsOnlyModerator g f m
   found_moderator held f m c = record {
     only = end_only g table.ForumHasModeratorPerson f m graph refl c;
     held = held (row.Link table.ForumHasModeratorPerson f m) c 1 any (omega arith);
@@ -219,7 +220,7 @@ message_found g graph fit p id date (inr (link, (m, c, is, at))) =
     record { held = inr (record { it = row.Comment m; held = c; keyed = ap (node_key kinds.Comment) is }); id_fits = subst IsCellNumber is number; date_fits = subst IsCellNumber at moment }
 
 -- a friend is held, and the numbers fit cells
-pub friend_found : (g : List Row) → IsGraph g → NumbersFit → Held g → (p id date : ℕ) → Friendship g p id date → IsFriendFound g (id, date)
+pub friend_found : (g : List Row) → IsGraph g → NumbersFit → HoldsRefs g → (p id date : ℕ) → Friendship g p id date → IsFriendFound g (id, date)
 friend_found g graph fit held p id date (inl c) =
     let all = fit g graph (row.Dated table.PersonKnowsPerson p id date) c in
     record { held = held (row.Dated table.PersonKnowsPerson p id date) c 1 any (omega arith); id_fits = all 1 NoId (omega arith); date_fits = all 2 NoId (omega arith) }
@@ -242,14 +243,14 @@ module _ (g : List Row) (graph : IsGraph g) (fit : NumbersFit) where
       All-weaker (Contains (messages g p)) (IsMessageFound g) (λ m c. message_found g graph fit p m.0 m.1 (sent_there g p m.0 m.1 c)) (messages g p) (All-contains_itself (messages g p))
 
   -- the friends of a person
-  pub friends_found : Held g → (p : ℕ) → All (λ f. IsPerson g f.0) (friends g p)
+  pub friends_found : HoldsRefs g → (p : ℕ) → All (λ f. IsPerson g f.0) (friends g p)
   friends_found held p =
       All-weaker (Contains (friends g p)) (λ f. IsPerson g f.0) (λ f c. (friend_found g graph fit held p f.0 f.1 (friend_there g p f.0 f.1 c)).held) (friends g p) (All-contains_itself (friends g p))
 
 -- where a walk ends a person is held
-pub walk_held : (g : List Row) (a b n : ℕ) → Walk g a b n → IsPerson g b
-walk_held g _ _ _ (Walk.stay a h) = h
-walk_held g _ _ _ (Walk.step a b c n w e h) = h
+pub walk_held : (g : List Row) (a b n : ℕ) → FriendPath g a b n → IsPerson g b
+walk_held g _ _ _ (FriendPath.stay a h) = h
+walk_held g _ _ _ (FriendPath.step a b c n w e h) = h
 
 -- the persons near one
 pub near_found : (g : List Row) (start steps : ℕ) (near : List (ℕ × ℕ)) → IsWithin g start steps near → All (λ p. IsPerson g p.0) near

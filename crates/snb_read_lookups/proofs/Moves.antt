@@ -5,8 +5,8 @@ use Rattle.std.proofs.lemmas.List.Sorted.{IsPermutation-sym, IsPermutation-trans
 use Rattle.std.specs.List.{filter, flat_map}
 use Rattle.std.specs.List.Sorted.{IsPermutation}
 use Rattle.snb_read_order.proofs.Laws.{zip_moved}
-use Rattle.snb_read_model.specs.Cells.{Cell}
-use Rattle.snb_read_model.specs.Order.{Answers, Cut, Way}
+use Rattle.snb_read_model.specs.Cells.{ByteCell}
+use Rattle.snb_read_model.specs.Order.{ReadAnswers, Cut, Way}
 
 -- a join of one more
 pub joined_push : {X Y : Type 0} (f : X → List Y) (xs : List X) (x : X) → flat_map f (xs ++ x ∷ []) ≡ flat_map f xs ++ f x
@@ -23,8 +23,8 @@ filter_push p (y ∷ ys) x b e = by (p y) (filter_push p ys x b e)
     by false h = h
 
 -- an answer of things in another order
-pub answers_moved : {X : Type 0} (Shows : X → List Cell → Type 0) (order : List Way) (cut : Cut) (counted found : List X) (answer : List (List Cell)) → IsPermutation counted found
-    → Answers found Shows order cut answer → Answers counted Shows order cut answer
+pub answers_moved : {X : Type 0} (Shows : X → List ByteCell → Type 0) (order : List Way) (cut : Cut) (counted found : List X) (answer : List (List ByteCell)) → IsPermutation counted found
+    → ReadAnswers found Shows order cut answer → ReadAnswers counted Shows order cut answer
 answers_moved Shows order cut counted found answer moves a =
     let (rows, same, shown) = zip_moved Shows found counted a.rows (IsPermutation-sym counted found moves) a.shown in
     record {

@@ -7,14 +7,14 @@ use Rattle.snb_schema.specs.declared.row.Row.{Row}
 use Rattle.snb_schema.specs.declared.table.Kind.TheVariants as kinds
 use Rattle.snb_schema.specs.RowKeys.{node_key, row_key}
 use Rattle.snb_graph_model.specs.Graphs.{HasKey}
-use Rattle.snb_read_model.specs.Cells.{Cell}
+use Rattle.snb_read_model.specs.Cells.{ByteCell}
 use Rattle.snb_graph_model.specs.Around.{is_friend}
-use Rattle.snb_read_model.specs.Distance.{IsPerson, Walk}
-use Rattle.snb_read_model.specs.Order.{Answers, Cut, Way, cut_at}
+use Rattle.snb_read_model.specs.Distance.{IsPerson, FriendPath}
+use Rattle.snb_read_model.specs.Order.{ReadAnswers, Cut, Way, cut_at}
 
-module _ {X : Type 0} (counted : List X) (Shows : X → List Cell → Type 0) (order : List Way) (cut : Cut) where
+module _ {X : Type 0} (counted : List X) (Shows : X → List ByteCell → Type 0) (order : List Way) (cut : Cut) where
   -- what shows one row
-  pub one_row : (x : X) (a : List Cell) → counted ≡ x ∷ [] → Shows x a → a ∷ [] ≡ cut_at cut (a ∷ []) → Answers counted Shows order cut (a ∷ [])
+  pub one_row : (x : X) (a : List ByteCell) → counted ≡ x ∷ [] → Shows x a → a ∷ [] ≡ cut_at cut (a ∷ []) → ReadAnswers counted Shows order cut (a ∷ [])
   one_row x a is shows whole = record {
     rows = a ∷ [];
     shown = rw is (shows, tt);
@@ -22,7 +22,7 @@ module _ {X : Type 0} (counted : List X) (Shows : X → List Cell → Type 0) (o
   }
 
   -- what shows none
-  pub no_row : counted ≡ [] → ◌≡◌ {A = List (List Cell)} [] (cut_at cut []) → Answers counted Shows order cut []
+  pub no_row : counted ≡ [] → ◌≡◌ {A = List (List ByteCell)} [] (cut_at cut []) → ReadAnswers counted Shows order cut []
   no_row is whole = record {
     rows = [];
     shown = rw is tt;
@@ -30,18 +30,18 @@ module _ {X : Type 0} (counted : List X) (Shows : X → List Cell → Type 0) (o
   }
 
 module _ (g : List Row) where
-  pub last_step : (a c n : ℕ) → Walk g a c n → (m : ℕ) → n ≡ suc m → (b : ℕ) × Walk g a b m × (is_friend g b c ≡ true)
-  last_step _ _ _ (Walk.stay a is) m e = absurd (omega arith)
-  last_step _ _ _ (Walk.step a b c n w f is) m e = let same : n ≡ m = omega arith in (b, rw same at w, f)
+  pub last_step : (a c n : ℕ) → FriendPath g a c n → (m : ℕ) → n ≡ suc m → (b : ℕ) × FriendPath g a b m × (is_friend g b c ≡ true)
+  last_step _ _ _ (FriendPath.stay a is) m e = absurd (omega arith)
+  last_step _ _ _ (FriendPath.step a b c n w f is) m e = let same : n ≡ m = omega arith in (b, rw same at w, f)
 
-  pub no_step : (a c n : ℕ) → Walk g a c n → n ≡ 0 → a ≡ c
-  no_step _ _ _ (Walk.stay a is) e = refl
-  no_step _ _ _ (Walk.step a b c n w f is) e = absurd (omega arith)
+  pub no_step : (a c n : ℕ) → FriendPath g a c n → n ≡ 0 → a ≡ c
+  no_step _ _ _ (FriendPath.stay a is) e = refl
+  no_step _ _ _ (FriendPath.step a b c n w f is) e = absurd (omega arith)
 
   -- a walk ends at a person
-  pub walk_end : (a c n : ℕ) → Walk g a c n → IsPerson g c
-  walk_end _ _ _ (Walk.stay a is) = is
-  walk_end _ _ _ (Walk.step a b c n w f is) = is
+  pub walk_end : (a c n : ℕ) → FriendPath g a c n → IsPerson g c
+  walk_end _ _ _ (FriendPath.stay a is) = is
+  walk_end _ _ _ (FriendPath.step a b c n w f is) = is
 
 -- a test that an element passes
 any_here : {X : Type 0} (test : X → Bool) (xs : List X) (x : X) (i : ℕ) → i < length xs → get_or xs i x ≡ x → test x ≡ true → list_any test xs ≡ true

@@ -13,14 +13,15 @@ module _ (g : List Row) where
   IsPerson id = HasKey g (node_key kinds.Person id)
 
   -- a walk in so many steps from one person to another, along persons of whom each knows the next
-  pub data Walk : ℕ → ℕ → ℕ → Type 0 where
-    stay : (a : ℕ) → IsPerson a → Walk a a zero
-    step : (a b c n : ℕ) → Walk a b n → is_friend g b c ≡ true → IsPerson c → Walk a c (suc n)
+  pub data FriendPath : ℕ → ℕ → ℕ → Type 0 where
+    stay : (a : ℕ) → IsPerson a → FriendPath a a zero
+    step : (a b c n : ℕ) → FriendPath a b n → is_friend g b c ≡ true → IsPerson c
+        → FriendPath a c (suc n)
 
   -- the length of a shortest walk
   pub record IsDistance (a b n : ℕ) : Type 0 where
-    pub walk : Walk a b n
-    pub least : (m : ℕ) → Walk a b m → n ≤ m
+    pub walk : FriendPath a b n
+    pub least : (m : ℕ) → FriendPath a b m → n ≤ m
 
   -- the persons at distance 1 to `steps`, with their distances, by rising id
   pub record IsWithin (start steps : ℕ) (near : List (ℕ × ℕ)) : Type 0 where
@@ -29,4 +30,5 @@ module _ (g : List Row) where
 
   -- the length of a shortest walk, or -1 where there is none, as where one of the two isn't held
   abbrev pub IsLength : ℕ → ℕ → ℤ → Type 0
-  IsLength a b z = ((n : ℕ) × IsDistance a b n × (z ≡ pos n)) ⊎ (((n : ℕ) → ¬ Walk a b n) × (z ≡ negsuc 0))
+  IsLength a b z =
+      ((n : ℕ) × IsDistance a b n × (z ≡ pos n)) ⊎ (((n : ℕ) → ¬ FriendPath a b n) × (z ≡ negsuc 0))

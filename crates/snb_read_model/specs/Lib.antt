@@ -1,6 +1,7 @@
 pub mod Cells
 pub mod Columns
 pub mod ComplexReads
+pub mod MessageReads
 pub mod Distance
 pub mod Order
 pub mod Replies

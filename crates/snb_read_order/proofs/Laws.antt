@@ -13,9 +13,9 @@ use Rattle.std.specs.Ordering.{int_cmp, is_lt, nat_cmp, ordering_then}
 use Rattle.std.specs.declared.cmp.Ordering.{Ordering}
 use Rattle.std.specs.declared.cmp.Ordering.TheVariants.{Less, Equal, Greater}
 use denote.Ref.{Bor}
-use Rattle.snb_read_model.specs.Cells.{Cell, cell_cmp, number}
+use Rattle.snb_read_model.specs.Cells.{ByteCell, cell_cmp, number_cell}
 use Rattle.snb_read_order.specs.TopK.{IsTopK, Kept, not_after}
-use Rattle.snb_read_model.specs.Order.{Answers, Cut, Whole, First, FirstOf, Way, by, cut_at}
+use Rattle.snb_read_model.specs.Order.{ReadAnswers, Cut, AllRows, FirstRows, SortedAndCut, Way, by, cut_at}
 use Rattle.snb_base.proofs.Laws.{then_last}
 
 -- ---- keys and cells
@@ -28,20 +28,20 @@ compares g f by h = always_returns_same g (λ a r. is_lt r ≡ is_lt (by a.0.now
 pub int_nat : (a b : ℕ) → int_cmp (pos a) (pos b) ≡ nat_cmp a b
 int_nat a b = grind (arith, nat_tests)
 
-pub number_cmp : (a b : ℕ) → cell_cmp (number a) (number b) ≡ nat_cmp a b
+pub number_cmp : (a b : ℕ) → cell_cmp (number_cell a) (number_cell b) ≡ nat_cmp a b
 number_cmp a b = then_last (int_cmp (pos a) (pos b)) ∙ int_nat a b
 
 -- by two columns of numbers
-pub two_columns : (x x' y y' : ℕ) → ordering_then (cell_cmp (number x) (number x')) (ordering_then (cell_cmp (number y) (number y')) Equal) ≡ ordering_then (nat_cmp x x') (nat_cmp y y')
+pub two_columns : (x x' y y' : ℕ) → ordering_then (cell_cmp (number_cell x) (number_cell x')) (ordering_then (cell_cmp (number_cell y) (number_cell y')) Equal) ≡ ordering_then (nat_cmp x x') (nat_cmp y y')
 two_columns x x' y y' =
-    ap (λ o. ordering_then o (ordering_then (cell_cmp (number y) (number y')) Equal)) (number_cmp x x')
-    ∙ ap (λ o. ordering_then (nat_cmp x x') o) (then_last (cell_cmp (number y) (number y')) ∙ number_cmp y y')
+    ap (λ o. ordering_then o (ordering_then (cell_cmp (number_cell y) (number_cell y')) Equal)) (number_cmp x x')
+    ∙ ap (λ o. ordering_then (nat_cmp x x') o) (then_last (cell_cmp (number_cell y) (number_cell y')) ∙ number_cmp y y')
 
 -- by three
-pub three_columns : (x x' y y' z z' : ℕ) → ordering_then (cell_cmp (number x) (number x')) (ordering_then (cell_cmp (number y) (number y')) (ordering_then (cell_cmp (number z) (number z')) Equal))
+pub three_columns : (x x' y y' z z' : ℕ) → ordering_then (cell_cmp (number_cell x) (number_cell x')) (ordering_then (cell_cmp (number_cell y) (number_cell y')) (ordering_then (cell_cmp (number_cell z) (number_cell z')) Equal))
     ≡ ordering_then (nat_cmp x x') (ordering_then (nat_cmp y y') (nat_cmp z z'))
 three_columns x x' y y' z z' =
-    ap (λ o. ordering_then o (ordering_then (cell_cmp (number y) (number y')) (ordering_then (cell_cmp (number z) (number z')) Equal))) (number_cmp x x')
+    ap (λ o. ordering_then o (ordering_then (cell_cmp (number_cell y) (number_cell y')) (ordering_then (cell_cmp (number_cell z) (number_cell z')) Equal))) (number_cmp x x')
     ∙ ap (λ o. ordering_then (nat_cmp x x') o) (two_columns y y' z z')
 
 pub then_assoc : (o p q : Ordering) → ordering_then o (ordering_then p q) ≡ ordering_then (ordering_then o p) q
@@ -140,26 +140,26 @@ pick : {X : Type 0} (xs : List X) → 0 < length xs → X
 pick [] h = absurd (omega arith)
 pick (x ∷ xs) h = x
 
-module _ {X : Type 0} (Shows : X → List Cell → Type 0) (keys : X → X → Ordering) (order : List Way)
-    (agree : (x y : X) (a b : List Cell) → Shows x a → Shows y b → is_lt (by order a b) ≡ is_lt (keys x y)) where
+module _ {X : Type 0} (Shows : X → List ByteCell → Type 0) (keys : X → X → Ordering) (order : List Way)
+    (agree : (x y : X) (a b : List ByteCell) → Shows x a → Shows y b → is_lt (by order a b) ≡ is_lt (keys x y)) where
   -- rows stand in the order of what they show
-  in_turn : (xs : List X) (rows : List (List Cell)) → AllZip Shows xs rows → IsSorted keys xs → IsSorted (by order) rows
+  in_turn : (xs : List X) (rows : List (List ByteCell)) → AllZip Shows xs rows → IsSorted keys xs → IsSorted (by order) rows
   in_turn xs rows z up k d low high =
       let long = zip_length Shows xs rows z in
       let x : X = pick xs (omega arith) in
       agree _ _ _ _ (zip_get Shows xs rows (k + 1) x d (omega arith) z) (zip_get Shows xs rows k x d (omega arith) z) ∙ up k x low (omega arith)
 
-  all_of : (cut : Cut) (sorted : List X) (answer : List (List Cell)) → All (λ x. (a : List Cell) × Shows x a) sorted → AllZip Shows (cut_at cut sorted) answer
-      → (all : List (List Cell)) × AllZip Shows sorted all × (answer ≡ cut_at cut all)
-  all_of Whole sorted answer have z = (answer, z, refl)
-  all_of (First n) sorted answer have z = extended Shows n sorted answer z have
+  all_of : (cut : Cut) (sorted : List X) (answer : List (List ByteCell)) → All (λ x. (a : List ByteCell) × Shows x a) sorted → AllZip Shows (cut_at cut sorted) answer
+      → (all : List (List ByteCell)) × AllZip Shows sorted all × (answer ≡ cut_at cut all)
+  all_of AllRows sorted answer have z = (answer, z, refl)
+  all_of (FirstRows n) sorted answer have z = extended Shows n sorted answer z have
 
   -- the first things, and what each shows, are the answer
-  pub answers_from : (cut : Cut) (counted found chosen : List X) (answer : List (List Cell)) → IsPermutation counted found → FirstOf keys cut found chosen
-      → All (λ x. (a : List Cell) × Shows x a) counted → AllZip Shows chosen answer → Answers counted Shows order cut answer
+  pub answers_from : (cut : Cut) (counted found chosen : List X) (answer : List (List ByteCell)) → IsPermutation counted found → SortedAndCut keys cut found chosen
+      → All (λ x. (a : List ByteCell) × Shows x a) counted → AllZip Shows chosen answer → ReadAnswers counted Shows order cut answer
   answers_from cut counted found chosen answer walk first have z =
       let moves = IsPermutation-trans counted found first.sorted walk first.same in
-      let (all, zip, is) = all_of cut first.sorted answer (All-permutation (λ x. (a : List Cell) × Shows x a) counted first.sorted moves have) (rw first.kept at z) in
+      let (all, zip, is) = all_of cut first.sorted answer (All-permutation (λ x. (a : List ByteCell) × Shows x a) counted first.sorted moves have) (rw first.kept at z) in
       let (rows, same, shown) = zip_moved Shows first.sorted counted all (IsPermutation-sym counted first.sorted moves) zip in
       record {
         rows = rows;
@@ -168,8 +168,8 @@ module _ {X : Type 0} (Shows : X → List Cell → Type 0) (keys : X → X → O
       }
 
   -- where the answer is of all things, each of them shows something
-  pub answers_whole : (counted found chosen : List X) (answer : List (List Cell)) → IsPermutation counted found → FirstOf keys Whole found chosen → AllZip Shows chosen answer
-      → Answers counted Shows order Whole answer
+  pub answers_whole : (counted found chosen : List X) (answer : List (List ByteCell)) → IsPermutation counted found → SortedAndCut keys AllRows found chosen → AllZip Shows chosen answer
+      → ReadAnswers counted Shows order AllRows answer
   answers_whole counted found chosen answer walk first z =
       let moves = IsPermutation-trans counted found first.sorted walk first.same in
       let zip : AllZip Shows first.sorted answer = rw first.kept at z in
@@ -181,9 +181,9 @@ module _ {X : Type 0} (Shows : X → List Cell → Type 0) (keys : X → X → O
       }
 
 -- an answer over what was found, as one over what counts
-pub answers_mapped : {X Z : Type 0} (f : Z → X) (S : Z → List Cell → Type 0) (R : X → List Cell → Type 0) → ((z : Z) (a : List Cell) → S z a → R (f z) a)
-    → (counted : List X) (found : List Z) (order : List Way) (cut : Cut) (answer : List (List Cell)) → IsPermutation counted (map f found)
-    → Answers found S order cut answer → Answers counted R order cut answer
+pub answers_mapped : {X Z : Type 0} (f : Z → X) (S : Z → List ByteCell → Type 0) (R : X → List ByteCell → Type 0) → ((z : Z) (a : List ByteCell) → S z a → R (f z) a)
+    → (counted : List X) (found : List Z) (order : List Way) (cut : Cut) (answer : List (List ByteCell)) → IsPermutation counted (map f found)
+    → ReadAnswers found S order cut answer → ReadAnswers counted R order cut answer
 answers_mapped f S R each counted found order cut answer moves a =
     let (rows, same, shown) = zip_moved R (map f found) counted a.rows (IsPermutation-sym counted (map f found) moves) (zip_map f S R each found a.rows a.shown) in
     record {
@@ -195,28 +195,28 @@ answers_mapped f S R each counted found order cut answer moves a =
 -- ---- what was chosen
 
 -- the first rows are among the rows
-pub chosen : {X : Type 0} (P : X → Type 0) (order : X → X → Ordering) (cut : Cut) (rows answer : List X) → All P rows → FirstOf order cut rows answer → All P answer
-chosen P order Whole rows answer all first = All-same P answer first.sorted first.kept (All-permutation P rows first.sorted first.same all)
-chosen P order (First n) rows answer all first =
+pub chosen : {X : Type 0} (P : X → Type 0) (order : X → X → Ordering) (cut : Cut) (rows answer : List X) → All P rows → SortedAndCut order cut rows answer → All P answer
+chosen P order AllRows rows answer all first = All-same P answer first.sorted first.kept (All-permutation P rows first.sorted first.same all)
+chosen P order (FirstRows n) rows answer all first =
     All-same P answer (take n first.sorted) first.kept (All-take P n first.sorted (All-permutation P rows first.sorted first.same all))
 
 -- what was walked, sorted and cut is among what the walk is of
 pub walked : {X : Type 0} (P : X → Type 0) (order : X → X → Ordering) (cut : Cut) (counted walk found first items : List X)
-    → All P counted → IsPermutation counted walk → found ≡ walk → FirstOf order cut found first → items ≡ first → All P items
+    → All P counted → IsPermutation counted walk → found ≡ walk → SortedAndCut order cut found first → items ≡ first → All P items
 walked P order cut counted walk found first items all moves same taken is =
     All-same P items first is (chosen P order cut found first (All-same P found walk same (All-permutation P counted walk moves all)) taken)
 
 -- ---- an answer of one row, and of none
 
-module _ {X : Type 0} (counted : List X) (Shows : X → List Cell → Type 0) (order : List Way) where
-  pub one_row : (x : X) (a : List Cell) → counted ≡ x ∷ [] → Shows x a → Answers counted Shows order Whole (a ∷ [])
+module _ {X : Type 0} (counted : List X) (Shows : X → List ByteCell → Type 0) (order : List Way) where
+  pub one_row : (x : X) (a : List ByteCell) → counted ≡ x ∷ [] → Shows x a → ReadAnswers counted Shows order AllRows (a ∷ [])
   one_row x a is shows = record {
     rows = a ∷ [];
     shown = rw is (shows, tt);
     first = record { sorted = a ∷ []; same = IsPermutation-refl (a ∷ []); ordered = λ k d low high. absurd (omega arith); kept = refl };
   }
 
-  pub no_row : counted ≡ [] → Answers counted Shows order Whole []
+  pub no_row : counted ≡ [] → ReadAnswers counted Shows order AllRows []
   no_row is = record {
     rows = [];
     shown = rw is tt;

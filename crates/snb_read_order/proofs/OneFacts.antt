@@ -10,7 +10,7 @@ use Rattle.std.specs.List.Sorted.{IsSorted}
 use Rattle.std.specs.Ordering.{is_eq, is_lt, ordering_reverse}
 use Rattle.std.specs.declared.cmp.Ordering.{Ordering}
 use Rattle.std.specs.declared.cmp.Ordering.TheVariants.{Less, Equal, Greater}
-use Rattle.snb_read_model.specs.Order.{Cut, FirstOf, cut_at}
+use Rattle.snb_read_model.specs.Order.{Cut, SortedAndCut, cut_at}
 use Rattle.snb_base.proofs.Laws.{equal_from}
 
 -- how many elements compare equal to x
@@ -79,7 +79,7 @@ module _ {X : Type 0} (R : X → X → Ordering) (o : IsTotalOrder R) where
       cc
 
   pub one_first : (cut : Cut) (rows a b : List X) → ((x y : X) → Contains rows x → Contains rows y → R x y ≡ Equal → x ≡ y)
-      → FirstOf R cut rows a → FirstOf R cut rows b → a ≡ b
+      → SortedAndCut R cut rows a → SortedAndCut R cut rows b → a ≡ b
   one_first cut rows a b one f g =
       let same : f.sorted ≡ g.sorted = same_sorted f.sorted g.sorted f.ordered g.ordered
       (λ x. ties_are R x f.sorted ∙ sum_by-IsPermutation _ rows f.sorted f.same ∙ sym (sum_by-IsPermutation _ rows g.sorted g.same) ∙ sym (ties_are R x g.sorted))

@@ -6,7 +6,7 @@ use Rattle.std.specs.List.{AllByRecursion}
 use Rattle.std.specs.List.Sorted.{IsPermutation, IsSorted}
 use Rattle.std.specs.Ordering.{is_lt}
 use Rattle.std.specs.declared.cmp.Ordering.{Ordering}
-use Rattle.snb_read_model.specs.Order.{Cut, FirstOf, cut_at}
+use Rattle.snb_read_model.specs.Order.{Cut, SortedAndCut, cut_at}
 
 module _ {X : Type 0} (R : X → X → Ordering) (o : IsTotalOrder R) where
   -- none of the rows is below the first, and so on
@@ -58,7 +58,7 @@ module _ {X : Type 0} (R : X → X → Ordering) (o : IsTotalOrder R) where
       let (ys, moves, up) = some_order xs in
       (insert x ys, IsPermutation-trans _ _ _ (IsPermutation-cons x xs ys moves) (insert_moves x ys), insert_rises x ys up)
 
-  pub some_first : (cut : Cut) (rows : List X) → (answer : List X) × FirstOf R cut rows answer
+  pub some_first : (cut : Cut) (rows : List X) → (answer : List X) × SortedAndCut R cut rows answer
   some_first cut rows =
       let (ys, moves, up) = some_order rows in
       (cut_at cut ys, record { sorted = ys; same = moves; ordered = sorted_from ys up; kept = refl })

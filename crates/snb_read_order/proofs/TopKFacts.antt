@@ -11,7 +11,7 @@ use Rattle.std.specs.List.{All, Contains, filter}
 use Rattle.std.specs.List.Sorted.{IsPermutation, IsSorted, IsSortedByClosure}
 use Rattle.std.specs.Ordering.{is_lt}
 use Rattle.std.specs.declared.cmp.Ordering.{Ordering}
-use Rattle.snb_read_model.specs.Order.{First, FirstOf, Whole}
+use Rattle.snb_read_model.specs.Order.{FirstRows, SortedAndCut, AllRows}
 use denote.Ref.{Bor}
 use Rattle.snb_read_order.specs.TopK.{IsTopK, Kept, TakesIn, not_after}
 use Rattle.snb_read_order.proofs.OneFacts.{sorted_tail}
@@ -157,10 +157,10 @@ module _ {X : Type 0} (R : X → X → Ordering) where
         })
 
     -- the first of what is kept are the first of all
-    pub first_of_top : (all : List X) (kept : Kept X) (answer : List X) → IsTopK R all kept → FirstOf R (First kept.most) kept.rows answer → FirstOf R (First kept.most) all answer
+    pub first_of_top : (all : List X) (kept : Kept X) (answer : List X) → IsTopK R all kept → SortedAndCut R (FirstRows kept.most) kept.rows answer → SortedAndCut R (FirstRows kept.most) all answer
     first_of_top all kept answer top first = by_rest top.rest top.same top.later
       where
-        by_rest : (rest : List X) → IsPermutation all (kept.rows ++ rest) → All (λ y. kept.most ≤ not_after R y kept.rows) rest → FirstOf R (First kept.most) all answer
+        by_rest : (rest : List X) → IsPermutation all (kept.rows ++ rest) → All (λ y. kept.most ≤ not_after R y kept.rows) rest → SortedAndCut R (FirstRows kept.most) all answer
         by_rest [] same later = record {
           sorted = first.sorted;
           same = IsPermutation-trans all kept.rows first.sorted (subst (IsPermutation all) (append-nil kept.rows) same) first.same;
@@ -170,7 +170,7 @@ module _ {X : Type 0} (R : X → X → Ordering) where
         by_rest (y ∷ ys) same later =
             let front = take kept.most first.sorted in
             let back = drop kept.most first.sorted ++ y ∷ ys in
-            let (all_back, more) = some_first R o Whole back in
+            let (all_back, more) = some_first R o AllRows back in
             let one : kept.most ≤ not_after R y kept.rows = later 0 y (omega arith) in
             let long : kept.most ≤ length first.sorted = omega (arith, one, not_after_le y kept.rows, length_permutation kept.rows first.sorted first.same) in
             let apart = behind kept.most kept.rows first.sorted (y ∷ ys) first.same first.ordered later in
@@ -185,8 +185,8 @@ module _ {X : Type 0} (R : X → X → Ordering) where
               kept = first.kept ∙ sym (take-append-le kept.most front more.sorted (omega (arith, length-take-le kept.most first.sorted long)) ∙ take-take kept.most kept.most first.sorted (omega arith));
             }
 
-    pub first_of_inside : (all : List X) (inside kept : Kept X) (answer : List X) → inside ≡ kept → FirstOf R (First inside.most) inside.rows answer → IsTopK R all kept → FirstOf R (First kept.most) all answer
-    first_of_inside all inside kept answer is first top = first_of_top all kept answer top (subst (λ (k : Kept X). FirstOf R (First k.most) k.rows answer) is first)
+    pub first_of_inside : (all : List X) (inside kept : Kept X) (answer : List X) → inside ≡ kept → SortedAndCut R (FirstRows inside.most) inside.rows answer → IsTopK R all kept → SortedAndCut R (FirstRows kept.most) all answer
+    first_of_inside all inside kept answer is first top = first_of_top all kept answer top (subst (λ (k : Kept X). SortedAndCut R (FirstRows k.most) k.rows answer) is first)
 
 module _ {F X : Type 0} (g : Mut F (Bor X × (Bor X × Unit {0})) Ordering) (f : F) where
   -- the row comes to what is kept

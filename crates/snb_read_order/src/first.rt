@@ -5,7 +5,7 @@ ghost use Rattle.std.specs.Cmp.{IsTotalOrder};
 ghost use Rattle.std.specs.Fn.{ComparesAs};
 ghost use Rattle.std.specs.Ordering.{is_lt};
 ghost use Rattle.std.specs.declared.cmp.Ordering.{Ordering as Answers};
-ghost use Rattle.snb_read_model.specs.Order.{FirstOf, Whole, First};
+ghost use Rattle.snb_read_model.specs.Order.{SortedAndCut, AllRows, FirstRows};
 
 use std::cmp::Ordering;
 
@@ -15,7 +15,7 @@ use std::cmp::Ordering;
 pub fn in_order<T, F: FnMut(&T, &T) -> Ordering>(mut rows: Vec<T>, order: F) -> Vec<T>
     requires { F.IsAlwaysCallable order }
     ensures { (by : T → T → Answers) → IsTotalOrder by → ComparesAs F.FnMut (λ x y. is_lt (by x y)) order
-        → FirstOf by Whole rows.items result.items }
+        → SortedAndCut by AllRows rows.items result.items }
 {
     rows.sort_unstable_by(order);
     rows
@@ -31,7 +31,7 @@ pub fn first_of<T: Drop, F: FnMut(&T, &T) -> Ordering>(
 ) -> Vec<T>
     requires { F.IsAlwaysCallable order }
     ensures { (by : T → T → Answers) → IsTotalOrder by → ComparesAs F.FnMut (λ x y. is_lt (by x y)) order
-        → FirstOf by (First most) rows.items result.items }
+        → SortedAndCut by (FirstRows most) rows.items result.items }
 {
     let mut kept = in_order(rows, order);
     kept.truncate(most);

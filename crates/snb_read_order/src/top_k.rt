@@ -7,7 +7,7 @@ ghost use Rattle.std.specs.Option.{IfSome};
 ghost use Rattle.std.specs.Ordering.{is_lt};
 ghost use Rattle.std.specs.Result.{OnOk};
 ghost use Rattle.std.specs.declared.cmp.Ordering.{Ordering as Answers};
-ghost use Rattle.snb_read_model.specs.Order.{FirstOf, First};
+ghost use Rattle.snb_read_model.specs.Order.{SortedAndCut, FirstRows};
 ghost use Rattle.snb_read_order.specs.TopK.{IsTopK, TakesIn};
 
 use crate::first::first_of;
@@ -114,7 +114,7 @@ impl<T: Drop> TopK<T> {
         requires { F.IsAlwaysCallable order }
         ensures { (by : T → T → Answers) (all : List T) → IsTotalOrder by
             → ComparesAs F.FnMut (λ x y. is_lt (by x y)) order → IsTopK by all self
-            → FirstOf by (First self.most) all result.items }
+            → SortedAndCut by (FirstRows self.most) all result.items }
     {
         let TopK { rows, most, cut: _ } = self;
         first_of(rows, most, order)

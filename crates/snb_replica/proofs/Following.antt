@@ -7,11 +7,11 @@ use Rattle.snb_schema.specs.declared.op.Line.{Line}
 use Rattle.snb_schema.specs.declared.op.Op.{Op}
 use Rattle.snb_schema.specs.declared.row.Row.{Row}
 use Rattle.snb_schema.specs.Inserts.{rows_of}
-use Rattle.snb_history.specs.Laws.{PrefixIsLegal}
+use Rattle.snb_history.specs.ScheduleLaws.{PrefixIsLegal}
 use Rattle.snb_history.specs.Rules.{IsLegal, V1}
 use Rattle.snb_base.proofs.Laws.{split_here}
 use Rattle.snb_graph_model.specs.Graphs.{HasGained}
-use Rattle.snb_plan.specs.Plans.{Insert, IsOfStreams, Operation, Plan, Work, schedule_of}
+use Rattle.snb_plan.specs.Plans.{InsertWork, IsOfStreams, Operation, Plan, Work, schedule_of}
 use Rattle.snb_inserts.specs.Applying.{IsWelcome}
 use Rattle.snb_workers_replay.specs.Laws.{WelcomeInTurn}
 use Rattle.snb_workers_replay.specs.Replay.{finished_insert, insert_in}
@@ -21,7 +21,7 @@ use Rattle.snb_replica.specs.Replicas.{HasTaken, HasTakenSome, IfFinish, MayTake
 -- ---- the line of an insert
 
 -- an operation that inserts a line has its insert
-line_inserts : (o : Operation) (line : Line) → o.work ≡ Insert line → insert_in (Some o) ≡ Some line.op
+line_inserts : (o : Operation) (line : Line) → o.work ≡ InsertWork line → insert_in (Some o) ≡ Some line.op
 line_inserts o line is = ap (λ (w : Work). insert_in (Some (record { step = o.step; work = w; source = o.source }))) is
 
 -- the operation of a Finish is in the plan

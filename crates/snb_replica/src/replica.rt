@@ -98,7 +98,8 @@ pub fn count_first_rows(reply: &Reply<CowText<'_>>) -> Result<u32, AllocError>
 fn finished_line<'a>(plan: &'a Plan, event: &Event) -> Option<&'a Line>
     requires streams { IsOfStreams plan.now }
     requires there { IfFinish event.now (λ op. op < length plan.now.operations) }
-    ensures { MatchOption result (finished_insert plan.now event.now ≡ None) (λ line. (finished_insert plan.now event.now ≡ Some line.now.op) × HasLine line.now.op) }
+    ensures { MatchOption result (finished_insert plan.now event.now ≡ None)
+        (λ line. (finished_insert plan.now event.now ≡ Some line.now.op) × HasLine line.now.op) }
 {
     match *event {
         Event::Finish { op, .. } => match plan.task(op) {

@@ -14,8 +14,9 @@ use Rattle.snb_input_lines.specs.Reading.{LineSays, ReadsLine, Says}
 use Rattle.snb_input_lines.proofs.Laws.{ended, one_reading}
 use Rattle.snb_runlog.specs.declared.columns.EventKind.TheVariants as kinds
 use Rattle.snb_runlog.specs.declared.columns.TheConstants.{LAST_VERSION, MAX_NUMBER}
-use Rattle.snb_runlog.specs.Columns.{AreWithin, CanBeHeader, CanBeLogged, HasCount, columns, count_columns, count_numbers, event_numbers, header_columns, header_numbers, kind_of, numbers_of, version_column}
-use Rattle.snb_runlog.specs.Laws.{FirstIsWrittenAgain, FirstLacksCounts, IsLog, LastIsWrittenAgain, LogIsWrittenAgain, LogReadsBack, RunReadsBack, WhereCountsAre, header_text, line_of}
+use Rattle.snb_runlog.specs.Columns.{AreWithin, CanBeHeader, CanBeLogged, HasCount, event_columns, count_columns, count_numbers, event_numbers, header_columns, header_numbers, event_kind_of, numbers_of, version_column}
+use Rattle.snb_runlog.specs.Laws.{IsLog, LogReadsBack, header_text, line_of}
+use Rattle.snb_runlog.specs.WriteLaws.{FirstIsWrittenAgain, FirstLacksCounts, LastIsWrittenAgain, LogIsWrittenAgain, RunReadsBack, WhereCountsAre}
 use Rattle.snb_runlog.specs.Lines.{log_language}
 use Rattle.snb_runlog.proofs.EventFacts.{letter_some}
 use Rattle.snb_runlog.proofs.HeaderFacts.{exact}
@@ -31,7 +32,7 @@ reads_line known number (b ∷ bs) items new some text s = (text, s)
 
 -- a line has a byte
 line_some : (l : Logged) → line_of l ≢ []
-line_some l q = (let letter = letter_some (kind_of l.event) in cc)
+line_some l q = (let letter = letter_some (event_kind_of l.event) in cc)
 
 -- the lines of what a log tells say that
 events_say : OwnNumbers → (head : Header) (n : ℕ) (h : List Logged) → All (CanBeLogged head.version) h → Says log_language (Some head) n (lines (flat_map logged_line h)) h (Some head)
@@ -87,7 +88,7 @@ later_can ([] ∷ ls) k new n h s =
 later_can ((b ∷ bs) ∷ ls) k new n h s =
     let rest = later_can ls k new (n + 1) s.1 (subst (λ (o : Option Header). Says log_language o (n + 1) ls s.1 new) s.3.1.3 s.4) in
     let one = s.3.1.0 in
-    let can : CanBeLogged k.version one = numbers_within (columns k.version (kind_of one.event)) _ (numbers_of one) s.3.1.1.numbers in
+    let can : CanBeLogged k.version one = numbers_within (event_columns k.version (event_kind_of one.event)) _ (numbers_of one) s.3.1.1.numbers in
     (rest.0, subst (λ (xs : List Logged). All (CanBeLogged k.version) xs) (sym (s.5 ∙ ap (λ (xs : List Logged). xs ++ s.1) s.3.1.2)) (All-cons (CanBeLogged k.version) one s.1 can rest.1))
 
 can_be : (ls : List (List ℕ)) (head : Header) (n : ℕ) (h : List Logged) → Says log_language None n ls h (Some head) → Can head h
@@ -149,7 +150,7 @@ counted_at o version w = elim (cases_eq version LAST_VERSION) [
 ]
 
 -- and a count of rows exactly at a Finish of it
-has_count : (version : ℕ) (e : Event) (o : Option ℕ) → AreWithin (columns version (kind_of e)) (event_numbers e ++ count_numbers o) → IsSome o ↔ ((version ≡ LAST_VERSION) × (kind_of e ≡ kinds.Finish))
+has_count : (version : ℕ) (e : Event) (o : Option ℕ) → AreWithin (event_columns version (event_kind_of e)) (event_numbers e ++ count_numbers o) → IsSome o ↔ ((version ≡ LAST_VERSION) × (event_kind_of e ≡ kinds.Finish))
 has_count version (Start a b c) o w = (λ h. absurd (none_some o (no_count o w.2.2.2) h), λ p. absurd (let e = p.1 in cc))
 has_count version (Finish a b c d) o w = (let both = counted_at o version w.2.2.2.2 in (λ h. (both.0 h, refl), λ p. both.1 p.0))
 has_count version (Halt a) o w = (λ h. absurd (none_some o (no_count o w.2) h), λ p. absurd (let e = p.1 in cc))
@@ -203,8 +204,8 @@ first_again own text h head s is =
     (header, subst (λ (t : List ℕ). IsLog t head h) whole (log_again own text h head s).says)
 
 -- an event of version 1 with a count where one is due is one of the last version
-with_count : (e : Event) (o p : Option ℕ) → AreWithin (columns 1 (kind_of e)) (event_numbers e ++ count_numbers o) → IsSome p ↔ ((LAST_VERSION ≡ LAST_VERSION) × (kind_of e ≡ kinds.Finish)) → IfSome p (λ n. n ≤ MAX_NUMBER)
-    → AreWithin (columns LAST_VERSION (kind_of e)) (event_numbers e ++ count_numbers p)
+with_count : (e : Event) (o p : Option ℕ) → AreWithin (event_columns 1 (event_kind_of e)) (event_numbers e ++ count_numbers o) → IsSome p ↔ ((LAST_VERSION ≡ LAST_VERSION) × (event_kind_of e ≡ kinds.Finish)) → IfSome p (λ n. n ≤ MAX_NUMBER)
+    → AreWithin (event_columns LAST_VERSION (event_kind_of e)) (event_numbers e ++ count_numbers p)
 with_count (Start a b c) o None w due small = (w.0, w.1, (w.2.0, w.2.1, (w.2.2.0, w.2.2.1, tt)))
 with_count (Start a b c) o (Some n) w due small = absurd (let e = (due.0 refl).1 in cc)
 with_count (Finish a b c d) o None w due small = absurd (none_some None refl (due.1 (refl, refl)))
@@ -219,7 +220,7 @@ counts_can (l ∷ h) [] w e due small = absurd cc
 counts_can (l ∷ h) (m ∷ more) w e due small =
     let same : l.event ≡ m.event = cc in
     let rest : map (λ (x : Logged). x.event) more ≡ map (λ (x : Logged). x.event) h = cc in
-    let can : AreWithin (columns 1 (kind_of m.event)) (event_numbers m.event ++ count_numbers l.rows) = subst (λ (x : Event). AreWithin (columns 1 (kind_of x)) (event_numbers x ++ count_numbers l.rows)) same (All-head (CanBeLogged 1) l h w) in
+    let can : AreWithin (event_columns 1 (event_kind_of m.event)) (event_numbers m.event ++ count_numbers l.rows) = subst (λ (x : Event). AreWithin (event_columns 1 (event_kind_of x)) (event_numbers x ++ count_numbers l.rows)) same (All-head (CanBeLogged 1) l h w) in
     All-cons (CanBeLogged LAST_VERSION) m more (with_count m.event l.rows m.rows can (All-head (HasCount LAST_VERSION) m more due) (All-head (λ x. IfSome x.rows (λ n. n ≤ MAX_NUMBER)) m more small))
     (counts_can h more (All-tail (CanBeLogged 1) l h w) rest (All-tail (HasCount LAST_VERSION) m more due) (All-tail (λ x. IfSome x.rows (λ n. n ≤ MAX_NUMBER)) m more small))
 

@@ -9,9 +9,9 @@ use Rattle.snb_schema.specs.UpdateLines.{field}
 use Rattle.snb_runlog.specs.declared.columns.EventKind.{EventKind}
 use Rattle.snb_runlog.specs.declared.columns.EventKind.TheVariants as kinds
 use Rattle.snb_runlog.specs.declared.columns.TheConstants.{LAST_VERSION, MAX_NUMBER}
-use Rattle.snb_runlog.specs.Columns.{AreWithin, columns, count_columns, count_numbers, event_numbers, kind_of, letter_of, numbers_of}
+use Rattle.snb_runlog.specs.Columns.{AreWithin, event_columns, count_columns, count_numbers, event_numbers, event_kind_of, letter_of, numbers_of}
 use Rattle.snb_runlog.specs.Laws.{EventOrColumn, OneEvent}
-use Rattle.snb_runlog.specs.Lines.{AreNumbers, HasLetter, IsEvent, IsNoEvent, IsWide, StopsAfter, event_checks}
+use Rattle.snb_runlog.specs.Lines.{AreNumbers, HasLetter, IsEvent, IsNoEvent, HasAllColumns, NumbersStopAfter, event_checks}
 use Rattle.snb_runlog.proofs.LineFacts.{all_long, no_stop, numbers_long, numbers_or_stop, numbers_within, one_list, one_stop, others_long}
 use Rattle.snb_base.proofs.Laws.{Found, is_text}
 
@@ -113,19 +113,19 @@ letter_some kinds.Halt = (72, refl)
 -- ---- events
 
 -- there are five columns at most
-pub few_columns : (version : ℕ) (kind : EventKind) → length (columns version kind) ≤ 5
+pub few_columns : (version : ℕ) (kind : EventKind) → length (event_columns version kind) ≤ 5
 few_columns version kinds.Start = omega arith
 few_columns version kinds.Finish = (let few = few_counts version in omega arith)
 few_columns version kinds.Halt = omega arith
 
 -- fields that spell an event are as many as its letter has
-event_wide : (version : ℕ) (fs : List (List ℕ)) (e : Logged) → IsEvent version fs e → IsWide (columns version (kind_of e.event)) fs
+event_wide : (version : ℕ) (fs : List (List ℕ)) (e : Logged) → IsEvent version fs e → HasAllColumns (event_columns version (event_kind_of e.event)) fs
 event_wide version fs e s =
-    let letter = letter_some (kind_of e.event) in
-    all_long fs (length (columns version (kind_of e.event))) letter.0 [] (s.letter ∙ letter.1) (numbers_long (columns version (kind_of e.event)) (drop 1 fs) (numbers_of e) s.numbers)
+    let letter = letter_some (event_kind_of e.event) in
+    all_long fs (length (event_columns version (event_kind_of e.event))) letter.0 [] (s.letter ∙ letter.1) (numbers_long (event_columns version (event_kind_of e.event)) (drop 1 fs) (numbers_of e) s.numbers)
 
 -- events of one kind and counts with the same numbers are one
-same_told : (d e : Event) (o p : Option ℕ) → kind_of d ≡ kind_of e → event_numbers d ++ count_numbers o ≡ event_numbers e ++ count_numbers p → (d ≡ e) × (o ≡ p)
+same_told : (d e : Event) (o p : Option ℕ) → event_kind_of d ≡ event_kind_of e → event_numbers d ++ count_numbers o ≡ event_numbers e ++ count_numbers p → (d ≡ e) × (o ≡ p)
 same_told (Start a b c) (Start k l m) o p same e =
     let op : a ≡ k = cc in
     let worker : b ≡ l = cc in
@@ -140,7 +140,7 @@ same_told (Finish a b c d) (Finish k l m n) o p same e =
 same_told (Halt a) (Halt k) o p same e = (let worker : a ≡ k = cc in (λ i. Halt (worker i), one_count o p cc))
 same_told d e o p same ns = absurd cc
 
-pub same_logged : (d e : Logged) → kind_of d.event ≡ kind_of e.event → numbers_of d ≡ numbers_of e → d ≡ e
+pub same_logged : (d e : Logged) → event_kind_of d.event ≡ event_kind_of e.event → numbers_of d ≡ numbers_of e → d ≡ e
 same_logged d e same ns =
     let parts = same_told d.event e.event d.rows e.rows same ns in
     λ i. record { event = parts.0 i; rows = parts.1 i }
@@ -148,12 +148,12 @@ same_logged d e same ns =
 -- the fields of a line spell one event at most
 pub one_event : OneEvent
 one_event version fs d e s t =
-    let kind = one_kind (kind_of d.event) (kind_of e.event) (sym s.letter ∙ t.letter) in
-    let own = subst (λ (k : EventKind). AreNumbers (columns version k) (drop 1 fs) (numbers_of d)) kind s.numbers in
-    same_logged d e kind (one_list (columns version (kind_of e.event)) (drop 1 fs) (numbers_of d) (numbers_of e) own t.numbers)
+    let kind = one_kind (event_kind_of d.event) (event_kind_of e.event) (sym s.letter ∙ t.letter) in
+    let own = subst (λ (k : EventKind). AreNumbers (event_columns version k) (drop 1 fs) (numbers_of d)) kind s.numbers in
+    same_logged d e kind (one_list (event_columns version (event_kind_of e.event)) (drop 1 fs) (numbers_of d) (numbers_of e) own t.numbers)
 
 -- numbers of a kind make an event
-made : (version : ℕ) (kind : EventKind) (ns : List ℕ) → AreWithin (columns version kind) ns → (e : Logged) × (kind_of e.event ≡ kind) × (numbers_of e ≡ ns)
+made : (version : ℕ) (kind : EventKind) (ns : List ℕ) → AreWithin (event_columns version kind) ns → (e : Logged) × (event_kind_of e.event ≡ kind) × (numbers_of e ≡ ns)
 made version kinds.Start (a ∷ b ∷ c ∷ []) w = (record { event = Start a b c; rows = None }, refl, refl)
 made version kinds.Finish (a ∷ b ∷ c ∷ d ∷ ns) w =
     let count = count_made version ns w.2.2.2.2 in
@@ -171,10 +171,10 @@ made version kinds.Halt [] w = absurd w
 made version kinds.Halt (a ∷ b ∷ ns) w = absurd w.2
 
 -- an event of this kind with these numbers is that of the fields
-pub is_event : (version : ℕ) (fs : List (List ℕ)) (kind : EventKind) (ns : List ℕ) (e : Logged) → HasLetter fs kind → AreNumbers (columns version kind) (drop 1 fs) ns → kind_of e.event ≡ kind → numbers_of e ≡ ns → IsEvent version fs e
+pub is_event : (version : ℕ) (fs : List (List ℕ)) (kind : EventKind) (ns : List ℕ) (e : Logged) → HasLetter fs kind → AreNumbers (event_columns version kind) (drop 1 fs) ns → event_kind_of e.event ≡ kind → numbers_of e ≡ ns → IsEvent version fs e
 is_event version fs kind ns e letter s is same = record {
   letter = letter ∙ ap letter_of (sym is);
-  numbers = subst (λ (k : EventKind). AreNumbers (columns version k) (drop 1 fs) (numbers_of e)) (sym is) (subst (AreNumbers (columns version kind) (drop 1 fs)) (sym same) s);
+  numbers = subst (λ (k : EventKind). AreNumbers (event_columns version k) (drop 1 fs) (numbers_of e)) (sym is) (subst (AreNumbers (event_columns version kind) (drop 1 fs)) (sym same) s);
 }
 
 -- what is read by columns is within them
@@ -182,23 +182,23 @@ pub read_within : (all cs : List (ℕ × ℕ)) (xs : List (List ℕ)) (numbers :
 read_within all cs xs numbers e s = subst (λ (ds : List (ℕ × ℕ)). AreWithin ds (take (length ds) numbers)) e (numbers_within cs xs (take (length cs) numbers) s)
 
 -- and the event that has these numbers is that of the fields
-pub read_event : (version : ℕ) (fs : List (List ℕ)) (kind : EventKind) (cs : List (ℕ × ℕ)) (numbers : List ℕ) (e : Logged) → HasLetter fs kind → cs ≡ columns version kind → AreNumbers cs (drop 1 fs) (take (length cs) numbers)
-    → kind_of e.event ≡ kind → numbers_of e ≡ take (length (columns version kind)) numbers → IsEvent version fs e
+pub read_event : (version : ℕ) (fs : List (List ℕ)) (kind : EventKind) (cs : List (ℕ × ℕ)) (numbers : List ℕ) (e : Logged) → HasLetter fs kind → cs ≡ event_columns version kind → AreNumbers cs (drop 1 fs) (take (length cs) numbers)
+    → event_kind_of e.event ≡ kind → numbers_of e ≡ take (length (event_columns version kind)) numbers → IsEvent version fs e
 read_event version fs kind cs numbers e letter is s same ns =
-    is_event version fs kind (take (length (columns version kind)) numbers) e letter (subst (λ (ds : List (ℕ × ℕ)). AreNumbers ds (drop 1 fs) (take (length ds) numbers)) is s) same ns
+    is_event version fs kind (take (length (event_columns version kind)) numbers) e letter (subst (λ (ds : List (ℕ × ℕ)). AreNumbers ds (drop 1 fs) (take (length ds) numbers)) is s) same ns
 
 -- as many fields as one kind with the letter has are as many as each has
-kind_wide : (version : ℕ) (fs : List (List ℕ)) (k j : EventKind) → HasLetter fs k → HasLetter fs j → IsWide (columns version k) fs → IsWide (columns version j) fs
-kind_wide version fs k j p q wide = subst (λ (l : EventKind). IsWide (columns version l) fs) (one_kind k j (sym p ∙ q)) wide
+kind_wide : (version : ℕ) (fs : List (List ℕ)) (k j : EventKind) → HasLetter fs k → HasLetter fs j → HasAllColumns (event_columns version k) fs → HasAllColumns (event_columns version j) fs
+kind_wide version fs k j p q wide = subst (λ (l : EventKind). HasAllColumns (event_columns version l) fs) (one_kind k j (sym p ∙ q)) wide
 
 event_found : (version : ℕ) (fs : List (List ℕ)) → ((e : Logged) × IsEvent version fs e) ⊎ ((column : ℕ) × IsNoEvent version fs column)
 event_found version fs = elim (letter_found fs) [
   | inr never ↦ inr (1, inl (never, refl))
-  | inl k ↦ elim (cases_eq (length fs) (length (columns version k.0) + 1)) [
+  | inl k ↦ elim (cases_eq (length fs) (length (event_columns version k.0) + 1)) [
     | inr other ↦ inr (0, inr (λ c q. q.0 k.0 k.1, inl (k.0, k.1, other, refl)))
-    | inl wide ↦ elim (numbers_or_stop (columns version k.0) (drop 1 fs) (others_long fs (length (columns version k.0)) wide)) [
+    | inl wide ↦ elim (numbers_or_stop (event_columns version k.0) (drop 1 fs) (others_long fs (length (event_columns version k.0)) wide)) [
       | inl n ↦
-          let e = made version k.0 n.0 (numbers_within (columns version k.0) (drop 1 fs) n.0 n.1) in
+          let e = made version k.0 n.0 (numbers_within (event_columns version k.0) (drop 1 fs) n.0 n.1) in
           inl (e.0, is_event version fs k.0 n.0 e.0 k.1 n.1 e.1 e.2)
       | inr stop ↦ inr (stop.0 + 2, inr (λ c q. q.0 k.0 k.1, inr (λ c q. q.2 (kind_wide version fs k.0 q.0 k.1 q.1 wide), inl (k.0, k.1, stop.0, stop.1, refl))))
     ]
@@ -208,13 +208,13 @@ event_found version fs = elim (letter_found fs) [
 -- fields that spell an event pass each check
 pub event_passes : (version : ℕ) (fs : List (List ℕ)) (e : Logged) → IsEvent version fs e → NoneOf (event_checks version fs)
 event_passes version fs e s = (
-  λ c q. q.0 (kind_of e.event) s.letter,
+  λ c q. q.0 (event_kind_of e.event) s.letter,
   (
-    λ c q. q.2 (kind_wide version fs (kind_of e.event) q.0 s.letter q.1 (event_wide version fs e s)),
+    λ c q. q.2 (kind_wide version fs (event_kind_of e.event) q.0 s.letter q.1 (event_wide version fs e s)),
     (
       λ c q.
-          let kind = one_kind (kind_of e.event) q.0 (sym s.letter ∙ q.1) in
-          no_stop (columns version q.0) (drop 1 fs) (numbers_of e) (subst (λ (k : EventKind). AreNumbers (columns version k) (drop 1 fs) (numbers_of e)) kind s.numbers) q.2 q.3,
+          let kind = one_kind (event_kind_of e.event) q.0 (sym s.letter ∙ q.1) in
+          no_stop (event_columns version q.0) (drop 1 fs) (numbers_of e) (subst (λ (k : EventKind). AreNumbers (event_columns version k) (drop 1 fs) (numbers_of e)) kind s.numbers) q.2 q.3,
       tt,
     ),
   ),
@@ -232,8 +232,8 @@ one_bad version fs =
         (
           λ a b p q.
               let kind = one_kind q.0 p.0 (sym q.1 ∙ p.1) in
-              let stop = subst (λ (k : EventKind). StopsAfter (columns version k) (drop 1 fs) q.2) kind q.3 in
-              p.4 ∙ ap (λ n. n + 2) (one_stop (columns version p.0) (drop 1 fs) p.2 q.2 p.3 stop) ∙ sym q.4,
+              let stop = subst (λ (k : EventKind). NumbersStopAfter (event_columns version k) (drop 1 fs) q.2) kind q.3 in
+              p.4 ∙ ap (λ n. n + 2) (one_stop (event_columns version p.0) (drop 1 fs) p.2 q.2 p.3 stop) ∙ sym q.4,
           tt,
         ),
       ),

@@ -8,7 +8,7 @@ use Rattle.snb_schema.specs.UpdateLines.{field}
 use Rattle.snb_input_lines.specs.Laws.{IsExact}
 use Rattle.snb_runlog.specs.Columns.{AreWithin, count_numbers, count_columns, header_columns, header_numbers, log_name, version_column}
 use Rattle.snb_runlog.specs.Laws.{HeaderOrColumn, OneHeader}
-use Rattle.snb_runlog.specs.Lines.{AreNumbers, IsHeader, IsNoHeader, IsNumber, IsWide, MayHead, StopsAfter, header_checks, log_language}
+use Rattle.snb_runlog.specs.Lines.{AreNumbers, IsHeader, IsNoHeader, IsNumber, HasAllColumns, MayHead, NumbersStopAfter, header_checks, log_language}
 use Rattle.snb_runlog.proofs.EventFacts.{count_made, event_right, few_counts, first_none, first_one, one_count, one_event}
 use Rattle.snb_runlog.proofs.LineFacts.{after_two_long, all_long, from_second, no_stop, numbers_long, numbers_or_stop, numbers_within, one_list, one_stop, second_number}
 use Rattle.snb_runlog.proofs.NumberFacts.{column_found, one_number}
@@ -19,7 +19,7 @@ may_head : (k n : ℕ) → k ≤ 1 → n ≡ suc (suc k) + 1 → (3 ≤ n) × (n
 may_head k n few is = (omega arith, omega arith)
 
 -- the fields of a header are as many as its version has
-header_wide : (fs : List (List ℕ)) (head : Header) → IsHeader fs head → IsWide (version_column ∷ header_columns head.version) fs
+header_wide : (fs : List (List ℕ)) (head : Header) → IsHeader fs head → HasAllColumns (version_column ∷ header_columns head.version) fs
 header_wide fs head s =
     all_long fs (length (version_column ∷ header_columns head.version)) 115 (codes "nblog") s.name (numbers_long (version_column ∷ header_columns head.version) (drop 1 fs) (header_numbers head) s.numbers)
 
@@ -60,8 +60,8 @@ is_header fs version ns head name some v s same =
     }
 
 -- as many fields as one version that the second spells has are as many as each has
-version_wide : (fs : List (List ℕ)) (v w : ℕ) → IsNumber version_column (field 1 fs) v → IsNumber version_column (field 1 fs) w → IsWide (version_column ∷ header_columns v) fs → IsWide (version_column ∷ header_columns w) fs
-version_wide fs v w p q wide = subst (λ (u : ℕ). IsWide (version_column ∷ header_columns u) fs) (one_number version_column (field 1 fs) v w p q) wide
+version_wide : (fs : List (List ℕ)) (v w : ℕ) → IsNumber version_column (field 1 fs) v → IsNumber version_column (field 1 fs) w → HasAllColumns (version_column ∷ header_columns v) fs → HasAllColumns (version_column ∷ header_columns w) fs
+version_wide fs v w p q wide = subst (λ (u : ℕ). HasAllColumns (version_column ∷ header_columns u) fs) (one_number version_column (field 1 fs) v w p q) wide
 
 header_found : (fs : List (List ℕ)) → ((head : Header) × IsHeader fs head) ⊎ ((column : ℕ) × IsNoHeader fs column)
 header_found fs = elim (both (is_at_most 3 (length fs)) (is_at_most (length fs) 4)) [
@@ -94,9 +94,9 @@ header_passes : (fs : List (List ℕ)) (head : Header) → IsHeader fs head → 
 header_passes fs head s =
     let parts = second_number fs version_column (header_columns head.version) head.version (head.workers ∷ count_numbers head.operations) s.numbers in
     let wide = header_wide fs head s in
-    let stopped = λ (v : ℕ) (is : IsNumber version_column (field 1 fs) v) (n : ℕ) (stop : StopsAfter (header_columns v) (drop 2 fs) n).
+    let stopped = λ (v : ℕ) (is : IsNumber version_column (field 1 fs) v) (n : ℕ) (stop : NumbersStopAfter (header_columns v) (drop 2 fs) n).
     (let version = one_number version_column (field 1 fs) v head.version is parts.0 in
-    no_stop (header_columns head.version) (drop 2 fs) (head.workers ∷ count_numbers head.operations) parts.1 n (subst (λ (w : ℕ). StopsAfter (header_columns w) (drop 2 fs) n) version stop)) in (
+    no_stop (header_columns head.version) (drop 2 fs) (head.workers ∷ count_numbers head.operations) parts.1 n (subst (λ (w : ℕ). NumbersStopAfter (header_columns w) (drop 2 fs) n) version stop)) in (
       λ c q. q.0 (may_head (length (count_columns head.version)) (length fs) (few_counts head.version) wide),
       (
         λ c q. q.0 s.name,
@@ -109,9 +109,9 @@ header_right fs head column s bad = first_none (header_checks fs) (header_passes
 
 one_bad_header : (fs : List (List ℕ)) (a b : ℕ) → IsNoHeader fs a → IsNoHeader fs b → a ≡ b
 one_bad_header fs =
-    let stops = λ (a b v w m n : ℕ) (p : IsNumber version_column (field 1 fs) v) (q : IsNumber version_column (field 1 fs) w) (s : StopsAfter (header_columns v) (drop 2 fs) m) (t : StopsAfter (header_columns w) (drop 2 fs) n) (x : a ≡ m + 3) (y : b ≡ n + 3).
+    let stops = λ (a b v w m n : ℕ) (p : IsNumber version_column (field 1 fs) v) (q : IsNumber version_column (field 1 fs) w) (s : NumbersStopAfter (header_columns v) (drop 2 fs) m) (t : NumbersStopAfter (header_columns w) (drop 2 fs) n) (x : a ≡ m + 3) (y : b ≡ n + 3).
     (let version = one_number version_column (field 1 fs) w v q p in
-    let stop = subst (λ (u : ℕ). StopsAfter (header_columns u) (drop 2 fs) n) version t in
+    let stop = subst (λ (u : ℕ). NumbersStopAfter (header_columns u) (drop 2 fs) n) version t in
     x ∙ ap (λ k. k + 3) (one_stop (header_columns v) (drop 2 fs) m n s stop) ∙ sym y) in
     first_one (header_checks fs) (
       λ a b p q. p.1 ∙ sym q.1,

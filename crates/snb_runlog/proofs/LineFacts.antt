@@ -3,7 +3,7 @@ use Rattle.std.proofs.Common.{◌≡◌, ◌∙◌, ◌+◌, ◌<◌, ◌≤◌,
 use Rattle.snb_schema.specs.UpdateLines.{field}
 use Rattle.snb_input_lines.specs.Records.{field_at}
 use Rattle.snb_runlog.specs.Columns.{AreWithin}
-use Rattle.snb_runlog.specs.Lines.{AreNumbers, IsNumber, StopsAfter}
+use Rattle.snb_runlog.specs.Lines.{AreNumbers, IsNumber, NumbersStopAfter}
 use Rattle.snb_runlog.proofs.NumberFacts.{column_found, one_number}
 
 -- the field at a place is the one there
@@ -79,7 +79,7 @@ numbers_within (c ∷ cs) (x ∷ xs) (n ∷ ns) s = (s.0.1, s.0.0.small, numbers
 numbers_within cs xs ns s = absurd s
 
 -- they stop nowhere
-pub no_stop : (cs : List (ℕ × ℕ)) (xs : List (List ℕ)) (ns : List ℕ) → AreNumbers cs xs ns → (k : ℕ) → ¬ StopsAfter cs xs k
+pub no_stop : (cs : List (ℕ × ℕ)) (xs : List (List ℕ)) (ns : List ℕ) → AreNumbers cs xs ns → (k : ℕ) → ¬ NumbersStopAfter cs xs k
 no_stop [] xs ns s k t = t
 no_stop (c ∷ cs) [] ns s k t = t
 no_stop (c ∷ cs) (x ∷ xs) [] s k t = s
@@ -87,7 +87,7 @@ no_stop (c ∷ cs) (x ∷ xs) (n ∷ ns) s zero t = t n s.0
 no_stop (c ∷ cs) (x ∷ xs) (n ∷ ns) s (suc k) t = no_stop cs xs ns s.1 k t.1
 
 -- fields stop at one place at most
-pub one_stop : (cs : List (ℕ × ℕ)) (xs : List (List ℕ)) (m n : ℕ) → StopsAfter cs xs m → StopsAfter cs xs n → m ≡ n
+pub one_stop : (cs : List (ℕ × ℕ)) (xs : List (List ℕ)) (m n : ℕ) → NumbersStopAfter cs xs m → NumbersStopAfter cs xs n → m ≡ n
 one_stop (c ∷ cs) (x ∷ xs) zero zero s t = refl
 one_stop (c ∷ cs) (x ∷ xs) zero (suc n) s t = absurd (s t.0.0 t.0.1)
 one_stop (c ∷ cs) (x ∷ xs) (suc m) zero s t = absurd (t s.0.0 s.0.1)
@@ -95,7 +95,7 @@ one_stop (c ∷ cs) (x ∷ xs) (suc m) (suc n) s t = ap suc (one_stop cs xs m n 
 one_stop cs xs m n s t = absurd s
 
 -- as many fields as columns spell numbers, or stop
-pub numbers_or_stop : (cs : List (ℕ × ℕ)) (xs : List (List ℕ)) → length xs ≡ length cs → ((ns : List ℕ) × AreNumbers cs xs ns) ⊎ ((k : ℕ) × StopsAfter cs xs k)
+pub numbers_or_stop : (cs : List (ℕ × ℕ)) (xs : List (List ℕ)) → length xs ≡ length cs → ((ns : List ℕ) × AreNumbers cs xs ns) ⊎ ((k : ℕ) × NumbersStopAfter cs xs k)
 numbers_or_stop [] [] e = inl ([], tt)
 numbers_or_stop [] (x ∷ xs) e = absurd (omega (arith, e))
 numbers_or_stop (c ∷ cs) [] e = absurd (omega (arith, e))
@@ -120,7 +120,7 @@ numbers_push (suc i) (c ∷ cs) (y ∷ xs) (m ∷ ns) d x n l f s h = (s.0, numb
 
 -- the next field spells nothing
 pub stops_here : (i : ℕ) (cs : List (ℕ × ℕ)) (xs : List (List ℕ)) (ns : List ℕ) (d : ℕ × ℕ) (x : List ℕ) → i < length cs → field_at xs i ≡ Some x → AreNumbers (take i cs) (take i xs) ns
-    → ((n : ℕ) → ¬ IsNumber (get_or cs i d) x n) → StopsAfter cs xs i
+    → ((n : ℕ) → ¬ IsNumber (get_or cs i d) x n) → NumbersStopAfter cs xs i
 unfolding field_at
 stops_here i [] xs ns d x l f s h = absurd (omega (arith, l))
 stops_here i (c ∷ cs) [] ns d x l f s h = absurd cc

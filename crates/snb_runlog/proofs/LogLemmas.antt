@@ -12,7 +12,7 @@ use Rattle.snb_history.specs.declared.logged.Header.{Header}
 use Rattle.snb_history.specs.declared.logged.Logged.{Logged}
 use Rattle.snb_history.specs.RunTexts.{header_of, logged_line, text_of_log}
 use Rattle.snb_runlog.specs.declared.columns.EventKind.{EventKind}
-use Rattle.snb_runlog.specs.Columns.{header_numbers, kind_of, letter_of, log_name, numbers_of}
+use Rattle.snb_runlog.specs.Columns.{header_numbers, event_kind_of, letter_of, log_name, numbers_of}
 use Rattle.snb_runlog.specs.Laws.{AreWritten, IsWritten, LogIsOfOneHistory, TextIsOfOneLog, line_of}
 use Rattle.snb_runlog.specs.Writing.{cells_text}
 use Rattle.snb_runlog.proofs.EventFacts.{letter_some, one_kind, same_logged}
@@ -83,24 +83,24 @@ letter_end k j xs ys e =
     (one_kind k j letters, cc)
 
 -- a line and what follows it
-line_onto : (l : Logged) (rest : List ℕ) → logged_line l ++ rest ≡ letter_of (kind_of l.event) ++ onto (numbers_of l) rest
+line_onto : (l : Logged) (rest : List ℕ) → logged_line l ++ rest ≡ letter_of (event_kind_of l.event) ++ onto (numbers_of l) rest
 line_onto l rest =
     ap (λ (t : List ℕ). t ++ rest) (line_written l)
     ∙ append_assoc (line_of l) (codes "\n") rest
-    ∙ append_assoc (letter_of (kind_of l.event)) (cells_text (numbers_of l)) (10 ∷ rest)
-    ∙ ap (λ (t : List ℕ). letter_of (kind_of l.event) ++ t) (cells_onto (numbers_of l) rest)
+    ∙ append_assoc (letter_of (event_kind_of l.event)) (cells_text (numbers_of l)) (10 ∷ rest)
+    ∙ ap (λ (t : List ℕ). letter_of (event_kind_of l.event) ++ t) (cells_onto (numbers_of l) rest)
 
 -- texts that begin with lines tell the same first where they are the same, and then go on alike
 same_line : (d e : Logged) (xs ys : List ℕ) → IsWritten d → IsWritten e → logged_line d ++ xs ≡ logged_line e ++ ys → (d ≡ e) × (xs ≡ ys)
 same_line d e xs ys u v q =
-    let letter = letter_end (kind_of d.event) (kind_of e.event) (onto (numbers_of d) xs) (onto (numbers_of e) ys) (sym (line_onto d xs) ∙ (q ∙ line_onto e ys)) in
+    let letter = letter_end (event_kind_of d.event) (event_kind_of e.event) (onto (numbers_of d) xs) (onto (numbers_of e) ys) (sym (line_onto d xs) ∙ (q ∙ line_onto e ys)) in
     let numbers = numbers_end (numbers_of d) (numbers_of e) xs ys u v letter.1 in
     (same_logged d e letter.0 numbers.0, numbers.1)
 
 -- a text that begins with a line isn't empty
 no_line : (l : Logged) (rest : List ℕ) → logged_line l ++ rest ≡ [] → ⊥
 no_line l rest q =
-    let letter = letter_some (kind_of l.event) in
+    let letter = letter_some (event_kind_of l.event) in
     let none : letter.0 ∷ onto (numbers_of l) rest ≡ [] = sym (ap (λ (t : List ℕ). t ++ onto (numbers_of l) rest) letter.1) ∙ (sym (line_onto l rest) ∙ q) in
     cc
 

@@ -19,7 +19,7 @@ use Rattle.snb_schema.specs.UpdateLines.{field}
 use Rattle.snb_input_lines.specs.Language.{IsText}
 use Rattle.snb_runlog.specs.declared.columns.EventKind.{EventKind}
 use Rattle.snb_runlog.specs.declared.columns.EventKind.TheVariants as kinds
-use Rattle.snb_runlog.specs.Columns.{AreWithin, columns, count_columns, count_numbers, event_numbers, header_columns, header_numbers, kind_of, letter_of, log_name, numbers_of, version_column}
+use Rattle.snb_runlog.specs.Columns.{AreWithin, event_columns, count_columns, count_numbers, event_numbers, header_columns, header_numbers, event_kind_of, letter_of, log_name, numbers_of, version_column}
 use Rattle.snb_runlog.specs.Laws.{OwnHeader, OwnLine, header_text, line_of}
 use Rattle.snb_runlog.specs.Lines.{AreNumbers, IsHeader, IsLogged}
 use Rattle.snb_runlog.specs.Writing.{cells_text, line_with}
@@ -43,7 +43,7 @@ short_counts : (version : ℕ) → AllByRecursion HasShort (count_columns versio
 short_counts version = by_counts (AllByRecursion HasShort) (omega arith, tt) tt version
 
 -- and so have all columns
-short_columns : (version : ℕ) (kind : EventKind) → AllByRecursion HasShort (columns version kind)
+short_columns : (version : ℕ) (kind : EventKind) → AllByRecursion HasShort (event_columns version kind)
 short_columns version kinds.Start = (omega arith, (omega arith, (omega arith, tt)))
 short_columns version kinds.Finish = (omega arith, (omega arith, (omega arith, (omega arith, short_counts version))))
 short_columns version kinds.Halt = (omega arith, tt)
@@ -132,17 +132,17 @@ line_is first ns o =
     ∙ ap (λ (t : List ℕ). t ++ codes "\n") (append_assoc first (cells_text ns) (cells_text (count_numbers o)) ∙ ap (λ (t : List ℕ). first ++ t) (sym (cells_append ns (count_numbers o))))
 
 -- what the line of an event begins with is its letter and its numbers
-event_cells : (e : Event) → event_text e ≡ letter_of (kind_of e) ++ cells_text (event_numbers e)
+event_cells : (e : Event) → event_text e ≡ letter_of (event_kind_of e) ++ cells_text (event_numbers e)
 event_cells (Start op worker at) = simp (append_assoc, append-nil)
 event_cells (Finish op worker at front) = simp (append_assoc, append-nil)
 event_cells (Halt worker) = simp append-nil
 
 -- the line of what a log tells, as it is written
-pub logged_with : (l : Logged) → logged_line l ≡ line_with (letter_of (kind_of l.event)) (event_numbers l.event) l.rows
+pub logged_with : (l : Logged) → logged_line l ≡ line_with (letter_of (event_kind_of l.event)) (event_numbers l.event) l.rows
 logged_with l = ap (λ (t : List ℕ). t ++ count_text l.rows ++ codes "\n") (event_cells l.event)
 
 pub line_written : (l : Logged) → logged_line l ≡ line_of l ++ codes "\n"
-line_written l = logged_with l ∙ line_is (letter_of (kind_of l.event)) (event_numbers l.event) l.rows
+line_written l = logged_with l ∙ line_is (letter_of (event_kind_of l.event)) (event_numbers l.event) l.rows
 
 -- and the line of a header
 pub header_with : (head : Header) → header_line head ≡ line_with log_name (head.version ∷ head.workers ∷ []) head.operations
@@ -155,19 +155,19 @@ pub header_written : (head : Header) → header_line head ≡ header_text head +
 header_written head = header_with head ∙ line_is log_name (head.version ∷ head.workers ∷ []) head.operations
 
 -- fields that are a letter and numbers spell an event
-spelled : (version : ℕ) (line : List ℕ) (l : Logged) → fields line ≡ letter_of (kind_of l.event) ∷ map decimal (numbers_of l) → AreNumbers (columns version (kind_of l.event)) (map decimal (numbers_of l)) (numbers_of l) → IsLogged version line l
+spelled : (version : ℕ) (line : List ℕ) (l : Logged) → fields line ≡ letter_of (event_kind_of l.event) ∷ map decimal (numbers_of l) → AreNumbers (event_columns version (event_kind_of l.event)) (map decimal (numbers_of l)) (numbers_of l) → IsLogged version line l
 spelled version line l is s = record {
   letter = ap (field 0) is;
-  numbers = subst (λ (xs : List (List ℕ)). AreNumbers (columns version (kind_of l.event)) (drop 1 xs) (numbers_of l)) (sym is) s;
+  numbers = subst (λ (xs : List (List ℕ)). AreNumbers (event_columns version (event_kind_of l.event)) (drop 1 xs) (numbers_of l)) (sym is) s;
 }
 
 pub own_line : OwnNumbers → OwnLine
 own_line own version l w =
-    let columned = short_columns version (kind_of l.event) in
-    let short = short_numbers (columns version (kind_of l.event)) (numbers_of l) columned w in
-    let text = letter_text (kind_of l.event) (cells_text (numbers_of l)) (plain_cells own (numbers_of l) short) in
-    let split = cells_split own (letter_of (kind_of l.event)) (numbers_of l) (letter_no_bar (kind_of l.event)) short in
-    let again = spelled version (line_of l) l split (own_numbers own (columns version (kind_of l.event)) (numbers_of l) columned w) in
+    let columned = short_columns version (event_kind_of l.event) in
+    let short = short_numbers (event_columns version (event_kind_of l.event)) (numbers_of l) columned w in
+    let text = letter_text (event_kind_of l.event) (cells_text (numbers_of l)) (plain_cells own (numbers_of l) short) in
+    let split = cells_split own (letter_of (event_kind_of l.event)) (numbers_of l) (letter_no_bar (event_kind_of l.event)) short in
+    let again = spelled version (line_of l) l split (own_numbers own (event_columns version (event_kind_of l.event)) (numbers_of l) columned w) in
     record {
       written = line_written l;
       text = text.0;

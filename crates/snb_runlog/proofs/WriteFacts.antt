@@ -6,7 +6,7 @@ use Rattle.snb_history.specs.declared.logged.Header.{Header}
 use Rattle.snb_history.specs.declared.logged.Logged.{Logged}
 use Rattle.snb_history.specs.RunTexts.{header_line, logged_line}
 use Rattle.snb_runlog.specs.declared.columns.EventKind.{EventKind}
-use Rattle.snb_runlog.specs.Columns.{columns, event_numbers, kind_of, letter_of, log_name}
+use Rattle.snb_runlog.specs.Columns.{event_columns, event_numbers, event_kind_of, letter_of, log_name}
 use Rattle.snb_runlog.specs.Writing.{AppendsSome, line_with}
 use Rattle.snb_runlog.proofs.OwnFacts.{header_with, logged_with}
 
@@ -82,11 +82,11 @@ pub bar_alone : (mid barred new : List ℕ) (n : ℕ) → barred ≡ mid ++ 124 
 bar_alone mid barred new n e f = record { written = 124 ∷ []; left = decimal n; part = refl; appended = f ∙ e }
 
 -- the line of what a log tells, by the columns of its kind
-pub logged_text : (l : Logged) (kind : EventKind) (first : List ℕ) (cs : List (ℕ × ℕ)) (ns : List ℕ) → kind ≡ kind_of l.event → first ≡ letter_of kind → cs ≡ columns 1 kind → take (length (columns 1 (kind_of l.event))) ns ≡ event_numbers l.event
+pub logged_text : (l : Logged) (kind : EventKind) (first : List ℕ) (cs : List (ℕ × ℕ)) (ns : List ℕ) → kind ≡ event_kind_of l.event → first ≡ letter_of kind → cs ≡ event_columns 1 kind → take (length (event_columns 1 (event_kind_of l.event))) ns ≡ event_numbers l.event
     → line_with first (take (length cs) ns) l.rows ≡ logged_line l
 logged_text l kind first cs ns is letter columned numbers =
-    let long : take (length cs) ns ≡ event_numbers l.event = ap (λ (ds : List (ℕ × ℕ)). take (length ds) ns) (columned ∙ ap (columns 1) is) ∙ numbers in
-    let begins : first ≡ letter_of (kind_of l.event) = letter ∙ ap letter_of is in
+    let long : take (length cs) ns ≡ event_numbers l.event = ap (λ (ds : List (ℕ × ℕ)). take (length ds) ns) (columned ∙ ap (event_columns 1) is) ∙ numbers in
+    let begins : first ≡ letter_of (event_kind_of l.event) = letter ∙ ap letter_of is in
     (λ i. line_with (begins i) (long i) l.rows) ∙ sym (logged_with l)
 
 -- the line of a header, by what it begins with and its numbers

@@ -19,20 +19,24 @@ log_name = codes "snblog"
 abbrev pub version_column : ℕ × ℕ
 version_column = (1, LAST_VERSION)
 
--- the columns of counts of a log of this version: of operations in its header, and of rows at a Finish
+-- the columns of counts of a log of this version: of operations in its header, and of rows at a
+-- Finish
 abbrev pub count_columns : ℕ → List (ℕ × ℕ)
 count_columns version = if version == LAST_VERSION then (0, MAX_NUMBER) ∷ [] else []
 
--- the columns that follow the version of a header of this version: the workers, and the operations where they are counted
+-- the columns that follow the version of a header of this version: the workers, and the operations
+-- where they are counted
 abbrev pub header_columns : ℕ → List (ℕ × ℕ)
 header_columns version = (1, MAX_WORKERS) ∷ count_columns version
 
--- the columns that follow the letter of a line of this kind, in a log of this version: the operation, the worker, the moment, the front, and
--- the rows where they are counted; a Halt has its worker alone
-abbrev pub columns : ℕ → EventKind → List (ℕ × ℕ)
-columns version kinds.Start = (0, MAX_NUMBER) ∷ (0, MAX_NUMBER) ∷ (0, MAX_AT) ∷ []
-columns version kinds.Finish = (0, MAX_NUMBER) ∷ (0, MAX_NUMBER) ∷ (0, MAX_AT) ∷ (0, MAX_NUMBER) ∷ count_columns version
-columns version kinds.Halt = (0, MAX_NUMBER) ∷ []
+-- the columns that follow the letter of a line of this kind, in a log of this version: the
+-- operation, the worker, the moment, the front, and the rows where they are counted; a Halt has its
+-- worker alone
+abbrev pub event_columns : ℕ → EventKind → List (ℕ × ℕ)
+event_columns version kinds.Start = (0, MAX_NUMBER) ∷ (0, MAX_NUMBER) ∷ (0, MAX_AT) ∷ []
+event_columns version kinds.Finish =
+    (0, MAX_NUMBER) ∷ (0, MAX_NUMBER) ∷ (0, MAX_AT) ∷ (0, MAX_NUMBER) ∷ count_columns version
+event_columns version kinds.Halt = (0, MAX_NUMBER) ∷ []
 
 -- the letter that a line of this kind begins with
 abbrev pub letter_of : EventKind → List ℕ
@@ -41,10 +45,10 @@ letter_of kinds.Finish = codes "F"
 letter_of kinds.Halt = codes "H"
 
 -- which of the three an event is
-abbrev pub kind_of : Event → EventKind
-kind_of (Start op worker at) = kinds.Start
-kind_of (Finish op worker at front) = kinds.Finish
-kind_of (Halt worker) = kinds.Halt
+abbrev pub event_kind_of : Event → EventKind
+event_kind_of (Start op worker at) = kinds.Start
+event_kind_of (Finish op worker at front) = kinds.Finish
+event_kind_of (Halt worker) = kinds.Halt
 
 -- the number of a count, where there is one
 abbrev pub count_numbers : Option ℕ → List ℕ
@@ -73,7 +77,8 @@ AreWithin _ _ = ⊥
 
 -- what a line of a log of this version can tell
 abbrev pub CanBeLogged : ℕ → Logged → Type 0
-CanBeLogged version logged = AreWithin (columns version (kind_of logged.event)) (numbers_of logged)
+CanBeLogged version logged =
+    AreWithin (event_columns version (event_kind_of logged.event)) (numbers_of logged)
 
 -- a header that a log can have
 abbrev pub CanBeHeader : Header → Type 0
@@ -81,7 +86,8 @@ CanBeHeader head = AreWithin (version_column ∷ header_columns head.version) (h
 
 -- there is a count of rows exactly at a Finish of the last version
 abbrev pub HasCount : ℕ → Logged → Type 0
-HasCount version logged = IsSome logged.rows ↔ ((version ≡ LAST_VERSION) × (kind_of logged.event ≡ kinds.Finish))
+HasCount version logged =
+    IsSome logged.rows ↔ ((version ≡ LAST_VERSION) × (event_kind_of logged.event ≡ kinds.Finish))
 
 -- and of operations exactly in a header of the last version
 abbrev pub HasOperations : Header → Type 0

@@ -1,15 +1,13 @@
 -- Laws of the log.
-use Rattle.std.specs.Prelude.{◌≡◌, ◌⊎◌, ◌<◌, ◌≤◌, ◌^◌, ◌++◌, ℕ, List, All, Option, None, Some, IfSome, codes, map}
+use Rattle.std.specs.Prelude.{◌≡◌, ◌⊎◌, ◌<◌, ◌^◌, ◌++◌, ℕ, List, All, Option, None, Some, codes}
 use Rattle.snb_history.specs.declared.logged.Header.{Header}
 use Rattle.snb_history.specs.declared.logged.Logged.{Logged}
-use Rattle.snb_history.specs.RunTexts.{first_header, first_log_text, header_line, header_of, log_text, logged_line, text_of_log}
-use Rattle.snb_schema.specs.declared.limits.TheConstants.{MAX_WORKERS}
+use Rattle.snb_history.specs.RunTexts.{header_line, log_text, logged_line, text_of_log}
 use Rattle.snb_schema.specs.Lines.{HasNoEnd, fields, lines}
 use Rattle.snb_input_lines.specs.Language.{IsText}
 use Rattle.snb_input_lines.specs.Laws.{IsExact}
 use Rattle.snb_input_lines.specs.Reading.{Says}
-use Rattle.snb_runlog.specs.declared.columns.TheConstants.{LAST_VERSION, MAX_NUMBER}
-use Rattle.snb_runlog.specs.Columns.{CanBeHeader, CanBeLogged, HasCount, HasOperations, header_numbers, kind_of, letter_of, log_name, numbers_of}
+use Rattle.snb_runlog.specs.Columns.{CanBeHeader, CanBeLogged, header_numbers, event_kind_of, letter_of, log_name, numbers_of}
 use Rattle.snb_runlog.specs.Lines.{IsEvent, IsHeader, IsLogged, IsNoEvent, IsNoHeader, log_language}
 use Rattle.snb_runlog.specs.Writing.{cells_text}
 
@@ -21,21 +19,26 @@ AreWritten ns = All (λ n. n < 2 ^ 64) ns
 abbrev pub IsWritten : Logged → Type 0
 IsWritten logged = AreWritten (numbers_of logged)
 
--- logs of the last version that are the same text are of the same number of workers and of operations, and of the same history and counts
+-- logs of the last version that are the same text are of the same number of workers and of
+-- operations, and of the same history and counts
 abbrev pub LogIsOfOneHistory : Type 0
 LogIsOfOneHistory =
-    (w v m n : ℕ) (g h : List Logged) → All IsWritten g → All IsWritten h → w < 2 ^ 32 → v < 2 ^ 32 → m < 2 ^ 32 → n < 2 ^ 32 →
+    (w v m n : ℕ) (g h : List Logged) → All IsWritten g → All IsWritten h → w < 2 ^ 32 → v < 2 ^ 32
+    → m < 2 ^ 32 → n < 2 ^ 32 →
     log_text w m g ≡ log_text v n h → (w ≡ v) × (m ≡ n) × (g ≡ h)
 
 -- and logs of any versions that are the same text have the same header, and tell the same
 abbrev pub TextIsOfOneLog : Type 0
 TextIsOfOneLog =
-    (a b : Header) (g h : List Logged) → AreWritten (header_numbers a) → AreWritten (header_numbers b) → All IsWritten g → All IsWritten h →
+    (a b : Header) (g h : List Logged) → AreWritten (header_numbers a)
+    → AreWritten (header_numbers b) → All IsWritten g → All IsWritten h →
     text_of_log a g ≡ text_of_log b h → (a ≡ b) × (g ≡ h)
 
 -- the fields of a line spell one thing at most
 abbrev pub OneEvent : Type 0
-OneEvent = (version : ℕ) (fs : List (List ℕ)) (d e : Logged) → IsEvent version fs d → IsEvent version fs e → d ≡ e
+OneEvent =
+    (version : ℕ) (fs : List (List ℕ)) (d e : Logged) → IsEvent version fs d → IsEvent version fs e
+    → d ≡ e
 
 -- and are one header at most
 abbrev pub OneHeader : Type 0
@@ -43,8 +46,10 @@ OneHeader = (fs : List (List ℕ)) (a b : Header) → IsHeader fs a → IsHeader
 
 -- fields spell an event or have a bad column, not both, and have one bad column at most
 pub record EventOrColumn (version : ℕ) (fs : List (List ℕ)) : Type 0 where
-  pub some : ((logged : Logged) × IsEvent version fs logged) ⊎ ((column : ℕ) × IsNoEvent version fs column)
-  pub right : (logged : Logged) (column : ℕ) → IsEvent version fs logged → ¬ IsNoEvent version fs column
+  pub some : ((logged : Logged) × IsEvent version fs logged)
+      ⊎ ((column : ℕ) × IsNoEvent version fs column)
+  pub right : (logged : Logged) (column : ℕ) → IsEvent version fs logged
+      → ¬ IsNoEvent version fs column
   pub one : (a b : ℕ) → IsNoEvent version fs a → IsNoEvent version fs b → a ≡ b
 
 -- fields are a header or have a bad column, not both, and have one bad column at most
@@ -55,7 +60,7 @@ pub record HeaderOrColumn (fs : List (List ℕ)) : Type 0 where
 
 -- the line of what a log tells, without its end
 abbrev pub line_of : Logged → List ℕ
-line_of logged = letter_of (kind_of logged.event) ++ cells_text (numbers_of logged)
+line_of logged = letter_of (event_kind_of logged.event) ++ cells_text (numbers_of logged)
 
 -- the line that is written is one line, and tells that and nothing else
 pub record IsOwnLine (version : ℕ) (logged : Logged) : Type 0 where
@@ -102,50 +107,6 @@ pub record ReadsBack (head : Header) (logged : List Logged) : Type 0 where
 
 -- what is written is read as it was, in either version
 abbrev pub LogReadsBack : Type 0
-LogReadsBack = (head : Header) (logged : List Logged) → CanBeHeader head → All (CanBeLogged head.version) logged → ReadsBack head logged
-
--- so with the log of a run
-abbrev pub RunReadsBack : Type 0
-RunReadsBack =
-    (workers operations : ℕ) (logged : List Logged) → 1 ≤ workers → workers ≤ MAX_WORKERS → operations ≤ MAX_NUMBER
-    → All (CanBeLogged LAST_VERSION) logged → ReadsBack (header_of workers operations) logged
-
--- what a log says, whatever its text, is written as a log that says the same
-abbrev pub LogIsWrittenAgain : Type 0
-LogIsWrittenAgain = (text : List ℕ) (logged : List Logged) (head : Header) → IsLog text head logged → ReadsBack head logged
-
--- where a log is of the last version, so it is with the log of a run of its workers, of a plan with its operations
-abbrev pub LastIsWrittenAgain : Type 0
-LastIsWrittenAgain =
-    (text : List ℕ) (logged : List Logged) (head : Header) → IsLog text head logged → head.version ≡ LAST_VERSION
-    → (operations : ℕ) × (head ≡ header_of head.workers operations) × IsLog (log_text head.workers operations logged) head logged
-
--- where it is of version 1, so it is with the log of version 1 of its workers and its history
-abbrev pub FirstIsWrittenAgain : Type 0
-FirstIsWrittenAgain =
-    (text : List ℕ) (logged : List Logged) (head : Header) → IsLog text head logged → head.version ≡ 1
-    → (head ≡ first_header head.workers) × IsLog (first_log_text head.workers (map (λ l. l.event) logged)) head logged
-
--- the same events one by one, with a count of rows exactly at each Finish
-pub record AddsCounts (logged more : List Logged) : Type 0 where
-  pub events : map (λ l. l.event) more ≡ map (λ l. l.event) logged
-  pub counted : All (HasCount LAST_VERSION) more
-  pub small : All (λ l. IfSome l.rows (λ n. n ≤ MAX_NUMBER)) more
-
--- a log of version 1 is one of the last version without its counts: whatever counts are added, it is read back with those
-abbrev pub FirstLacksCounts : Type 0
-FirstLacksCounts =
-    (text : List ℕ) (logged : List Logged) (head : Header) → IsLog text head logged → head.version ≡ 1
-    → (operations : ℕ) (more : List Logged) → operations ≤ MAX_NUMBER → AddsCounts logged more
-    → ReadsBack (header_of head.workers operations) more
-
--- a log has counts of rows exactly at each Finish of the last version, and a count of operations exactly in the last version
-abbrev pub WhereCountsAre : Type 0
-WhereCountsAre =
-    (text : List ℕ) (logged : List Logged) (head : Header) → IsLog text head logged
-    → HasOperations head × All (HasCount head.version) logged
-
--- the limits of a log
-pub record LogLimits : Type 0 where
-  pub versions : LAST_VERSION ≡ 2
-  pub numbers : MAX_NUMBER ≡ 4294967295
+LogReadsBack =
+    (head : Header) (logged : List Logged) → CanBeHeader head
+    → All (CanBeLogged head.version) logged → ReadsBack head logged

@@ -1,7 +1,7 @@
 //! The table of the columns of a log.
 
 ghost use Rattle.std.specs.Prelude.{◌≡◌, ◌==◌, ◌∷◌, []};
-ghost use Rattle.snb_runlog.specs.Columns.{columns, header_columns};
+ghost use Rattle.snb_runlog.specs.Columns.{event_columns, header_columns};
 
 use snb_schema::limits::{MAX_AT, MAX_WORKERS};
 
@@ -67,7 +67,7 @@ pub fn header_columns_of(version: u32) -> &'static [Column]
 
 /// The columns that follow the letter of a line of this kind, in a log of this version.
 pub fn columns_of(version: u32, kind: EventKind) -> &'static [Column]
-    ensures { result.now ≡ columns version kind }
+    ensures { result.now ≡ event_columns version kind }
 {
     match kind {
         EventKind::Start => &START,

@@ -4,8 +4,8 @@ ghost use Rattle.std.specs.Prelude.{◌≡◌, ◌+◌, ◌≤◌, ◌∷◌, []
 ghost use Rattle.snb_base.specs.Spellings.{Num};
 ghost use Rattle.snb_schema.specs.UpdateLines.{field};
 ghost use Rattle.snb_runlog.specs.declared.columns.EventKind.{EventKind as Kind};
-ghost use Rattle.snb_runlog.specs.Columns.{AreWithin, columns, count_columns, count_numbers, header_columns, header_numbers, kind_of, letter_of, numbers_of};
-ghost use Rattle.snb_runlog.specs.Lines.{AreNumbers, IsEvent, IsHeader, IsNoEvent, IsNoHeader, IsNumber, IsWide, StopsAfter};
+ghost use Rattle.snb_runlog.specs.Columns.{AreWithin, event_columns, count_columns, count_numbers, header_columns, header_numbers, event_kind_of, letter_of, numbers_of};
+ghost use Rattle.snb_runlog.specs.Lines.{AreNumbers, IsEvent, IsHeader, IsNoEvent, IsNoHeader, IsNumber, HasAllColumns, NumbersStopAfter};
 
 use crate::columns::{Column, EventKind, VERSION, columns_of, has_counts, header_columns_of};
 use snb_base::read_number;
@@ -44,7 +44,7 @@ fn read_numbers(before: usize, columns: &[Column], fields: &Record) -> Result<[u
     ensures ok { IfOk result (λ numbers.
         AreNumbers columns.now (drop before fields.now) (take (length columns.now) numbers)) }
     ensures bad { IfErr result (λ column.
-        (n : ℕ) × StopsAfter columns.now (drop before fields.now) n × (column ≡ n + (before + 1))) }
+        (n : ℕ) × NumbersStopAfter columns.now (drop before fields.now) n × (column ≡ n + (before + 1))) }
 {
     let mut numbers = [0; 5];
     for i in 0..columns.len() {
@@ -89,9 +89,9 @@ fn count_in(version: u32, number: u64) -> Option<u32>
 
 // What a line of this kind tells that has these numbers, which are numbers of its columns.
 fn logged_of(version: u32, kind: EventKind, numbers: &[u64; 5]) -> Logged
-    requires { AreWithin (columns version kind) (take (length (columns version kind)) numbers.now) }
-    ensures kind { kind_of result.event ≡ kind }
-    ensures numbers { numbers_of result ≡ take (length (columns version kind)) numbers.now }
+    requires { AreWithin (event_columns version kind) (take (length (event_columns version kind)) numbers.now) }
+    ensures kind { event_kind_of result.event ≡ kind }
+    ensures numbers { numbers_of result ≡ take (length (event_columns version kind)) numbers.now }
 {
     match kind {
         EventKind::Start => Logged {

@@ -2,7 +2,8 @@
 //! laws.
 
 ghost use Rattle.std.specs.Prelude.{ℕ, List};
-ghost use Rattle.snb_runlog.specs.Laws.{EventOrColumn, FirstIsWrittenAgain, FirstLacksCounts, HeaderOrColumn, LastIsWrittenAgain, LogIsExact, LogIsOfOneHistory, LogIsWrittenAgain, LogLimits, LogReadsBack, OneEvent, OneHeader, OwnHeader, OwnLine, RunReadsBack, TextIsOfOneLog, WhereCountsAre};
+ghost use Rattle.snb_runlog.specs.Laws.{EventOrColumn, HeaderOrColumn, LogIsExact, LogIsOfOneHistory, LogReadsBack, OneEvent, OneHeader, OwnHeader, OwnLine, TextIsOfOneLog};
+ghost use Rattle.snb_runlog.specs.WriteLaws.{FirstIsWrittenAgain, FirstLacksCounts, LastIsWrittenAgain, LogIsWrittenAgain, LogLimits, RunReadsBack, WhereCountsAre};
 
 use snb_base::number::one_spelling;
 

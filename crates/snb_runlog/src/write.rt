@@ -5,7 +5,7 @@ ghost use Rattle.std.specs.Fmt.{decimal};
 ghost use Rattle.std.specs.List.{flat_map};
 ghost use Rattle.snb_schema.specs.declared.limits.TheConstants.{MAX_WORKERS};
 ghost use Rattle.snb_history.specs.RunTexts.{count_text, header_line, log_text, logged_line as line_text};
-ghost use Rattle.snb_runlog.specs.Columns.{CanBeHeader, columns, event_numbers, kind_of, letter_of};
+ghost use Rattle.snb_runlog.specs.Columns.{CanBeHeader, event_columns, event_numbers, event_kind_of, letter_of};
 ghost use Rattle.snb_runlog.specs.Writing.{AppendsSome, AreCounted, cells_text, line_with, logged_text};
 
 use crate::columns::{EventKind, FIRST_VERSION, LAST_VERSION, columns_of};
@@ -15,7 +15,7 @@ use std::alloc::AllocError;
 
 // Which of the three the event is.
 fn kind_in(event: &Event) -> EventKind
-    ensures { result ≡ kind_of event.now }
+    ensures { result ≡ event_kind_of event.now }
 {
     match *event {
         Event::Start { .. } => EventKind::Start,
@@ -37,7 +37,7 @@ fn letter(kind: EventKind) -> &'static [u8]
 
 // The numbers of the event, in the order of its columns, and 0 after them.
 fn numbers_in(event: &Event) -> [u64; 4]
-    ensures { take (length (columns 1 (kind_of event.now))) result ≡ event_numbers event.now }
+    ensures { take (length (event_columns 1 (event_kind_of event.now))) result ≡ event_numbers event.now }
 {
     match *event {
         Event::Start { op, worker, at } => [u64::from(op), u64::from(worker), at, 0],

@@ -3,7 +3,7 @@ use Rattle.std.proofs.Common.{◌≡◌, List, [], ◌∷◌, refl, sym, subst}
 use Rattle.snb_schema.specs.declared.layout.Layout.{Layout}
 use Rattle.snb_schema.specs.declared.table.Table.{Table}
 use Rattle.snb_schema.specs.declared.table.Table.TheVariants as table
-use Rattle.snb_schema.specs.Layouts.{IsLayoutOf}
+use Rattle.snb_schema.specs.CodeLayouts.{IsLayoutOf}
 use Rattle.snb_schema.specs.References.{required}
 
 -- one layout is that of one table

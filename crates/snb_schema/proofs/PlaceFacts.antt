@@ -4,7 +4,7 @@ use Rattle.std.proofs.lemmas.Bool.{cases_lt, eqb-true, eqb-false}
 use Rattle.std.proofs.lemmas.List.{get_or-set_same, get_or-set_other, length-map, length-set, map-set}
 use Rattle.snb_schema.specs.Frequencies.{FrequencyTable, frequency_at}
 use Rattle.snb_schema.specs.Queries.{IsComplex}
-use Rattle.snb_schema.specs.QueryPlaces.{Values, complex_queries, place_in, place_of, value_at, values_of}
+use Rattle.snb_schema.specs.QueryPlaces.{Values, complex_queries, index_in, place_of, value_at, values_of}
 
 -- the place of a complex query is one of the seven
 pub complex_place : (q : ℕ) → IsComplex q → place_of q < 7
@@ -23,9 +23,9 @@ by_test true x q d xs rest e later lt = sym (eqb-true q x e)
 by_test false x q d xs rest e later lt = later (omega (arith, lt))
 
 -- at the place of a number stands the number
-found : (xs : List ℕ) (q d : ℕ) → place_in xs q < length xs → get_or xs (place_in xs q) d ≡ q
+found : (xs : List ℕ) (q d : ℕ) → index_in xs q < length xs → get_or xs (index_in xs q) d ≡ q
 found [] q d lt = absurd (omega (arith, lt))
-found (x ∷ xs) q d lt = by_test (q == x) x q d xs (place_in xs q) refl (found xs q d) lt
+found (x ∷ xs) q d lt = by_test (q == x) x q d xs (index_in xs q) refl (found xs q d) lt
 
 -- another number than a complex query has another place
 pub other_place : (other q : ℕ) → IsComplex q → other ≢ q → place_of other ≢ place_of q

@@ -1,11 +1,12 @@
--- Who waits for whom: some inserts add nodes that others wait for, and some inserts wait. An insert may do both, one or neither.
+-- Who waits for whom: some inserts add nodes that others wait for, and some inserts wait. An insert
+-- may do both, one or neither.
 use Rattle.std.specs.Prelude.{Bool, true, false, Option, Some, None}
 use Rattle.snb_schema.specs.declared.op.Op.{Op}
 use Rattle.snb_schema.specs.declared.op.InsertKind.{InsertKind}
 use Rattle.snb_schema.specs.declared.op.InsertKind.TheVariants as inserts
 use Rattle.snb_schema.specs.declared.table.Kind.{Kind}
 use Rattle.snb_schema.specs.declared.table.Kind.TheVariants as kinds
-use Rattle.snb_schema.specs.UpdateLines.{kind_of}
+use Rattle.snb_schema.specs.InsertLines.{kind_of}
 
 -- inserts wait for nodes of this kind: for persons and forums
 abbrev pub is_awaited : Kind → Bool

@@ -13,7 +13,8 @@ use Rattle.snb_schema.specs.declared.column.Value.TheVariants.{Digits, SmallDigi
 abbrev pub no_id : List ℕ
 no_id = codes "-1"
 
--- the text is a spelling of the value; dates and days are in words or digits, and a list has each element once
+-- the text is a spelling of the value; dates and days are in words or digits, and a list has each
+-- element once
 abbrev pub Spells : Column → List ℕ → Value → Type 0
 Spells (Number most) x (Digits n) = Num x n most
 Spells (Number most) x _ = ⊥

@@ -13,7 +13,8 @@ table_text t = codes (layout t).name
 
 -- the name of a file of this kind, of which it is the part counted from 0
 abbrev pub name_of_part : FileKind → ℕ → List ℕ
-name_of_part (kind.Table table) part = table_text table ++ codes "_" ++ decimal part ++ codes "_0.csv"
+name_of_part (kind.Table table) part =
+    table_text table ++ codes "_" ++ decimal part ++ codes "_0.csv"
 name_of_part kind.PersonStream part = codes "updateStream_0_" ++ decimal part ++ codes "_person.csv"
 name_of_part kind.ForumStream part = codes "updateStream_0_" ++ decimal part ++ codes "_forum.csv"
 name_of_part (kind.Params query) part = codes "interactive_" ++ decimal query ++ codes "_param.txt"

@@ -36,7 +36,9 @@ pub record SpellsFrequencies (x : List ℕ) (pairs : List (ℕ × ℕ)) : Type 0
 
 -- a text says one list of frequencies at most
 abbrev pub FrequenciesAreOne : Type 0
-FrequenciesAreOne = (x : List ℕ) (pairs others : List (ℕ × ℕ)) → SpellsFrequencies x pairs → SpellsFrequencies x others → pairs ≡ others
+FrequenciesAreOne =
+    (x : List ℕ) (pairs others : List (ℕ × ℕ)) → SpellsFrequencies x pairs
+    → SpellsFrequencies x others → pairs ≡ others
 
 -- the frequency beside a query, and 0 where the query isn't there
 abbrev pub frequency_in : List (ℕ × ℕ) → ℕ → ℕ

@@ -4,6 +4,8 @@ pub mod FileNames
 pub mod Frequencies
 pub mod FrequencyPieces
 pub mod Layouts
+pub mod TableColumns
+pub mod CodeLayouts
 pub mod Limits
 pub mod LineFaults
 pub mod LineLanes
@@ -13,9 +15,11 @@ pub mod Queries
 pub mod QueryLists
 pub mod QueryPlaces
 pub mod ReadKinds
+pub mod RowValues
 pub mod RowLines
 pub mod ScreenTexts
 pub mod StreamLines
+pub mod InsertLines
 pub mod UpdateLines
 pub mod Awaiting
 pub mod Inserts

@@ -6,7 +6,8 @@ use Rattle.snb_schema.specs.declared.refusal.Refusal.{Refusal}
 use Rattle.snb_schema.specs.declared.refusal.Refusal.TheVariants.{BadLine, NotUtf8}
 use Rattle.snb_schema.specs.Lines.{begins_with_mark}
 
--- the line of this number is refused for its bytes: it begins with a byte order mark, or it isn't UTF-8
+-- the line of this number is refused for its bytes: it begins with a byte order mark, or it isn't
+-- UTF-8
 abbrev pub RefusesText : FileId → ℕ → List ℕ → Refusal → Type 0
 RefusesText file number line r =
     FirstOf

@@ -1,4 +1,5 @@
--- The lines of the parameter files: a relation between one line and its query, and what is wrong with a line that has none.
+-- The lines of the parameter files: a relation between one line and its query, and what is wrong
+-- with a line that has none.
 use Rattle.std.specs.Prelude.{◌≡◌, ◌≢◌, ◌+◌, ◌==◌, ℕ, false, List, [], ◌∷◌, length, if◌then◌else◌, IsUtf8}
 use Rattle.snb_base.specs.FirstOf.{FirstOf}
 use Rattle.snb_schema.specs.declared.column.Column.{Column}
@@ -9,7 +10,7 @@ use Rattle.snb_schema.specs.declared.limits.TheConstants.{MAX_YEAR}
 use Rattle.snb_schema.specs.declared.query.Query.{Query}
 use Rattle.snb_schema.specs.declared.query.Query.TheVariants.{Is1, Is2, Is3, Is4, Is5, Is6, Is7, Ic1, Ic2, Ic7, Ic8, Ic9, Ic11, Ic13}
 use Rattle.snb_schema.specs.Columns.{SpellsAll, StopsAfter}
-use Rattle.snb_schema.specs.Layouts.{id_column}
+use Rattle.snb_schema.specs.TableColumns.{id_column}
 use Rattle.snb_schema.specs.Lines.{HasNoEnd, begins_with_mark, fields}
 use Rattle.snb_schema.specs.Queries.{number_of_query}
 
@@ -45,15 +46,16 @@ query_values (Ic13 from to) = Digits from ∷ Digits to ∷ []
 abbrev pub SpellsQuery : ℕ → List (List ℕ) → Query → Type 0
 SpellsQuery q fs one = (number_of_query one ≡ q) × SpellsAll (query_columns q) fs (query_values one)
 
--- the line is the query's: one line of UTF-8, without a byte order mark, and its fields spell the query
+-- the line is the query's: one line of UTF-8, without a byte order mark, and its fields spell the
+-- query
 pub record IsParams (q : ℕ) (line : List ℕ) (one : Query) : Type 0 where
   pub text : IsUtf8 line
   pub unmarked : begins_with_mark line ≡ false
   pub one_line : HasNoEnd line
   pub spelled : SpellsQuery q (fields line) one
 
--- these fields are no parameters of the query, in this column first: 0 where their number is wrong, else that of the first field that
--- spells no value of its column
+-- these fields are no parameters of the query, in this column first: 0 where their number is wrong,
+-- else that of the first field that spells no value of its column
 abbrev pub IsBadQuery : ℕ → List (List ℕ) → ℕ → Type 0
 IsBadQuery q fs column =
     FirstOf

@@ -16,7 +16,8 @@ list_of lists q = value_at 7 lists (place_of q) []
 
 -- each query with a frequency has a parameter
 abbrev pub HaveParameters : QueryLists → FrequencyTable → Type 0
-HaveParameters lists frequencies = (q : ℕ) → 0 < frequency_at frequencies q → 0 < length (list_of lists q)
+HaveParameters lists frequencies =
+    (q : ℕ) → 0 < frequency_at frequencies q → 0 < length (list_of lists q)
 
 -- these are all queries of that number
 abbrev pub AreOf : ℕ → List Query → Type 0

@@ -7,13 +7,13 @@ abbrev pub complex_queries : List ℕ
 complex_queries = 1 ∷ 2 ∷ 7 ∷ 8 ∷ 9 ∷ 11 ∷ 13 ∷ []
 
 -- the place of a number in a list; one that isn't there has the place past the last
-abbrev pub place_in : List ℕ → ℕ → ℕ
-place_in [] q = 0
-place_in (x ∷ xs) q = if q == x then 0 else suc (place_in xs q)
+abbrev pub index_in : List ℕ → ℕ → ℕ
+index_in [] q = 0
+index_in (x ∷ xs) q = if q == x then 0 else suc (index_in xs q)
 
 -- the place of a complex query among the seven; any other number has place 7, past the last
 abbrev pub place_of : ℕ → ℕ
-place_of q = place_in complex_queries q
+place_of q = index_in complex_queries q
 
 -- so many values, by place
 abbrev pub Values : ℕ → Type 0 → Type 0
@@ -38,8 +38,10 @@ as_list zero values = []
 as_list (suc n) values = values.0 ∷ as_list n values.1
 
 -- the values of a list give the list back
-pub listed_back : {A : Type 0} (n : ℕ) (xs : List A) (none : A) → length xs ≡ n → as_list n (values_of n xs none) ≡ xs
+pub listed_back : {A : Type 0} (n : ℕ) (xs : List A) (none : A) → length xs ≡ n
+    → as_list n (values_of n xs none) ≡ xs
 listed_back zero [] none e = refl
 listed_back zero (x ∷ xs) none e = absurd (cc)
 listed_back (suc n) [] none e = absurd (cc)
-listed_back (suc n) (x ∷ xs) none e = let one_less : length xs ≡ n = cc in λ i. x ∷ listed_back n xs none one_less i
+listed_back (suc n) (x ∷ xs) none e =
+    let one_less : length xs ≡ n = cc in λ i. x ∷ listed_back n xs none one_less i

@@ -7,25 +7,25 @@ use Rattle.snb_schema.specs.declared.query.Query.{Query}
 use Rattle.snb_schema.specs.declared.query.Query.TheVariants as queries
 use Rattle.snb_schema.specs.declared.read_kind.ReadKind.{ReadKind}
 use Rattle.snb_schema.specs.declared.read_kind.ReadKind.TheVariants.{Is1, Is2, Is3, Is4, Is5, Is6, Is7, Ic1, Ic2, Ic7, Ic8, Ic9, Ic11, Ic13}
-use Rattle.snb_schema.specs.Layouts.{id_column}
+use Rattle.snb_schema.specs.TableColumns.{id_column}
 use Rattle.snb_schema.specs.ParameterLines.{query_columns, query_values}
 
 -- the kind of a read
-abbrev pub kind_of : Query → ReadKind
-kind_of (queries.Is1 person) = Is1
-kind_of (queries.Is2 person) = Is2
-kind_of (queries.Is3 person) = Is3
-kind_of (queries.Is4 message) = Is4
-kind_of (queries.Is5 message) = Is5
-kind_of (queries.Is6 message) = Is6
-kind_of (queries.Is7 message) = Is7
-kind_of (queries.Ic1 person first_name) = Ic1
-kind_of (queries.Ic2 person max_date) = Ic2
-kind_of (queries.Ic7 person) = Ic7
-kind_of (queries.Ic8 person) = Ic8
-kind_of (queries.Ic9 person max_date) = Ic9
-kind_of (queries.Ic11 person country year) = Ic11
-kind_of (queries.Ic13 from to) = Ic13
+abbrev pub read_kind_of : Query → ReadKind
+read_kind_of (queries.Is1 person) = Is1
+read_kind_of (queries.Is2 person) = Is2
+read_kind_of (queries.Is3 person) = Is3
+read_kind_of (queries.Is4 message) = Is4
+read_kind_of (queries.Is5 message) = Is5
+read_kind_of (queries.Is6 message) = Is6
+read_kind_of (queries.Is7 message) = Is7
+read_kind_of (queries.Ic1 person first_name) = Ic1
+read_kind_of (queries.Ic2 person max_date) = Ic2
+read_kind_of (queries.Ic7 person) = Ic7
+read_kind_of (queries.Ic8 person) = Ic8
+read_kind_of (queries.Ic9 person max_date) = Ic9
+read_kind_of (queries.Ic11 person country year) = Ic11
+read_kind_of (queries.Ic13 from to) = Ic13
 
 -- the word that names it
 abbrev pub read_word : ReadKind → List ℕ
@@ -44,7 +44,8 @@ read_word Ic9 = codes "IC9"
 read_word Ic11 = codes "IC11"
 read_word Ic13 = codes "IC13"
 
--- the columns of its parameters: a short read has the id of a person or a message, and a complex one what its parameter file has
+-- the columns of its parameters: a short read has the id of a person or a message, and a complex
+-- one what its parameter file has
 abbrev pub parameter_columns : ReadKind → List Column
 parameter_columns Is1 = id_column ∷ []
 parameter_columns Is2 = id_column ∷ []

@@ -32,12 +32,14 @@ abbrev pub end_ref : ℕ → Option Kind → ℕ → List (ℕ × Missing)
 end_ref column None n = []
 end_ref column (Some k) n = (column, ref k n) ∷ []
 
--- the references of an edge by the columns of its line, which has the ends the other way round where it is turned
+-- the references of an edge by the columns of its line, which has the ends the other way round
+-- where it is turned
 abbrev pub edge_refs : Table → ℕ → ℕ → Bool → List (ℕ × Missing)
 edge_refs t from to false = end_ref 1 (from_kind t) from ++ end_ref 2 (to_kind t) to
 edge_refs t from to true = end_ref 1 (to_kind t) to ++ end_ref 2 (from_kind t) from
 
--- what a row refers to, each with its column in the row's line, by rising column; a node refers to nothing
+-- what a row refers to, each with its column in the row's line, by rising column; a node refers to
+-- nothing
 abbrev pub refs_of_row : Row → Bool → List (ℕ × Missing)
 refs_of_row (row.Link t from to) turned = edge_refs t from to turned
 refs_of_row (row.Dated t from to date) turned = edge_refs t from to turned
@@ -51,29 +53,39 @@ parent_ref (parents.Post n) = ref kinds.Post n
 parent_ref (parents.Comment n) = ref kinds.Comment n
 
 -- the organisations of studies or works, each of which has a year
-abbrev pub organisations : List (ℕ × ℕ) → List Missing
-organisations stays = map (λ s. ref kinds.Organisation s.0) stays
+abbrev pub organisation_refs : List (ℕ × ℕ) → List Missing
+organisation_refs stays = map (λ s. ref kinds.Organisation s.0) stays
 
 -- what an insert refers to, in the order in which it is checked
 abbrev pub refs_of : Op → List Missing
-refs_of (ops.AddPerson person first last gender birthday created ip browser city languages emails tags study work) =
-    ref kinds.Place city ∷ map (ref kinds.Tag) tags ++ organisations study ++ organisations work
+refs_of (ops.AddPerson person first last gender birthday created ip browser city languages emails
+    tags study work) =
+    ref kinds.Place city ∷ map (ref kinds.Tag) tags ++ organisation_refs study
+    ++ organisation_refs work
 refs_of (ops.LikePost person post date) = ref kinds.Person person ∷ ref kinds.Post post ∷ []
-refs_of (ops.LikeComment person comment date) = ref kinds.Person person ∷ ref kinds.Comment comment ∷ []
-refs_of (ops.AddForum forum title date moderator tags) = ref kinds.Person moderator ∷ map (ref kinds.Tag) tags
+refs_of (ops.LikeComment person comment date) =
+    ref kinds.Person person ∷ ref kinds.Comment comment ∷ []
+refs_of (ops.AddForum forum title date moderator tags) =
+    ref kinds.Person moderator ∷ map (ref kinds.Tag) tags
 refs_of (ops.AddMember person forum date) = ref kinds.Person person ∷ ref kinds.Forum forum ∷ []
 refs_of (ops.AddPost post image date ip browser language content size author forum country tags) =
-    ref kinds.Person author ∷ ref kinds.Forum forum ∷ ref kinds.Place country ∷ map (ref kinds.Tag) tags
+    ref kinds.Person author ∷ ref kinds.Forum forum ∷ ref kinds.Place country
+    ∷ map (ref kinds.Tag) tags
 refs_of (ops.AddComment comment date ip browser content size author country parent tags) =
     ref kinds.Person author ∷ ref kinds.Place country ∷ parent_ref parent ∷ map (ref kinds.Tag) tags
 refs_of (ops.AddFriend one other date) = ref kinds.Person one ∷ ref kinds.Person other ∷ []
 
 -- the node that an insert adds, if it adds one
 abbrev pub added_node : Op → Option Missing
-added_node (ops.AddPerson person first last gender birthday created ip browser city languages emails tags study work) = Some (ref kinds.Person person)
+added_node
+    (ops.AddPerson person first last gender birthday created ip browser city languages emails tags
+    study work) = Some (ref kinds.Person person)
 added_node (ops.AddForum forum title date moderator tags) = Some (ref kinds.Forum forum)
-added_node (ops.AddPost post image date ip browser language content size author forum country tags) = Some (ref kinds.Post post)
-added_node (ops.AddComment comment date ip browser content size author country parent tags) = Some (ref kinds.Comment comment)
+added_node
+    (ops.AddPost post image date ip browser language content size author forum country tags) =
+    Some (ref kinds.Post post)
+added_node (ops.AddComment comment date ip browser content size author country parent tags) =
+    Some (ref kinds.Comment comment)
 added_node _ = None
 
 -- the table is that of the nodes of this kind, if it is a kind
@@ -81,7 +93,10 @@ abbrev pub is_table_of : Option Kind → Table → Bool
 is_table_of None t = false
 is_table_of (Some kind) t = same_table (kind_table kind) t
 
--- the edges that each node of a table has exactly once, by the table of the nodes and then that of the edges: the key of each is the
--- node's id, and a comment's parent may stand in either table of replies, which share their keys
+-- the edges that each node of a table has exactly once, by the table of the nodes and then that of
+-- the edges: the key of each is the node's id, and a comment's parent may stand in either table of
+-- replies, which share their keys
 abbrev pub required : List (Table × Table)
-required = flat_map (λ node. map (λ edge. (node, edge)) (filter (λ edge. is_table_of (layout edge).required_of node) all_tables)) all_tables
+required =
+    flat_map (λ node. map (λ edge. (node, edge))
+    (filter (λ edge. is_table_of (layout edge).required_of node) all_tables)) all_tables

@@ -13,9 +13,10 @@ use Rattle.snb_schema.specs.declared.table.Kind.TheVariants as kinds
 use Rattle.snb_schema.specs.declared.table.Table.{Table}
 use Rattle.snb_schema.specs.declared.table.Table.TheVariants as table
 use Rattle.snb_schema.specs.Layouts.{key_columns, layout}
-use Rattle.snb_schema.specs.RowLines.{table_of, values}
+use Rattle.snb_schema.specs.RowValues.{table_of, values}
 
--- what tells the rows of a graph apart: a table, the ids of its key columns, where 0 stands for no second one, and a word's text
+-- what tells the rows of a graph apart: a table, the ids of its key columns, where 0 stands for no
+-- second one, and a word's text
 abbrev pub RowKey : Type 0
 RowKey = Table × ℕ × ℕ × List ℕ
 
@@ -29,8 +30,8 @@ column_key FirstTwo t (Digits one ∷ Digits other ∷ rest) = (t, one, other, [
 column_key FirstTwo t (Digits one ∷ Letters text ∷ rest) = (t, one, 0, text)
 column_key FirstTwo t values = (t, 0, 0, [])
 
--- the columns of a row's key: of an edge with neither date nor year those that its table says, of any other row with two ends these,
--- and of a node its id
+-- the columns of a row's key: of an edge with neither date nor year those that its table says, of
+-- any other row with two ends these, and of a node its id
 abbrev pub key_columns_in : Row → KeyColumns
 key_columns_in (row.Link t from to) = key_columns t
 key_columns_in (row.Dated t from to date) = FirstTwo
@@ -46,7 +47,8 @@ row_key r = column_key (key_columns_in r) (table_of r) (values r)
 abbrev pub edge_key : KeyColumns → Table → ℕ → ℕ → RowKey
 edge_key key t from to = column_key key t (Digits from ∷ Digits to ∷ [])
 
--- the table with which a table shares its keys: posts and comments have one id space, and a comment has one parent, be it a post or a comment
+-- the table with which a table shares its keys: posts and comments have one id space, and a comment
+-- has one parent, be it a post or a comment
 abbrev pub sharing : Table → Table
 sharing t = unwrap_or (layout t).shares t
 

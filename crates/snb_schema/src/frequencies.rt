@@ -69,7 +69,8 @@ impl Frequencies {
     fn with(self, query: u32, frequency: u32) -> Frequencies
         requires complex { IsComplex query }
         requires bounded { frequency ≤ MAX_FREQUENCY }
-        ensures { (other : ℕ) → frequency_at result other ≡ (if other == query then frequency else frequency_at self other) }
+        ensures { (other : ℕ) → frequency_at result other
+            ≡ (if other == query then frequency else frequency_at self other) }
     {
         let mut table = self;
         table.by_place[place_of(query)] = frequency;
@@ -79,7 +80,8 @@ impl Frequencies {
 
 // The parts of the text before and after the first byte `at`.
 fn cut<'a>(text: &'a [u8], at: u8) -> Option<(&'a [u8], &'a [u8])>
-    ensures { MatchOption result (HasNo at text.entry.now) (λ parts. IsCutAtFirst at text.entry.now parts.0.now parts.1.now) }
+    ensures { MatchOption result (HasNo at text.entry.now)
+        (λ parts. IsCutAtFirst at text.entry.now parts.0.now parts.1.now) }
 {
     let place = text.iter().position(|b| *b == at)?;
     Some((&text[..place], &text[place + 1..]))

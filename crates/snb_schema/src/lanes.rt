@@ -81,7 +81,8 @@ impl Lanes {
     /// were, and drops the lines.
     pub fn push_person(&mut self, lines: Vec<Line>) -> Result<(), AllocError>
         requires { length self.old.persons < MAX_LANES }
-        ensures ok { OnOk result (self.new ≡ record { persons = self.old.persons ++ lines.items ∷ []; forums = self.old.forums }) }
+        ensures ok { OnOk result
+            (self.new ≡ record { persons = self.old.persons ++ lines.items ∷ []; forums = self.old.forums }) }
         ensures err { OnErr result (self.new ≡ self.old) }
     {
         self.persons.push(Lane { lines })?;
@@ -92,7 +93,8 @@ impl Lanes {
     /// `MAX_LANES` before. Want of memory leaves the lanes as they were, and drops the lines.
     pub fn push_forum(&mut self, lines: Vec<Line>) -> Result<(), AllocError>
         requires { length self.old.forums < MAX_LANES }
-        ensures ok { OnOk result (self.new ≡ record { persons = self.old.persons; forums = self.old.forums ++ lines.items ∷ [] }) }
+        ensures ok { OnOk result
+            (self.new ≡ record { persons = self.old.persons; forums = self.old.forums ++ lines.items ∷ [] }) }
         ensures err { OnErr result (self.new ≡ self.old) }
     {
         self.forums.push(Lane { lines })?;

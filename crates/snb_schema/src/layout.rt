@@ -4,7 +4,9 @@ ghost use Rattle.std.specs.Prelude.{◌≡◌, IsTrue, Some, None, false};
 ghost use Rattle.snb_schema.specs.declared.layout.KeyColumns.TheVariants as keys;
 ghost use Rattle.snb_schema.specs.declared.layout.Shape.TheVariants as shapes;
 ghost use Rattle.snb_schema.specs.declared.table.Table.TheVariants as tables;
-ghost use Rattle.snb_schema.specs.Layouts.{IsLayoutOf, columns, has_no_direction, key_columns, shape};
+ghost use Rattle.snb_schema.specs.Layouts.{has_no_direction, key_columns, shape};
+ghost use Rattle.snb_schema.specs.TableColumns.{columns};
+ghost use Rattle.snb_schema.specs.CodeLayouts.{IsLayoutOf};
 
 use crate::column::Column;
 use crate::limits::{MAX_ID, MAX_LENGTH, MAX_YEAR};

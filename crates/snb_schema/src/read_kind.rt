@@ -1,7 +1,7 @@
 //! The kinds of the reads.
 
 ghost use Rattle.std.specs.Prelude.{◌≡◌, MatchOption};
-ghost use Rattle.snb_schema.specs.ReadKinds.{kind_of, parameter_columns, read_word};
+ghost use Rattle.snb_schema.specs.ReadKinds.{read_kind_of, parameter_columns, read_word};
 ghost use Rattle.snb_schema.specs.declared.read_kind.ReadKind.{ReadKind as AnyKind};
 
 use crate::column::Column;
@@ -43,7 +43,8 @@ const PAIRED: [Column; 2] = [ID, ID];
 impl ReadKind {
     /// The kind that the word names, as in `IS1` and `IC13`; None exactly where it names none.
     pub fn of_word(word: &str) -> Option<ReadKind>
-        ensures { MatchOption result ((kind : AnyKind) → ¬ (word.now ≡ read_word kind)) (λ kind. word.now ≡ read_word kind) }
+        ensures { MatchOption result ((kind : AnyKind) → ¬ (word.now ≡ read_word kind))
+            (λ kind. word.now ≡ read_word kind) }
     {
         match word {
             "IS1" => Some(ReadKind::Is1),
@@ -103,7 +104,7 @@ impl ReadKind {
 impl Query {
     /// Its kind.
     pub fn kind(&self) -> ReadKind
-        ensures { result ≡ kind_of self.now }
+        ensures { result ≡ read_kind_of self.now }
     {
         match self {
             Query::Is1 { .. } => ReadKind::Is1,

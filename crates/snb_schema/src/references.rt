@@ -139,12 +139,12 @@ impl<'a> Model for Refs<'a> {
     ghost use Rattle.std.specs.List.{cons_option};
     ghost use Rattle.snb_schema.specs.declared.refusal.Missing.{Missing};
     ghost use Rattle.snb_schema.specs.declared.table.Kind.TheVariants as kinds;
-    ghost use Rattle.snb_schema.specs.References.{ref, organisations};
+    ghost use Rattle.snb_schema.specs.References.{ref, organisation_refs};
 
     ghost Value = { List Missing };
 
     ghost view = { λ r. cons_option r.first (cons_option r.second (cons_option r.third
-        (map (ref kinds.Tag) r.tags.now ++ organisations r.study.now ++ organisations r.work.now))) };
+        (map (ref kinds.Tag) r.tags.now ++ organisation_refs r.study.now ++ organisation_refs r.work.now))) };
 }
 
 // The node of a kind that has this id.

@@ -36,7 +36,8 @@ pub fn comment_rows()
     ensures to_post { rows_of reply_to_post ≡ rows_of_reply_to_post }
     ensures to_comment { rows_of reply_to_comment ≡ rows_of_reply_to_comment }
     ensures post_refs { refs_of reply_to_post ≡ ref kinds.Person 12 ∷ ref kinds.Place 0 ∷ ref kinds.Post 30 ∷ [] }
-    ensures comment_refs { refs_of reply_to_comment ≡ ref kinds.Person 12 ∷ ref kinds.Place 0 ∷ ref kinds.Comment 31 ∷ ref kinds.Tag 0 ∷ [] }
+    ensures comment_refs { refs_of reply_to_comment ≡ ref kinds.Person 12 ∷ ref kinds.Place 0 ∷ ref kinds.Comment 31
+        ∷ ref kinds.Tag 0 ∷ [] }
 {}
 
 /// The other inserts add one edge each: a friendship with the lower id first, a membership with
@@ -68,20 +69,27 @@ pub fn insert_keys()
 /// forum holds a post by the post's id, and a friendship is a pair.
 pub fn slots()
     ensures message { slot (table.Comment, 30, 0, []) ≡ slot (table.Post, 30, 0, []) }
-    ensures parent { slot_of (row.Link table.CommentReplyOfComment 31 32) ≡ slot_of (row.Link table.CommentReplyOfPost 31 30) }
+    ensures parent { slot_of (row.Link table.CommentReplyOfComment 31 32)
+        ≡ slot_of (row.Link table.CommentReplyOfPost 31 30) }
     ensures container { slot_of (row.Link table.ForumContainerOfPost 20 30) ≡ (table.ForumContainerOfPost, 30, 0, []) }
-    ensures moderator { slot_of (row.Link table.ForumHasModeratorPerson 20 10) ≡ (table.ForumHasModeratorPerson, 20, 0, []) }
+    ensures moderator { slot_of (row.Link table.ForumHasModeratorPerson 20 10)
+        ≡ (table.ForumHasModeratorPerson, 20, 0, []) }
     ensures knows { row_key (row.Dated table.PersonKnowsPerson 10 11 3000) ≡ (table.PersonKnowsPerson, 10, 11, []) }
-    ensures word { row_key (row.Word table.PersonSpeaksLanguage 10 (codes "en")) ≡ (table.PersonSpeaksLanguage, 10, 0, codes "en") }
+    ensures word { row_key (row.Word table.PersonSpeaksLanguage 10 (codes "en"))
+        ≡ (table.PersonSpeaksLanguage, 10, 0, codes "en") }
 {}
 
 /// References stand in the columns of the file's line, also where a friendship's line has the
 /// higher id first.
 pub fn row_references()
-    ensures straight { refs_of_row (row.Dated table.PersonKnowsPerson 10 11 3000) false ≡ (1, ref kinds.Person 10) ∷ (2, ref kinds.Person 11) ∷ [] }
-    ensures turned { refs_of_row (row.Dated table.PersonKnowsPerson 10 11 3000) true ≡ (1, ref kinds.Person 11) ∷ (2, ref kinds.Person 10) ∷ [] }
-    ensures container { refs_of_row (row.Link table.ForumContainerOfPost 20 30) false ≡ (1, ref kinds.Forum 20) ∷ (2, ref kinds.Post 30) ∷ [] }
-    ensures word { refs_of_row (row.Word table.PersonSpeaksLanguage 10 (codes "en")) false ≡ (1, ref kinds.Person 10) ∷ [] }
+    ensures straight { refs_of_row (row.Dated table.PersonKnowsPerson 10 11 3000) false
+        ≡ (1, ref kinds.Person 10) ∷ (2, ref kinds.Person 11) ∷ [] }
+    ensures turned { refs_of_row (row.Dated table.PersonKnowsPerson 10 11 3000) true
+        ≡ (1, ref kinds.Person 11) ∷ (2, ref kinds.Person 10) ∷ [] }
+    ensures container { refs_of_row (row.Link table.ForumContainerOfPost 20 30) false
+        ≡ (1, ref kinds.Forum 20) ∷ (2, ref kinds.Post 30) ∷ [] }
+    ensures word { refs_of_row (row.Word table.PersonSpeaksLanguage 10 (codes "en")) false
+        ≡ (1, ref kinds.Person 10) ∷ [] }
     ensures node { refs_of_row (row.Person cy_person) false ≡ [] }
 {}
 

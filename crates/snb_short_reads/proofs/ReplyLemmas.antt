@@ -13,7 +13,7 @@ use Rattle.snb_schema.specs.RowKeys.{node_key}
 use Rattle.snb_graph_integrity.specs.SoundLaws.{NumbersFit}
 use Rattle.snb_graph_model.specs.Graphs.{IsGraph}
 use Rattle.snb_graph_model.specs.Messages.{HasMessage, RepliesTo}
-use Rattle.snb_graph_model.specs.Soundness.{Held}
+use Rattle.snb_graph_model.specs.Soundness.{HoldsRefs}
 use Rattle.snb_graph_model.proofs.Laws.{HasComment, Replied, replied_there}
 use Rattle.snb_graph_model.specs.Around.{authors, replies}
 use Rattle.snb_read_lookups.specs.Lookups.{IsCellNumber}
@@ -36,7 +36,7 @@ reply_found g graph fit m id date author parent (c, there, is, at) made =
       date_fits = subst IsCellNumber at moment;
     }
 
-replied_to : (g : List Row) → Held g → (m id : ℕ) → RepliesTo g id m → HasMessage g m
+replied_to : (g : List Row) → HoldsRefs g → (m id : ℕ) → RepliesTo g id m → HasMessage g m
 replied_to g held m id (inl c) = inl (held (row.Link table.CommentReplyOfPost id m) c 1 any (omega arith))
 replied_to g held m id (inr c) = inr (held (row.Link table.CommentReplyOfComment id m) c 1 any (omega arith))
 
@@ -57,7 +57,7 @@ module _ (g : List Row) (m : ℕ) (all left rest : List (ℕ × ℕ)) (found : L
       let (c, there, named, at) = (next_replied id date is).1 in
       inr (record { it = row.Comment c; held = there; keyed = ap (node_key kinds.Comment) named })
 
-  pub next_found : IsGraph g → NumbersFit → Held g → (id date author : ℕ) (new : List (ℕ × ℕ × ℕ)) → left ≡ (id, date) ∷ rest → authors g id ≡ author ∷ [] → new ≡ found ++ (id, date, author) ∷ [] → IsFinding g m all rest new
+  pub next_found : IsGraph g → NumbersFit → HoldsRefs g → (id date author : ℕ) (new : List (ℕ × ℕ × ℕ)) → left ≡ (id, date) ∷ rest → authors g id ≡ author ∷ [] → new ≡ found ++ (id, date, author) ∷ [] → IsFinding g m all rest new
   next_found graph fit held id date author new is made push =
       let r = next_replied id date is in
       let it = reply_found g graph fit m id date author (replied_to g held m id r.0) r.1 made in

@@ -8,10 +8,10 @@ use Rattle.snb_schema.specs.declared.row.Row.TheVariants as row
 use Rattle.snb_schema.specs.declared.table.Kind.TheVariants as kinds
 use Rattle.snb_schema.specs.declared.table.Table.TheVariants as table
 use Rattle.snb_schema.specs.RowKeys.{node_key}
-use Rattle.snb_schema.specs.RowLines.{table_of}
+use Rattle.snb_schema.specs.RowValues.{table_of}
 use Rattle.snb_graph_model.specs.Graphs.{HasKey, IsGraph}
 use Rattle.snb_graph_model.specs.Messages.{IsRoot}
-use Rattle.snb_graph_model.specs.Soundness.{EndsAfter, Held, Sound}
+use Rattle.snb_graph_model.specs.Soundness.{EndsAfter, HoldsRefs, Sound}
 use Rattle.snb_graph_integrity.specs.SoundLaws.{NumbersFit, RootsAreOfParents}
 use Rattle.snb_read_lookups.proofs.Laws.{any}
 use Rattle.snb_read_lookups.specs.Lookups.{IsCellNumber}
@@ -46,7 +46,7 @@ unended g zero comment (post, c) a b = a (record { it = row.Link table.CommentRe
 unended g (suc n) comment (parent, c, rest) a b = b (record { it = row.Link table.CommentReplyOfComment comment parent; held = c; keyed = refl })
 
 -- the post to which the last comment of a chain replies is the root
-pub found_root : (g : List Row) → IsGraph g → NumbersFit → Held g → (comment done most at id : ℕ) → IsAt g comment done most at → Contains g (row.Link table.CommentReplyOfPost at id) → IsOnlyRoot g comment id
+pub found_root : (g : List Row) → IsGraph g → NumbersFit → HoldsRefs g → (comment done most at id : ℕ) → IsAt g comment done most at → Contains g (row.Link table.CommentReplyOfPost at id) → IsOnlyRoot g comment id
 found_root g graph fit held comment done most at id is c = record {
   root = is.same id (inr (0, c));
   held = held (row.Link table.CommentReplyOfPost at id) c 1 any (omega arith);

@@ -1,7 +1,7 @@
 //! The short reads of a message.
 
 ghost use Rattle.std.specs.Prelude.{◌≡◌, ◌∷◌, [], IfOk};
-ghost use Rattle.snb_read_model.specs.ShortReads.{Is4, Is5, Is6, Is7, IsCreator, IsForum, IsReplyTo};
+ghost use Rattle.snb_read_model.specs.ShortReads.{Is4Answer, Is5Answer, Is6Answer, Is7Answer, IsCreator, IsForum, IsReplyTo};
 ghost use Rattle.snb_short_reads.specs.Found.{AreReplies, IsReplyFound, without_author};
 ghost use Rattle.snb_graph_model.specs.Messages.{HasMessage};
 ghost use Rattle.snb_graph_model.specs.Soundness.{Sound};
@@ -20,7 +20,7 @@ use std::alloc::{AllocError, Global};
 /// The condition: the graph is sound.
 pub fn is4(alloc: Global, graph: &Graph, message: u64) -> Result<Answer<CowText<'_>>, AllocError>
     requires sound { Sound graph.now }
-    ensures { IfOk result (Is4 graph.now message) }
+    ensures { IfOk result (Is4Answer graph.now message) }
 {
     let Some((date, content)) = shown(graph, message) else {
         return Ok(Answer::new(alloc));
@@ -48,7 +48,7 @@ fn creator(alloc: Global, graph: &Graph, message: u64) -> Result<AnswerRow<CowTe
 /// The condition: the graph is sound.
 pub fn is5(alloc: Global, graph: &Graph, message: u64) -> Result<Answer<CowText<'_>>, AllocError>
     requires sound { Sound graph.now }
-    ensures { IfOk result (Is5 graph.now message) }
+    ensures { IfOk result (Is5Answer graph.now message) }
 {
     let Some(_) = shown(graph, message) else {
         return Ok(Answer::new(alloc));
@@ -83,7 +83,7 @@ fn forum_row(
 /// The condition: the graph is sound.
 pub fn is6(alloc: Global, graph: &Graph, message: u64) -> Result<Answer<CowText<'_>>, AllocError>
     requires sound { Sound graph.now }
-    ensures { IfOk result (Is6 graph.now message) }
+    ensures { IfOk result (Is6Answer graph.now message) }
 {
     let Some(_) = shown(graph, message) else {
         return Ok(Answer::new(alloc));
@@ -140,7 +140,7 @@ fn reply_row(
 /// The condition: the graph is sound.
 pub fn is7(alloc: Global, graph: &Graph, message: u64) -> Result<Answer<CowText<'_>>, AllocError>
     requires sound { Sound graph.now }
-    ensures { IfOk result (Is7 graph.now message) }
+    ensures { IfOk result (Is7Answer graph.now message) }
 {
     let found = replies(alloc, graph, message)?;
     let ordered = in_order(found, |a, b| {

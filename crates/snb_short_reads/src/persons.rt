@@ -2,7 +2,7 @@
 
 ghost use Rattle.std.specs.Prelude.{◌≡◌, ◌∷◌, [], IfOk, Contains};
 ghost use Rattle.snb_schema.specs.declared.row.Row.TheVariants as row;
-ghost use Rattle.snb_read_model.specs.ShortReads.{Is1, Is2, Is3, IsFriend, IsProfile, IsRecent};
+ghost use Rattle.snb_read_model.specs.ShortReads.{Is1Answer, Is2Answer, Is3Answer, IsFriend, IsProfile, IsRecent};
 ghost use Rattle.snb_read_lookups.specs.Found.{IsFriendFound, IsMessageFound};
 ghost use Rattle.snb_graph_model.specs.Soundness.{Sound};
 
@@ -57,7 +57,7 @@ fn profile<'a>(
 /// The condition: the graph is sound.
 pub fn is1(alloc: Global, graph: &Graph, person: u64) -> Result<Answer<CowText<'_>>, AllocError>
     requires sound { Sound graph.now }
-    ensures { IfOk result (Is1 graph.now person) }
+    ensures { IfOk result (Is1Answer graph.now person) }
 {
     graph.known();
     let Some(found) = graph.person(person) else {
@@ -101,7 +101,7 @@ fn recent(
 /// The condition: the graph is sound.
 pub fn is2(alloc: Global, graph: &Graph, person: u64) -> Result<Answer<CowText<'_>>, AllocError>
     requires sound { Sound graph.now }
-    ensures { IfOk result (Is2 graph.now person) }
+    ensures { IfOk result (Is2Answer graph.now person) }
 {
     graph.known();
     sound_graphs();
@@ -138,7 +138,7 @@ fn friend_row(
 /// The condition: the graph is sound.
 pub fn is3(alloc: Global, graph: &Graph, person: u64) -> Result<Answer<CowText<'_>>, AllocError>
     requires sound { Sound graph.now }
-    ensures { IfOk result (Is3 graph.now person) }
+    ensures { IfOk result (Is3Answer graph.now person) }
 {
     graph.known();
     sound_graphs();

@@ -9,7 +9,8 @@ use Rattle.snb_schema.specs.Columns.{StopsAfter}
 use Rattle.snb_schema.specs.Lines.{HasNoEnd, begins_with_mark, fields}
 use Rattle.snb_schema.specs.ParameterLines.{IsBadQuery, query_columns}
 use Rattle.snb_schema.specs.Queries.{IsComplex}
-use Rattle.snb_schema.specs.UpdateLines.{Clashes, IsBadField, IsBadInsert, IsBadLine, IsFirstBad, IsFirstOfThree, Names, all_inserts, line_columns}
+use Rattle.snb_schema.specs.UpdateLines.{Clashes, IsBadField, IsBadInsert, IsBadLine, IsFirstBad, IsFirstOfThree, NamesInsert, all_inserts}
+use Rattle.snb_schema.specs.InsertLines.{line_columns}
 use Rattle.snb_input_fields.proofs.Laws.{one_stop}
 use Rattle.snb_streams.specs.Parameters.{IsBadParams}
 use Rattle.snb_streams.proofs.ClashFacts.{clash_spelled, one_clash}
@@ -59,9 +60,9 @@ field_to_case kind fs column (inr p, least) =
 abbrev pub IsInsertCase : List InsertKind → List (List ℕ) → ℕ → Type 0
 IsInsertCase allowed fs column =
     ((length fs < 3) × (column ≡ 0))
-    ⊎ ((3 ≤ length fs) × ((kind : InsertKind) → ¬ Names allowed fs kind) × IsThreeCase fs column)
-    ⊎ ((kind : InsertKind) × Names allowed fs kind × (length fs ≢ length (line_columns kind)) × (column ≡ 0))
-    ⊎ ((kind : InsertKind) × Names allowed fs kind × (length fs ≡ length (line_columns kind)) × IsFieldCase kind fs column)
+    ⊎ ((3 ≤ length fs) × ((kind : InsertKind) → ¬ NamesInsert allowed fs kind) × IsThreeCase fs column)
+    ⊎ ((kind : InsertKind) × NamesInsert allowed fs kind × (length fs ≢ length (line_columns kind)) × (column ≡ 0))
+    ⊎ ((kind : InsertKind) × NamesInsert allowed fs kind × (length fs ≡ length (line_columns kind)) × IsFieldCase kind fs column)
 
 not_few : (fs : List (List ℕ)) (c : ℕ) → 3 ≤ length fs → ¬ ((length fs < 3) × (c ≡ 0))
 not_few fs c many few = (let l = few.0 in omega arith)

@@ -10,8 +10,9 @@ use Rattle.snb_schema.specs.declared.column.Value.TheVariants.{Digits, SmallDigi
 use Rattle.snb_schema.specs.declared.op.InsertKind.{InsertKind}
 use Rattle.snb_schema.specs.declared.op.InsertKind.TheVariants as kinds
 use Rattle.snb_schema.specs.Columns.{Spells, SpellsAll, StopsAfter, no_id}
-use Rattle.snb_schema.specs.Layouts.{id_column}
-use Rattle.snb_schema.specs.UpdateLines.{Clashes, field, line_columns, parent_comment, parent_post}
+use Rattle.snb_schema.specs.TableColumns.{id_column}
+use Rattle.snb_schema.specs.UpdateLines.{Clashes, field}
+use Rattle.snb_schema.specs.InsertLines.{line_columns, parent_comment, parent_post}
 use Rattle.snb_input_fields.specs.Values.{first_number, first_optional, optional_value}
 use Rattle.snb_input_fields.specs.Values.{starts_twice}
 use Rattle.snb_columns.proofs.Laws.{number_some}

@@ -14,7 +14,8 @@ use Rattle.snb_schema.specs.declared.fault.LineFault.{LineFault}
 use Rattle.snb_schema.specs.declared.fault.LineFault.TheVariants as line_fault
 use Rattle.snb_schema.specs.Faults.{OnBadColumn}
 use Rattle.snb_schema.specs.Lines.{fields}
-use Rattle.snb_schema.specs.UpdateLines.{IsBadInsert, Names, kind_of, line_columns, line_values}
+use Rattle.snb_schema.specs.UpdateLines.{IsBadInsert, NamesInsert}
+use Rattle.snb_schema.specs.InsertLines.{kind_of, line_columns, line_values}
 use Rattle.snb_streams.specs.Make.{clash_at}
 use Rattle.snb_streams.specs.Spelled.{SpellsInsert}
 use Rattle.snb_streams.proofs.CaseFacts.{IsFieldCase, IsInsertCase, IsThreeCase, insert_from_case, insert_to_case}
@@ -28,15 +29,15 @@ abbrev pub times : List Column
 times = Number MAX_TIME ∷ Number MAX_TIME ∷ []
 
 -- the two times are read
-pub third_bad : (allowed : List InsertKind) (fs : List (List ℕ)) (vs : List Value) → 3 ≤ length fs → ((kind : InsertKind) → ¬ Names allowed fs kind) → SpellsAll times (take 2 fs) vs → IsBadInsert allowed fs 3
+pub third_bad : (allowed : List InsertKind) (fs : List (List ℕ)) (vs : List Value) → 3 ≤ length fs → ((kind : InsertKind) → ¬ NamesInsert allowed fs kind) → SpellsAll times (take 2 fs) vs → IsBadInsert allowed fs 3
 third_bad allowed fs vs long none s = insert_from_case allowed fs 3 (inr (inl (long, none, inr (no_stop times fs vs s, refl))))
 
 -- or one of them isn't
-pub time_bad : (allowed : List InsertKind) (fs : List (List ℕ)) (n column : ℕ) → 3 ≤ length fs → ((kind : InsertKind) → ¬ Names allowed fs kind) → StopsAfter times fs n → column ≡ n + 1 → IsBadInsert allowed fs column
+pub time_bad : (allowed : List InsertKind) (fs : List (List ℕ)) (n column : ℕ) → 3 ≤ length fs → ((kind : InsertKind) → ¬ NamesInsert allowed fs kind) → StopsAfter times fs n → column ≡ n + 1 → IsBadInsert allowed fs column
 time_bad allowed fs n column long none s at = insert_from_case allowed fs column (inr (inl (long, none, inl (n, s, at))))
 
 -- fields that stop
-pub stop_bad : (allowed : List InsertKind) (kind : InsertKind) (fs : List (List ℕ)) (vs : List Value) (n column : ℕ) → Names allowed fs kind → length fs ≡ length (line_columns kind) → StopsAfter (line_columns kind) fs n
+pub stop_bad : (allowed : List InsertKind) (kind : InsertKind) (fs : List (List ℕ)) (vs : List Value) (n column : ℕ) → NamesInsert allowed fs kind → length fs ≡ length (line_columns kind) → StopsAfter (line_columns kind) fs n
     → SpellsAll (take n (line_columns kind)) (take n fs) vs → column ≡ n + 1 → IsBadInsert allowed fs (unwrap_or (clash_at kind vs) column)
 stop_bad allowed kind fs vs n column names long stop s at =
     insert_from_case allowed fs (unwrap_or (clash_at kind vs) column) (inr (inr (inr (kind, names, long, first (clash_at kind vs) refl))))
@@ -48,7 +49,7 @@ stop_bad allowed kind fs vs n column names long stop s at =
     first None e = inl (n, stop, at, λ other h. (let l = clash_later kind fs vs n other s stop e h in omega arith))
 
 -- fields of which two don't go together
-pub clash_bad : (allowed : List InsertKind) (kind : InsertKind) (fs : List (List ℕ)) (vs : List Value) (column : ℕ) → Names allowed fs kind → length fs ≡ length (line_columns kind) → SpellsAll (line_columns kind) (take (length (line_columns kind)) fs) vs
+pub clash_bad : (allowed : List InsertKind) (kind : InsertKind) (fs : List (List ℕ)) (vs : List Value) (column : ℕ) → NamesInsert allowed fs kind → length fs ≡ length (line_columns kind) → SpellsAll (line_columns kind) (take (length (line_columns kind)) fs) vs
     → clash_at kind vs ≡ Some column → IsBadInsert allowed fs column
 clash_bad allowed kind fs vs column names long s e =
     let all = take_all (length (line_columns kind)) (line_columns kind) (omega arith) in
@@ -117,7 +118,7 @@ no_fault allowed fs t t_d op column s bad = elim (insert_to_case allowed fs colu
       none_bad (kind_of op) fs (line_values t t_d op) column s.1 (own_apart t t_d op s.2) (subst (λ (k : InsertKind). IsFieldCase k fs column) (one_named allowed fs first.0 (kind_of op) first.1 names) first.3)
 ]
   where
-    names : Names allowed fs (kind_of op)
+    names : NamesInsert allowed fs (kind_of op)
     names = spelled_names allowed fs t t_d op s.0 s.1
 
     long : length fs ≡ length (line_columns (kind_of op))
@@ -136,13 +137,13 @@ bad_fields A B fault kinds allowed line fs of same bad =
     (λ column h. subst (λ (ks : List InsertKind). IsBadInsert ks (fields line) column) of (subst (λ (xs : List (List ℕ)). IsBadInsert kinds xs column) same h)) bad
 
 -- a clash, as the reading of the values tells it
-pub told_clash : (allowed : List InsertKind) (kind : InsertKind) (cs : List Column) (fs : List (List ℕ)) (vs : List Value) (column : ℕ) → cs ≡ line_columns kind → Names allowed fs kind → length fs ≡ length cs → SpellsAll cs (take (length cs) fs) vs
+pub told_clash : (allowed : List InsertKind) (kind : InsertKind) (cs : List Column) (fs : List (List ℕ)) (vs : List Value) (column : ℕ) → cs ≡ line_columns kind → NamesInsert allowed fs kind → length fs ≡ length cs → SpellsAll cs (take (length cs) fs) vs
     → clash_at kind vs ≡ Some column → IsBadInsert allowed fs column
 told_clash allowed kind cs fs vs column e names long s two =
     subst (λ (ds : List Column). length fs ≡ length ds → SpellsAll ds (take (length ds) fs) vs → IsBadInsert allowed fs column) (sym e) (λ l t. clash_bad allowed kind fs vs column names l t two) long s
 
 -- and a stop
-pub told_stop : (allowed : List InsertKind) (kind : InsertKind) (cs : List Column) (fs : List (List ℕ)) (vs : List Value) (n column answer : ℕ) → cs ≡ line_columns kind → Names allowed fs kind → length fs ≡ length cs → StopsAfter cs fs n
+pub told_stop : (allowed : List InsertKind) (kind : InsertKind) (cs : List Column) (fs : List (List ℕ)) (vs : List Value) (n column answer : ℕ) → cs ≡ line_columns kind → NamesInsert allowed fs kind → length fs ≡ length cs → StopsAfter cs fs n
     → SpellsAll (take n cs) (take n fs) vs → column ≡ n + 1 → answer ≡ unwrap_or (clash_at kind vs) column → IsBadInsert allowed fs answer
 told_stop allowed kind cs fs vs n column answer e names long stop s at is =
     rw is (subst (λ (ds : List Column). length fs ≡ length ds → StopsAfter ds fs n → SpellsAll (take n ds) (take n fs) vs → IsBadInsert allowed fs (unwrap_or (clash_at kind vs) column)) (sym e)

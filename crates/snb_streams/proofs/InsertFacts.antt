@@ -13,7 +13,8 @@ use Rattle.snb_schema.specs.declared.op.InsertKind.{InsertKind}
 use Rattle.snb_schema.specs.declared.op.InsertKind.TheVariants as kinds
 use Rattle.snb_schema.specs.declared.op.Parent.TheVariants as parents
 use Rattle.snb_schema.specs.Columns.{SpellsAll}
-use Rattle.snb_schema.specs.UpdateLines.{IsOfTwo, Names, insert_columns, kind_number, kind_of, line_columns, line_values, op_number, op_values}
+use Rattle.snb_schema.specs.UpdateLines.{IsOfTwo, NamesInsert}
+use Rattle.snb_schema.specs.InsertLines.{insert_columns, kind_number, kind_of, line_columns, line_values, op_number, op_values}
 use Rattle.snb_input_fields.specs.Laws.{TakenAgain}
 use Rattle.snb_input_fields.specs.Values.{first_number, starts_twice, taken}
 use Rattle.snb_streams.specs.Make.{are_no_parent, clash_at, op_by}
@@ -60,7 +61,7 @@ made_two kinds.AddComment fs vs s e = tt
 made_two kinds.AddFriend fs vs s e = twice_differ (Date ∷ []) (drop 3 fs) (drop 3 vs) (spelled_from 3 (line_columns kinds.AddFriend) fs vs s) (untold (starts_twice (drop 3 vs)) 5 e)
 
 -- the values of a line are those of the insert that is made of them
-made_line : TakenAgain → (allowed : List InsertKind) (kind : InsertKind) (fs : List (List ℕ)) (vs : List Value) → Names allowed fs kind → SpellsAll (line_columns kind) fs vs → clash_at kind vs ≡ None
+made_line : TakenAgain → (allowed : List InsertKind) (kind : InsertKind) (fs : List (List ℕ)) (vs : List Value) → NamesInsert allowed fs kind → SpellsAll (line_columns kind) fs vs → clash_at kind vs ≡ None
     → line_values (first_number vs) (first_number (drop 1 vs)) (op_by kind (drop 3 vs)) ≡ vs
 made_line again allowed kind fs vs names s e =
     let number : op_number (op_by kind (drop 3 vs)) ≡ first_number (drop 1 (drop 1 vs)) = ap kind_number (made_kind kind (drop 3 vs)) ∙ sym (third_number allowed kind fs vs names s) in
@@ -69,7 +70,7 @@ made_line again allowed kind fs vs names s e =
     (λ i. Digits (first_number vs) ∷ Digits (first_number (drop 1 vs)) ∷ Digits (number i) ∷ (values ∙ later) i) ∙ again (line_columns kind) fs vs s
 
 -- an insert of the fields that spell these values
-pub spells_insert : TakenAgain → (allowed : List InsertKind) (kind : InsertKind) (fs : List (List ℕ)) (vs : List Value) (t t_d : ℕ) (op : Op) → Names allowed fs kind → length fs ≡ length (line_columns kind)
+pub spells_insert : TakenAgain → (allowed : List InsertKind) (kind : InsertKind) (fs : List (List ℕ)) (vs : List Value) (t t_d : ℕ) (op : Op) → NamesInsert allowed fs kind → length fs ≡ length (line_columns kind)
     → SpellsAll (line_columns kind) (take (length (line_columns kind)) fs) vs → clash_at kind vs ≡ None → t ≡ first_number vs → t_d ≡ first_number (drop 1 vs) → op ≡ op_by kind (drop 1 (drop 1 (drop 1 vs))) → SpellsInsert allowed fs t t_d op
 spells_insert again allowed kind fs vs t t_d op names long s e at at_d made =
     let few : length fs ≤ length (line_columns kind) = omega (arith, long) in
@@ -107,7 +108,7 @@ own_apart t t_d (AddComment id date ip browser content size author country (pare
 own_apart t t_d (AddFriend one other date) two = ap (λ b. cond b (Some 5) None) (ne_eqb one other two)
 
 -- as the reading of the values tells it
-pub told_insert : TakenAgain → (allowed : List InsertKind) (kind : InsertKind) (cs : List Column) (fs : List (List ℕ)) (vs : List Value) (t t_d : ℕ) (op : Op) → cs ≡ line_columns kind → Names allowed fs kind → length fs ≡ length cs
+pub told_insert : TakenAgain → (allowed : List InsertKind) (kind : InsertKind) (cs : List Column) (fs : List (List ℕ)) (vs : List Value) (t t_d : ℕ) (op : Op) → cs ≡ line_columns kind → NamesInsert allowed fs kind → length fs ≡ length cs
     → SpellsAll cs (take (length cs) fs) vs → clash_at kind vs ≡ None → t ≡ first_number vs → t_d ≡ first_number (drop 1 vs) → op ≡ op_by kind (drop 1 (drop 1 (drop 1 vs))) → SpellsInsert allowed fs t t_d op
 told_insert again allowed kind cs fs vs t t_d op e names long s apart at at_d made =
     subst (λ (ds : List Column). length fs ≡ length ds → SpellsAll ds (take (length ds) fs) vs → SpellsInsert allowed fs t t_d op) (sym e) (λ l u. spells_insert again allowed kind fs vs t t_d op names l u apart at at_d made) long s

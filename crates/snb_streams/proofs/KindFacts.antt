@@ -12,7 +12,8 @@ use Rattle.snb_schema.specs.declared.op.InsertKind.{InsertKind}
 use Rattle.snb_schema.specs.declared.op.InsertKind.TheVariants as kinds
 use Rattle.snb_schema.specs.Columns.{SpellsAll}
 use Rattle.snb_input_fields.specs.Values.{first_number}
-use Rattle.snb_schema.specs.UpdateLines.{Names, kind_number, kind_of, line_columns, line_values}
+use Rattle.snb_schema.specs.UpdateLines.{NamesInsert}
+use Rattle.snb_schema.specs.InsertLines.{kind_number, kind_of, line_columns, line_values}
 
 -- the kind of a number, counted from 0
 abbrev kind_at : ℕ → InsertKind
@@ -60,21 +61,21 @@ pub one_name : (x : List ℕ) (a b : InsertKind) → Num x (kind_number a) (kind
 one_name x a b s t = one_kind a b (s.value ∙ sym t.value)
 
 -- and so do fields
-pub one_named : (allowed : List InsertKind) (fs : List (List ℕ)) (a b : InsertKind) → Names allowed fs a → Names allowed fs b → a ≡ b
+pub one_named : (allowed : List InsertKind) (fs : List (List ℕ)) (a b : InsertKind) → NamesInsert allowed fs a → NamesInsert allowed fs b → a ≡ b
 one_named allowed [] a b s t = absurd s
 one_named allowed (t₁ ∷ []) a b s t = absurd s
 one_named allowed (t₁ ∷ t₂ ∷ []) a b s t = absurd s
 one_named allowed (t₁ ∷ t₂ ∷ x ∷ fs) a b s t = one_name x a b s.1 t.1
 
 -- fields that name a kind are three at least
-pub named_long : (allowed : List InsertKind) (fs : List (List ℕ)) (kind : InsertKind) → Names allowed fs kind → 3 ≤ length fs
+pub named_long : (allowed : List InsertKind) (fs : List (List ℕ)) (kind : InsertKind) → NamesInsert allowed fs kind → 3 ≤ length fs
 named_long allowed [] kind s = absurd s
 named_long allowed (t₁ ∷ []) kind s = absurd s
 named_long allowed (t₁ ∷ t₂ ∷ []) kind s = absurd s
 named_long allowed (t₁ ∷ t₂ ∷ x ∷ fs) kind s = omega arith
 
 -- fields that spell an insert name its kind
-pub spelled_names : (allowed : List InsertKind) (fs : List (List ℕ)) (t t_d : ℕ) (op : Op) → Contains allowed (kind_of op) → SpellsAll (line_columns (kind_of op)) fs (line_values t t_d op) → Names allowed fs (kind_of op)
+pub spelled_names : (allowed : List InsertKind) (fs : List (List ℕ)) (t t_d : ℕ) (op : Op) → Contains allowed (kind_of op) → SpellsAll (line_columns (kind_of op)) fs (line_values t t_d op) → NamesInsert allowed fs (kind_of op)
 spelled_names allowed [] t t_d op h s = absurd s
 spelled_names allowed (t₁ ∷ []) t t_d op h s = absurd s.1
 spelled_names allowed (t₁ ∷ t₂ ∷ []) t t_d op h s = absurd s.1.1
@@ -129,21 +130,21 @@ pub field_none : (o : Option (Bor (List ℕ))) (fs : List (List ℕ)) (k : ℕ) 
 field_none o fs k e is = place_none fs k (sym e ∙ ap (option_map (λ (s : Bor (List ℕ)). s.now)) is)
 
 -- the kind whose number is the third field
-pub third_named : (allowed : List InsertKind) (fs : List (List ℕ)) (x : List ℕ) (kind : InsertKind) → 2 < length fs → x ≡ get_or fs 2 [] → Contains allowed kind × Num x (kind_number kind) (kind_number kind) → Names allowed fs kind
+pub third_named : (allowed : List InsertKind) (fs : List (List ℕ)) (x : List ℕ) (kind : InsertKind) → 2 < length fs → x ≡ get_or fs 2 [] → Contains allowed kind × Num x (kind_number kind) (kind_number kind) → NamesInsert allowed fs kind
 third_named allowed [] x kind l e s = absurd (omega (arith, l))
 third_named allowed (t₁ ∷ []) x kind l e s = absurd (omega (arith, l))
 third_named allowed (t₁ ∷ t₂ ∷ []) x kind l e s = absurd (omega (arith, l))
 third_named allowed (t₁ ∷ t₂ ∷ y ∷ fs) x kind l e s = (s.0, subst (λ (z : List ℕ). Num z (kind_number kind) (kind_number kind)) e s.1)
 
 -- the third field is no kind's number
-pub third_unnamed : (allowed : List InsertKind) (fs : List (List ℕ)) (x : List ℕ) → x ≡ get_or fs 2 [] → ((kind : InsertKind) → Contains allowed kind → ¬ Num x (kind_number kind) (kind_number kind)) → (kind : InsertKind) → ¬ Names allowed fs kind
+pub third_unnamed : (allowed : List InsertKind) (fs : List (List ℕ)) (x : List ℕ) → x ≡ get_or fs 2 [] → ((kind : InsertKind) → Contains allowed kind → ¬ Num x (kind_number kind) (kind_number kind)) → (kind : InsertKind) → ¬ NamesInsert allowed fs kind
 third_unnamed allowed [] x e none kind s = s
 third_unnamed allowed (t₁ ∷ []) x e none kind s = s
 third_unnamed allowed (t₁ ∷ t₂ ∷ []) x e none kind s = s
 third_unnamed allowed (t₁ ∷ t₂ ∷ y ∷ fs) x e none kind s = none kind s.0 (subst (λ (z : List ℕ). Num z (kind_number kind) (kind_number kind)) (sym e) s.1)
 
 -- a kind that is named is one of those
-pub third_names : (allowed : List InsertKind) (fs : List (List ℕ)) (kind : InsertKind) → Names allowed fs kind → Contains allowed kind
+pub third_names : (allowed : List InsertKind) (fs : List (List ℕ)) (kind : InsertKind) → NamesInsert allowed fs kind → Contains allowed kind
 third_names allowed [] kind s = absurd s
 third_names allowed (t₁ ∷ []) kind s = absurd s
 third_names allowed (t₁ ∷ t₂ ∷ []) kind s = absurd s
@@ -157,6 +158,6 @@ third_field (t₁ ∷ t₂ ∷ []) t t_d op s = absurd s.1.1
 third_field (t₁ ∷ t₂ ∷ x ∷ fs) t t_d op s = s.1.1.0
 
 -- the third value of an insert is its kind's number
-pub third_number : (allowed : List InsertKind) (kind : InsertKind) (fs : List (List ℕ)) (vs : List Value) → Names allowed fs kind → SpellsAll (line_columns kind) fs vs → first_number (drop 1 (drop 1 vs)) ≡ kind_number kind
+pub third_number : (allowed : List InsertKind) (kind : InsertKind) (fs : List (List ℕ)) (vs : List Value) → NamesInsert allowed fs kind → SpellsAll (line_columns kind) fs vs → first_number (drop 1 (drop 1 vs)) ≡ kind_number kind
 third_number allowed kind (t₁ ∷ t₂ ∷ x ∷ fs) (v ∷ u ∷ Digits m ∷ vs) names s = s.1.1.0.value ∙ sym names.1.value
 third_number allowed kind fs vs names s = absurd assumption

@@ -9,7 +9,8 @@ use Rattle.snb_schema.specs.declared.op.Op.{Op}
 use Rattle.snb_schema.specs.declared.op.InsertKind.{InsertKind}
 use Rattle.snb_schema.specs.Columns.{SpellsAll}
 use Rattle.snb_schema.specs.Lines.{HasNoEnd, begins_with_mark, fields}
-use Rattle.snb_schema.specs.UpdateLines.{IsBadInsert, IsBadLine, IsLine, all_inserts, kind_of, line_columns, line_values, op_values}
+use Rattle.snb_schema.specs.UpdateLines.{IsBadInsert, IsBadLine, IsLine, all_inserts}
+use Rattle.snb_schema.specs.InsertLines.{kind_of, line_columns, line_values, op_values}
 use Rattle.snb_input_lines.specs.Cut.{IsCutAtEnd}
 use Rattle.snb_columns.specs.Laws.{HasPlainFields, OneList, OwnLineOfValues}
 use Rattle.snb_streams.specs.Laws.{OneInsert}

@@ -9,7 +9,8 @@ use Rattle.snb_schema.specs.declared.op.Op.{Op}
 use Rattle.snb_schema.specs.declared.op.InsertKind.{InsertKind}
 use Rattle.snb_schema.specs.Columns.{SpellsAll}
 use Rattle.snb_schema.specs.ParameterLines.{query_columns}
-use Rattle.snb_schema.specs.UpdateLines.{IsBadInsert, Names, kind_number, line_columns}
+use Rattle.snb_schema.specs.UpdateLines.{IsBadInsert, NamesInsert}
+use Rattle.snb_schema.specs.InsertLines.{kind_number, line_columns}
 use Rattle.snb_input_fields.specs.Laws.{EachLineIsRead, TakenAgain}
 use Rattle.snb_input_fields.specs.Queries.{query_by}
 use Rattle.snb_input_fields.specs.Values.{first_number}
@@ -57,7 +58,7 @@ one_of_kinds x (k ∷ ks) = elim (number_of_kind x k) [
 ]
 
 -- fields name one of these kinds, or none
-named_or_not : (allowed : List InsertKind) (fs : List (List ℕ)) → ((kind : InsertKind) × Names allowed fs kind) ⊎ ((kind : InsertKind) → ¬ Names allowed fs kind)
+named_or_not : (allowed : List InsertKind) (fs : List (List ℕ)) → ((kind : InsertKind) × NamesInsert allowed fs kind) ⊎ ((kind : InsertKind) → ¬ NamesInsert allowed fs kind)
 named_or_not allowed [] = inr (λ kind s. s)
 named_or_not allowed (t₁ ∷ []) = inr (λ kind s. s)
 named_or_not allowed (t₁ ∷ t₂ ∷ []) = inr (λ kind s. s)
@@ -67,7 +68,7 @@ named_or_not allowed (t₁ ∷ t₂ ∷ x ∷ fs) = elim (one_of_kinds x allowed
 ]
 
 -- fields that spell values of all columns are an insert, or two of them don't go together
-whole : TakenAgain → (allowed : List InsertKind) (kind : InsertKind) (fs : List (List ℕ)) (vs : List Value) → Names allowed fs kind → length fs ≡ length (line_columns kind)
+whole : TakenAgain → (allowed : List InsertKind) (kind : InsertKind) (fs : List (List ℕ)) (vs : List Value) → NamesInsert allowed fs kind → length fs ≡ length (line_columns kind)
     → SpellsAll (line_columns kind) (take (length (line_columns kind)) fs) vs → ((t : ℕ) × (t_d : ℕ) × (op : Op) × SpellsInsert allowed fs t t_d op) ⊎ ((column : ℕ) × IsBadInsert allowed fs column)
 whole again allowed kind fs vs names long s = go (clash_at kind vs) refl
   where

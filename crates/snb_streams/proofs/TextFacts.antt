@@ -6,7 +6,8 @@ use Rattle.snb_schema.specs.declared.op.Op.{Op}
 use Rattle.snb_schema.specs.declared.op.InsertKind.{InsertKind}
 use Rattle.snb_schema.specs.declared.op.InsertKind.TheVariants as kinds
 use Rattle.snb_schema.specs.Lines.{begins_with_mark, fields}
-use Rattle.snb_schema.specs.UpdateLines.{IsLine, all_inserts, kind_of}
+use Rattle.snb_schema.specs.UpdateLines.{IsLine, all_inserts}
+use Rattle.snb_schema.specs.InsertLines.{kind_of}
 use Rattle.snb_streams.specs.Laws.{InsertOrColumn, InsertsAreRight, LineOrColumn, LinesAreRight, OneBadLine, OneFault}
 use Rattle.snb_streams.proofs.CaseFacts.{IsTextCase, text_from_case, text_to_case}
 use Rattle.snb_streams.proofs.PlainFacts.{one_line_or_not}

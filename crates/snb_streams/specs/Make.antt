@@ -1,5 +1,5 @@
 -- The insert that has these values. Cited by contracts of private functions alone.
-use Rattle.std.specs.Prelude.{ℕ, Bool, true, false, List, [], ◌∷◌, drop, Option, Some, None, if◌then◌else◌}
+use Rattle.std.specs.Prelude.{ℕ, zero, suc, Bool, true, false, List, [], ◌∷◌, drop, Option, Some, None, if◌then◌else◌}
 use Rattle.snb_schema.specs.declared.column.Value.{Value}
 use Rattle.snb_schema.specs.declared.column.Value.TheVariants.{Digits, SmallDigits, NoId, Letters, Texts, Ids, Pairs}
 use Rattle.snb_schema.specs.declared.op.Op.{Op}
@@ -16,34 +16,57 @@ parent_by (Some post) comment = parents.Post post
 parent_by None (Some comment) = parents.Comment comment
 parent_by None None = parents.Post 0
 
+-- the values from the one of this number on, from 0
+abbrev pub values_from : ℕ → List Value → List Value
+values_from zero vs = vs
+values_from (suc k) vs = drop 1 (values_from k vs)
+
+-- what stands at a number among the values
+abbrev pub number_at : ℕ → List Value → ℕ
+number_at k vs = first_number (values_from k vs)
+
+abbrev pub small_at : ℕ → List Value → ℕ
+small_at k vs = first_small (values_from k vs)
+
+abbrev pub text_at : ℕ → List Value → List ℕ
+text_at k vs = first_text (values_from k vs)
+
+abbrev pub optional_at : ℕ → List Value → Option ℕ
+optional_at k vs = first_optional (values_from k vs)
+
+abbrev pub texts_at : ℕ → List Value → List (List ℕ)
+texts_at k vs = first_texts (values_from k vs)
+
+abbrev pub ids_at : ℕ → List Value → List ℕ
+ids_at k vs = first_ids (values_from k vs)
+
+abbrev pub pairs_at : ℕ → List Value → List (ℕ × ℕ)
+pairs_at k vs = first_pairs (values_from k vs)
+
 -- the insert of this kind that has these values
 abbrev pub op_by : InsertKind → List Value → Op
 op_by kinds.AddPerson vs =
-    AddPerson (first_number vs) (first_text (drop 1 vs)) (first_text (drop 1 (drop 1 vs))) (first_text (drop 1 (drop 1 (drop 1 vs)))) (first_number (drop 1 (drop 1 (drop 1 (drop 1 vs)))))
-    (first_number (drop 1 (drop 1 (drop 1 (drop 1 (drop 1 vs)))))) (first_text (drop 1 (drop 1 (drop 1 (drop 1 (drop 1 (drop 1 vs)))))))
-    (first_text (drop 1 (drop 1 (drop 1 (drop 1 (drop 1 (drop 1 (drop 1 vs)))))))) (first_number (drop 1 (drop 1 (drop 1 (drop 1 (drop 1 (drop 1 (drop 1 (drop 1 vs)))))))))
-    (first_texts (drop 1 (drop 1 (drop 1 (drop 1 (drop 1 (drop 1 (drop 1 (drop 1 (drop 1 vs)))))))))) (first_texts (drop 1 (drop 1 (drop 1 (drop 1 (drop 1 (drop 1 (drop 1 (drop 1 (drop 1 (drop 1 vs)))))))))))
-    (first_ids (drop 1 (drop 1 (drop 1 (drop 1 (drop 1 (drop 1 (drop 1 (drop 1 (drop 1 (drop 1 (drop 1 vs))))))))))))
-    (first_pairs (drop 1 (drop 1 (drop 1 (drop 1 (drop 1 (drop 1 (drop 1 (drop 1 (drop 1 (drop 1 (drop 1 (drop 1 vs)))))))))))))
-    (first_pairs (drop 1 (drop 1 (drop 1 (drop 1 (drop 1 (drop 1 (drop 1 (drop 1 (drop 1 (drop 1 (drop 1 (drop 1 (drop 1 vs))))))))))))))
-op_by kinds.LikePost vs = LikePost (first_number vs) (first_number (drop 1 vs)) (first_number (drop 1 (drop 1 vs)))
-op_by kinds.LikeComment vs = LikeComment (first_number vs) (first_number (drop 1 vs)) (first_number (drop 1 (drop 1 vs)))
+    AddPerson (number_at 0 vs) (text_at 1 vs) (text_at 2 vs) (text_at 3 vs) (number_at 4 vs)
+    (number_at 5 vs) (text_at 6 vs) (text_at 7 vs) (number_at 8 vs) (texts_at 9 vs) (texts_at 10 vs)
+    (ids_at 11 vs) (pairs_at 12 vs) (pairs_at 13 vs)
+op_by kinds.LikePost vs =
+    LikePost (number_at 0 vs) (number_at 1 vs) (number_at 2 vs)
+op_by kinds.LikeComment vs =
+    LikeComment (number_at 0 vs) (number_at 1 vs) (number_at 2 vs)
 op_by kinds.AddForum vs =
-    AddForum (first_number vs) (first_text (drop 1 vs)) (first_number (drop 1 (drop 1 vs))) (first_number (drop 1 (drop 1 (drop 1 vs)))) (first_ids (drop 1 (drop 1 (drop 1 (drop 1 vs)))))
-op_by kinds.AddMember vs = AddMember (first_number vs) (first_number (drop 1 vs)) (first_number (drop 1 (drop 1 vs)))
+    AddForum (number_at 0 vs) (text_at 1 vs) (number_at 2 vs) (number_at 3 vs) (ids_at 4 vs)
+op_by kinds.AddMember vs =
+    AddMember (number_at 0 vs) (number_at 1 vs) (number_at 2 vs)
 op_by kinds.AddPost vs =
-    AddPost (first_number vs) (first_text (drop 1 vs)) (first_number (drop 1 (drop 1 vs))) (first_text (drop 1 (drop 1 (drop 1 vs)))) (first_text (drop 1 (drop 1 (drop 1 (drop 1 vs)))))
-    (first_text (drop 1 (drop 1 (drop 1 (drop 1 (drop 1 vs)))))) (first_text (drop 1 (drop 1 (drop 1 (drop 1 (drop 1 (drop 1 vs)))))))
-    (first_small (drop 1 (drop 1 (drop 1 (drop 1 (drop 1 (drop 1 (drop 1 vs)))))))) (first_number (drop 1 (drop 1 (drop 1 (drop 1 (drop 1 (drop 1 (drop 1 (drop 1 vs)))))))))
-    (first_number (drop 1 (drop 1 (drop 1 (drop 1 (drop 1 (drop 1 (drop 1 (drop 1 (drop 1 vs)))))))))) (first_number (drop 1 (drop 1 (drop 1 (drop 1 (drop 1 (drop 1 (drop 1 (drop 1 (drop 1 (drop 1 vs)))))))))))
-    (first_ids (drop 1 (drop 1 (drop 1 (drop 1 (drop 1 (drop 1 (drop 1 (drop 1 (drop 1 (drop 1 (drop 1 vs))))))))))))
+    AddPost (number_at 0 vs) (text_at 1 vs) (number_at 2 vs) (text_at 3 vs) (text_at 4 vs)
+    (text_at 5 vs) (text_at 6 vs) (small_at 7 vs) (number_at 8 vs) (number_at 9 vs)
+    (number_at 10 vs) (ids_at 11 vs)
 op_by kinds.AddComment vs =
-    AddComment (first_number vs) (first_number (drop 1 vs)) (first_text (drop 1 (drop 1 vs))) (first_text (drop 1 (drop 1 (drop 1 vs)))) (first_text (drop 1 (drop 1 (drop 1 (drop 1 vs)))))
-    (first_small (drop 1 (drop 1 (drop 1 (drop 1 (drop 1 vs)))))) (first_number (drop 1 (drop 1 (drop 1 (drop 1 (drop 1 (drop 1 vs)))))))
-    (first_number (drop 1 (drop 1 (drop 1 (drop 1 (drop 1 (drop 1 (drop 1 vs))))))))
-    (parent_by (first_optional (drop 1 (drop 1 (drop 1 (drop 1 (drop 1 (drop 1 (drop 1 (drop 1 vs))))))))) (first_optional (drop 1 (drop 1 (drop 1 (drop 1 (drop 1 (drop 1 (drop 1 (drop 1 (drop 1 vs)))))))))))
-    (first_ids (drop 1 (drop 1 (drop 1 (drop 1 (drop 1 (drop 1 (drop 1 (drop 1 (drop 1 (drop 1 vs)))))))))))
-op_by kinds.AddFriend vs = AddFriend (first_number vs) (first_number (drop 1 vs)) (first_number (drop 1 (drop 1 vs)))
+    AddComment (number_at 0 vs) (number_at 1 vs) (text_at 2 vs) (text_at 3 vs) (text_at 4 vs)
+    (small_at 5 vs) (number_at 6 vs) (number_at 7 vs)
+    (parent_by (optional_at 8 vs) (optional_at 9 vs)) (ids_at 10 vs)
+op_by kinds.AddFriend vs =
+    AddFriend (number_at 0 vs) (number_at 1 vs) (number_at 2 vs)
 
 -- the first two values are two ids or none
 abbrev pub are_no_parent : List Value → Bool
@@ -70,8 +93,8 @@ are_no_parent (Texts texts ∷ rest) = false
 are_no_parent (Ids ids ∷ rest) = false
 are_no_parent (Pairs pairs ∷ rest) = false
 
--- two of the first values of a line with an insert of this kind don't go together, and the second is in this column: a friendship with
--- oneself, or a comment with no parent or two
+-- two of the first values of a line with an insert of this kind don't go together, and the second
+-- is in this column: a friendship with oneself, or a comment with no parent or two
 abbrev pub clash_at : InsertKind → List Value → Option ℕ
 clash_at kinds.AddPerson vs = None
 clash_at kinds.LikePost vs = None

@@ -13,7 +13,8 @@ OrderTakes last x new = (last ≤ x.t) × (new ≡ x.t)
 
 -- an insert is refused since its t is lower, or else as the sink refuses it
 abbrev pub OrderRefuses : ℕ → FileId → Line → (Refusal → Type 0) → Refusal → Type 0
-OrderRefuses last file x inner r = FirstOf ((λ q. (x.t < last) × (q ≡ OutOfOrder file x.number)) ∷ inner ∷ []) r
+OrderRefuses last file x inner r =
+    FirstOf ((λ q. (x.t < last) × (q ≡ OutOfOrder file x.number)) ∷ inner ∷ []) r
 
 -- the inserts that were appended to a list, and the t of the last insert of the stream, or 0
 pub record Ordered : Type 0 where

@@ -11,7 +11,8 @@ use Rattle.snb_schema.specs.ParameterLines.{IsBadQuery, SpellsQuery, query_colum
 use Rattle.snb_schema.specs.Queries.{IsComplex}
 use Rattle.snb_input_lines.specs.Language.{Language}
 
--- the kind of the query of this number, for each of the seven complex queries; any other number gives that of a short read
+-- the kind of the query of this number, for each of the seven complex queries; any other number
+-- gives that of a short read
 abbrev pub complex_kind : ℕ → ReadKind
 complex_kind q =
     if q == 1 then Ic1 else
@@ -27,11 +28,13 @@ complex_kind q =
 abbrev pub params_file : ℕ → FileId
 params_file q = record { kind = Params q; part = 0 }
 
--- these fields are no parameters of the query, in this column first: 0 where its number isn't one of the seven, else that of its fields
+-- these fields are no parameters of the query, in this column first: 0 where its number isn't one
+-- of the seven, else that of its fields
 abbrev pub IsBadParams : ℕ → List (List ℕ) → ℕ → Type 0
 IsBadParams q fs column = FirstOf ((λ c. ¬ IsComplex q × (c ≡ 0)) ∷ IsBadQuery q fs ∷ []) column
 
--- of the header only the number of fields counts, and the fields of each later line spell a query of the number, which is one of the seven
+-- of the header only the number of fields counts, and the fields of each later line spell a query
+-- of the number, which is one of the seven
 abbrev pub params_language : ℕ → Language (Unit {0}) Query
 params_language q = record {
   begins = None;

@@ -20,7 +20,8 @@ allowed_in files.Cases = []
 abbrev pub IsStream : FileId → Type 0
 IsStream file = (file.kind ≡ files.PersonStream) ⊎ (file.kind ≡ files.ForumStream)
 
--- what a contract sees of a reader of a stream: the reader of its lines, and the t of the last line, or 0
+-- what a contract sees of a reader of a stream: the reader of its lines, and the t of the last
+-- line, or 0
 pub record Followed : Type 0 where
   pub reader : Reader FileKind (Unit {0})
   pub last : ℕ

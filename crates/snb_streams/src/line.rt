@@ -5,7 +5,8 @@ ghost use Rattle.std.specs.Option.{unwrap_or};
 ghost use Rattle.snb_base.specs.Spellings.{Num};
 ghost use Rattle.snb_schema.specs.declared.op.InsertKind.{InsertKind as Kind};
 ghost use Rattle.snb_schema.specs.Faults.{OnBadColumn};
-ghost use Rattle.snb_schema.specs.UpdateLines.{IsBadInsert, IsBadLine, IsLine, Names, kind_number};
+ghost use Rattle.snb_schema.specs.UpdateLines.{IsBadInsert, IsBadLine, IsLine, NamesInsert};
+ghost use Rattle.snb_schema.specs.InsertLines.{kind_number};
 ghost use Rattle.snb_streams.specs.Make.{clash_at};
 ghost use Rattle.snb_streams.specs.Spelled.{SpellsInsert};
 
@@ -60,7 +61,8 @@ pub struct Insert {
 
 // The one of these inserts whose number is the field.
 fn kind_in(kinds: &[InsertKind], field: &[u8]) -> Option<InsertKind>
-    ensures { MatchOption result ((kind : Kind) → Contains kinds.now kind → ¬ Num field.now (kind_number kind) (kind_number kind))
+    ensures { MatchOption result
+        ((kind : Kind) → Contains kinds.now kind → ¬ Num field.now (kind_number kind) (kind_number kind))
         (λ kind. Contains kinds.now kind × Num field.now (kind_number kind) (kind_number kind)) }
 {
     match read_number(field, MOST_INSERTS) {
@@ -72,7 +74,7 @@ fn kind_in(kinds: &[InsertKind], field: &[u8]) -> Option<InsertKind>
 // The one of these inserts that the third field names.
 fn named_kind(alloc: Global, kinds: &[InsertKind], fields: &Record) -> Result<InsertKind, LineFault>
     requires { All IsUtf8 fields.now }
-    ensures ok { IfOk result (Names kinds.now fields.now) }
+    ensures ok { IfOk result (NamesInsert kinds.now fields.now) }
     ensures bad { OnBadColumn result (IsBadInsert kinds.now fields.now) }
 {
     let Some(third) = fields.get(2) else {

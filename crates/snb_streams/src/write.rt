@@ -5,7 +5,8 @@ ghost use Rattle.std.specs.List.{join_with_byte};
 ghost use Rattle.snb_schema.specs.declared.column.Value.TheVariants.{Digits};
 ghost use Rattle.snb_schema.specs.declared.op.InsertKind.TheVariants as kinds;
 ghost use Rattle.snb_schema.specs.Columns.{canonical_field};
-ghost use Rattle.snb_schema.specs.UpdateLines.{canonical_line, kind_of, parent_comment, parent_post};
+ghost use Rattle.snb_schema.specs.UpdateLines.{canonical_line};
+ghost use Rattle.snb_schema.specs.InsertLines.{kind_of, parent_comment, parent_post};
 ghost use Rattle.snb_input_fields.specs.Cells.{value_of};
 
 use snb_input_fields::{Cell, put_fields};
@@ -208,7 +209,10 @@ fn put_numbers(
     date: u64,
     to: &mut Vec<u8>,
 ) -> Result<(), AllocError>
-    ensures ok { OnOk result (to.new.items ≡ to.old.items ++ join_with_byte 124 (map canonical_field (Digits times.0 ∷ Digits times.1 ∷ Digits kind ∷ Digits first ∷ Digits second ∷ Digits date ∷ []))) }
+    ensures ok { OnOk result
+        (to.new.items ≡ to.old.items ++ join_with_byte 124
+        (map canonical_field
+        (Digits times.0 ∷ Digits times.1 ∷ Digits kind ∷ Digits first ∷ Digits second ∷ Digits date ∷ []))) }
     ensures err { OnErr result (to.new.items ≡ to.old.items) }
 {
     put_fields(

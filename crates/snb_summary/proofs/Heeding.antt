@@ -16,7 +16,7 @@ use Rattle.snb_history.proofs.Laws.{t_rises_along}
 use Rattle.snb_history.proofs.Laws.{find-reverse_push}
 use Rattle.snb_summary.specs.declared.times.Heard.{Heard}
 use Rattle.snb_summary.specs.Hearing.{AreFor, AreLasts, IsOf, finishes_after, last_below, later, moments_in, starts_after}
-use Rattle.snb_summary.specs.Latencies.{Moments, cleared_at, greatest, moments_of, waits_for}
+use Rattle.snb_summary.specs.Latencies.{OpMoments, cleared_at, greatest, moments_of, waits_for}
 use Rattle.snb_summary.proofs.NumberLists.{filter_same, filter_stops, greatest_next}
 
 -- ---- one more event
@@ -121,14 +121,14 @@ waits_never true b x = absurd (false≢true (sym x))
 waits_never false b x = refl
 
 -- what waits for none
-pub waits_for_none : (s : Schedule) (m : Moments) (k : ℕ) → (step_of s k).dependent ≡ false → cleared_at s m k ≡ None
+pub waits_for_none : (s : Schedule) (m : OpMoments) (k : ℕ) → (step_of s k).dependent ≡ false → cleared_at s m k ≡ None
 waits_for_none s m k free =
     let e : length s.steps ≡ 0 + length s.steps = omega arith in
     ap (λ (n : ℕ). greatest (map m.finish (filter (waits_for s k) (range_with_len 0 n)))) e
     ∙ ap (λ (xs : List ℕ). greatest (map m.finish xs)) (filter_stops (waits_for s k) 0 (length s.steps) (λ j _ _. waits_never (step_of s k).dependent _ free))
 
 -- what waits for the dependencies below a number
-pub waits_below : (s : Schedule) (m : Moments) (k count : ℕ) → (step_of s k).dependent ≡ true → count ≤ length s.steps
+pub waits_below : (s : Schedule) (m : OpMoments) (k count : ℕ) → (step_of s k).dependent ≡ true → count ≤ length s.steps
     → ((j : ℕ) → j < length s.steps → nat_le (step_of s j).t (step_of s k).t_d ≡ nat_lt j count) → cleared_at s m k ≡ last_below s m.finish count
 waits_below s m k count waits within tells =
     let n : ℕ = length s.steps in
@@ -178,7 +178,7 @@ count_told steps t i point k lt =
     ]
 
 -- what is read for a dependent
-pub cleared_told : (s : Schedule) (m : Moments) (steps : List Step) (lasts : List (Option ℕ)) (k count : ℕ) (d : Step) (found : Option ℕ) → steps ≡ s.steps → k < length s.steps
+pub cleared_told : (s : Schedule) (m : OpMoments) (steps : List Step) (lasts : List (Option ℕ)) (k count : ℕ) (d : Step) (found : Option ℕ) → steps ≡ s.steps → k < length s.steps
     → AreLasts s m.finish lasts → (get_or steps k d).dependent ≡ true → count ≤ length steps
     → ((j : ℕ) → j < length steps → nat_le (get_or steps j no_step).t (get_or steps k d).t_d ≡ nat_lt j count) → found ≡ get_or lasts count found → found ≡ cleared_at s m k
 cleared_told s m steps lasts k count d found is lt kept waits within tells here =
@@ -192,7 +192,7 @@ cleared_told s m steps lasts k count d found is lt kept waits within tells here 
     (λ j below. subst (λ (x : Step). nat_le (step_of s j).t x.t_d ≡ nat_lt j count) same
     (subst (λ (xs : List Step). nat_le (get_or xs j no_step).t (get_or steps k d).t_d ≡ nat_lt j count) is (tells j (omega arith)))))))
 
-pub free_told : (s : Schedule) (m : Moments) (steps : List Step) (k : ℕ) (d : Step) → steps ≡ s.steps → k < length s.steps → (get_or steps k d).dependent ≡ false → None ≡ cleared_at s m k
+pub free_told : (s : Schedule) (m : OpMoments) (steps : List Step) (k : ℕ) (d : Step) → steps ≡ s.steps → k < length s.steps → (get_or steps k d).dependent ≡ false → None ≡ cleared_at s m k
 free_told s m steps k d is lt free = sym (waits_for_none s m k (subst (λ (x : Step). x.dependent ≡ false) (same_step s steps k d is lt) free))
 
 -- the last Finish below the next number

@@ -9,7 +9,8 @@ use Rattle.snb_history.specs.declared.event.Event.TheVariants.{Start, Finish, Ha
 use Rattle.snb_history.specs.Rules.{V1, Fits, IsLegal}
 use Rattle.snb_history.specs.Schedule.{Schedule}
 use Rattle.snb_plan.specs.declared.plan.Task.{Task}
-use Rattle.snb_plan.specs.Plans.{Plan, Operation, IsTask, schedule_of, work_of}
+use Rattle.snb_plan.specs.Plans.{Plan, Operation, schedule_of}
+use Rattle.snb_plan.specs.Tasks.{IsTask, work_of}
 use Rattle.snb_summary.specs.declared.kind.OpKind.{OpKind}
 use Rattle.snb_summary.specs.Hearing.{IsOf}
 use Rattle.snb_summary.specs.Works.{work_kind}

@@ -6,7 +6,7 @@ use Rattle.snb_history.specs.declared.event.Event.TheVariants.{Start, Finish, Ha
 use Rattle.snb_history.specs.Schedule.{Schedule, is_dependency}
 use Rattle.snb_summary.specs.declared.times.Heard.{Heard}
 use Rattle.snb_summary.specs.declared.times.Times.{Times}
-use Rattle.snb_summary.specs.Latencies.{Moments, greatest}
+use Rattle.snb_summary.specs.Latencies.{OpMoments, greatest}
 
 -- the event's operation, if it has one, is one of so many
 abbrev pub IsOf : ℕ → Event → Type 0
@@ -26,7 +26,7 @@ finishes_after (Finish op worker at front) xs = slice_set xs op at
 finishes_after (Halt worker) xs = xs
 
 -- the moments that are kept
-abbrev pub moments_in : Heard → Moments
+abbrev pub moments_in : Heard → OpMoments
 moments_in m = record { start = slice_index m.starts.items; finish = slice_index m.finishes.items }
 
 -- a number for each of so many operations

@@ -5,12 +5,12 @@ use Rattle.snb_schema.specs.declared.op.InsertKind.{InsertKind}
 use Rattle.snb_schema.specs.declared.op.InsertKind.TheVariants as inserts
 use Rattle.snb_schema.specs.declared.query.Query.{Query}
 use Rattle.snb_schema.specs.declared.query.Query.TheVariants as queries
-use Rattle.snb_schema.specs.UpdateLines.{kind_of}
+use Rattle.snb_schema.specs.InsertLines.{kind_of}
 use Rattle.snb_plan.specs.Plans.{Plan, Operation, Work, schedule_of}
 use Rattle.snb_plan.specs.Plans as plans
 use Rattle.snb_summary.specs.declared.kind.OpKind.{OpKind}
 use Rattle.snb_summary.specs.declared.kind.OpKind.TheVariants as kinds
-use Rattle.snb_summary.specs.Latencies.{Run, moments_of}
+use Rattle.snb_summary.specs.Latencies.{MeasuredRun, moments_of}
 
 -- the kind of an insert
 abbrev pub insert_kind : InsertKind → OpKind
@@ -42,13 +42,14 @@ query_kind (queries.Ic13 from to) = Some kinds.Ic13
 
 -- the kind of what an operation does
 abbrev pub work_kind : Work → Option OpKind
-work_kind (plans.Insert line) = Some (insert_kind (kind_of line.op))
-work_kind (plans.Ask query) = query_kind query
+work_kind (plans.InsertWork line) = Some (insert_kind (kind_of line.op))
+work_kind (plans.AskWork query) = query_kind query
 
 -- the kinds of a plan's operations, in the order of their numbers
 abbrev pub kinds_in : Plan → List (Option OpKind)
 kinds_in plan = map (λ (o : Operation). work_kind o.work) plan.operations
 
 -- a history of a plan
-abbrev pub run_of : Plan → List Event → Run
-run_of plan h = record { kinds = kinds_in plan; schedule = schedule_of plan; moments = moments_of h }
+abbrev pub run_of : Plan → List Event → MeasuredRun
+run_of plan h =
+    record { kinds = kinds_in plan; schedule = schedule_of plan; moments = moments_of h }

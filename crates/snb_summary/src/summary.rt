@@ -2,7 +2,7 @@
 
 ghost use Rattle.std.specs.Prelude.{◌≡◌, ◌∷◌, ◌++◌, [], ℕ, ◌<◌, ◌≤◌, List, IfOk, OnOk, length, map, nat_lt};
 ghost use Rattle.snb_summary.specs.Hearing.{AreTimes, moments_in};
-ghost use Rattle.snb_summary.specs.Kinds.{all_entries, all_kinds, all_whats, entries_of, Entry};
+ghost use Rattle.snb_summary.specs.Kinds.{all_entries, op_kinds, all_whats, entries_of, Entry};
 ghost use Rattle.snb_summary.specs.Summaries.{AreMeasures, IsMeasure, IsPercentile, IsSummary};
 
 use crate::kind::{OpKind, What};

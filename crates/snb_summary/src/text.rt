@@ -1,7 +1,7 @@
 //! Summaries as text.
 
 ghost use Rattle.std.specs.Prelude.{◌≡◌, ◌++◌, OnErr, OnOk};
-ghost use Rattle.snb_summary.specs.SummaryTexts.{cells_text, kind_text, measure_line, measures_text as summary_text, numbers_of, what_text};
+ghost use Rattle.snb_summary.specs.SummaryTexts.{cells_text, op_kind_text, measure_line, measures_text as summary_text, measure_numbers, what_text};
 
 use crate::kind::{OpKind, What};
 use crate::summary::{Measure, Summary};
@@ -10,7 +10,7 @@ use std::alloc::AllocError;
 
 // The word of a kind.
 fn kind_word(kind: OpKind) -> &'static str
-    ensures { result.now ≡ kind_text kind }
+    ensures { result.now ≡ op_kind_text kind }
 {
     match kind {
         OpKind::AddPerson => "AddPerson",
@@ -44,7 +44,7 @@ fn what_word(what: What) -> &'static str
 
 // What the measure tells, in order.
 fn numbers_in(measure: Measure) -> [u64; 7]
-    ensures { result ≡ numbers_of measure }
+    ensures { result ≡ measure_numbers measure }
 {
     [
         measure.count,

@@ -4,7 +4,7 @@ ghost use Rattle.std.specs.Prelude.{◌≡◌, ℕ, ◌<◌, ◌≤◌, All, IfO
 ghost use Rattle.std.specs.List.Sorted.{IsNonDecreasingBy};
 ghost use Rattle.snb_history.specs.Schedule.{no_step};
 ghost use Rattle.snb_summary.specs.Hearing.{AreFor, AreLasts, AreTimes, IsOf, finishes_after, later, moments_in, starts_after};
-ghost use Rattle.snb_summary.specs.Latencies.{Moments, cleared_at, if_kind, moments_of, numbers, value_of, values};
+ghost use Rattle.snb_summary.specs.Latencies.{OpMoments, cleared_at, if_kind, moments_of, numbers, value_of, measured_values};
 
 use crate::kind::{OpKind, What};
 use snb_history::{Event, Schedule, Step};
@@ -210,7 +210,9 @@ impl Times {
     ) -> Result<Vec<u64>, AllocError>
         requires each { length kinds.now ≡ length schedule.now.steps }
         requires times { AreTimes schedule.now self.now }
-        ensures { IfOk result (λ v. v.items ≡ values (record { kinds = kinds.now; schedule = schedule.now; moments = moments_in self.now.heard }) kind what) }
+        ensures { IfOk result
+            (λ v. v.items ≡ measured_values
+            (record { kinds = kinds.now; schedule = schedule.now; moments = moments_in self.now.heard }) kind what) }
     {
         let mut values = Vec::new(alloc);
         for op in 0..kinds.len() {

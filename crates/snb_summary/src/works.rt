@@ -1,9 +1,9 @@
 //! The kinds of a plan's operations.
 
 ghost use Rattle.std.specs.Prelude.{◌≡◌, IfOk, length};
-ghost use Rattle.snb_plan.specs.Plans.{work_of};
+ghost use Rattle.snb_plan.specs.Tasks.{work_of};
 ghost use Rattle.snb_summary.specs.Works.{insert_kind, kinds_in, query_kind, work_kind};
-ghost use Rattle.snb_schema.specs.UpdateLines.{kind_of as kind_of_op};
+ghost use Rattle.snb_schema.specs.InsertLines.{kind_of as kind_of_op};
 
 use crate::kind::OpKind;
 use snb_plan::{Plan, Task};

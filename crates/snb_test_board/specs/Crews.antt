@@ -8,4 +8,7 @@ IsSameSeat s t = (t.site ≡ s.site) × (t.worker ≡ s.worker)
 
 -- one seat of the board for each worker, in order
 abbrev pub AreInOrder : Site → List Sitting → Type 0
-AreInOrder z seats = (length seats ≡ z.workers) × ((k : ℕ) (d : Sitting) → k < z.workers → IsSameSeat (sitting z k [] (time_below 0)) (slice_index_or seats k d))
+AreInOrder z seats =
+    (length seats ≡ z.workers)
+    × ((k : ℕ) (d : Sitting) → k < z.workers
+    → IsSameSeat (sitting z k [] (time_below 0)) (slice_index_or seats k d))

@@ -83,7 +83,8 @@ pub(crate) fn tell_claim<R: Wait>(
 ) -> Result<Claim, AllocError>
     requires { seat.old.site ≡ board.now }
     ensures same { IsSameSeat seat.old seat.new }
-    ensures held { IfOk result (λ claim. IfGo claim (λ ticket. (ticket.worker ≡ seat.old.worker) × IsInHand seat.new.seen ticket)) }
+    ensures held { IfOk result
+        (λ claim. IfGo claim (λ ticket. (ticket.worker ≡ seat.old.worker) × IsInHand seat.new.seen ticket)) }
     ensures acts { IfOk result (λ claim. IfGo claim (λ ticket. halted (mine seat.new) ticket.worker ≡ false)) }
 {
     let claim = board.claim(rt, seat, now);

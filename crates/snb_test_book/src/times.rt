@@ -29,7 +29,8 @@ pub fn make_times(alloc: Global, state: &mut State, rest: &str) -> Result<String
 fn is_led(steps: &[Step], started: &[bool], lane: u32, op: usize) -> bool
     requires steps { op < length steps.now }
     requires flags { op < length started.now }
-    ensures { IsTrue result → (j : ℕ) → j < op → (slice_index_or steps.now j no_step).lane ≡ lane → flag started.now j ≡ true }
+    ensures { IsTrue result → (j : ℕ) → j < op → (slice_index_or steps.now j no_step).lane ≡ lane
+        → flag started.now j ≡ true }
 {
     for before in 0..op {
         if steps[before].lane == lane && !started[before] {

@@ -2,7 +2,7 @@
 
 ghost use Rattle.std.specs.Prelude.{◌≡◌, IfOk};
 ghost use Rattle.snb_schema.specs.declared.read_kind.ReadKind.TheVariants.{Is3};
-ghost use Rattle.snb_schema.specs.ReadKinds.{kind_of};
+ghost use Rattle.snb_schema.specs.ReadKinds.{read_kind_of};
 ghost use Rattle.snb_graph_model.specs.Soundness.{Sound};
 ghost use Rattle.snb_read_model.specs.Replies.{IsAnswer};
 
@@ -28,7 +28,7 @@ pub(crate) fn asked(alloc: Global, graph: &Graph, person: u64) -> Result<String,
         alloc,
         move |graph: &Graph, query: &Query| -> Result<Answer<Text>, AllocError>
             requires sound { Sound graph.now }
-            requires kind { kind_of query.now ≡ Is3 }
+            requires kind { read_kind_of query.now ≡ Is3 }
             ensures { IfOk result (IsAnswer graph.now query.now) }
         {
             match query {

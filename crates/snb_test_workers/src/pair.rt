@@ -158,7 +158,8 @@ fn work_all<R: Threads + Wait + Sync>(
         rt,
         seats,
         &|seat: Seat| -> Seat
-            requires { (seat.site ≡ board.now) × (board.now.schedule ≡ schedule_of whole.now.plan) × (seat.seen ≡ []) × IsWhole whole.now.graph whole.now.plan }
+            requires { (seat.site ≡ board.now) × (board.now.schedule ≡ schedule_of whole.now.plan) × (seat.seen ≡ [])
+                × IsWhole whole.now.graph whole.now.plan }
             ensures { IsSameSeat seat result }
         { worked(rt, alloc, board, seat, whole, clock, tally) },
     )

@@ -2,14 +2,16 @@
 use Rattle.std.specs.Prelude.{IfOk, IsSome, MatchOption}
 use Rattle.std.proofs.Common.{◌≡◌, ◌∙◌, Bool, Bor, not, true, false, refl, Option, None, Some, Result, Ok, Err, inl, inr, subst, sym}
 use Rattle.snb_tool_words.specs.declared.command.Command.{Command}
-use Rattle.snb_tool_words.specs.Commands.{IsLineOf, IsOtherLine, folder_of, needs_table}
+use Rattle.snb_tool_words.specs.Commands.{IsLineOf, IsOtherLine}
+use Rattle.snb_tool_words.specs.CommandFacts.{folder_of, needs_table}
 use Rattle.snb_tool_words.specs.Laws.{WordsAreOne}
 use Rattle.snb_tool_outcome.specs.Endings.{LacksKind}
 use Rattle.snb_tool.specs.Connectors.{given_by}
 use Rattle.snb_handlers.specs.declared.handlers.Handlers.{Handlers}
 use Rattle.snb_walk.specs.declared.policy.Policy.{Policy}
 use Rattle.std.specs.Option.{is_some}
-use Rattle.snb_tool_outcome.specs.Outcome.{Asked, IsAsked, IsOther, ReadsNothing}
+use Rattle.snb_tool_outcome.specs.Outcome.{Asked, IsAsked, IsOther}
+use Rattle.snb_tool_outcome.specs.Served.{ReadsNothing}
 
 module _ (one : WordsAreOne) (asked : Asked) (asks : Bool) (known : (c : Command) × IsLineOf asked.words c × (needs_table c ≡ asks)) where
   -- whether the command of the words asks a table

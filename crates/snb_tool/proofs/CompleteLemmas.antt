@@ -13,7 +13,8 @@ use Rattle.snb_tool_words.specs.declared.command.Command.{Command}
 use Rattle.snb_tool_words.specs.declared.command.Command.TheVariants.{Audit, Check, Expect, Latency, Run, Read, Trial, Validate, Walk}
 use Rattle.snb_tool_words.specs.declared.options.Via.{Via}
 use Rattle.snb_tool_words.specs.Laws.{WordsAreOne}
-use Rattle.snb_tool_outcome.specs.Inputs.{at_first, Found, Given, IsFine, IsFoundTold, IsWrong}
+use Rattle.snb_tool_outcome.specs.Inputs.{at_first, IsSurelyFine, IsSurelyRefused}
+use Rattle.snb_tool_outcome.specs.Found.{Found, Given, IsFoundTold}
 use Rattle.snb_auditor_log.specs.LogFiles.{IsLogOf}
 use Rattle.snb_validation_cases.specs.declared.case.CaseAt.{CaseAt}
 use Rattle.snb_validation_check.specs.declared.difference.Difference.{Difference}
@@ -33,8 +34,13 @@ use Rattle.snb_replica.specs.Counts.{logged_of}
 use Rattle.snb_workers.specs.Laws.{CountsOfARun}
 use Rattle.snb_miscount.specs.Miscounts.{events_of}
 use Rattle.snb_schema.specs.declared.row.Row.{Row}
-use Rattle.snb_tool.specs.Laws.{AnswersHaveStatus, AuditInShort, IsAuditInShort, IsLatencyInShort, IsRunInShort, IsValidateInShort, LatencyInShort, RefusalIsOne, RefusedOrNot, RunInShort, ValidateInShort}
-use Rattle.snb_tool_outcome.specs.Outcome.{Asked, IsAnswer, IsAsked, ShowsSummary, TellsLatencies, TellsVerdict, IsDone, IsDoneAnswer, IsJudged, IsRefused, IsRun, IsValidated}
+use Rattle.snb_tool.specs.Laws.{AnswersHaveStatus, RefusalIsOne, RefusedOrNot}
+use Rattle.snb_tool.specs.CaseLaws.{IsValidateInShort, ValidateInShort}
+use Rattle.snb_tool.specs.Shorts.{AuditInShort, IsAuditInShort, IsLatencyInShort, IsRunInShort, LatencyInShort, RunInShort}
+use Rattle.snb_tool_outcome.specs.Outcome.{Asked, IsCallAnswer, IsAsked, IsDoneAnswer, IsRefused}
+use Rattle.snb_tool_outcome.specs.Done.{IsDone, IsValidated}
+use Rattle.snb_tool_outcome.specs.LogsDone.{ShowsSummary, TellsLatencies, TellsVerdict, IsJudgedLog}
+use Rattle.snb_tool_outcome.specs.Runs.{IsRun}
 use Rattle.snb_tool_outcome.specs.Output.{HasBegun, HasWritten, Wrote, on_screen}
 use Rattle.snb_tool_outcome.specs.Outside.{Ends, GivenUp, Outside, ReadFault, Whole, WriteFault}
 use Rattle.snb_tool.proofs.OutcomeLemmas.{ends_weaker}
@@ -108,42 +114,42 @@ counts_at result status old new rose calm = by_test (nat_eq result status) refl
     by_test false e = calm (λ h. differ (sym (eq-eqb result status h) ∙ e))
 
 module _ (status : AnswersHaveStatus) (asked : Asked) (old new : Outside) (result : ℕ) where
-  no_texts : {A : Type 0} (n : ℕ) → 4 ≤ n → HasWritten old.written new.written (IsAnswer asked old.contents old.moments result) → result ≡ n → A
+  no_texts : {A : Type 0} (n : ℕ) → 4 ≤ n → HasWritten old.written new.written (IsCallAnswer asked old.contents old.moments result) → result ≡ n → A
   no_texts n l h e = absurd (known_low result n (status asked old.contents old.moments result h.0 h.1) e l)
 
-  pub ends_answered : Ends (IsAnswer asked) old new result
-      → HasWritten old.written new.written (IsAnswer asked old.contents old.moments result) ⊎ ((result ≡ 4) ⊎ ((result ≡ 5) ⊎ (result ≡ 6)))
+  pub ends_answered : Ends (IsCallAnswer asked) old new result
+      → HasWritten old.written new.written (IsCallAnswer asked old.contents old.moments result) ⊎ ((result ≡ 4) ⊎ ((result ≡ 5) ⊎ (result ≡ 6)))
   ends_answered (Whole h) = inl h
   ends_answered (ReadFault e r n) = inr (inl e)
   ends_answered (WriteFault s e r h) = inr (inr (inl e))
   ends_answered (GivenUp e n) = inr (inr (inr e))
 
-  ends_read_fault : Ends (IsAnswer asked) old new result → result ≡ 4 → Rose old.read_faults new.read_faults × (new.written ≡ old.written)
+  ends_read_fault : Ends (IsCallAnswer asked) old new result → result ≡ 4 → Rose old.read_faults new.read_faults × (new.written ≡ old.written)
   ends_read_fault (Whole h) e = no_texts 4 (omega arith) h e
   ends_read_fault (ReadFault f r n) e = (r, n)
   ends_read_fault (WriteFault s f r h) e = absurd (omega (arith, e, f))
   ends_read_fault (GivenUp f n) e = absurd (omega (arith, e, f))
 
-  pub ends_cut : Ends (IsAnswer asked) old new result → result ≡ 5
-      → Rose old.write_faults new.write_faults × ((s : ℕ) × HasBegun old.ready old.written new.written (IsAnswer asked old.contents old.moments s))
+  pub ends_cut : Ends (IsCallAnswer asked) old new result → result ≡ 5
+      → Rose old.write_faults new.write_faults × ((s : ℕ) × HasBegun old.ready old.written new.written (IsCallAnswer asked old.contents old.moments s))
   ends_cut (Whole h) e = no_texts 5 (omega arith) h e
   ends_cut (ReadFault f r n) e = absurd (omega (arith, e, f))
   ends_cut (WriteFault s f r h) e = (r, (s, h))
   ends_cut (GivenUp f n) e = absurd (omega (arith, e, f))
 
-  ends_short : Ends (IsAnswer asked) old new result → result ≡ 6 → new.written ≡ old.written
+  ends_short : Ends (IsCallAnswer asked) old new result → result ≡ 6 → new.written ≡ old.written
   ends_short (Whole h) e = no_texts 6 (omega arith) h e
   ends_short (ReadFault f r n) e = absurd (omega (arith, e, f))
   ends_short (WriteFault s f r h) e = absurd (omega (arith, e, f))
   ends_short (GivenUp f n) e = n
 
   -- after a failed read and for want of memory nothing is added to the channels
-  pub ends_unwritten : Ends (IsAnswer asked) old new result → (result ≡ 4) ⊎ (result ≡ 6) → new.written ≡ old.written
+  pub ends_unwritten : Ends (IsCallAnswer asked) old new result → (result ≡ 4) ⊎ (result ≡ 6) → new.written ≡ old.written
   ends_unwritten ends (inl e) = (ends_read_fault ends e).1
   ends_unwritten ends (inr e) = ends_short ends e
 
   -- what the call does to the shelf, and what it counts of the outbox
-  pub ends_read : Ends (IsAnswer asked) old new result → (new.contents ≡ old.contents) × (new.may ≡ old.may) × (old.read_faults ≤ new.read_faults) → (result ≢ 4 → new.read_faults ≡ old.read_faults)
+  pub ends_read : Ends (IsCallAnswer asked) old new result → (new.contents ≡ old.contents) × (new.may ≡ old.may) × (old.read_faults ≤ new.read_faults) → (result ≢ 4 → new.read_faults ≡ old.read_faults)
       → HasRead (nat_eq result 4) old.contents old.may old.read_faults new.contents new.may new.read_faults
   ends_read ends only calm = record {
     same = only.0;
@@ -152,7 +158,7 @@ module _ (status : AnswersHaveStatus) (asked : Asked) (old new : Outside) (resul
     told = counts_at result 4 old.read_faults new.read_faults (λ e. (ends_read_fault ends e).0) calm;
   }
 
-  pub ends_counted : Ends (IsAnswer asked) old new result → old.write_faults ≤ new.write_faults → (result ≢ 5 → new.write_faults ≡ old.write_faults)
+  pub ends_counted : Ends (IsCallAnswer asked) old new result → old.write_faults ≤ new.write_faults → (result ≢ 5 → new.write_faults ≡ old.write_faults)
       → HasCounted (nat_eq result 5) old.write_faults new.write_faults
   ends_counted ends later calm = record { later = later; told = counts_at result 5 old.write_faults new.write_faults (λ e. (ends_cut ends e).0) calm }
 
@@ -168,23 +174,23 @@ module _ (one : WordsAreOne) (asked : Asked) (old new : Outside) (result : ℕ) 
     as_that P p = subst P (one asked.words command c line.line l.line) p
 
   -- what is answered where nothing is wrong with what the command finds
-  done_as : RefusedOrNot → IsFine old.contents asked.given command → (s : ℕ) (texts : Written) → IsAnswer asked old.contents old.moments s texts → IsDoneAnswer asked.given command old.contents old.moments s texts
+  done_as : RefusedOrNot → IsSurelyFine old.contents asked.given command → (s : ℕ) (texts : Written) → IsCallAnswer asked old.contents old.moments s texts → IsDoneAnswer asked.given command old.contents old.moments s texts
   done_as law fine s texts (inl usage) = absurd (usage.1 command line)
   done_as law fine s texts (inr (c, l, (found, told, inl done))) = as_this c l (λ (d : Command). IsDoneAnswer asked.given d old.contents old.moments s texts) (found, told, done.1)
-  done_as law fine s texts (inr (c, l, (found, told, inr bad))) = absurd (law c found bad.0 bad.1 (as_that c l (λ (d : Command). IsFine old.contents asked.given d) fine found told))
+  done_as law fine s texts (inr (c, l, (found, told, inr bad))) = absurd (law c found bad.0 bad.1 (as_that c l (λ (d : Command). IsSurelyFine old.contents asked.given d) fine found told))
 
   -- and where something is
-  refused_as : RefusalIsOne → RefusedOrNot → (r : Refusal) → IsWrong old.contents asked.given command r → (s : ℕ) (texts : Written) → IsAnswer asked old.contents old.moments s texts → IsRefused r s texts
+  refused_as : RefusalIsOne → RefusedOrNot → (r : Refusal) → IsSurelyRefused old.contents asked.given command r → (s : ℕ) (texts : Written) → IsCallAnswer asked old.contents old.moments s texts → IsRefused r s texts
   refused_as once law r wrong s texts (inl usage) = absurd (usage.1 command line)
-  refused_as once law r wrong s texts (inr (c, l, (found, told, inl done))) = absurd (law c found r (as_that c l (λ (d : Command). IsWrong old.contents asked.given d r) wrong found told) done.0)
+  refused_as once law r wrong s texts (inr (c, l, (found, told, inl done))) = absurd (law c found r (as_that c l (λ (d : Command). IsSurelyRefused old.contents asked.given d r) wrong found told) done.0)
   refused_as once law r wrong s texts (inr (c, l, (found, told, inr bad))) =
-      subst (λ (q : Refusal). IsRefused q s texts) (once c found bad.0 r bad.1 (as_that c l (λ (d : Command). IsWrong old.contents asked.given d r) wrong found told)) bad.2
+      subst (λ (q : Refusal). IsRefused q s texts) (once c found bad.0 r bad.1 (as_that c l (λ (d : Command). IsSurelyRefused old.contents asked.given d r) wrong found told)) bad.2
 
-  pub complete : RefusedOrNot → Ends (IsAnswer asked) old new result → IsFine old.contents asked.given command → Ends (IsDoneAnswer asked.given command) old new result
-  complete law ends fine = ends_weaker (IsAnswer asked) (IsDoneAnswer asked.given command) old new result (done_as law fine) ends
+  pub complete : RefusedOrNot → Ends (IsCallAnswer asked) old new result → IsSurelyFine old.contents asked.given command → Ends (IsDoneAnswer asked.given command) old new result
+  complete law ends fine = ends_weaker (IsCallAnswer asked) (IsDoneAnswer asked.given command) old new result (done_as law fine) ends
 
-  pub refuses : RefusalIsOne → RefusedOrNot → Ends (IsAnswer asked) old new result → (r : Refusal) → IsWrong old.contents asked.given command r → Ends (λ contents moments. IsRefused r) old new result
-  refuses once law ends r wrong = ends_weaker (IsAnswer asked) (λ contents moments. IsRefused r) old new result (refused_as once law r wrong) ends
+  pub refuses : RefusalIsOne → RefusedOrNot → Ends (IsCallAnswer asked) old new result → (r : Refusal) → IsSurelyRefused old.contents asked.given command r → Ends (λ contents moments. IsRefused r) old new result
+  refuses once law ends r wrong = ends_weaker (IsCallAnswer asked) (λ contents moments. IsRefused r) old new result (refused_as once law r wrong) ends
 
 -- ---- a run in short
 
@@ -237,8 +243,8 @@ audited_short : AcceptedInOrder → (given : Given) (files : Files) (folder log 
     → IsFoundTold (Some files) given (Audit folder log ratio table) found → TellsVerdict found.held found.beside ratio table status texts → new ≡ joined old texts
     → IsAuditInShort files folder log ratio table status old new
 audited_short in_order given files folder log ratio table status old new texts found told done e =
-    let j : IsJudged (held_in folder files) found.beside ratio table done.plan done.header done.logged done.verdict =
-    subst (λ (h : Held). IsJudged h found.beside ratio table done.plan done.header done.logged done.verdict) (told_files folder files found.held told.0) done.judged in
+    let j : IsJudgedLog (held_in folder files) found.beside ratio table done.plan done.header done.logged done.verdict =
+    subst (λ (h : Held). IsJudgedLog h found.beside ratio table done.plan done.header done.logged done.verdict) (told_files folder files found.held told.0) done.judged in
     record {
       graph = j.graph;
       plan = done.plan;
@@ -296,8 +302,8 @@ measured_short : WholeExactly → (given : Given) (files : Files) (folder log : 
     → IsFoundTold (Some files) given (Latency folder log ratio table) found → TellsLatencies found.held found.beside ratio table status texts → new ≡ joined old texts
     → IsLatencyInShort files folder log ratio table status old new
 measured_short exactly given files folder log ratio table status old new texts found told done e =
-    let j : IsJudged (held_in folder files) found.beside ratio table done.plan done.header done.logged done.verdict =
-    subst (λ (h : Held). IsJudged h found.beside ratio table done.plan done.header done.logged done.verdict) (told_files folder files found.held told.0) done.judged in
+    let j : IsJudgedLog (held_in folder files) found.beside ratio table done.plan done.header done.logged done.verdict =
+    subst (λ (h : Held). IsJudgedLog h found.beside ratio table done.plan done.header done.logged done.verdict) (told_files folder files found.held told.0) done.judged in
     let law = exactly j.graph done.plan done.header done.logged done.verdict j.judged in
     let P : Written → Type 0 = ShowsSummary done.plan (events_of done.logged) in
     let Q : Written → Type 0 = λ (t : Written). t ≡ on_screen (audit_text done.verdict) in

@@ -6,8 +6,9 @@ use Rattle.snb_base.proofs.Laws.{at_contains, contains_at}
 use Rattle.snb_history.specs.declared.step.Step.{Step}
 use Rattle.snb_history.specs.Schedule.{ComesBefore}
 use Rattle.snb_schema.specs.LineLanes.{LineLanes}
-use Rattle.snb_plan.specs.Plans.{IsLineOf, IsRead, IsUpdate, Operation, Placed, first_t, lane_of, update_operation}
-use Rattle.snb_tool.specs.Laws.{IsAskedRead, LinesAreOperations, StandsOnce}
+use Rattle.snb_plan.specs.Plans.{IsRead, IsUpdate, Operation, first_t, update_operation}
+use Rattle.snb_plan.specs.Merging.{IsLineHere, PlacedLine, lane_of}
+use Rattle.snb_tool.specs.LineLaws.{IsAskedRead, LinesAreOperations, StandsOnce}
 
 -- no step comes before itself
 not_before : (s : Step) → ComesBefore s s → ⊥
@@ -48,7 +49,7 @@ once_there os o pairs there =
 
 module _ (lanes : LineLanes) (ratio t0 : ℕ) where
   -- lines of one lane and place are one
-  line_apart : (p q : Placed) → IsLineOf lanes p → IsLineOf lanes q → update_operation lanes ratio t0 p ≡ update_operation lanes ratio t0 q → p ≡ q
+  line_apart : (p q : PlacedLine) → IsLineHere lanes p → IsLineHere lanes q → update_operation lanes ratio t0 p ≡ update_operation lanes ratio t0 q → p ≡ q
   line_apart p q a b same =
       let lane : p.lane ≡ q.lane = ap (λ (o : Operation). o.step.lane) same in
       let place : p.place ≡ q.place = ap (λ (o : Operation). o.step.place) same in
@@ -75,7 +76,7 @@ lines_are_operations held ratio table plan planned =
     }
   where
     by : (o : Operation) → IsUpdate planned.lanes ratio (first_t plan.operations) planned.is_plan.updates o ⊎ IsRead planned.lanes planned.lists ratio (first_t plan.operations) planned.is_plan.updates planned.is_plan.reads o
-        → ((p : Placed) × IsLineOf planned.lanes p × (o ≡ update_operation planned.lanes ratio (first_t plan.operations) p))
+        → ((p : PlacedLine) × IsLineHere planned.lanes p × (o ≡ update_operation planned.lanes ratio (first_t plan.operations) p))
         ⊎ IsAskedRead planned.lanes planned.lists ratio (first_t plan.operations) table planned.is_plan.updates o
     by o (inl (p, there, e)) = inl (p, (planned.is_plan.are_updates.those p).0 there, e)
     by o (inr r) = inr (record {

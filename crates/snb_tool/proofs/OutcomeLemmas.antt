@@ -13,12 +13,12 @@ use Rattle.snb_schema.specs.ScreenTexts.{refusal_text}
 use Rattle.snb_tool_words.specs.declared.command.Command.{Command}
 use Rattle.snb_tool_words.specs.declared.command.Command.TheVariants.{Validate, Walk}
 use Rattle.snb_tool_words.specs.declared.options.Via.TheVariants as via
-use Rattle.snb_handlers.specs.Table.{IsFirstMissing}
+use Rattle.snb_handlers.specs.Table.{IsFirstUnhandled}
 use Rattle.snb_schema.specs.declared.read_kind.ReadKind.{ReadKind}
 use Rattle.snb_schema.specs.declared.refusal.Refusal.{Refusal}
 use Rattle.snb_schema.specs.declared.refusal.Refusal.TheVariants.{Unregistered}
-use Rattle.snb_tool_outcome.specs.Inputs.{Connector, Given}
-use Rattle.snb_ratio.specs.Chances.{Falling}
+use Rattle.snb_tool_outcome.specs.Found.{Connector, Given}
+use Rattle.snb_ratio.specs.Chances.{ChanceFall}
 use Rattle.snb_tool_outcome.specs.declared.deliver.Finished.{Finished}
 use Rattle.snb_tool_outcome.specs.Endings.{Delivers, Finishes, IsFinished, bytes_of}
 use Rattle.snb_tool_outcome.specs.Outcome.{IsCommandAnswer}
@@ -85,14 +85,14 @@ module _ {O : Type 0} (outboxes : Outboxes O) (out out_after : O) where
 -- ---- a table in which a kind of read has no handler: whatever there is of files, that kind is what is wrong first
 
 module _ (contents : Option Files) (folder cases : List ℕ) (moments : Moments) (c : Connector) where
-  pub table_lacks : (kind : ReadKind) → IsFirstMissing c.kinds kind → (r : Refusal) → r ≡ Unregistered kind → IsFinished (Validate folder cases via.Table) contents (Some c) moments (Err (loads.Refused r))
+  pub table_lacks : (kind : ReadKind) → IsFirstUnhandled c.kinds kind → (r : Refusal) → r ≡ Unregistered kind → IsFinished (Validate folder cases via.Table) contents (Some c) moments (Err (loads.Refused r))
   table_lacks kind first r is =
       let held = held_told contents folder in
       let beside = any_told contents cases in
       (record { missing = Some kind; pick = c.pick; held = held.0; beside = beside.0 }, (held.1, beside_told contents cases beside.0 beside.1, (first, refl)), inl is)
 
-module _ (contents : Option Files) (folder : List ℕ) (query : Query) (chance : Falling) (words : List ℕ) (c : Connector) (moments : Moments) where
-  pub walk_lacks : (kind : ReadKind) → IsFirstMissing c.kinds kind → (r : Refusal) → r ≡ Unregistered kind → IsFinished (Walk folder query chance words) contents (Some c) moments (Err (loads.Refused r))
+module _ (contents : Option Files) (folder : List ℕ) (query : Query) (chance : ChanceFall) (words : List ℕ) (c : Connector) (moments : Moments) where
+  pub walk_lacks : (kind : ReadKind) → IsFirstUnhandled c.kinds kind → (r : Refusal) → r ≡ Unregistered kind → IsFinished (Walk folder query chance words) contents (Some c) moments (Err (loads.Refused r))
   walk_lacks kind first r is =
       let held = held_told contents folder in
       (record { missing = Some kind; pick = c.pick; held = held.0; beside = None }, (held.1, tt, (first, refl)), inl is)

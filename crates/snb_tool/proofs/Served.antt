@@ -6,19 +6,21 @@ use Rattle.snb_base.specs.Moments.{Moments}
 use Rattle.snb_base.specs.Shelf.{Names}
 use Rattle.snb_tool_words.specs.declared.command.Command.{Command}
 use Rattle.snb_tool_words.specs.declared.command.Command.TheVariants.{Audit, Check, Expect, Latency, Run, Read, Trial, Validate, Walk}
-use Rattle.snb_tool_words.specs.Commands.{IsLineOf, folder_of, needs_table, waits}
+use Rattle.snb_tool_words.specs.Commands.{IsLineOf}
+use Rattle.snb_tool_words.specs.CommandFacts.{folder_of, needs_table, command_waits}
 use Rattle.snb_tool_words.specs.Laws.{WordsAreOne}
-use Rattle.snb_tool_outcome.specs.Inputs.{Given}
+use Rattle.snb_tool_outcome.specs.Found.{Given}
 use Rattle.snb_tool.specs.Laws.{AnswersHaveStatus, RefusalIsOne, RefusedOrNot}
 use Rattle.snb_tool_outcome.specs.Names.{MayAskFor}
-use Rattle.snb_tool_outcome.specs.Outcome.{AreWaiting, Asked, HasServed, IsAnswer, IsAsked, IsOther, ReadsNothing}
+use Rattle.snb_tool_outcome.specs.Outcome.{Asked, IsCallAnswer, IsAsked, IsOther}
+use Rattle.snb_tool_outcome.specs.Served.{AreWaiting, HasServed, ReadsNothing}
 use Rattle.snb_tool_outcome.specs.Outside.{EndsAs, IsReadOnly, seen}
 use Rattle.snb_tool.proofs.CompleteLemmas.{complete, ends_answered, ends_counted, ends_cut, ends_read, ends_unwritten, refuses}
 
 -- ---- words that run a plan
 
 -- a command that runs a plan asks no table
-needs_none : (command : Command) → waits command ≡ true → ¬ (needs_table command ≡ true)
+needs_none : (command : Command) → command_waits command ≡ true → ¬ (needs_table command ≡ true)
 needs_none (Check folder table) w n = absurd cc
 needs_none (Run folder workers ratio table) w n = absurd cc
 needs_none (Audit folder log ratio table) w n = absurd cc
@@ -52,7 +54,7 @@ module _ (words : List (List ℕ)) (waiting : AreWaiting true words) where
 
 module _ {S O : Type 0} (shelves : Shelves S) (outboxes : Outboxes O) (moments : Moments) (asked : Asked) (shelf shelf_after : S) (out out_after : O) (result : ℕ) where
   pub served : AnswersHaveStatus → WordsAreOne → RefusalIsOne → RefusedOrNot
-      → EndsAs (IsAnswer asked) (seen shelves outboxes moments shelf shelf_after out out_after) result
+      → EndsAs (IsCallAnswer asked) (seen shelves outboxes moments shelf shelf_after out out_after) result
       → (IsOther asked → ((result ≡ 2) ⊎ (result ≡ 5)) × (shelf_after ≡ shelf))
       → (ReadsNothing asked → shelf_after ≡ shelf)
       → IsReadOnly shelves shelf shelf_after
@@ -63,13 +65,16 @@ module _ {S O : Type 0} (shelves : Shelves S) (outboxes : Outboxes O) (moments :
   served status one once or_not ends other unread only reads_calm later writes_calm =
       let call = seen shelves outboxes moments shelf shelf_after out out_after in
       record {
-        answered = ends_answered status asked call.before call.after result ends;
-        unwritten = ends_unwritten status asked call.before call.after result ends;
-        cut = λ e. (ends_cut status asked call.before call.after result ends e).1;
-        complete = λ command line. complete one asked call.before call.after result command line or_not ends;
-        refuses = λ command line. refuses one asked call.before call.after result command line once or_not ends;
+        ends = ends;
         other_line = other;
         unread = unread;
         read = ends_read status asked call.before call.after result ends only reads_calm;
         counted = ends_counted status asked call.before call.after result ends later writes_calm;
+        follows = record {
+          answered = ends_answered status asked call.before call.after result ends;
+          unwritten = ends_unwritten status asked call.before call.after result ends;
+          cut = λ e. (ends_cut status asked call.before call.after result ends e).1;
+          complete = λ command line. complete one asked call.before call.after result command line or_not ends;
+          refuses = λ command line. refuses one asked call.before call.after result command line once or_not ends;
+        };
       }

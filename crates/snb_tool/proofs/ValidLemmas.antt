@@ -23,9 +23,12 @@ use Rattle.snb_tool_words.specs.declared.command.Command.TheVariants.{Expect, Va
 use Rattle.snb_tool_words.specs.declared.options.Via.TheVariants.{Graph}
 use Rattle.snb_tool_words.specs.Commands.{IsLineOf}
 use Rattle.snb_tool_words.specs.Laws.{WordsAreOne}
-use Rattle.snb_tool_outcome.specs.Inputs.{AreBadCases, Found, Given, IsFine, IsFoundTold, at_first, checks_of}
-use Rattle.snb_tool.specs.Laws.{ExpectInShort, ExpectedIsValid, RefusedOrNot}
-use Rattle.snb_tool_outcome.specs.Outcome.{Asked, IsAnswer, IsDone, IsExpected, IsValidated}
+use Rattle.snb_tool_outcome.specs.Inputs.{AreBadCases, IsSurelyFine, at_first, checks_of}
+use Rattle.snb_tool_outcome.specs.Found.{Found, Given, IsFoundTold}
+use Rattle.snb_tool.specs.Laws.{RefusedOrNot}
+use Rattle.snb_tool.specs.CaseLaws.{ExpectInShort, ExpectedIsValid}
+use Rattle.snb_tool_outcome.specs.Outcome.{Asked, IsCallAnswer}
+use Rattle.snb_tool_outcome.specs.Done.{IsDone, IsExpected, IsValidated}
 use Rattle.snb_tool.proofs.CompleteLemmas.{added, told_files}
 use Rattle.snb_tool_dataset.proofs.Laws.{not_bad}
 
@@ -61,7 +64,7 @@ module _ (one : DatasetIsOne) (or_not : CasesRefusedOrNot) (tally_one : TallyIsO
 
 -- what `expect` answered with status 0 are the cases of the files
 done_expected : WordsAreOne → (asked : Asked) (files : Files) (moments : Moments) (folder : List ℕ) (table : FrequencyTable) (texts : Written) → IsLineOf asked.words (Expect folder table)
-    → IsAnswer asked (Some files) moments 0 texts → IsExpected (held_in folder files) table texts
+    → IsCallAnswer asked (Some files) moments 0 texts → IsExpected (held_in folder files) table texts
 done_expected one asked files moments folder table texts line (inl usage) = (let e = usage.0 in absurd (omega (arith, e)))
 done_expected one asked files moments folder table texts line (inr (c, l, (found, told, inr bad))) = (let e = bad.2.0 in absurd (omega (arith, e)))
 done_expected one asked files moments folder table texts line (inr (c, l, (found, told, inl done))) =
@@ -95,7 +98,7 @@ module _ (one : DatasetIsOne) (or_not : CasesRefusedOrNot) (tally_one : TallyIsO
   found_as P found told p =
       subst (P (held_in folder after)) (told.1 ∙ there) (subst (λ (h : Held). P h found.beside) (told_files folder after found.held told.0) p)
 
-  fine_found : IsFine (Some after) given (Validate folder name Graph)
+  fine_found : IsSurelyFine (Some after) given (Validate folder name Graph)
   fine_found found told =
       as_found (λ held beside. NoneOf (dataset_checks at_first held ++ AreBadCases held beside ∷ [])) found told (fine one or_not tally_one (held_in folder after) text r)
 
@@ -103,7 +106,7 @@ module _ (one : DatasetIsOne) (or_not : CasesRefusedOrNot) (tally_one : TallyIsO
     abbrev others : Asked
     others = record { words = words; given = given }
 
-    zero_answer : (status : ℕ) (shown : Written) → IsAnswer others (Some after) later status shown → status ≡ 0
+    zero_answer : (status : ℕ) (shown : Written) → IsCallAnswer others (Some after) later status shown → status ≡ 0
     zero_answer status shown (inl usage) = absurd (usage.1 (Validate folder name Graph) (record { line = line; given = λ e. absurd cc }))
     zero_answer status shown (inr (c, l, (found, told, inr bad))) =
         let same = words_one words c (Validate folder name Graph) l.line line in

@@ -6,7 +6,7 @@ use Rattle.std.proofs.Common.{◌≡◌, ◌∙◌, ℕ, ◌⊎◌, ◌++◌, Li
 use Rattle.snb_base.specs.FirstOf.{FirstOf, NoneOf}
 use Rattle.snb_base.specs.Outbox.{Written}
 use Rattle.snb_base.specs.Shelf.{Files}
-use Rattle.snb_handlers.specs.Table.{HasAll, IsFirstMissing}
+use Rattle.snb_handlers.specs.Table.{HasAll, IsFirstUnhandled}
 use Rattle.snb_input_files.specs.Files.{held_in}
 use Rattle.snb_input_files.specs.Walk.{Held}
 use Rattle.snb_loader.specs.Dataset.{dataset_checks}
@@ -25,9 +25,12 @@ use Rattle.snb_validation_check.specs.CasesFile.{IsTally}
 use Rattle.snb_validation_check.specs.CheckTexts.{tally_status, tally_text}
 use Rattle.snb_validation_check.specs.Laws.{TallyIsOne}
 use Rattle.snb_walk.specs.declared.target.Pick.TheVariants.{Modulo}
-use Rattle.snb_tool_outcome.specs.Inputs.{AreBadCases, Found, Given, IsFoundTold, IsUnregistered, at_first}
-use Rattle.snb_tool.specs.Laws.{RefusalIsOne, RefusedOrNot, ViaTableIsTheSame}
-use Rattle.snb_tool_outcome.specs.Outcome.{Asked, Belongs, IsAnswer, IsRefused, IsValidated}
+use Rattle.snb_tool_outcome.specs.Inputs.{AreBadCases, IsUnregistered, at_first}
+use Rattle.snb_tool_outcome.specs.Found.{Found, Given, IsFoundTold}
+use Rattle.snb_tool.specs.Laws.{RefusalIsOne, RefusedOrNot}
+use Rattle.snb_tool.specs.CaseLaws.{ViaTableIsTheSame}
+use Rattle.snb_tool_outcome.specs.Outcome.{Asked, Belongs, IsCallAnswer, IsRefused}
+use Rattle.snb_tool_outcome.specs.Done.{IsValidated}
 use Rattle.snb_tool_outcome.specs.Output.{on_screen}
 use Rattle.snb_tool.proofs.CompleteLemmas.{told_files}
 
@@ -40,7 +43,7 @@ validated_one one tally_one held beside s t texts shown v w =
     (w.status_is ∙ ap tally_status same ∙ sym v.status_is, w.shown ∙ ap (λ (x : Tally). on_screen (tally_text x)) same ∙ sym v.shown)
 
 -- where each kind has a handler, none is refused for having none
-no_missing : (missing : Option ReadKind) (kinds : List ReadKind) → HasAll kinds → MatchOption missing (HasAll kinds) (IsFirstMissing kinds) → (r : Refusal) → ¬ IsUnregistered missing r
+no_missing : (missing : Option ReadKind) (kinds : List ReadKind) → HasAll kinds → MatchOption missing (HasAll kinds) (IsFirstUnhandled kinds) → (r : Refusal) → ¬ IsUnregistered missing r
 no_missing None kinds all m r u = u
 no_missing (Some kind) kinds all m r u = m.lacking (all kind)
 
@@ -96,14 +99,14 @@ module _ (files : Files) (folder name : List ℕ) where
         inr (r, moved (told_files folder files found.held told.0) told.1 (λ held beside. FirstOf (checks held beside) r) q.1, refused)
 
   module _ (words_one : WordsAreOne) (asked : Asked) (moments : Moments) (status : ℕ) (texts : Written) where
-    graph_answered : IsLineOf asked.words (Validate folder name Graph) → IsAnswer asked (Some files) moments status texts → Told status texts
+    graph_answered : IsLineOf asked.words (Validate folder name Graph) → IsCallAnswer asked (Some files) moments status texts → Told status texts
     graph_answered line (inl usage) = absurd (usage.1 (Validate folder name Graph) (record { line = line; given = λ e. absurd cc }))
     graph_answered line (inr (c, l, (found, told, b))) =
         let same = words_one asked.words c (Validate folder name Graph) l.line line in
         graph_told found moments status texts asked.given (subst (λ (d : Command). IsFoundTold (Some files) asked.given d found) same told)
         (subst (λ (d : Command). Belongs d found moments status texts) same b)
 
-    table_answered : IsLineOf asked.words (Validate folder name Table) → IsSomeAnd asked.given (λ c. HasAll c.kinds) → IsAnswer asked (Some files) moments status texts → Told status texts
+    table_answered : IsLineOf asked.words (Validate folder name Table) → IsSomeAnd asked.given (λ c. HasAll c.kinds) → IsCallAnswer asked (Some files) moments status texts → Told status texts
     table_answered line all (inl usage) = absurd (usage.1 (Validate folder name Table) (record { line = line; given = λ e. given_there asked.given all }))
     table_answered line all (inr (c, l, (found, told, b))) =
         let same = words_one asked.words c (Validate folder name Table) l.line line in

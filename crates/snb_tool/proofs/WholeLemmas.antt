@@ -28,9 +28,14 @@ use Rattle.snb_tool_words.specs.Laws.{WordsAreOne}
 use Rattle.snb_replica.specs.Counts.{logged_of}
 use Rattle.snb_workers.specs.Laws.{CountsOfARun}
 use Rattle.snb_miscount.specs.Miscounts.{events_of}
-use Rattle.snb_tool_outcome.specs.Inputs.{Found, Given, IsFine, IsFoundTold, IsInput, checks_of, plan_checks}
-use Rattle.snb_tool.specs.Laws.{RefusedOrNot, RunIsWhole}
-use Rattle.snb_tool_outcome.specs.Outcome.{Asked, IsAnswer, IsDone, IsJudged, IsRun, ShowsSummary, TellsLatencies, TellsVerdict}
+use Rattle.snb_tool_outcome.specs.Inputs.{IsSurelyFine, IsInput, checks_of, plan_checks}
+use Rattle.snb_tool_outcome.specs.Found.{Found, Given, IsFoundTold}
+use Rattle.snb_tool.specs.Laws.{RefusedOrNot}
+use Rattle.snb_tool.specs.WholeLaws.{RunIsWhole}
+use Rattle.snb_tool_outcome.specs.Outcome.{Asked, IsCallAnswer}
+use Rattle.snb_tool_outcome.specs.Done.{IsDone}
+use Rattle.snb_tool_outcome.specs.LogsDone.{IsJudgedLog, ShowsSummary, TellsLatencies, TellsVerdict}
+use Rattle.snb_tool_outcome.specs.Runs.{IsRun}
 use Rattle.snb_tool_outcome.specs.Output.{on_screen}
 use Rattle.snb_tool.proofs.CompleteLemmas.{told_exactly, told_files}
 use Rattle.snb_tool_outcome.proofs.Laws.{AreOne, planned_one}
@@ -75,7 +80,7 @@ run_whole counts held workers ratio table moments texts clean r =
 
 module _ (one : AreOne) (log_one : LogSaysOne) (exactly : WholeExactly) (held : Held) (ratio : ℕ) (table : FrequencyTable) (text : List ℕ) (w : IsWholeLog held ratio table text) where
   -- what is judged of it is a whole run
-  judged_whole : (plan : Plan) (header : Header) (logged : List Logged) (verdict : AuditVerdict) → IsJudged held (Some text) ratio table plan header logged verdict → is_whole verdict ≡ true
+  judged_whole : (plan : Plan) (header : Header) (logged : List Logged) (verdict : AuditVerdict) → IsJudgedLog held (Some text) ratio table plan header logged verdict → is_whole verdict ≡ true
   judged_whole plan header logged verdict j =
       let graphs : w.graph ≡ j.graph = one.dataset _ held w.graph j.graph w.input.dataset j.input.dataset in
       let plans : w.plan ≡ plan = planned_one one ratio table held w.plan plan w.input.planned j.input.planned in
@@ -115,14 +120,14 @@ module _ (files : Files) (folder name text : List ℕ) (ratio : ℕ) (table : Fr
     fine_checks : NoneOf (plan_checks ratio table (held_in folder files) ++ log_checks (Some text))
     fine_checks = none_append (plan_checks ratio table (held_in folder files)) (log_checks (Some text)) w.clean (clean text w.header w.logged w.fits w.says)
 
-    audit_fine : (given : Given) → IsFine (Some files) given (Audit folder name ratio table)
+    audit_fine : (given : Given) → IsSurelyFine (Some files) given (Audit folder name ratio table)
     audit_fine given found told = as_audit given found (λ held beside. NoneOf (plan_checks ratio table held ++ log_checks beside)) told fine_checks
 
-    latency_fine : (given : Given) → IsFine (Some files) given (Latency folder name ratio table)
+    latency_fine : (given : Given) → IsSurelyFine (Some files) given (Latency folder name ratio table)
     latency_fine given found told = as_latency given found (λ held beside. NoneOf (plan_checks ratio table held ++ log_checks beside)) told fine_checks
 
     module _ (words_one : WordsAreOne) (law : RefusedOrNot) (one : AreOne) (log_one : LogSaysOne) (exactly : WholeExactly) (asked : Asked) (moments : Moments) (status : ℕ) (texts : Written) where
-      audited : IsLineOf asked.words (Audit folder name ratio table) → IsAnswer asked (Some files) moments status texts
+      audited : IsLineOf asked.words (Audit folder name ratio table) → IsCallAnswer asked (Some files) moments status texts
           → (verdict : AuditVerdict) × (is_whole verdict ≡ true) × (status ≡ audit_status verdict) × (texts ≡ on_screen (audit_text verdict))
       audited line (inl usage) = absurd (usage.1 (Audit folder name ratio table) (record { line = line; given = λ e. absurd cc }))
       audited line (inr (c, l, (found, told, inr bad))) =
@@ -134,7 +139,7 @@ module _ (files : Files) (folder name text : List ℕ) (ratio : ℕ) (table : Fr
           (of_audit asked.given found (λ held beside. TellsVerdict held beside ratio table status texts) (subst (λ (d : Command). IsFoundTold (Some files) asked.given d found) same told)
           (subst (λ (d : Command). IsDone d found moments status texts) same done.1))
 
-      measured : IsLineOf asked.words (Latency folder name ratio table) → IsAnswer asked (Some files) moments status texts → status ≡ 0
+      measured : IsLineOf asked.words (Latency folder name ratio table) → IsCallAnswer asked (Some files) moments status texts → status ≡ 0
       measured line (inl usage) = absurd (usage.1 (Latency folder name ratio table) (record { line = line; given = λ e. absurd cc }))
       measured line (inr (c, l, (found, told, inr bad))) =
           let same = words_one asked.words c (Latency folder name ratio table) l.line line in
@@ -147,7 +152,7 @@ module _ (files : Files) (folder name text : List ℕ) (ratio : ℕ) (table : Fr
 
 -- what `run` answered with status 0 is a run of the files, with which nothing is wrong
 done_run : CountsOfARun → WordsAreOne → (asked : Asked) (files : Files) (moments : Moments) (folder : List ℕ) (workers ratio : ℕ) (table : FrequencyTable) (texts : Written)
-    → IsLineOf asked.words (Run folder workers ratio table) → IsAnswer asked (Some files) moments 0 texts → IsWholeLog (held_in folder files) ratio table texts.log
+    → IsLineOf asked.words (Run folder workers ratio table) → IsCallAnswer asked (Some files) moments 0 texts → IsWholeLog (held_in folder files) ratio table texts.log
 done_run counts one asked files moments folder workers ratio table texts line (inl usage) = (let e = usage.0 in absurd (omega (arith, e)))
 done_run counts one asked files moments folder workers ratio table texts line (inr (c, l, (found, told, inr bad))) = (let e = bad.2.0 in absurd (omega (arith, e)))
 done_run counts one asked files moments folder workers ratio table texts line (inr (c, l, (found, told, inl done))) =

@@ -1,10 +1,11 @@
--- What a call is given beside its words, as a contract sees it. Cited by contracts of private functions alone.
+-- What a call is given beside its words, as a contract sees it. Cited by contracts of private
+-- functions alone.
 use Rattle.std.specs.Prelude.{Option, None, Some}
 use Rattle.std.specs.Borrow.{Bor}
 use Rattle.snb_handlers.specs.declared.handlers.Handlers.{Handlers}
 use Rattle.snb_handlers.specs.Table.{kinds}
 use Rattle.snb_walk.specs.declared.policy.Policy.{Policy}
-use Rattle.snb_tool_outcome.specs.Inputs.{Connector, Given}
+use Rattle.snb_tool_outcome.specs.Found.{Connector, Given}
 
 -- what a call is given: the kinds of a table, and the pick of a policy
 abbrev pub connector_of : {I F P J G Q : _} → Handlers I F P → Policy J G Q → Connector

@@ -1,6 +1,10 @@
 //! Laws of what the program answers. The functions only cite other laws; their contracts are the laws.
 
-ghost use Rattle.snb_tool.specs.Laws.{AnswersHaveStatus, AuditInShort, ExpectInShort, ExpectedIsValid, LatencyInShort, LinesAreOperations, RefusalIsOne, RefusedOrNot, RunInShort, RunIsWhole, ValidateInShort, ViaTableIsTheSame};
+ghost use Rattle.snb_tool.specs.Laws.{AnswersHaveStatus, RefusalIsOne, RefusedOrNot};
+ghost use Rattle.snb_tool.specs.LineLaws.{LinesAreOperations};
+ghost use Rattle.snb_tool.specs.CaseLaws.{ExpectInShort, ExpectedIsValid, ValidateInShort, ViaTableIsTheSame};
+ghost use Rattle.snb_tool.specs.Shorts.{AuditInShort, LatencyInShort, RunInShort};
+ghost use Rattle.snb_tool.specs.WholeLaws.{RunIsWhole};
 
 use snb_auditor_log::law::{accepted_in_order, one_log_refusal, said_log_is_clean, whole_exactly};
 use snb_loader::law::{one_dataset, one_lanes, one_params};

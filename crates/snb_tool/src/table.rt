@@ -2,7 +2,7 @@
 
 ghost use Rattle.std.specs.Prelude.{◌≡◌, Some};
 ghost use Rattle.snb_base.specs.Moments.{Moments};
-ghost use Rattle.snb_base.specs.Reads.{IsRead};
+ghost use Rattle.snb_base.specs.Reads.{IsShelfRead};
 ghost use Rattle.snb_handlers.specs.Table.{HasAll, kinds};
 ghost use Rattle.snb_input_files.specs.Loading.{is_read_fault};
 ghost use Rattle.snb_input_files.specs.Names.{Allows};
@@ -34,9 +34,11 @@ pub fn validate_via<S: Shelf>(
     cases: &str,
 ) -> Result<Finished, Load>
     requires allowed { Allows (S.may shelf.old) (IsNameOf (Validate folder.now cases.now via.Table)) }
-    ensures answer { (pick : Pick) (moments : Moments) → IsFinished (Validate folder.now cases.now via.Table) (S.contents shelf.old) (Some (record { kinds = kinds handlers.now; pick = pick })) moments result }
+    ensures answer { (pick : Pick) (moments : Moments)
+        → IsFinished (Validate folder.now cases.now via.Table) (S.contents shelf.old)
+        (Some (record { kinds = kinds handlers.now; pick = pick })) moments result }
     ensures unread { ¬ HasAll (kinds handlers.now) → shelf.new ≡ shelf.old }
-    ensures read { IsRead (is_read_fault result) S.Shelf shelf.old shelf.new }
+    ensures read { IsShelfRead (is_read_fault result) S.Shelf shelf.old shelf.new }
 {
     match handlers.missing() {
         Some(kind) => Err(Load::Refused {
@@ -59,9 +61,10 @@ pub fn walk_via<S: Shelf>(
     words: &[u64],
 ) -> Result<Finished, Load>
     requires allowed { Allows (S.may shelf.old) (IsNameOf (Walk folder.now query.now chance words.now)) }
-    ensures answer { (moments : Moments) → IsFinished (Walk folder.now query.now chance words.now) (S.contents shelf.old) (Some (connector_of handlers.now policy.now)) moments result }
+    ensures answer { (moments : Moments) → IsFinished (Walk folder.now query.now chance words.now)
+        (S.contents shelf.old) (Some (connector_of handlers.now policy.now)) moments result }
     ensures unread { ¬ HasAll (kinds handlers.now) → shelf.new ≡ shelf.old }
-    ensures read { IsRead (is_read_fault result) S.Shelf shelf.old shelf.new }
+    ensures read { IsShelfRead (is_read_fault result) S.Shelf shelf.old shelf.new }
 {
     match handlers.missing() {
         Some(kind) => Err(Load::Refused {

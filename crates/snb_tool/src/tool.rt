@@ -2,17 +2,18 @@
 
 ghost use Rattle.std.specs.Prelude.{◌≡◌, ◌≤◌, ◌⊎◌, None, ◌≢◌, false, true, IfOk, IsSome, MatchOption, OnErr};
 ghost use Rattle.snb_base.specs.Moments.{Moments};
-ghost use Rattle.snb_base.specs.Reads.{IsRead};
+ghost use Rattle.snb_base.specs.Reads.{IsShelfRead};
 ghost use Rattle.snb_handlers.specs.Table.{kinds};
 ghost use Rattle.snb_input_files.specs.Loading.{is_read_fault};
 ghost use Rattle.snb_input_files.specs.Names.{Allows};
-ghost use Rattle.snb_tool_words.specs.Commands.{folder_of, needs_table, waits};
+ghost use Rattle.snb_tool_words.specs.CommandFacts.{folder_of, needs_table, command_waits};
 ghost use Rattle.snb_tool_words.specs.Words.{texts_of};
 ghost use Rattle.snb_tool.specs.Connectors.{given_by};
 ghost use Rattle.snb_tool_outcome.specs.Endings.{IsFinished, LacksKind, asked_by};
-ghost use Rattle.snb_tool_outcome.specs.Inputs.{Given};
+ghost use Rattle.snb_tool_outcome.specs.Found.{Given};
 ghost use Rattle.snb_tool_outcome.specs.Names.{IsNameOf, MayAskFor};
-ghost use Rattle.snb_tool_outcome.specs.Outcome.{AreWaiting, HasServed, IsAnswer, IsAsked, IsOther, ReadsNothing, alone, with};
+ghost use Rattle.snb_tool_outcome.specs.Outcome.{IsCallAnswer, IsAsked, IsOther, alone, with};
+ghost use Rattle.snb_tool_outcome.specs.Served.{AreWaiting, HasServed, ReadsNothing};
 ghost use Rattle.snb_tool_outcome.specs.Outside.{EndsAs, IsReadOnly, seen};
 
 use crate::law::{answers_have_status, refusal_is_one};
@@ -49,13 +50,14 @@ fn obey<S: Shelf>(
     shelf: &mut S,
     given: Option<(&Handlers, &Policy)>,
 ) -> Result<Finished, Load>
-    requires still { waits command.now ≡ false }
+    requires still { command_waits command.now ≡ false }
     requires given { needs_table command.now ≡ true → IsSome given }
     requires allowed { Allows (S.may shelf.old) (IsNameOf command.now) }
-    ensures answer { (moments : Moments) → IsFinished command.now (S.contents shelf.old) (given_by given.entry) moments result }
+    ensures answer { (moments : Moments) → IsFinished command.now (S.contents shelf.old) (given_by given.entry)
+        moments result }
     ensures unread { folder_of command.now ≡ None → shelf.new ≡ shelf.old }
     ensures unasked { needs_table command.now ≡ true → LacksKind (given_by given.entry) → shelf.new ≡ shelf.old }
-    ensures read { IsRead (is_read_fault result) S.Shelf shelf.old shelf.new }
+    ensures read { IsShelfRead (is_read_fault result) S.Shelf shelf.old shelf.new }
 {
     match command {
         Command::Check {
@@ -132,7 +134,9 @@ fn asked_command(
     words: &[&str],
     given: Option<(&Handlers, &Policy)>,
 ) -> Result<Option<Command>, AllocError>
-    ensures is { IfOk result (λ found. MatchOption found (IsOther (asked_by words.now (given_by given.entry))) (IsAsked (asked_by words.now (given_by given.entry)))) }
+    ensures is { IfOk result
+        (λ found. MatchOption found (IsOther (asked_by words.now (given_by given.entry)))
+        (IsAsked (asked_by words.now (given_by given.entry)))) }
     ensures memory { OnErr result (¬ IsOther (asked_by words.now (given_by given.entry))) }
 {
     one_command();
@@ -157,8 +161,10 @@ fn answer<S: Shelf, O: Outbox>(
 ) -> u8
     requires still { AreWaiting false (texts_of words.now) }
     requires allowed { MayAskFor (S.may shelf.old) (asked_by words.now (given_by given)) }
-    ensures ends { (moments : Moments) → EndsAs (IsAnswer (asked_by words.now (given_by given.entry))) (seen S.Shelf O.Outbox moments shelf.old shelf.new out.old out.new) result }
-    ensures other_line { IsOther (asked_by words.now (given_by given.entry)) → ((result ≡ 2) ⊎ (result ≡ 5)) × (shelf.new ≡ shelf.old) }
+    ensures ends { (moments : Moments) → EndsAs (IsCallAnswer (asked_by words.now (given_by given.entry)))
+        (seen S.Shelf O.Outbox moments shelf.old shelf.new out.old out.new) result }
+    ensures other_line { IsOther (asked_by words.now (given_by given.entry))
+        → ((result ≡ 2) ⊎ (result ≡ 5)) × (shelf.new ≡ shelf.old) }
     ensures unread { ReadsNothing (asked_by words.now (given_by given.entry)) → shelf.new ≡ shelf.old }
     ensures read_only { IsReadOnly S.Shelf shelf.old shelf.new }
     ensures reads_calm { result ≢ 4 → S.faults shelf.new ≡ S.faults shelf.old }
@@ -186,8 +192,10 @@ fn answer_waiting<
 >(rt: &R, words: &[&str], shelf: &mut S, out: &mut O, clock: &C, gate: &G) -> u8
     requires waiting { AreWaiting true (texts_of words.now) }
     requires allowed { (given : Given) → MayAskFor (S.may shelf.old) (asked_by words.now given) }
-    ensures ends { (given : Given) → EndsAs (IsAnswer (asked_by words.now given)) (seen S.Shelf O.Outbox (C.moments clock.now) shelf.old shelf.new out.old out.new) result }
-    ensures other_line { (given : Given) → IsOther (asked_by words.now given) → ((result ≡ 2) ⊎ (result ≡ 5)) × (shelf.new ≡ shelf.old) }
+    ensures ends { (given : Given) → EndsAs (IsCallAnswer (asked_by words.now given))
+        (seen S.Shelf O.Outbox (C.moments clock.now) shelf.old shelf.new out.old out.new) result }
+    ensures other_line { (given : Given) → IsOther (asked_by words.now given)
+        → ((result ≡ 2) ⊎ (result ≡ 5)) × (shelf.new ≡ shelf.old) }
     ensures unread { (given : Given) → ReadsNothing (asked_by words.now given) → shelf.new ≡ shelf.old }
     ensures read_only { IsReadOnly S.Shelf shelf.old shelf.new }
     ensures reads_calm { result ≢ 4 → S.faults shelf.new ≡ S.faults shelf.old }
@@ -221,7 +229,8 @@ pub fn snb_still<R: AllocGlobal, S: Shelf, O: Outbox>(
 ) -> u8
     requires still { AreWaiting false (texts_of words.now) }
     requires allowed { MayAskFor (S.may shelf.old) (with words.now (kinds handlers.now) policy.now.pick) }
-    ensures { (moments : Moments) → HasServed S.Shelf O.Outbox moments (with words.now (kinds handlers.now) policy.now.pick) shelf.old shelf.new out.old out.new result }
+    ensures { (moments : Moments) → HasServed S.Shelf O.Outbox moments
+        (with words.now (kinds handlers.now) policy.now.pick) shelf.old shelf.new out.old out.new result }
 {
     one_command();
     refusal_is_one();
@@ -328,7 +337,8 @@ pub fn snb_with<
     policy: &Policy,
 ) -> u8
     requires allowed { MayAskFor (S.may shelf.old) (with words.now (kinds handlers.now) policy.now.pick) }
-    ensures { HasServed S.Shelf O.Outbox (C.moments clock.now) (with words.now (kinds handlers.now) policy.now.pick) shelf.old shelf.new out.old out.new result }
+    ensures { HasServed S.Shelf O.Outbox (C.moments clock.now) (with words.now (kinds handlers.now) policy.now.pick)
+        shelf.old shelf.new out.old out.new result }
 {
     one_command();
     refusal_is_one();
@@ -350,7 +360,8 @@ pub fn snb<
     G: Gate + Sync,
 >(rt: &R, words: &[&str], shelf: &mut S, out: &mut O, clock: &C, gate: &G) -> u8
     requires allowed { MayAskFor (S.may shelf.old) (alone words.now) }
-    ensures { HasServed S.Shelf O.Outbox (C.moments clock.now) (alone words.now) shelf.old shelf.new out.old out.new result }
+    ensures { HasServed S.Shelf O.Outbox (C.moments clock.now) (alone words.now) shelf.old shelf.new out.old out.new
+        result }
 {
     one_command();
     refusal_is_one();

@@ -13,14 +13,17 @@ use Rattle.snb_tool_words.specs.declared.command.Command.TheVariants.{Check, Exp
 use Rattle.snb_tool_words.specs.declared.options.Via.TheVariants as via
 use Rattle.snb_handlers.specs.Table.{HasAll}
 use Rattle.snb_schema.specs.declared.refusal.Refusal.{Refusal}
-use Rattle.snb_tool_outcome.specs.Inputs.{Connector, Given, AreBadCases, at_first}
-use Rattle.snb_ratio.specs.Chances.{Falling}
+use Rattle.snb_tool_outcome.specs.Inputs.{AreBadCases, at_first}
+use Rattle.snb_tool_outcome.specs.Found.{Connector, Given}
+use Rattle.snb_ratio.specs.Chances.{ChanceFall}
 use Rattle.snb_walk.specs.declared.target.Pick.TheVariants.{Modulo}
 use Rattle.snb_tool_outcome.specs.declared.deliver.Finished.{Finished}
 use Rattle.snb_tool_outcome.specs.declared.input.Input.{Input}
 use Rattle.snb_validation_check.specs.declared.text.Tally.{Tally}
-use Rattle.snb_tool_outcome.specs.Endings.{IsDoneWith, IsFinished, IsInputAnswer, IsReplyAnswer, IsTallyAnswer, IsWalkAnswer, TellsTally, IsReplyLine}
-use Rattle.snb_tool_outcome.specs.Outcome.{check_of}
+use Rattle.snb_tool_outcome.specs.Endings.{IsDoneWith, IsFinished}
+use Rattle.snb_tool_outcome.specs.PlanEndings.{IsInputAnswer}
+use Rattle.snb_tool_outcome.specs.DatasetEndings.{IsReplyAnswer, IsTallyAnswer, IsWalkAnswer, TellsTally, IsReplyLine}
+use Rattle.snb_tool_outcome.specs.Done.{check_of}
 use Rattle.snb_tool_outcome.specs.Output.{on_screen}
 use Rattle.snb_input_files.specs.declared.load.Load.TheVariants.{Refused, ReadFault, Memory}
 use Rattle.snb_input_files.specs.declared.load.Used.{Used}
@@ -120,7 +123,7 @@ module _ (contents : Option Files) (folder cases : List ℕ) (moments : Moments)
     )
 
 -- a walk by a table in which each kind of read has a handler, and a policy
-module _ (contents : Option Files) (folder : List ℕ) (query : Query) (chance : Falling) (words : List ℕ) (c : Connector) (moments : Moments) where
+module _ (contents : Option Files) (folder : List ℕ) (query : Query) (chance : ChanceFall) (words : List ℕ) (c : Connector) (moments : Moments) where
   pub walk_not : HasAll c.kinds → (load : Load) → IsWalkAnswer contents folder c.pick query chance words (Err load) → IsFinished (Walk folder query chance words) contents (Some c) moments (Err load)
   walk_not all (Refused r) h = (record { missing = None; pick = c.pick; held = h.0; beside = None }, (h.1, tt, (all, refl)), inr (λ q no. no, h.2))
   walk_not all ReadFault h = tt

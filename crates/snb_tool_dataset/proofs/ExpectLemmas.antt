@@ -21,11 +21,14 @@ use Rattle.snb_input_files.specs.Walk.{Before, Held}
 use Rattle.snb_loader.specs.Params.{AreParams}
 use Rattle.snb_plan.specs.Plans.{IsOfStreams, IsRead, IsUpdate, Operation, Plan, first_t, queries_in, query_from}
 use Rattle.snb_tool_words.specs.declared.command.Command.TheVariants.{Expect}
-use Rattle.snb_validation_expect.specs.CaseTexts.{count_text}
+use Rattle.snb_validation_expect.specs.CaseTexts.{case_count_text}
 use Rattle.snb_validation_expect.specs.Expected.{HasExpected, HasWords, HaveWords}
 use Rattle.snb_tool_outcome.specs.declared.input.Input.{Input}
-use Rattle.snb_tool_outcome.specs.Endings.{AreCasesOf, IsDoneWith, IsInputAnswer}
-use Rattle.snb_tool_outcome.specs.Inputs.{ArePlanned, Given, after_streams}
+use Rattle.snb_tool_outcome.specs.Endings.{IsDoneWith}
+use Rattle.snb_tool_outcome.specs.PlanEndings.{IsInputAnswer}
+use Rattle.snb_tool_outcome.specs.DatasetEndings.{AreCasesOf}
+use Rattle.snb_tool_outcome.specs.Inputs.{ArePlanned, after_streams}
+use Rattle.snb_tool_outcome.specs.Found.{Given}
 use Rattle.snb_walk.specs.declared.target.Pick.TheVariants.{Modulo}
 use Rattle.snb_base.proofs.Laws.{given_by}
 
@@ -85,10 +88,10 @@ module _ (files : ParamsFiles) where
 
 -- the output of the cases of a graph and a plan, which are the input's
 pub has_cases : (input : Input) (graph : List Row) (plan : Plan) (n : ℕ) (old : List ℕ) (texts : Written) → graph ≡ input.graph → plan ≡ input.plan → IsOfStreams plan
-    → old ≡ [] → HasExpected graph plan old texts.cases → n ≡ length plan.operations → texts.screen ≡ count_text n → texts.log ≡ [] → texts.answers ≡ [] → texts.finals ≡ [] → AreCasesOf input texts
+    → old ≡ [] → HasExpected graph plan old texts.cases → n ≡ length plan.operations → texts.screen ≡ case_count_text n → texts.log ≡ [] → texts.answers ≡ [] → texts.finals ≡ [] → AreCasesOf input texts
 has_cases input graph plan n old texts same_graph same_plan streams start has size screen log answers finals =
     let h : HasExpected input.graph input.plan [] texts.cases = subst (λ (p : Plan). HasExpected input.graph p [] texts.cases) same_plan (subst (λ (g : List Row). HasExpected g plan [] texts.cases) same_graph (subst (λ (l : List ℕ). HasExpected graph plan l texts.cases) start has)) in
-    let line : texts.screen ≡ count_text (length input.plan.operations) = screen ∙ ap count_text (size ∙ ap (λ (p : Plan). length p.operations) same_plan) in
+    let line : texts.screen ≡ case_count_text (length input.plan.operations) = screen ∙ ap case_count_text (size ∙ ap (λ (p : Plan). length p.operations) same_plan) in
     record {
       streams = subst IsOfStreams same_plan streams;
       cases = h.cases;
@@ -96,10 +99,10 @@ has_cases input graph plan n old texts same_graph same_plan streams start has si
       read_back = h.read_back;
       shown =
           ap (λ (l : List ℕ). record { screen = l; log = texts.log; answers = texts.answers; finals = texts.finals; cases = texts.cases }) line
-          ∙ (ap (λ (l : List ℕ). record { screen = count_text (length input.plan.operations); log = l; answers = texts.answers; finals = texts.finals; cases = texts.cases }) log
-          ∙ (ap (λ (l : List ℕ). record { screen = count_text (length input.plan.operations); log = []; answers = l; finals = texts.finals; cases = texts.cases }) answers
-          ∙ (ap (λ (l : List ℕ). record { screen = count_text (length input.plan.operations); log = []; answers = []; finals = l; cases = texts.cases }) finals
-          ∙ ap (λ (l : List ℕ). record { screen = count_text (length input.plan.operations); log = []; answers = []; finals = []; cases = l }) h.added)));
+          ∙ (ap (λ (l : List ℕ). record { screen = case_count_text (length input.plan.operations); log = l; answers = texts.answers; finals = texts.finals; cases = texts.cases }) log
+          ∙ (ap (λ (l : List ℕ). record { screen = case_count_text (length input.plan.operations); log = []; answers = l; finals = texts.finals; cases = texts.cases }) answers
+          ∙ (ap (λ (l : List ℕ). record { screen = case_count_text (length input.plan.operations); log = []; answers = []; finals = l; cases = texts.cases }) finals
+          ∙ ap (λ (l : List ℕ). record { screen = case_count_text (length input.plan.operations); log = []; answers = []; finals = []; cases = l }) h.added)));
     }
 
 -- ---- what the command answers

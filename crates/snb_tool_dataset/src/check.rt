@@ -2,14 +2,14 @@
 
 ghost use Rattle.std.specs.Prelude.{◌≡◌, IfOk};
 ghost use Rattle.snb_base.specs.Moments.{Moments};
-ghost use Rattle.snb_base.specs.Reads.{IsRead};
+ghost use Rattle.snb_base.specs.Reads.{IsShelfRead};
 ghost use Rattle.snb_input_files.specs.Loading.{is_read_fault};
 ghost use Rattle.snb_input_files.specs.Names.{Allows};
 ghost use Rattle.snb_tool_words.specs.declared.command.Command.TheVariants.{Check};
 ghost use Rattle.snb_tool_outcome.specs.Endings.{IsFinished};
-ghost use Rattle.snb_tool_outcome.specs.Inputs.{Given};
+ghost use Rattle.snb_tool_outcome.specs.Found.{Given};
 ghost use Rattle.snb_tool_outcome.specs.Names.{IsNameOf};
-ghost use Rattle.snb_tool_outcome.specs.Outcome.{check_of};
+ghost use Rattle.snb_tool_outcome.specs.Done.{check_of};
 
 use snb_base::Shelf;
 use snb_input_files::Load;
@@ -40,8 +40,9 @@ pub fn check<S: Shelf>(
     frequencies: Frequencies,
 ) -> Result<Finished, Load>
     requires allowed { Allows (S.may shelf.old) (IsNameOf (Check folder.now frequencies)) }
-    ensures answer { (given : Given) (moments : Moments) → IsFinished (Check folder.now frequencies) (S.contents shelf.old) given moments result }
-    ensures read { IsRead (is_read_fault result) S.Shelf shelf.old shelf.new }
+    ensures answer { (given : Given) (moments : Moments)
+        → IsFinished (Check folder.now frequencies) (S.contents shelf.old) given moments result }
+    ensures read { IsShelfRead (is_read_fault result) S.Shelf shelf.old shelf.new }
 {
     let input = load_input(alloc, shelf, folder, Ratio::one(), frequencies)?;
     let text = counts_of(alloc, input)?;

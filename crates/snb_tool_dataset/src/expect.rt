@@ -2,7 +2,7 @@
 
 ghost use Rattle.std.specs.Prelude.{IfOk};
 ghost use Rattle.snb_base.specs.Moments.{Moments};
-ghost use Rattle.snb_base.specs.Reads.{IsRead};
+ghost use Rattle.snb_base.specs.Reads.{IsShelfRead};
 ghost use Rattle.snb_input_files.specs.Loading.{is_read_fault};
 ghost use Rattle.snb_input_files.specs.Names.{Allows};
 ghost use Rattle.snb_plan.specs.Closed.{IsClosed};
@@ -10,8 +10,9 @@ ghost use Rattle.snb_plan.specs.Plans.{updates_in};
 ghost use Rattle.snb_graph_model.specs.Graphs.{HoldsKey};
 ghost use Rattle.snb_graph_model.specs.Soundness.{Sound};
 ghost use Rattle.snb_tool_words.specs.declared.command.Command.TheVariants.{Expect};
-ghost use Rattle.snb_tool_outcome.specs.Endings.{AreCasesOf, IsFinished, bytes_of};
-ghost use Rattle.snb_tool_outcome.specs.Inputs.{Given};
+ghost use Rattle.snb_tool_outcome.specs.Endings.{IsFinished, bytes_of};
+ghost use Rattle.snb_tool_outcome.specs.DatasetEndings.{AreCasesOf};
+ghost use Rattle.snb_tool_outcome.specs.Found.{Given};
 ghost use Rattle.snb_tool_outcome.specs.Names.{IsNameOf};
 
 use snb_base::Shelf;
@@ -58,8 +59,9 @@ pub fn expect<S: Shelf, A: Replies>(
 ) -> Result<Finished, Load>
     requires ready { A.ready answers.now }
     requires allowed { Allows (S.may shelf.old) (IsNameOf (Expect folder.now frequencies)) }
-    ensures answer { (given : Given) (moments : Moments) → IsFinished (Expect folder.now frequencies) (S.contents shelf.old) given moments result }
-    ensures read { IsRead (is_read_fault result) S.Shelf shelf.old shelf.new }
+    ensures answer { (given : Given) (moments : Moments)
+        → IsFinished (Expect folder.now frequencies) (S.contents shelf.old) given moments result }
+    ensures read { IsShelfRead (is_read_fault result) S.Shelf shelf.old shelf.new }
 {
     params_files();
     let input = load_input(alloc, shelf, folder, Ratio::one(), frequencies)?;

@@ -2,14 +2,15 @@
 
 ghost use Rattle.std.specs.Prelude.{IfOk};
 ghost use Rattle.snb_base.specs.Moments.{Moments};
-ghost use Rattle.snb_base.specs.Reads.{IsRead};
+ghost use Rattle.snb_base.specs.Reads.{IsShelfRead};
 ghost use Rattle.snb_input_files.specs.Loading.{is_read_fault};
 ghost use Rattle.snb_input_files.specs.Names.{Allows, IsNameIn};
 ghost use Rattle.snb_graph_model.specs.Soundness.{Sound};
 ghost use Rattle.snb_loader.specs.Order.{table_series};
 ghost use Rattle.snb_tool_words.specs.declared.command.Command.TheVariants.{Read};
-ghost use Rattle.snb_tool_outcome.specs.Endings.{IsFinished, IsReplyAnswer, IsReplyLine};
-ghost use Rattle.snb_tool_outcome.specs.Inputs.{Given};
+ghost use Rattle.snb_tool_outcome.specs.Endings.{IsFinished};
+ghost use Rattle.snb_tool_outcome.specs.DatasetEndings.{IsReplyAnswer, IsReplyLine};
+ghost use Rattle.snb_tool_outcome.specs.Found.{Given};
 ghost use Rattle.snb_tool_outcome.specs.Names.{IsNameOf};
 
 use snb_base::Shelf;
@@ -51,7 +52,7 @@ fn read_line<S: Shelf, A: Replies>(
     requires ready { A.ready answers.now }
     requires allowed { Allows (S.may shelf.old) (IsNameIn table_series folder.now) }
     ensures answer { IsReplyAnswer (S.contents shelf.old) folder.now query.now result }
-    ensures read { IsRead (is_read_fault result) S.Shelf shelf.old shelf.new }
+    ensures read { IsShelfRead (is_read_fault result) S.Shelf shelf.old shelf.new }
 {
     let mut used = Used { bytes: 0, rows: 0 };
     let graph = load_dataset(alloc, shelf, folder, &mut used)?;
@@ -69,8 +70,9 @@ pub fn read<S: Shelf, A: Replies>(
 ) -> Result<Finished, Load>
     requires ready { A.ready answers.now }
     requires allowed { Allows (S.may shelf.old) (IsNameOf (Read folder.now query.now)) }
-    ensures answer { (given : Given) (moments : Moments) → IsFinished (Read folder.now query.now) (S.contents shelf.old) given moments result }
-    ensures read { IsRead (is_read_fault result) S.Shelf shelf.old shelf.new }
+    ensures answer { (given : Given) (moments : Moments)
+        → IsFinished (Read folder.now query.now) (S.contents shelf.old) given moments result }
+    ensures read { IsShelfRead (is_read_fault result) S.Shelf shelf.old shelf.new }
 {
     let line = read_line(alloc, answers, shelf, folder, query)?;
     Ok(Finished::shown(alloc, line, 0))

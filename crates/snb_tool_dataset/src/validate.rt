@@ -2,15 +2,16 @@
 
 ghost use Rattle.std.specs.Prelude.{◌≡◌, IfOk, Some, true};
 ghost use Rattle.snb_base.specs.Moments.{Moments};
-ghost use Rattle.snb_base.specs.Reads.{IsRead};
+ghost use Rattle.snb_base.specs.Reads.{IsShelfRead};
 ghost use Rattle.snb_handlers.specs.Table.{HasAll};
 ghost use Rattle.snb_input_files.specs.Loading.{is_read_fault};
 ghost use Rattle.snb_input_files.specs.Names.{Allows, IsNameIn};
 ghost use Rattle.snb_loader.specs.Order.{table_series};
 ghost use Rattle.snb_tool_words.specs.declared.command.Command.TheVariants.{Validate};
 ghost use Rattle.snb_tool_words.specs.declared.options.Via.TheVariants as via;
-ghost use Rattle.snb_tool_outcome.specs.Endings.{IsFinished, IsTallyAnswer, TellsTally};
-ghost use Rattle.snb_tool_outcome.specs.Inputs.{Connector, Given};
+ghost use Rattle.snb_tool_outcome.specs.Endings.{IsFinished};
+ghost use Rattle.snb_tool_outcome.specs.DatasetEndings.{IsTallyAnswer, TellsTally};
+ghost use Rattle.snb_tool_outcome.specs.Found.{Connector, Given};
 ghost use Rattle.snb_tool_outcome.specs.Names.{IsNameOf};
 
 use snb_base::Shelf;
@@ -36,7 +37,7 @@ fn tally_of<S: Shelf, A: Replies>(
     requires allowed { Allows (S.may shelf.old) (IsNameIn table_series folder.now) }
     requires cases { S.may shelf.old cases.now ≡ true }
     ensures answer { IsTallyAnswer (S.contents shelf.old) folder.now cases.now result }
-    ensures read { IsRead (is_read_fault result) S.Shelf shelf.old shelf.new }
+    ensures read { IsShelfRead (is_read_fault result) S.Shelf shelf.old shelf.new }
 {
     one_dataset();
     one_cases_refusal();
@@ -68,9 +69,11 @@ pub fn validate<S: Shelf, A: Replies>(
 ) -> Result<Finished, Load>
     requires ready { A.ready answers.now }
     requires allowed { Allows (S.may shelf.old) (IsNameOf (Validate folder.now cases.now via.Graph)) }
-    ensures graph { (given : Given) (moments : Moments) → IsFinished (Validate folder.now cases.now via.Graph) (S.contents shelf.old) given moments result }
-    ensures table { (c : Connector) (moments : Moments) → HasAll c.kinds → IsFinished (Validate folder.now cases.now via.Table) (S.contents shelf.old) (Some c) moments result }
-    ensures read { IsRead (is_read_fault result) S.Shelf shelf.old shelf.new }
+    ensures graph { (given : Given) (moments : Moments)
+        → IsFinished (Validate folder.now cases.now via.Graph) (S.contents shelf.old) given moments result }
+    ensures table { (c : Connector) (moments : Moments) → HasAll c.kinds
+        → IsFinished (Validate folder.now cases.now via.Table) (S.contents shelf.old) (Some c) moments result }
+    ensures read { IsShelfRead (is_read_fault result) S.Shelf shelf.old shelf.new }
 {
     let tally = tally_of(alloc, answers, shelf, folder, cases)?;
     Ok(finished_of(alloc, &tally)?)

@@ -2,14 +2,15 @@
 
 ghost use Rattle.std.specs.Prelude.{◌≡◌, ◌++◌, IfOk, List, OnOk, Some};
 ghost use Rattle.snb_base.specs.Moments.{Moments};
-ghost use Rattle.snb_base.specs.Reads.{IsRead};
+ghost use Rattle.snb_base.specs.Reads.{IsShelfRead};
 ghost use Rattle.snb_handlers.specs.Table.{HasAll};
 ghost use Rattle.snb_input_files.specs.Loading.{is_read_fault};
 ghost use Rattle.snb_input_files.specs.Names.{Allows, IsNameIn};
 ghost use Rattle.snb_loader.specs.Order.{table_series};
 ghost use Rattle.snb_schema.specs.declared.read_kind.ReadKind.{ReadKind};
 ghost use Rattle.snb_tool_words.specs.declared.command.Command.TheVariants.{Walk};
-ghost use Rattle.snb_tool_outcome.specs.Endings.{IsFinished, IsWalkAnswer};
+ghost use Rattle.snb_tool_outcome.specs.Endings.{IsFinished};
+ghost use Rattle.snb_tool_outcome.specs.DatasetEndings.{IsWalkAnswer};
 ghost use Rattle.snb_tool_outcome.specs.Names.{IsNameOf};
 ghost use Rattle.snb_tool_outcome.specs.WalkTexts.{reply_line, step_line, stop_line, walk_text};
 
@@ -84,7 +85,7 @@ fn walk_of<S: Shelf, A: Replies>(
     requires ready { A.ready answers.now }
     requires allowed { Allows (S.may shelf.old) (IsNameIn table_series folder.now) }
     ensures answer { IsWalkAnswer (S.contents shelf.old) folder.now policy.now.pick query.now chance words.now result }
-    ensures read { IsRead (is_read_fault result) S.Shelf shelf.old shelf.new }
+    ensures read { IsShelfRead (is_read_fault result) S.Shelf shelf.old shelf.new }
 {
     let mut used = Used { bytes: 0, rows: 0 };
     let graph = load_dataset(alloc, shelf, folder, &mut used)?;
@@ -108,8 +109,10 @@ pub fn walk<S: Shelf, A: Replies>(
 ) -> Result<Finished, Load>
     requires ready { A.ready answers.now }
     requires allowed { Allows (S.may shelf.old) (IsNameOf (Walk folder.now query.now chance words.now)) }
-    ensures answer { (kinds : List ReadKind) (moments : Moments) → HasAll kinds → IsFinished (Walk folder.now query.now chance words.now) (S.contents shelf.old) (Some (record { kinds = kinds; pick = policy.now.pick })) moments result }
-    ensures read { IsRead (is_read_fault result) S.Shelf shelf.old shelf.new }
+    ensures answer { (kinds : List ReadKind) (moments : Moments) → HasAll kinds
+        → IsFinished (Walk folder.now query.now chance words.now) (S.contents shelf.old)
+        (Some (record { kinds = kinds; pick = policy.now.pick })) moments result }
+    ensures read { IsShelfRead (is_read_fault result) S.Shelf shelf.old shelf.new }
 {
     let text = walk_of(alloc, answers, policy, shelf, folder, query, chance, words)?;
     Ok(Finished::shown(alloc, text, 0))

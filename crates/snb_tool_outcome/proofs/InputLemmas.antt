@@ -20,7 +20,9 @@ use Rattle.snb_plan.specs.Closed.{IsClosed, IsFirstWrong}
 use Rattle.snb_plan.specs.PlanLaws.{PlanIsOne}
 use Rattle.snb_schema.specs.declared.fault.PlanFault.{PlanFault}
 use Rattle.snb_schema.specs.declared.fault.PlanFault.TheVariants as plan_faults
-use Rattle.snb_plan.specs.Plans.{IsPlan, OnRefused, Plan, read_count, updates_in}
+use Rattle.snb_plan.specs.Plans.{IsPlan, Plan, updates_in}
+use Rattle.snb_plan.specs.Tasks.{OnRefused}
+use Rattle.snb_plan.specs.Merging.{read_count}
 use Rattle.snb_plan.proofs.Laws.{closed_is_one}
 use Rattle.snb_schema.specs.declared.limits.TheConstants.{MAX_READS}
 use Rattle.snb_schema.specs.declared.refusal.Counted.TheVariants.{Reads}
@@ -34,7 +36,7 @@ use Rattle.snb_graph_model.specs.Graphs.{HoldsKey}
 use Rattle.snb_graph_model.specs.Soundness.{Sound}
 use Rattle.snb_tool_outcome.specs.declared.input.Input.{Input}
 use Rattle.snb_input_files.specs.Loading.{load_for_plan}
-use Rattle.snb_tool_outcome.specs.Endings.{IsInputAnswer, IsMade, IsMadeAnswer, IsOpen}
+use Rattle.snb_tool_outcome.specs.PlanEndings.{IsInputAnswer, IsMade, IsMadeAnswer, IsOpen}
 use Rattle.snb_tool_outcome.specs.Inputs.{ArePlanned, AreTooMany, IsNotClosed, after_dataset, after_streams, at_first}
 
 -- what is so of a fault is so of the answer that passes it on

@@ -1,15 +1,16 @@
 -- What each command tries of its files, in order.
-use Rattle.std.specs.Prelude.{◌≡◌, ℕ, ◌<◌, Bool, true, false, List, [], ◌∷◌, ◌++◌, Option, None, Some, IfSome, MatchOption}
+use Rattle.std.specs.Prelude.{◌≡◌, ℕ, ◌<◌, Bool, true, false, List, [], ◌∷◌, ◌++◌, Option, None, Some}
 use Rattle.snb_base.specs.Shelf.{Files}
 use Rattle.snb_auditor_log.specs.LogFiles.{log_checks}
 use Rattle.snb_validation_check.specs.CasesFile.{cases_checks}
 use Rattle.snb_base.specs.FirstOf.{FirstOf, NoneOf}
-use Rattle.snb_input_files.specs.Walk.{Before, Held, IsHeldTold}
+use Rattle.snb_input_files.specs.Walk.{Before, Held}
 use Rattle.snb_loader.specs.Dataset.{IsDataset, after_tables, dataset_checks}
 use Rattle.snb_loader.specs.Lanes.{AreLanes, after_lanes, lane_checks, next_stage}
 use Rattle.snb_loader.specs.Params.{AreParams, params_checks}
 use Rattle.snb_plan.specs.Closed.{IsClosed, IsFirstWrong}
-use Rattle.snb_plan.specs.Plans.{IsPlan, Plan, read_count, updates_in}
+use Rattle.snb_plan.specs.Plans.{IsPlan, Plan, updates_in}
+use Rattle.snb_plan.specs.Merging.{read_count}
 use Rattle.snb_schema.specs.declared.limits.TheConstants.{MAX_READS}
 use Rattle.snb_schema.specs.declared.read_kind.ReadKind.{ReadKind}
 use Rattle.snb_schema.specs.declared.refusal.Counted.TheVariants.{Reads}
@@ -22,24 +23,26 @@ use Rattle.snb_schema.specs.QueryLists.{QueryLists}
 use Rattle.snb_graph_model.specs.Graphs.{HoldsKey}
 use Rattle.snb_tool_words.specs.declared.command.Command.{Command}
 use Rattle.snb_tool_words.specs.declared.command.Command.TheVariants.{Audit, Check, Expect, Latency, Run, Read, Trial, Validate, Walk}
-use Rattle.snb_handlers.specs.Table.{HasAll, IsFirstMissing}
-use Rattle.snb_tool_words.specs.Commands.{beside_of, folder_of, needs_table}
-use Rattle.snb_walk.specs.declared.target.Pick.{Pick}
+use Rattle.snb_tool_words.specs.CommandFacts.{needs_table}
+use Rattle.snb_ratio.specs.Ratios.{real_time}
+use Rattle.snb_tool_outcome.specs.Found.{Found, Given, IsFoundTold}
 
 -- before the first file nothing is read
 abbrev pub at_first : Before
 at_first = record { bytes = 0; rows = 0; past = [] }
 
--- what was read after the tables, where the streams begin, and after these, where the parameter files begin
+-- what was read after the tables, where the streams begin, and after these, where the parameter
+-- files begin
 abbrev pub after_dataset : Held → Before
 after_dataset held = next_stage (after_tables at_first held)
 
 abbrev pub after_streams : Held → Before
 after_streams held = next_stage (after_lanes (after_dataset held) held)
 
--- the files are the streams of these lanes and, for these frequencies, the parameter files of these lists; and this is their plan under the
--- ratio in millionths
-pub record ArePlanned (held : Held) (ratio : ℕ) (frequencies : FrequencyTable) (plan : Plan) : Type 0 where
+-- the files are the streams of these lanes and, for these frequencies, the parameter files of these
+-- lists; and this is their plan under the ratio in millionths
+pub record ArePlanned (held : Held) (ratio : ℕ) (frequencies : FrequencyTable) (plan : Plan)
+    : Type 0 where
   pub lanes : LineLanes
   pub lists : QueryLists
   pub streams : AreLanes (after_dataset held) held lanes
@@ -53,51 +56,23 @@ pub record AreTooMany (held : Held) (frequencies : FrequencyTable) (r : Refusal)
   pub many : MAX_READS < read_count frequencies (update_count lanes)
   pub refused : r ≡ TooMany Reads
 
--- the updates aren't closed over the dataset, and the first with which something is wrong is refused so
-pub record IsNotClosed (held : Held) (ratio : ℕ) (frequencies : FrequencyTable) (r : Refusal) : Type 0 where
+-- the updates aren't closed over the dataset, and the first with which something is wrong is
+-- refused so
+pub record IsNotClosed (held : Held) (ratio : ℕ) (frequencies : FrequencyTable) (r : Refusal)
+    : Type 0 where
   pub graph : List Row
   pub plan : Plan
   pub dataset : IsDataset at_first held graph
   pub planned : ArePlanned held ratio frequencies plan
   pub wrong : IsFirstWrong (HoldsKey graph) (updates_in plan) r
 
--- what is tried of a plan's files, in order: the dataset, the streams, the parameter files of the queries with a frequency, how many reads
--- there are, and whether the updates are closed over the dataset
+-- what is tried of a plan's files, in order
 abbrev pub plan_checks : ℕ → FrequencyTable → Held → List {1} (Refusal → Type 0)
 plan_checks ratio frequencies held =
     dataset_checks at_first held
     ++ (lane_checks (after_dataset held) held
-    ++ (params_checks (after_streams held) held frequencies ++ AreTooMany held frequencies ∷ IsNotClosed held ratio frequencies ∷ []))
-
--- what a call is given beside its words: a table of handlers, of which these kinds of reads have one, and a policy, which picks so
-pub record Connector : Type 0 where
-  pub kinds : List ReadKind
-  pub pick : Pick
-
--- it, where a call is given one
-abbrev pub Given : Type 0
-Given = Option Connector
-
--- what a command finds: the first kind of read without a handler in the table that it asks, how the policy picks, the files of its folder, and the
--- file that it is given by name
-pub record Found : Type 0 where
-  pub missing : Option ReadKind
-  pub pick : Pick
-  pub held : Held
-  pub beside : Option (List ℕ)
-
--- where a table is asked, this kind is the first without a handler in it, and none is where each has one; and this is how the policy picks
-abbrev pub IsConnectorTold : Bool → Given → Option ReadKind → Pick → Type 0
-IsConnectorTold false given missing pick = Unit {0}
-IsConnectorTold true given missing pick =
-    IfSome given (λ c. MatchOption missing (HasAll c.kinds) (IsFirstMissing c.kinds) × (pick ≡ c.pick))
-
--- this is what it finds, as far as it has a folder or such a file, and the shelf tells what it holds, or asks a table
-abbrev pub IsFoundTold : Option Files → Given → Command → Found → Type 0
-IsFoundTold contents given command found =
-    IfSome (folder_of command) (λ folder. IsHeldTold contents folder found.held)
-    × IfSome (beside_of command) (λ name. IfSome contents (λ files. found.beside ≡ files name))
-    × IsConnectorTold (needs_table command) given found.missing found.pick
+    ++ (params_checks (after_streams held) held frequencies ++ AreTooMany held frequencies
+    ∷ IsNotClosed held ratio frequencies ∷ []))
 
 -- the tables have this graph, over which the file of cases is refused so
 pub record AreBadCases (held : Held) (beside : Option (List ℕ)) (r : Refusal) : Type 0 where
@@ -105,15 +80,17 @@ pub record AreBadCases (held : Held) (beside : Option (List ℕ)) (r : Refusal) 
   pub dataset : IsDataset at_first held graph
   pub refused : FirstOf (cases_checks graph beside) r
 
--- what a command tries of what it reads, in order; `check` and `expect` have the ratio 1, `audit` and `latency` look at the log last, and `validate`
--- at the cases; a trial reads nothing that could be wrong
+-- what a command tries of what it reads, in order; a trial reads nothing that could be wrong
 abbrev pub read_checks : Command → Found → List {1} (Refusal → Type 0)
-read_checks (Check folder frequencies) found = plan_checks 1000000 frequencies found.held
+read_checks (Check folder frequencies) found = plan_checks real_time frequencies found.held
 read_checks (Run folder workers ratio frequencies) found = plan_checks ratio frequencies found.held
-read_checks (Audit folder log ratio frequencies) found = plan_checks ratio frequencies found.held ++ log_checks found.beside
-read_checks (Latency folder log ratio frequencies) found = plan_checks ratio frequencies found.held ++ log_checks found.beside
-read_checks (Expect folder frequencies) found = plan_checks 1000000 frequencies found.held
-read_checks (Validate folder cases via) found = dataset_checks at_first found.held ++ AreBadCases found.held found.beside ∷ []
+read_checks (Audit folder log ratio frequencies) found =
+    plan_checks ratio frequencies found.held ++ log_checks found.beside
+read_checks (Latency folder log ratio frequencies) found =
+    plan_checks ratio frequencies found.held ++ log_checks found.beside
+read_checks (Expect folder frequencies) found = plan_checks real_time frequencies found.held
+read_checks (Validate folder cases via) found =
+    dataset_checks at_first found.held ++ AreBadCases found.held found.beside ∷ []
 read_checks (Read folder query) found = dataset_checks at_first found.held
 read_checks (Walk folder query chance words) found = dataset_checks at_first found.held
 read_checks (Trial size workers) found = []
@@ -128,20 +105,25 @@ abbrev pub table_checks : Bool → Option ReadKind → List {1} (Refusal → Typ
 table_checks false missing = []
 table_checks true missing = IsUnregistered missing ∷ []
 
--- what a command tries of what it finds, in order: the table that it asks, before any reading, and then what it reads
+-- what a command tries of what it finds, in order: the table that it asks, before any reading, and
+-- then what it reads
 abbrev pub checks_of : Command → Found → List {1} (Refusal → Type 0)
-checks_of command found = table_checks (needs_table command) found.missing ++ read_checks command found
+checks_of command found =
+    table_checks (needs_table command) found.missing ++ read_checks command found
 
 -- nothing is wrong with what a command finds, whatever of it the shelf doesn't tell
-abbrev pub IsFine : Option Files → Given → Command → Type 0
-IsFine contents given command = (found : Found) → IsFoundTold contents given command found → NoneOf (checks_of command found)
+abbrev pub IsSurelyFine : Option Files → Given → Command → Type 0
+IsSurelyFine contents given command =
+    (found : Found) → IsFoundTold contents given command found → NoneOf (checks_of command found)
 
 -- and this is wrong with it first
-abbrev pub IsWrong : Option Files → Given → Command → Refusal → Type 0
-IsWrong contents given command r = (found : Found) → IsFoundTold contents given command found → FirstOf (checks_of command found) r
+abbrev pub IsSurelyRefused : Option Files → Given → Command → Refusal → Type 0
+IsSurelyRefused contents given command r =
+    (found : Found) → IsFoundTold contents given command found → FirstOf (checks_of command found) r
 
 -- nothing is wrong with the files of a plan, and these are their dataset and the plan
-pub record IsInput (held : Held) (ratio : ℕ) (frequencies : FrequencyTable) (graph : List Row) (plan : Plan) : Type 0 where
+pub record IsInput (held : Held) (ratio : ℕ) (frequencies : FrequencyTable) (graph : List Row)
+    (plan : Plan) : Type 0 where
   pub dataset : IsDataset at_first held graph
   pub planned : ArePlanned held ratio frequencies plan
   pub closed : IsClosed (HoldsKey graph) (updates_in plan)

@@ -1,7 +1,14 @@
 pub mod Endings
+pub mod PlanEndings
+pub mod DatasetEndings
+pub mod Found
 pub mod Inputs
 pub mod Names
+pub mod Runs
+pub mod LogsDone
+pub mod Done
 pub mod Outcome
+pub mod Served
 pub mod Output
 pub mod Outside
 pub mod WalkTexts

@@ -7,8 +7,9 @@ use Rattle.snb_base.specs.Outbox.{Rooms, Written}
 use Rattle.snb_base.specs.Shelf.{Files, Names, Rose}
 use Rattle.snb_tool_outcome.specs.Output.{HasBegun, HasWritten}
 
--- the world outside at one moment: the files that the shelf tells, the names that it may be asked for, the moments that the clock can answer, how
--- many faults of reading and of writing there have been, the bytes on the channels, and how many more each takes for sure
+-- the world outside at one moment: the files that the shelf tells, the names that it may be asked
+-- for, the moments that the clock can answer, how many faults of reading and of writing there have
+-- been, the bytes on the channels, and how many more each takes for sure
 pub record Outside : Type 1 where
   pub contents : Option Files
   pub may : Names
@@ -38,18 +39,27 @@ pub record Call : Type 1 where
 -- that of a call, by its shelf and its outbox, and the moments of its clock
 abbrev pub seen : {S O : Type 0} → Shelves S → Outboxes O → Moments → S → S → O → O → Call
 seen shelves outboxes moments shelf shelf_after out out_after =
-    record { before = outside shelves outboxes moments shelf out; after = outside shelves outboxes moments shelf_after out_after }
+    record {
+      before = outside shelves outboxes moments shelf out;
+      after = outside shelves outboxes moments shelf_after out_after;
+    }
 
--- the shelf was read and not changed: it tells what it told, may be asked for the same names, and forgets no fault
+-- the shelf was read and not changed: it tells what it told, may be asked for the same names, and
+-- forgets no fault
 abbrev pub IsReadOnly : {S : Type 0} → Shelves S → S → S → Type 0
-IsReadOnly shelves old new = (shelves.contents new ≡ shelves.contents old) × (shelves.may new ≡ shelves.may old) × (shelves.faults old ≤ shelves.faults new)
+IsReadOnly shelves old new =
+    (shelves.contents new ≡ shelves.contents old) × (shelves.may new ≡ shelves.may old)
+    × (shelves.faults old ≤ shelves.faults new)
 
--- how a call ends: with texts that belong to its status, whole; with a failed read; with a failed write, after a front of texts that belong to
--- some status; or given up. After a failed read, and where it is given up, nothing is added to the channels
-pub data Ends (belongs : Option Files → Moments → ℕ → Written → Type 0) (old new : Outside) (status : ℕ) : Type 0 where
-  Whole : HasWritten old.written new.written (belongs old.contents old.moments status) → Ends belongs old new status
-  ReadFault : status ≡ 4 → Rose old.read_faults new.read_faults → new.written ≡ old.written → Ends belongs old new status
-  WriteFault : (s : ℕ) → status ≡ 5 → Rose old.write_faults new.write_faults → HasBegun old.ready old.written new.written (belongs old.contents old.moments s)
+-- how a call ends, where this says which texts belong to a status
+pub data Ends (belongs : Option Files → Moments → ℕ → Written → Type 0) (old new : Outside)
+    (status : ℕ) : Type 0 where
+  Whole : HasWritten old.written new.written (belongs old.contents old.moments status)
+      → Ends belongs old new status
+  ReadFault : status ≡ 4 → Rose old.read_faults new.read_faults → new.written ≡ old.written
+      → Ends belongs old new status
+  WriteFault : (s : ℕ) → status ≡ 5 → Rose old.write_faults new.write_faults
+      → HasBegun old.ready old.written new.written (belongs old.contents old.moments s)
       → Ends belongs old new status
   GivenUp : status ≡ 6 → new.written ≡ old.written → Ends belongs old new status
 

@@ -72,7 +72,9 @@ pub struct WriteFault;
 // Writes all of the bytes on the channel, or a prefix of them where the outbox fails.
 fn write_all<O: Outbox>(out: &mut O, channel: Channel, bytes: &[u8]) -> Result<(), WriteFault>
     ensures ok { OnOk result (O.written out.new ≡ option_map (λ w. appended w channel bytes.now) (O.written out.old)) }
-    ensures err { OnErr result ((n : ℕ) × (n < length bytes.now) × (O.written out.new ≡ option_map (λ w. appended w channel (take n bytes.now)) (O.written out.old))) }
+    ensures err { OnErr result
+        ((n : ℕ) × (n < length bytes.now)
+        × (O.written out.new ≡ option_map (λ w. appended w channel (take n bytes.now)) (O.written out.old))) }
     ensures counted { HasCounted (is_err result) (O.faults out.old) (O.faults out.new) }
     ensures sure { (rooms : Rooms) → O.ready out.old rooms → length bytes.now ≤ room_of rooms channel → OnErr result ⊥ }
     ensures left { OnOk result ((rooms : Rooms) → O.ready out.old rooms → length bytes.now ≤ room_of rooms channel
@@ -94,11 +96,17 @@ fn write_each<O: Outbox>(
     channel: Channel,
     pieces: &[Vec<u8>],
 ) -> Result<(), WriteFault>
-    ensures ok { OnOk result (O.written out.new ≡ option_map (λ w. appended w channel (bytes_in pieces.now)) (O.written out.old)) }
-    ensures err { OnErr result ((n : ℕ) × (n < length (bytes_in pieces.now)) × (O.written out.new ≡ option_map (λ w. appended w channel (take n (bytes_in pieces.now))) (O.written out.old))) }
+    ensures ok { OnOk result
+        (O.written out.new ≡ option_map (λ w. appended w channel (bytes_in pieces.now)) (O.written out.old)) }
+    ensures err { OnErr result
+        ((n : ℕ) × (n < length (bytes_in pieces.now))
+        × (O.written out.new ≡ option_map (λ w. appended w channel (take n (bytes_in pieces.now)))
+        (O.written out.old))) }
     ensures counted { HasCounted (is_err result) (O.faults out.old) (O.faults out.new) }
-    ensures sure { (rooms : Rooms) → O.ready out.old rooms → length (bytes_in pieces.now) ≤ room_of rooms channel → OnErr result ⊥ }
-    ensures left { OnOk result ((rooms : Rooms) → O.ready out.old rooms → length (bytes_in pieces.now) ≤ room_of rooms channel
+    ensures sure { (rooms : Rooms) → O.ready out.old rooms → length (bytes_in pieces.now) ≤ room_of rooms channel
+        → OnErr result ⊥ }
+    ensures left { OnOk result
+        ((rooms : Rooms) → O.ready out.old rooms → length (bytes_in pieces.now) ≤ room_of rooms channel
         → O.ready out.new (with_room rooms channel (room_of rooms channel - length (bytes_in pieces.now)))) }
 {
     for piece in pieces {
@@ -112,8 +120,11 @@ fn write_each<O: Outbox>(
 /// Writes the log, the answers, the final text, the cases and the screen's text, in this order, until the
 /// outbox fails.
 pub fn deliver<O: Outbox>(out: &mut O, output: &Output) -> Result<(), WriteFault>
-    ensures ok { OnOk result (O.written out.new ≡ option_map (λ w. joined w (bytes_of output.now)) (O.written out.old)) }
-    ensures err { OnErr result ((part : Bytes) × IsWrittenSoFar part (bytes_of output.now) × (O.written out.new ≡ option_map (λ w. joined w part) (O.written out.old))) }
+    ensures ok { OnOk result
+        (O.written out.new ≡ option_map (λ w. joined w (bytes_of output.now)) (O.written out.old)) }
+    ensures err { OnErr result
+        ((part : Bytes) × IsWrittenSoFar part (bytes_of output.now)
+        × (O.written out.new ≡ option_map (λ w. joined w part) (O.written out.old))) }
     ensures counted { HasCounted (is_err result) (O.faults out.old) (O.faults out.new) }
     ensures sure { (rooms : Rooms) → O.ready out.old rooms → Fit (bytes_of output.now) rooms → OnErr result ⊥ }
 {
@@ -135,7 +146,9 @@ pub fn deliver<O: Outbox>(out: &mut O, output: &Output) -> Result<(), WriteFault
 /// Writes a text on the screen alone.
 pub fn show<O: Outbox>(out: &mut O, text: &[u8]) -> Result<(), WriteFault>
     ensures ok { OnOk result (O.written out.new ≡ option_map (λ w. joined w (on_screen text.now)) (O.written out.old)) }
-    ensures err { OnErr result ((part : Bytes) × IsWrittenSoFar part (on_screen text.now) × (O.written out.new ≡ option_map (λ w. joined w part) (O.written out.old))) }
+    ensures err { OnErr result
+        ((part : Bytes) × IsWrittenSoFar part (on_screen text.now)
+        × (O.written out.new ≡ option_map (λ w. joined w part) (O.written out.old))) }
     ensures counted { HasCounted (is_err result) (O.faults out.old) (O.faults out.new) }
     ensures sure { (rooms : Rooms) → O.ready out.old rooms → Fit (on_screen text.now) rooms → OnErr result ⊥ }
 {

@@ -1,7 +1,7 @@
 //! The dataset of a folder, and the plan of its streams and parameter files.
 
 ghost use Rattle.std.specs.Prelude.{◌≡◌, ◌≤◌, IfOk};
-ghost use Rattle.snb_base.specs.Reads.{IsRead};
+ghost use Rattle.snb_base.specs.Reads.{IsShelfRead};
 ghost use Rattle.snb_input_files.specs.Loading.{is_read_fault};
 ghost use Rattle.snb_input_files.specs.Names.{Allows, IsNameIn};
 ghost use Rattle.snb_plan.specs.Closed.{IsClosed};
@@ -12,7 +12,7 @@ ghost use Rattle.snb_schema.specs.QueryLists.{HaveParameters};
 ghost use Rattle.snb_schema.specs.StreamLines.{AreOfStreams};
 ghost use Rattle.snb_graph_model.specs.Graphs.{HoldsKey};
 ghost use Rattle.snb_graph_model.specs.Soundness.{Sound};
-ghost use Rattle.snb_tool_outcome.specs.Endings.{IsInputAnswer, IsMadeAnswer};
+ghost use Rattle.snb_tool_outcome.specs.PlanEndings.{IsInputAnswer, IsMadeAnswer};
 ghost use Rattle.snb_tool_outcome.specs.Names.{plan_series};
 
 use snb_base::Shelf;
@@ -82,7 +82,7 @@ pub fn load_input<S: Shelf>(
     ensures answer { IsInputAnswer (S.contents shelf.old) folder.now ratio frequencies result }
     ensures closed { IfOk result (λ i. IsClosed (HoldsKey i.graph) (updates_in i.plan)) }
     ensures sound { IfOk result (λ i. Sound i.graph) }
-    ensures read { IsRead (is_read_fault result) S.Shelf shelf.old shelf.new }
+    ensures read { IsShelfRead (is_read_fault result) S.Shelf shelf.old shelf.new }
 {
     stages_join();
     one_dataset();

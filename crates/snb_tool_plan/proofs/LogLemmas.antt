@@ -14,7 +14,7 @@ use Rattle.snb_history.specs.declared.event.Event.TheVariants.{Start, Finish, Ha
 use Rattle.snb_history.specs.declared.logged.Logged.{Logged}
 use Rattle.snb_schema.specs.declared.limits.TheConstants.{MAX_AT, MAX_BYTES, MAX_WORKERS}
 use Rattle.snb_history.specs.History.{moment}
-use Rattle.snb_history.specs.Laws.{LegalIsShort}
+use Rattle.snb_history.specs.ScheduleLaws.{LegalIsShort}
 use Rattle.snb_history.specs.Rules.{IsLegal, V1, V8}
 use Rattle.snb_history.specs.RunTexts.{event_text, header_line, header_of, log_text, logged_line}
 use Rattle.snb_history.specs.declared.step.Step.{Step}
@@ -22,7 +22,8 @@ use Rattle.snb_history.specs.Schedule.{IsPlanned, Schedule, max_steps, step_of}
 use Rattle.snb_plan.specs.Plans.{Plan, schedule_of}
 use Rattle.snb_runlog.specs.declared.columns.TheConstants.{LAST_VERSION, MAX_NUMBER}
 use Rattle.snb_runlog.specs.Columns.{CanBeLogged, HasCount}
-use Rattle.snb_runlog.specs.Laws.{ReadsBack, RunReadsBack}
+use Rattle.snb_runlog.specs.Laws.{ReadsBack}
+use Rattle.snb_runlog.specs.WriteLaws.{RunReadsBack}
 use Rattle.snb_runlog.specs.Writing.{AreCounted, logged_text}
 use Rattle.snb_replica.specs.Counts.{HasRightCount, IsCount, TellsCounts, logged_by, logged_of, rows_by}
 use Rattle.snb_answered.specs.declared.done.Answered.{Answered}

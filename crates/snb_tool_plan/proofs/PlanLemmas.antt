@@ -20,7 +20,8 @@ use Rattle.snb_plan.specs.Plans.{queries_in, schedule_of, updates_in, Plan}
 use Rattle.snb_workers_replay.specs.Replay.{all_rows}
 use Rattle.snb_tool_texts.specs.Answers.{answers_text}
 use Rattle.snb_tool_words.specs.declared.command.Command.TheVariants.{Audit, Latency, Run, Trial}
-use Rattle.snb_tool_outcome.specs.Inputs.{Given, plan_checks}
+use Rattle.snb_tool_outcome.specs.Inputs.{plan_checks}
+use Rattle.snb_tool_outcome.specs.Found.{Given}
 use Rattle.snb_walk.specs.declared.target.Pick.TheVariants.{Modulo}
 use Rattle.snb_replica.specs.Counts.{logged_of}
 use Rattle.snb_workers.specs.declared.run.Outcome.{Outcome}
@@ -31,8 +32,10 @@ use Rattle.snb_tool_outcome.specs.declared.input.Input.{Input}
 use Rattle.snb_auditor_log.specs.AuditVerdicts.{is_whole}
 use Rattle.snb_auditor_log.specs.Laws.{WholeExactly}
 use Rattle.snb_auditor_log.specs.VerdictTexts.{audit_status, audit_text}
-use Rattle.snb_tool_outcome.specs.Endings.{AreTexts, IsDoneWith, IsFinished, IsInputAnswer, IsJudgedAnswer, IsTrialInput}
-use Rattle.snb_tool_outcome.specs.Outcome.{IsLeft, ShowsSummary, IsJudged}
+use Rattle.snb_tool_outcome.specs.Endings.{IsDoneWith, IsFinished}
+use Rattle.snb_tool_outcome.specs.PlanEndings.{AreTexts, IsInputAnswer, IsJudgedAnswer, IsTrialInput}
+use Rattle.snb_tool_outcome.specs.LogsDone.{ShowsSummary, IsJudgedLog}
+use Rattle.snb_tool_outcome.specs.Runs.{LeavesTexts}
 use Rattle.snb_tool_outcome.specs.Output.{on_screen}
 use Rattle.snb_input_files.specs.declared.load.Load.TheVariants.{Refused, ReadFault, Memory}
 use Rattle.snb_input_files.proofs.Laws.{first_anyway, first_later, none_append}
@@ -55,20 +58,20 @@ rows_after : (old more new : List Row) → HasGained old more new → length new
 rows_after old more new gained = sym (length_permutation new (old ++ more) gained.rows) ∙ length-append old more
 
 pub run_done : (contents : Option Files) (folder : List ℕ) (workers ratio : ℕ) (table : FrequencyTable) (given : Given) (moments : Moments) (input : Input) (texts : Written) → IsInputAnswer contents folder ratio table (Ok input)
-    → IsLeft workers input.graph input.plan moments texts → IsDoneWith (Run folder workers ratio table) contents given moments 0 texts
+    → LeavesTexts workers input.graph input.plan moments texts → IsDoneWith (Run folder workers ratio table) contents given moments 0 texts
 run_done contents folder workers ratio table given moments input texts h left =
     (record { missing = None; pick = Modulo; held = h.0; beside = None }, (h.1, tt, tt), h.2.clean, (refl, record { graph = input.graph; plan = input.plan; input = h.2.is; left = left }))
 
-pub trial_done : (contents : Option Files) (size workers : ℕ) (given : Given) (moments : Moments) (input : Input) (texts : Written) → IsTrialInput size input → IsLeft workers input.graph input.plan moments texts
+pub trial_done : (contents : Option Files) (size workers : ℕ) (given : Given) (moments : Moments) (input : Input) (texts : Written) → IsTrialInput size input → LeavesTexts workers input.graph input.plan moments texts
     → IsDoneWith (Trial size workers) contents given moments 0 texts
 trial_done contents size workers given moments input texts is left =
-    (record { missing = None; pick = Modulo; held = λ file. None; beside = None }, (tt, tt, tt), tt, (refl, record { plan = input.plan; is_plan = is.is_plan; left = subst (λ (g : List Row). IsLeft workers g input.plan moments texts) is.same left }))
+    (record { missing = None; pick = Modulo; held = λ file. None; beside = None }, (tt, tt, tt), tt, (refl, record { plan = input.plan; is_plan = is.is_plan; left = subst (λ (g : List Row). LeavesTexts workers g input.plan moments texts) is.same left }))
 
 -- the texts of what a run left, where the final graph has the rows of the dataset and of each insert
 pub run_shown : (workers : ℕ) (input : Input) (moments : Moments) (o : Outcome) (texts : Written) → HasRun workers input.plan moments input.graph o.events o.replies o.graph
     → IsFirstMiscount input.graph input.plan (logged_of o.replies o.events) None
     → ReadsBack (header_of workers (length input.plan.operations)) (logged_of o.replies o.events)
-    → length (log_text workers (length input.plan.operations) (logged_of o.replies o.events)) ≤ MAX_BYTES → AreTexts workers input.plan o texts → IsLeft workers input.graph input.plan moments texts
+    → length (log_text workers (length input.plan.operations) (logged_of o.replies o.events)) ≤ MAX_BYTES → AreTexts workers input.plan o texts → LeavesTexts workers input.graph input.plan moments texts
 run_shown workers input moments o texts ran counted back fits shown = record {
   history = o.events;
   replies = o.replies;
@@ -104,8 +107,8 @@ module _ (contents : Option Files) (folder log : List ℕ) (ratio : ℕ) (table 
     h.1,
     a.1,
     none_append (plan_checks ratio table h.0) (log_checks a.0) h.2.clean a.2.clean,
-    subst (λ (p : Plan). IsJudged h.0 a.0 ratio table p judged.audited.log.header judged.audited.log.logged.items judged.audited.verdict) (sym plans)
-        (subst (λ (x : Audited). IsJudged h.0 a.0 ratio table input.plan x.log.header x.log.logged.items x.verdict) (sym audits)
+    subst (λ (p : Plan). IsJudgedLog h.0 a.0 ratio table p judged.audited.log.header judged.audited.log.logged.items judged.audited.verdict) (sym plans)
+        (subst (λ (x : Audited). IsJudgedLog h.0 a.0 ratio table input.plan x.log.header x.log.logged.items x.verdict) (sym audits)
         (record { graph = input.graph; input = h.2.is; log = a.2.says; judged = a.2.judged })),
   )
 

@@ -1,7 +1,8 @@
 -- The plan of the formula workload.
 use Rattle.std.proofs.Common.{◌≡◌, ◌/◌, ◌≤◌, ℕ, subst, arith}
 use Rattle.std.proofs.Math.Nat.{div-le_self}
-use Rattle.snb_plan.specs.Plans.{IsPlan, Plan, read_count}
+use Rattle.snb_plan.specs.Plans.{IsPlan, Plan}
+use Rattle.snb_plan.specs.Merging.{read_count}
 use Rattle.snb_schema.specs.declared.limits.TheConstants.{MAX_READS}
 use Rattle.snb_schema.specs.Frequencies.{FrequencyTable}
 use Rattle.snb_schema.specs.LineLanes.{LineLanes}

@@ -2,12 +2,13 @@
 
 ghost use Rattle.std.specs.Prelude.{◌≡◌, true};
 ghost use Rattle.snb_base.specs.Moments.{Moments};
-ghost use Rattle.snb_base.specs.Reads.{IsRead};
+ghost use Rattle.snb_base.specs.Reads.{IsShelfRead};
 ghost use Rattle.snb_input_files.specs.Loading.{is_read_fault};
 ghost use Rattle.snb_input_files.specs.Names.{Allows, IsNameIn};
 ghost use Rattle.snb_tool_words.specs.declared.command.Command.TheVariants.{Audit};
-ghost use Rattle.snb_tool_outcome.specs.Endings.{IsFinished, IsJudgedAnswer};
-ghost use Rattle.snb_tool_outcome.specs.Inputs.{Given};
+ghost use Rattle.snb_tool_outcome.specs.Endings.{IsFinished};
+ghost use Rattle.snb_tool_outcome.specs.PlanEndings.{IsJudgedAnswer};
+ghost use Rattle.snb_tool_outcome.specs.Found.{Given};
 ghost use Rattle.snb_tool_outcome.specs.Names.{IsNameOf, plan_series};
 
 use snb_auditor_log::audit_log;
@@ -36,7 +37,7 @@ pub fn judge<S: Shelf, A: Replies>(
     requires allowed { Allows (S.may shelf.old) (IsNameIn (plan_series frequencies) folder.now) }
     requires log { S.may shelf.old log.now ≡ true }
     ensures answer { IsJudgedAnswer (S.contents shelf.old) folder.now log.now ratio frequencies result }
-    ensures read { IsRead (is_read_fault result) S.Shelf shelf.old shelf.new }
+    ensures read { IsShelfRead (is_read_fault result) S.Shelf shelf.old shelf.new }
 {
     let input = load_input(alloc, shelf, folder, ratio, frequencies)?;
     let audited = audit_log(alloc, answers, shelf, &input.plan, &input.graph, log)?;
@@ -58,8 +59,9 @@ pub fn audit<S: Shelf, A: Replies>(
 ) -> Result<Finished, Load>
     requires ready { A.ready answers.now }
     requires allowed { Allows (S.may shelf.old) (IsNameOf (Audit folder.now log.now ratio frequencies)) }
-    ensures answer { (given : Given) (moments : Moments) → IsFinished (Audit folder.now log.now ratio frequencies) (S.contents shelf.old) given moments result }
-    ensures read { IsRead (is_read_fault result) S.Shelf shelf.old shelf.new }
+    ensures answer { (given : Given) (moments : Moments)
+        → IsFinished (Audit folder.now log.now ratio frequencies) (S.contents shelf.old) given moments result }
+    ensures read { IsShelfRead (is_read_fault result) S.Shelf shelf.old shelf.new }
 {
     let judged = judge(alloc, answers, shelf, folder, log, ratio, frequencies)?;
     let verdict = judged.audited.verdict;

@@ -2,7 +2,7 @@
 
 ghost use Rattle.std.specs.Prelude.{◌≡◌, ℕ, IfOk};
 ghost use Rattle.snb_base.specs.Moments.{Moments};
-ghost use Rattle.snb_base.specs.Reads.{IsRead};
+ghost use Rattle.snb_base.specs.Reads.{IsShelfRead};
 ghost use Rattle.snb_history.specs.Rules.{IsComplete, IsLegal};
 ghost use Rattle.snb_input_files.specs.Loading.{is_read_fault};
 ghost use Rattle.snb_input_files.specs.Names.{Allows};
@@ -10,9 +10,9 @@ ghost use Rattle.snb_plan.specs.Plans.{schedule_of};
 ghost use Rattle.snb_tool_words.specs.declared.command.Command.TheVariants.{Latency};
 ghost use Rattle.snb_miscount.specs.Miscounts.{events_of};
 ghost use Rattle.snb_tool_outcome.specs.Endings.{IsFinished};
-ghost use Rattle.snb_tool_outcome.specs.Inputs.{Given};
+ghost use Rattle.snb_tool_outcome.specs.Found.{Given};
 ghost use Rattle.snb_tool_outcome.specs.Names.{IsNameOf};
-ghost use Rattle.snb_tool_outcome.specs.Outcome.{ShowsSummary};
+ghost use Rattle.snb_tool_outcome.specs.LogsDone.{ShowsSummary};
 ghost use Rattle.snb_tool_outcome.specs.Output.{on_screen};
 
 use crate::audit::judge;
@@ -63,8 +63,9 @@ pub fn latency<S: Shelf, A: Replies>(
 ) -> Result<Finished, Load>
     requires ready { A.ready answers.now }
     requires allowed { Allows (S.may shelf.old) (IsNameOf (Latency folder.now log.now ratio frequencies)) }
-    ensures answer { (given : Given) (moments : Moments) → IsFinished (Latency folder.now log.now ratio frequencies) (S.contents shelf.old) given moments result }
-    ensures read { IsRead (is_read_fault result) S.Shelf shelf.old shelf.new }
+    ensures answer { (given : Given) (moments : Moments)
+        → IsFinished (Latency folder.now log.now ratio frequencies) (S.contents shelf.old) given moments result }
+    ensures read { IsShelfRead (is_read_fault result) S.Shelf shelf.old shelf.new }
 {
     whole_exactly();
     let judged = judge(alloc, answers, shelf, folder, log, ratio, frequencies)?;

@@ -1,7 +1,7 @@
 //! The command `run`.
 
 ghost use Rattle.std.specs.Prelude.{◌≡◌, ◌≤◌, All, IfOk, length};
-ghost use Rattle.snb_base.specs.Reads.{IsRead};
+ghost use Rattle.snb_base.specs.Reads.{IsShelfRead};
 ghost use Rattle.snb_input_files.specs.Loading.{is_read_fault};
 ghost use Rattle.snb_input_files.specs.Names.{Allows};
 ghost use Rattle.snb_plan.specs.Closed.{IsClosed};
@@ -16,10 +16,11 @@ ghost use Rattle.snb_graph_model.specs.FinalText.{final_text};
 ghost use Rattle.snb_graph_model.specs.Graphs.{HoldsKey};
 ghost use Rattle.snb_graph_model.specs.Soundness.{Sound};
 ghost use Rattle.snb_tool_words.specs.declared.command.Command.TheVariants.{Run};
-ghost use Rattle.snb_tool_outcome.specs.Endings.{AreTexts, IsFinished, bytes_of};
-ghost use Rattle.snb_tool_outcome.specs.Inputs.{Given};
+ghost use Rattle.snb_tool_outcome.specs.Endings.{IsFinished, bytes_of};
+ghost use Rattle.snb_tool_outcome.specs.PlanEndings.{AreTexts};
+ghost use Rattle.snb_tool_outcome.specs.Found.{Given};
 ghost use Rattle.snb_tool_outcome.specs.Names.{IsNameOf};
-ghost use Rattle.snb_tool_outcome.specs.Outcome.{IsLeft};
+ghost use Rattle.snb_tool_outcome.specs.Runs.{LeavesTexts};
 
 use snb_answered::{Answered, Done};
 use snb_base::{Clock, Gate, Shelf};
@@ -68,7 +69,8 @@ fn log_of(
     requires some { 1 ≤ workers }
     requires few { workers ≤ MAX_WORKERS }
     requires legal { IsLegal (schedule_of plan.now) workers events.items }
-    ensures { IfOk result (λ log. log.items ≡ log_text workers (length plan.now.operations) (logged_of replies.now events.items)) }
+    ensures { IfOk result
+        (λ log. log.items ≡ log_text workers (length plan.now.operations) (logged_of replies.now events.items)) }
 {
     finishes_are_of_operations();
     let operations = plan.schedule().steps().len();
@@ -88,7 +90,9 @@ fn log_of(
 
 // The summary of a run of a plan that leaves so many rows.
 fn screen_of(alloc: Global, plan: &Plan, rows: u64) -> Result<Vec<u8>, AllocError>
-    ensures { IfOk result (λ screen. screen.items ≡ summary_text (length plan.now.operations) (length (updates_in plan.now)) (length (queries_in plan.now)) rows) }
+    ensures { IfOk result
+        (λ screen. screen.items ≡ summary_text (length plan.now.operations) (length (updates_in plan.now))
+        (length (queries_in plan.now)) rows) }
 {
     let operations = plan.schedule().steps().len() as u64;
     summary_lines(alloc, operations, plan.updates(), plan.reads(), rows)
@@ -147,7 +151,8 @@ pub fn run_output<R: Threads + Wait + Sync, A: Replies + Sync, C: Clock + Sync, 
     requires few { workers ≤ MAX_WORKERS }
     requires closed { IsClosed (HoldsKey input.graph) (updates_in input.plan) }
     requires sound { Sound input.graph }
-    ensures { IfOk result (λ output. IsLeft workers input.graph input.plan (C.moments clock.now) (bytes_of output)) }
+    ensures { IfOk result
+        (λ output. LeavesTexts workers input.graph input.plan (C.moments clock.now) (bytes_of output)) }
 {
     legal_is_short();
     log_reads_back();
@@ -195,8 +200,9 @@ pub fn run<
     requires workers { 1 ≤ workers }
     requires few { workers ≤ MAX_WORKERS }
     requires allowed { Allows (S.may shelf.old) (IsNameOf (Run folder.now workers ratio frequencies)) }
-    ensures answer { (given : Given) → IsFinished (Run folder.now workers ratio frequencies) (S.contents shelf.old) given (C.moments clock.now) result }
-    ensures read { IsRead (is_read_fault result) S.Shelf shelf.old shelf.new }
+    ensures answer { (given : Given) → IsFinished (Run folder.now workers ratio frequencies) (S.contents shelf.old)
+        given (C.moments clock.now) result }
+    ensures read { IsShelfRead (is_read_fault result) S.Shelf shelf.old shelf.new }
 {
     let input = load_input(rt.alloc(), shelf, folder, ratio, frequencies)?;
     let output = run_output(rt, rt.alloc(), answers, workers, input, clock, gate)?;

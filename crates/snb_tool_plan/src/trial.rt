@@ -6,8 +6,9 @@ ghost use Rattle.snb_input_files.specs.Loading.{is_read_fault};
 ghost use Rattle.snb_schema.specs.declared.limits.TheConstants.{MAX_WORKERS};
 ghost use Rattle.snb_tool_words.specs.declared.command.Command.TheVariants.{Trial};
 ghost use Rattle.snb_schema.specs.declared.limits.TheConstants.{MAX_TRIAL};
-ghost use Rattle.snb_tool_outcome.specs.Endings.{IsFinished, IsTrialInput};
-ghost use Rattle.snb_tool_outcome.specs.Inputs.{Given};
+ghost use Rattle.snb_tool_outcome.specs.Endings.{IsFinished};
+ghost use Rattle.snb_tool_outcome.specs.PlanEndings.{IsTrialInput};
+ghost use Rattle.snb_tool_outcome.specs.Found.{Given};
 
 use crate::run::run_output;
 use snb_base::{Clock, Gate};
@@ -54,7 +55,8 @@ pub fn trial<
     requires few { size ≤ MAX_TRIAL }
     requires workers { 1 ≤ workers }
     requires crew { workers ≤ MAX_WORKERS }
-    ensures answer { (contents : Option Files) (given : Given) → IsFinished (Trial size workers) contents given (C.moments clock.now) result }
+    ensures answer { (contents : Option Files) (given : Given)
+        → IsFinished (Trial size workers) contents given (C.moments clock.now) result }
     ensures read { is_read_fault result ≡ false }
 {
     let input = input_of_size(rt.alloc(), size)?;

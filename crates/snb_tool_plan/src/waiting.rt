@@ -1,12 +1,12 @@
 //! The commands that run a plan.
 
 ghost use Rattle.std.specs.Prelude.{◌≡◌, None, true};
-ghost use Rattle.snb_base.specs.Reads.{IsRead};
+ghost use Rattle.snb_base.specs.Reads.{IsShelfRead};
 ghost use Rattle.snb_input_files.specs.Loading.{is_read_fault};
 ghost use Rattle.snb_input_files.specs.Names.{Allows};
-ghost use Rattle.snb_tool_words.specs.Commands.{IsRunnable, folder_of, waits};
+ghost use Rattle.snb_tool_words.specs.CommandFacts.{IsRunnable, folder_of, command_waits};
 ghost use Rattle.snb_tool_outcome.specs.Endings.{IsFinished};
-ghost use Rattle.snb_tool_outcome.specs.Inputs.{Given};
+ghost use Rattle.snb_tool_outcome.specs.Found.{Given};
 ghost use Rattle.snb_tool_outcome.specs.Names.{IsNameOf};
 
 use crate::run::run;
@@ -38,11 +38,12 @@ pub fn obey_waiting<
 ) -> Result<Finished, Load>
     requires ready { A.ready answers.now }
     requires runnable { IsRunnable command.now }
-    requires waiting { waits command.now ≡ true }
+    requires waiting { command_waits command.now ≡ true }
     requires allowed { Allows (S.may shelf.old) (IsNameOf command.now) }
-    ensures answer { (given : Given) → IsFinished command.now (S.contents shelf.old) given (C.moments clock.now) result }
+    ensures answer { (given : Given) → IsFinished command.now (S.contents shelf.old) given (C.moments clock.now)
+        result }
     ensures unread { folder_of command.now ≡ None → shelf.new ≡ shelf.old }
-    ensures read { IsRead (is_read_fault result) S.Shelf shelf.old shelf.new }
+    ensures read { IsShelfRead (is_read_fault result) S.Shelf shelf.old shelf.new }
 {
     match command {
         Command::Run {

@@ -35,7 +35,8 @@ fn put_text(
     pieces: &mut Vec<Vec<u8>>,
     piece: &mut Vec<u8>,
 ) -> Result<(), AllocError>
-    ensures { OnOk result (bytes_in pieces.new.items ++ piece.new.items ≡ (bytes_in pieces.old.items ++ piece.old.items) ++ text.items) }
+    ensures { OnOk result
+        (bytes_in pieces.new.items ++ piece.new.items ≡ (bytes_in pieces.old.items ++ piece.old.items) ++ text.items) }
 {
     if text.len() < LONG {
         piece.extend_from_slice(&text)?;
@@ -48,7 +49,8 @@ fn put_text(
 
 // Ends the line at hand, and the piece at hand too where it is full.
 fn end_line(alloc: Global, pieces: &mut Vec<Vec<u8>>, piece: &mut Vec<u8>) -> Result<(), AllocError>
-    ensures { OnOk result (bytes_in pieces.new.items ++ piece.new.items ≡ (bytes_in pieces.old.items ++ piece.old.items) ++ codes "\n") }
+    ensures { OnOk result
+        (bytes_in pieces.new.items ++ piece.new.items ≡ (bytes_in pieces.old.items ++ piece.old.items) ++ codes "\n") }
 {
     piece.push(b'\n')?;
     if piece.len() < FULL {
@@ -65,7 +67,9 @@ fn put_answer(
     pieces: &mut Vec<Vec<u8>>,
     piece: &mut Vec<u8>,
 ) -> Result<(), AllocError>
-    ensures { OnOk result (bytes_in pieces.new.items ++ piece.new.items ≡ (bytes_in pieces.old.items ++ piece.old.items) ++ answer_line one) }
+    ensures { OnOk result
+        (bytes_in pieces.new.items ++ piece.new.items
+        ≡ (bytes_in pieces.old.items ++ piece.old.items) ++ answer_line one) }
 {
     let op = one.op;
     let front = one.front;

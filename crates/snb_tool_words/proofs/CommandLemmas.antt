@@ -2,7 +2,7 @@
 use Rattle.std.proofs.Common.{◌≡◌, ℕ, List, ◌∷◌, Result, Ok, Err, IfOk, sym, subst, ap, ◌∙◌, rules, codes}
 use Rattle.snb_base.specs.Spellings.{value_after}
 use Rattle.snb_ratio.specs.Ratios.{OneRatio, SpellsRatio}
-use Rattle.snb_ratio.specs.Chances.{Falling, OneChance, SpellsChance}
+use Rattle.snb_ratio.specs.Chances.{ChanceFall, OneChance, SpellsChance}
 use Rattle.snb_schema.specs.Frequencies.{FrequenciesAreOne, FrequencyTable}
 use Rattle.snb_schema.specs.declared.query.Query.{Query}
 use Rattle.snb_tool_words.specs.declared.command.Command.{Command}
@@ -11,10 +11,11 @@ use Rattle.snb_tool_words.specs.declared.options.OptionName.TheVariants as names
 use Rattle.snb_tool_words.specs.declared.options.Via.{Via}
 use Rattle.snb_tool_words.specs.declared.options.Via.TheVariants.{Graph}
 use Rattle.snb_columns.specs.Laws.{OneList}
-use Rattle.snb_tool_words.specs.Commands.{AreOf, IsLineOf, IsOtherLine, IsReadOf, IsRunnable, form_of}
+use Rattle.snb_tool_words.specs.Commands.{AreOf, IsLineOf, IsOtherLine, IsReadOf, form_of}
+use Rattle.snb_tool_words.specs.CommandFacts.{IsRunnable}
 use Rattle.snb_tool_words.specs.Laws.{WordsAreOne}
-use Rattle.snb_tool_words.specs.Options.{Given, Says, SaysFrequencies, SaysVia, SaysWorkers, SpellsWords, no_frequencies}
-use Rattle.snb_tool_words.specs.Words.{IsLine}
+use Rattle.snb_tool_words.specs.Options.{OptionWords, OptionSays, SaysFrequencies, SaysVia, SaysWorkers, SpellsWords, no_frequencies}
+use Rattle.snb_tool_words.specs.Words.{AreLineWords}
 use Rattle.snb_tool_words.proofs.LineLemmas.{line_one}
 use Rattle.snb_tool_words.proofs.ReadLemmas.{one_read}
 use Rattle.snb_tool_words.proofs.OptionLemmas.{bounded, frequencies_one, must_one, says_one, via_one, words_one, workers_one}
@@ -25,16 +26,16 @@ ok_then P Q (Ok a) then p = then a p
 ok_then P Q (Err e) then p = tt
 
 -- where the parts are those of a command, the words are its line
-pub not_other : (words : List (List ℕ)) (name : List ℕ) (plain : List (List ℕ)) (given : Given) → IsLine words name plain given
+pub not_other : (words : List (List ℕ)) (name : List ℕ) (plain : List (List ℕ)) (given : OptionWords) → AreLineWords words name plain given
     → (command : Command) × AreOf command name plain given → ¬ IsOtherLine words
 not_other words name plain given line p other = other p.0 (record { name = name; plain = plain; given = given; line = line; are = p.1 })
 
 -- where the parts of the words are those of no command, the words are no line
-pub no_parts : (words : List (List ℕ)) (name : List ℕ) (plain : List (List ℕ)) (given : Given) → IsLine words name plain given
+pub no_parts : (words : List (List ℕ)) (name : List ℕ) (plain : List (List ℕ)) (given : OptionWords) → AreLineWords words name plain given
     → ((command : Command) → ¬ AreOf command name plain given) → IsOtherLine words
 no_parts words name plain given line none command other =
     let one = line_one words name other.name plain other.plain given other.given line other.line in
-    none command (subst (λ (g : Given). AreOf command name plain g) (sym one.2) (subst (λ (p : List (List ℕ)). AreOf command name p other.given) (sym one.1)
+    none command (subst (λ (g : OptionWords). AreOf command name plain g) (sym one.2) (subst (λ (p : List (List ℕ)). AreOf command name p other.given) (sym one.1)
     (subst (λ (n : List ℕ). AreOf command n other.plain other.given) (sym one.0) other.are)))
 
 -- a run that words say has a number of workers
@@ -73,7 +74,7 @@ module _ (P : Command → Type 0) where
   pub at_read : ((folder : List ℕ) (query : Query) → P (Read folder query)) → (command : Command) → codes "read" ≡ (form_of command).name → P command
   at_read each command named = search rules
 
-  pub at_walk : ((folder : List ℕ) (query : Query) (chance : Falling) (words : List ℕ) → P (Walk folder query chance words)) → (command : Command) → codes "walk" ≡ (form_of command).name → P command
+  pub at_walk : ((folder : List ℕ) (query : Query) (chance : ChanceFall) (words : List ℕ) → P (Walk folder query chance words)) → (command : Command) → codes "walk" ≡ (form_of command).name → P command
   at_walk each command named = search rules
 
   pub at_trial : ((size workers : ℕ) → P (Trial size workers)) → (command : Command) → codes "trial" ≡ (form_of command).name → P command
@@ -81,10 +82,10 @@ module _ (P : Command → Type 0) where
 
 module _ (ratios : OneRatio) (chances : OneChance) (tables : FrequenciesAreOne) (list : OneList) where
   -- the frequencies, the ratio, the workers and the rest that options say are one
-  tables_one : (given : Given) (a b : FrequencyTable) → Says SaysFrequencies no_frequencies (given names.Frequencies) a → Says SaysFrequencies no_frequencies (given names.Frequencies) b → a ≡ b
+  tables_one : (given : OptionWords) (a b : FrequencyTable) → OptionSays SaysFrequencies no_frequencies (given names.Frequencies) a → OptionSays SaysFrequencies no_frequencies (given names.Frequencies) b → a ≡ b
   tables_one given = says_one SaysFrequencies (frequencies_one tables) no_frequencies (given names.Frequencies)
 
-  ratios_one : (given : Given) (a b : ℕ) → Says SpellsRatio 1000000 (given names.Ratio) a → Says SpellsRatio 1000000 (given names.Ratio) b → a ≡ b
+  ratios_one : (given : OptionWords) (a b : ℕ) → OptionSays SpellsRatio 1000000 (given names.Ratio) a → OptionSays SpellsRatio 1000000 (given names.Ratio) b → a ≡ b
   ratios_one given = says_one SpellsRatio ratios 1000000 (given names.Ratio)
 
   -- and so is the read that plain words are
@@ -96,7 +97,7 @@ module _ (ratios : OneRatio) (chances : OneChance) (tables : FrequenciesAreOne) 
       one_read list k ps r s x (subst (λ (w : List ℕ). IsReadOf w ps s) (sym kinds) (subst (λ (t : List (List ℕ)). IsReadOf l t s) (sym parameters) y))
 
   -- the parts of a line are those of one command
-  parts_one : (name : List ℕ) (plain : List (List ℕ)) (given : Given) (c d : Command) → AreOf c name plain given → AreOf d name plain given → c ≡ d
+  parts_one : (name : List ℕ) (plain : List (List ℕ)) (given : OptionWords) (c d : Command) → AreOf c name plain given → AreOf d name plain given → c ≡ d
   parts_one name plain given (Check f s) d x y = at_check (λ (d : Command). AreOf d name plain given → Check f s ≡ d)
       (λ g t y.
       let folders : f ≡ g = cc (x.is_said.0, y.is_said.0) in
@@ -168,5 +169,5 @@ module _ (ratios : OneRatio) (chances : OneChance) (tables : FrequenciesAreOne) 
   one_command words c d x y =
       let one = line_one words x.name y.name x.plain y.plain x.given y.given x.line y.line in
       parts_one x.name x.plain x.given c d x.are
-      (subst (λ (g : Given). AreOf d x.name x.plain g) (sym one.2) (subst (λ (p : List (List ℕ)). AreOf d x.name p y.given) (sym one.1)
+      (subst (λ (g : OptionWords). AreOf d x.name x.plain g) (sym one.2) (subst (λ (p : List (List ℕ)). AreOf d x.name p y.given) (sym one.1)
       (subst (λ (n : List ℕ). AreOf d n y.plain y.given) (sym one.0) y.are)))

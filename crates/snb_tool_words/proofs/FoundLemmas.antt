@@ -1,17 +1,17 @@
 -- Facts on the words that were found, and on what they say.
 use Rattle.std.proofs.Common.{◌≡◌, ℕ, List, [], ◌∷◌, Option, Some, None, sym, subst, ap, ◌∙◌, codes, map}
 use Rattle.std.specs.Option.{IsSome, is_some}
-use Rattle.snb_ratio.specs.Chances.{Falling}
+use Rattle.snb_ratio.specs.Chances.{ChanceFall}
 use Rattle.snb_schema.specs.declared.column.Column.{Column}
 use Rattle.snb_schema.specs.declared.column.Value.{Value}
 use Rattle.snb_schema.specs.declared.query.Query.{Query}
 use Rattle.snb_schema.specs.Columns.{Spells, SpellsAll}
 use Rattle.snb_schema.specs.Frequencies.{FrequencyTable}
-use Rattle.snb_schema.specs.ReadKinds.{kind_of, parameter_columns, parameter_values}
+use Rattle.snb_schema.specs.ReadKinds.{read_kind_of, parameter_columns, parameter_values}
 use Rattle.snb_tool_words.specs.declared.command.Command.TheVariants.{Check, Run, Audit, Latency, Expect, Validate, Read, Walk, Trial}
 use Rattle.snb_tool_words.specs.declared.options.Via.{Via}
 use Rattle.snb_tool_words.specs.Commands.{IsReadOf}
-use Rattle.snb_tool_words.specs.Options.{MustSay, Says}
+use Rattle.snb_tool_words.specs.Options.{MustSay, OptionSays}
 use Rattle.snb_tool_words.specs.Taken.{AreFoundOf, AreValuesFound, IsFoundBy, IsReadFound, plain_in, words_before}
 use Rattle.snb_tool_words.proofs.CommandLemmas.{at_audit, at_check, at_expect, at_latency, at_read, at_run, at_trial, at_validate, at_walk}
 use Rattle.std.proofs.lemmas.Option.{same_Some}
@@ -57,12 +57,12 @@ module _ (f : List ℕ → Option (List ℕ)) (x y : List ℕ) (ys : List (List 
 
 module _ {A : Type 0} (Spells : List ℕ → A → Type 0) where
   -- what is said where no word was found
-  pub unfound_says : (default a : A) (o : Option (List ℕ)) → None ≡ o → a ≡ default → Says Spells default o a
-  unfound_says default a o e s = subst (λ (o : Option (List ℕ)). Says Spells default o a) e s
+  pub unfound_says : (default a : A) (o : Option (List ℕ)) → None ≡ o → a ≡ default → OptionSays Spells default o a
+  unfound_says default a o e s = subst (λ (o : Option (List ℕ)). OptionSays Spells default o a) e s
 
   -- a word that was found and says nothing can't be
-  pub none_says : (default : A) (word : List ℕ) (o : Option (List ℕ)) → Some word ≡ o → ((a : A) → ¬ Spells word a) → (a : A) × Says Spells default o a → ⊥
-  none_says default word o e none s = none s.0 (subst (λ (o : Option (List ℕ)). Says Spells default o s.0) (sym e) s.1)
+  pub none_says : (default : A) (word : List ℕ) (o : Option (List ℕ)) → Some word ≡ o → ((a : A) → ¬ Spells word a) → (a : A) × OptionSays Spells default o a → ⊥
+  none_says default word o e none s = none s.0 (subst (λ (o : Option (List ℕ)). OptionSays Spells default o s.0) (sym e) s.1)
 
   -- what the word says that is there
   pub as_must : (o : Option (List ℕ)) (word : List ℕ) (a : A) → o ≡ Some word → Spells word a → MustSay Spells o a
@@ -106,9 +106,9 @@ module _ (f : List ℕ → Option (List ℕ)) where
   read_found (c, are) = at_read (λ c. AreFoundOf (codes "read") f c → (folder : List ℕ) × (query : Query) × AreFoundOf (codes "read") f (Read folder query))
       (λ folder query are. (folder, query, are)) c are.named are
 
-  pub walk_found : IsFoundBy (codes "walk") f → (folder : List ℕ) × (query : Query) × (chance : Falling) × (words : List ℕ) × AreFoundOf (codes "walk") f (Walk folder query chance words)
+  pub walk_found : IsFoundBy (codes "walk") f → (folder : List ℕ) × (query : Query) × (chance : ChanceFall) × (words : List ℕ) × AreFoundOf (codes "walk") f (Walk folder query chance words)
   walk_found (c, are) =
-      at_walk (λ c. AreFoundOf (codes "walk") f c → (folder : List ℕ) × (query : Query) × (chance : Falling) × (words : List ℕ) × AreFoundOf (codes "walk") f (Walk folder query chance words))
+      at_walk (λ c. AreFoundOf (codes "walk") f c → (folder : List ℕ) × (query : Query) × (chance : ChanceFall) × (words : List ℕ) × AreFoundOf (codes "walk") f (Walk folder query chance words))
       (λ folder query chance words are. (folder, query, chance, words, are)) c are.named are
 
   pub trial_found : IsFoundBy (codes "trial") f → (size workers : ℕ) × AreFoundOf (codes "trial") f (Trial size workers)
@@ -129,5 +129,5 @@ pub read_is_found : (f : List ℕ → Option (List ℕ)) (folder kind : List ℕ
     → IsReadFound f query
 read_is_found f folder kind parameters query plain read = record {
   kind = rw (at_second f folder kind parameters plain) read.0;
-  parameters = all_found (parameter_columns (kind_of query)) parameters _ (parameter_values query) (after_second f folder kind parameters plain) read.1;
+  parameters = all_found (parameter_columns (read_kind_of query)) parameters _ (parameter_values query) (after_second f folder kind parameters plain) read.1;
 }

@@ -2,8 +2,8 @@
 use Rattle.std.proofs.Common.{◌≡◌, ℕ, ◌-◌, ◌<◌, ◌≤◌, zero, suc, List, [], ◌∷◌, ◌++◌, length, get_or, All, take, drop, refl, sym, subst, ap, ◌∙◌, arith, Bor}
 use Rattle.std.proofs.lemmas.List.{map-append, take-append-drop}
 use Rattle.std.proofs.lemmas.List.Elements.{All-head, All-tail, All-map}
-use Rattle.snb_tool_words.specs.Options.{Given, Say, no_options}
-use Rattle.snb_tool_words.specs.Words.{IsLine, IsPlainWord, texts_of}
+use Rattle.snb_tool_words.specs.Options.{OptionWords, Say, no_options}
+use Rattle.snb_tool_words.specs.Words.{AreLineWords, IsPlainWord, texts_of}
 use Rattle.snb_tool_words.proofs.OptionLemmas.{say_one}
 use Rattle.snb_tool_words.proofs.WordLemmas.{headed}
 
@@ -13,7 +13,7 @@ BeginApart [] = Unit {0}
 BeginApart (w ∷ ws) = ¬ IsPlainWord w
 
 -- no option's name is a plain word
-say_apart : (old : Given) (words : List (List ℕ)) (new : Given) → Say old words new → BeginApart words
+say_apart : (old : OptionWords) (words : List (List ℕ)) (new : OptionWords) → Say old words new → BeginApart words
 say_apart old [] new s = tt
 say_apart old (name ∷ []) new s = absurd s
 say_apart old (name ∷ value ∷ rest) new s = λ plain. subst IsPlainWord s.1.named plain refl
@@ -30,8 +30,8 @@ split_one (v ∷ p) (w ∷ q) o r a b x y e =
     (λ i. heads i ∷ rest.0 i, rest.1)
 
 -- the parts of words are one
-pub line_one : (words : List (List ℕ)) (name other : List ℕ) (p q : List (List ℕ)) (a b : Given)
-    → IsLine words name p a → IsLine words other q b → (name ≡ other) × (p ≡ q) × (a ≡ b)
+pub line_one : (words : List (List ℕ)) (name other : List ℕ) (p q : List (List ℕ)) (a b : OptionWords)
+    → AreLineWords words name p a → AreLineWords words other q b → (name ≡ other) × (p ≡ q) × (a ≡ b)
 line_one words name other p q a b x y =
     let e = sym x.are ∙ y.are in
     let names : name ≡ other = cc in
@@ -44,8 +44,8 @@ cut_texts : (n : ℕ) (ws : List (Bor (List ℕ))) → texts_of ws ≡ texts_of 
 cut_texts n ws = ap texts_of (sym (take-append-drop n ws)) ∙ map-append (λ (w : Bor (List ℕ)). w.now) (take n ws) (drop n ws)
 
 -- a first word, plain words and options are a line
-pub is_line : (name : List ℕ) (n : ℕ) (rest : List (Bor (List ℕ))) (given : Given) → All (λ (w : Bor (List ℕ)). IsPlainWord w.now) (take n rest) → Say no_options (texts_of (drop n rest)) given
-    → IsLine (name ∷ texts_of rest) name (texts_of (take n rest)) given
+pub is_line : (name : List ℕ) (n : ℕ) (rest : List (Bor (List ℕ))) (given : OptionWords) → All (λ (w : Bor (List ℕ)). IsPlainWord w.now) (take n rest) → Say no_options (texts_of (drop n rest)) given
+    → AreLineWords (name ∷ texts_of rest) name (texts_of (take n rest)) given
 is_line name n rest given plain say = record {
   options = texts_of (drop n rest);
   are = λ i. name ∷ cut_texts n rest i;
@@ -55,8 +55,8 @@ is_line name n rest given plain say = record {
 
 -- where what follows the plain words says nothing, the words are no line
 pub no_line : (name : List ℕ) (n : ℕ) (rest : List (Bor (List ℕ))) → All (λ (w : Bor (List ℕ)). IsPlainWord w.now) (take n rest) → BeginApart (texts_of (drop n rest))
-    → ((given : Given) → ¬ Say no_options (texts_of (drop n rest)) given)
-    → (other : List ℕ) (plain : List (List ℕ)) (given : Given) → ¬ IsLine (name ∷ texts_of rest) other plain given
+    → ((given : OptionWords) → ¬ Say no_options (texts_of (drop n rest)) given)
+    → (other : List ℕ) (plain : List (List ℕ)) (given : OptionWords) → ¬ AreLineWords (name ∷ texts_of rest) other plain given
 no_line name n rest whole apart none other plain given line =
     let e = line.are in
     let rests : texts_of rest ≡ plain ++ line.options = cc in
@@ -77,16 +77,16 @@ one_word ws d l = ap texts_of (headed ws d l)
 
 module _ (ws : List (Bor (List ℕ))) (d : Bor (List ℕ)) (n : ℕ) (some : 1 ≤ length ws) (plain : All (λ (w : Bor (List ℕ)). IsPlainWord w.now) (take n (take (length ws - 1) (drop 1 ws)))) where
   -- words that are a line
-  pub ok_line : (given : Given) → Say no_options (texts_of (drop n (take (length ws - 1) (drop 1 ws)))) given
-      → IsLine (texts_of ws) (get_or ws 0 d).now (texts_of (take n (take (length ws - 1) (drop 1 ws)))) given
+  pub ok_line : (given : OptionWords) → Say no_options (texts_of (drop n (take (length ws - 1) (drop 1 ws)))) given
+      → AreLineWords (texts_of ws) (get_or ws 0 d).now (texts_of (take n (take (length ws - 1) (drop 1 ws)))) given
   ok_line given say =
-      subst (λ (all : List (List ℕ)). IsLine all (get_or ws 0 d).now (texts_of (take n (take (length ws - 1) (drop 1 ws)))) given) (sym (one_word ws d some))
+      subst (λ (all : List (List ℕ)). AreLineWords all (get_or ws 0 d).now (texts_of (take n (take (length ws - 1) (drop 1 ws)))) given) (sym (one_word ws d some))
       (is_line (get_or ws 0 d).now n (take (length ws - 1) (drop 1 ws)) given plain say)
 
   -- and words that aren't
   pub err_line : ((e : Bor (List ℕ)) → n < length (take (length ws - 1) (drop 1 ws)) → ¬ IsPlainWord (get_or (take (length ws - 1) (drop 1 ws)) n e).now)
-      → ((given : Given) → ¬ Say no_options (texts_of (drop n (take (length ws - 1) (drop 1 ws)))) given)
-      → (name : List ℕ) (front : List (List ℕ)) (given : Given) → ¬ IsLine (texts_of ws) name front given
+      → ((given : OptionWords) → ¬ Say no_options (texts_of (drop n (take (length ws - 1) (drop 1 ws)))) given)
+      → (name : List ℕ) (front : List (List ℕ)) (given : OptionWords) → ¬ AreLineWords (texts_of ws) name front given
   err_line apart none name front given line =
       no_line (get_or ws 0 d).now n (take (length ws - 1) (drop 1 ws)) plain (begin_apart n (take (length ws - 1) (drop 1 ws)) apart) none name front given
-      (subst (λ (all : List (List ℕ)). IsLine all name front given) (one_word ws d some) line)
+      (subst (λ (all : List (List ℕ)). AreLineWords all name front given) (one_word ws d some) line)

@@ -10,7 +10,7 @@ use Rattle.snb_schema.specs.Frequencies.{FrequencyTable, FrequenciesAreOne, HasF
 use Rattle.snb_tool_words.specs.declared.options.OptionName.{OptionName}
 use Rattle.snb_tool_words.specs.declared.options.OptionName.TheVariants.{Workers, Ratio, Frequencies, Via, Chance, Words}
 use Rattle.snb_tool_words.specs.declared.options.Via.{Via as AnyVia}
-use Rattle.snb_tool_words.specs.Options.{Adds, Given, IsValueOf, MustSay, Say, Says, SaysFrequencies, SaysVia, SaysWorkers, SpellsWords, no_frequencies, option_name, option_word, put}
+use Rattle.snb_tool_words.specs.Options.{Adds, OptionWords, IsValueOf, MustSay, Say, OptionSays, SaysFrequencies, SaysVia, SaysWorkers, SpellsWords, no_frequencies, option_name, option_word, put}
 use Rattle.snb_tool_words.specs.Taken.{AreValues}
 
 -- what holds of each option holds of any
@@ -76,7 +76,7 @@ module _ {A : Type 0} (Spells : List ℕ → A → Type 0) where
 
   module _ (one : (word : List ℕ) (a b : A) → Spells word a → Spells word b → a ≡ b) where
     -- what is said is one thing
-    pub says_one : (default : A) (o : Option (List ℕ)) (a b : A) → Says Spells default o a → Says Spells default o b → a ≡ b
+    pub says_one : (default : A) (o : Option (List ℕ)) (a b : A) → OptionSays Spells default o a → OptionSays Spells default o b → a ≡ b
     says_one default None a b p q = p ∙ sym q
     says_one default (Some word) a b p q = one word a b p q
 
@@ -85,7 +85,7 @@ module _ {A : Type 0} (Spells : List ℕ → A → Type 0) where
     must_one (Some word) a b p q = one word a b p q
 
   -- a word that is given says something
-  pub says_some : (default : A) (o : Option (List ℕ)) → IfSome o (λ word. (a : A) × Spells word a) → (a : A) × Says Spells default o a
+  pub says_some : (default : A) (o : Option (List ℕ)) → IfSome o (λ word. (a : A) × Spells word a) → (a : A) × OptionSays Spells default o a
   says_some default None s = (default, refl)
   says_some default (Some word) s = s
 
@@ -106,40 +106,40 @@ none_there None o e b is isnt = sym e
 none_there (Some w) o e b is isnt = cc
 
 -- two words add one option
-adds_one : (old : Given) (name value : List ℕ) (a b : Given) → Adds old name value a → Adds old name value b → a ≡ b
+adds_one : (old : OptionWords) (name value : List ℕ) (a b : OptionWords) → Adds old name value a → Adds old name value b → a ≡ b
 adds_one old name value a b p q = p.added ∙ ap (λ (o : OptionName). put old o value) (one_word p.option q.option (sym p.named ∙ q.named)) ∙ sym q.added
 
 -- words say one thing
-pub say_one : (old : Given) (words : List (List ℕ)) (a b : Given) → Say old words a → Say old words b → a ≡ b
+pub say_one : (old : OptionWords) (words : List (List ℕ)) (a b : OptionWords) → Say old words a → Say old words b → a ≡ b
 say_one old [] a b p q = sym p ∙ q
 say_one old (name ∷ []) a b p q = absurd p
 say_one old (name ∷ value ∷ rest) a b p q =
-    say_one p.0 rest a b p.2 (subst (λ (o : Given). Say o rest b) (adds_one old name value q.0 p.0 q.1 p.1) q.2)
+    say_one p.0 rest a b p.2 (subst (λ (o : OptionWords). Say o rest b) (adds_one old name value q.0 p.0 q.1 p.1) q.2)
 
 -- where the first two words add an option, all say what the others say after it
-pub say_more : {A : Type 0} (given : A → Given) (old next : Given) (name value : List ℕ) (rest words : List (List ℕ)) → words ≡ name ∷ value ∷ rest → Adds old name value next → (o : Option A)
-    → MatchOption o ((more : Given) → ¬ Say next rest more) (λ a. Say next rest (given a))
-    → MatchOption o ((more : Given) → ¬ Say old words more) (λ a. Say old words (given a))
+pub say_more : {A : Type 0} (given : A → OptionWords) (old next : OptionWords) (name value : List ℕ) (rest words : List (List ℕ)) → words ≡ name ∷ value ∷ rest → Adds old name value next → (o : Option A)
+    → MatchOption o ((more : OptionWords) → ¬ Say next rest more) (λ a. Say next rest (given a))
+    → MatchOption o ((more : OptionWords) → ¬ Say old words more) (λ a. Say old words (given a))
 say_more given old next name value rest words e adds None none = λ more say.
     let s : Say old (name ∷ value ∷ rest) more = subst (λ (ws : List (List ℕ)). Say old ws more) e say in
-    none more (subst (λ (o : Given). Say o rest more) (adds_one old name value s.0 next s.1 adds) s.2)
+    none more (subst (λ (o : OptionWords). Say o rest more) (adds_one old name value s.0 next s.1 adds) s.2)
 say_more given old next name value rest words e adds (Some a) say = subst (λ (ws : List (List ℕ)). Say old ws (given a)) (sym e) (next, adds, say)
 
 -- where the first two words add no option, all say nothing
-pub no_say : (old : Given) (words : List (List ℕ)) (name value : List ℕ) (rest : List (List ℕ)) → words ≡ name ∷ value ∷ rest → ((more : Given) → ¬ Adds old name value more)
-    → (more : Given) → ¬ Say old words more
+pub no_say : (old : OptionWords) (words : List (List ℕ)) (name value : List ℕ) (rest : List (List ℕ)) → words ≡ name ∷ value ∷ rest → ((more : OptionWords) → ¬ Adds old name value more)
+    → (more : OptionWords) → ¬ Say old words more
 no_say old words name value rest e none more say =
     let s : Say old (name ∷ value ∷ rest) more = subst (λ (ws : List (List ℕ)). Say old ws more) e say in
     none s.0 s.1
 
 -- each word that is said is a value of its option
-put_values : (old : Given) (option : OptionName) (value : List ℕ) → AreValues old → IsValueOf option value → AreValues (put old option value)
+put_values : (old : OptionWords) (option : OptionName) (value : List ℕ) → AreValues old → IsValueOf option value → AreValues (put old option value)
 put_values old option value all is other = elim (cases_Bool (bytes_eq (option_name option) (option_name other))) [
   | inl same ↦ rw same (subst (λ (o : OptionName). IsValueOf o value) (told option other same) is)
   | inr apart ↦ rw apart (all other)
 ]
 
-pub say_values : (old : Given) (words : List (List ℕ)) (new : Given) → Say old words new → AreValues old → AreValues new
+pub say_values : (old : OptionWords) (words : List (List ℕ)) (new : OptionWords) → Say old words new → AreValues old → AreValues new
 say_values old [] new s all = subst AreValues s all
 say_values old (name ∷ []) new s all = absurd s
 say_values old (name ∷ value ∷ rest) new s all =

@@ -11,21 +11,21 @@ use Rattle.snb_ratio.specs.Chances.{SpellsChance}
 use Rattle.snb_ratio.specs.Ratios.{SpellsRatio}
 use Rattle.snb_tool_words.specs.declared.options.Via.TheVariants.{Graph}
 use Rattle.snb_tool_words.specs.Commands.{AreOf, IsReadOf, IsTrialOf}
-use Rattle.snb_tool_words.specs.Options.{AreSuited, Given, Says, SaysFrequencies, SaysVia, SaysWorkers, SpellsWords, no_frequencies}
+use Rattle.snb_tool_words.specs.Options.{AreSuited, OptionWords, OptionSays, SaysFrequencies, SaysVia, SaysWorkers, SpellsWords, no_frequencies}
 use Rattle.snb_tool_words.specs.Taken.{AreSome, AreValues, HaveRead, SaysSize}
 use Rattle.snb_tool_words.specs.Words.{texts_of}
 use Rattle.snb_tool_words.proofs.CommandLemmas.{at_audit, at_check, at_expect, at_latency, at_read, at_run, at_trial, at_validate, at_walk}
 use Rattle.snb_tool_words.proofs.OptionLemmas.{must_some, says_some, tells}
 
 -- so many plain words, and suited options
-abbrev pub Suits : List (Bor (List ℕ)) → Given → ℕ → List OptionName → List OptionName → Type 0
+abbrev pub Suits : List (Bor (List ℕ)) → OptionWords → ℕ → List OptionName → List OptionName → Type 0
 Suits ws given places admitted needed = (length ws ≡ places) × AreSuited admitted needed given
 
 as_long : (ws : List (Bor (List ℕ))) (plain : List (List ℕ)) → texts_of ws ≡ plain → length ws ≡ length plain
 as_long ws plain e = sym (length-map ws (λ (w : Bor (List ℕ)). w.now)) ∙ ap length e
 
 -- a test of the parts under a name is one under its text
-by_name : (name own : List ℕ) (plain : List (List ℕ)) (given : Given) (P : Type 0) (r : Bool) → name ≡ own → (P → AreSome own plain given) → (AreSome own plain given → P) → (IsTrue r ↔ P)
+by_name : (name own : List ℕ) (plain : List (List ℕ)) (given : OptionWords) (P : Type 0) (r : Bool) → name ≡ own → (P → AreSome own plain given) → (AreSome own plain given → P) → (IsTrue r ↔ P)
     → IsTrue r ↔ AreSome name plain given
 by_name name own plain given P r e there back iff = (
   λ t. subst (λ (n : List ℕ). AreSome n plain given) (sym e) (there (iff.0 t)),
@@ -43,12 +43,12 @@ two_words (x ∷ []) e = absurd (omega (arith, e))
 two_words (x ∷ y ∷ []) e = (x.now, y.now, refl)
 two_words (x ∷ y ∷ z ∷ ws) e = absurd (omega (arith, e))
 
-module _ (name : List ℕ) (ws : List (Bor (List ℕ))) (given : Given) (values : AreValues given) (r : Bool) where
+module _ (name : List ℕ) (ws : List (Bor (List ℕ))) (given : OptionWords) (values : AreValues given) (r : Bool) where
   -- what the options say
-  table : (t : FrequencyTable) × Says SaysFrequencies no_frequencies (given Frequencies) t
+  table : (t : FrequencyTable) × OptionSays SaysFrequencies no_frequencies (given Frequencies) t
   table = says_some SaysFrequencies no_frequencies (given Frequencies) (values Frequencies)
 
-  ratio : (n : ℕ) × Says SpellsRatio 1000000 (given Ratio) n
+  ratio : (n : ℕ) × OptionSays SpellsRatio 1000000 (given Ratio) n
   ratio = says_some SpellsRatio 1000000 (given Ratio) (values Ratio)
 
   pub check_parts : name ≡ codes "check" → (IsTrue r ↔ Suits ws given 1 (Frequencies ∷ []) []) → IsTrue r ↔ AreSome name (texts_of ws) given
@@ -99,7 +99,7 @@ pub no_read : {A : Type 0} (ws : List (Bor (List ℕ))) → length ws < 2 → Ha
 no_read ws few read = let long = as_long ws _ read.4 in absurd (omega arith)
 
 -- what tells whether the words after the first are a read tells whether all have one
-pub read_test : (plain : List (List ℕ)) (given : Given) (options : List OptionName) (x k : List ℕ) (rest : List (List ℕ)) (r : Bool) → plain ≡ x ∷ k ∷ rest → AreSuited options options given
+pub read_test : (plain : List (List ℕ)) (given : OptionWords) (options : List OptionName) (x k : List ℕ) (rest : List (List ℕ)) (r : Bool) → plain ≡ x ∷ k ∷ rest → AreSuited options options given
     → (IsTrue r ↔ ((query : Query) × IsReadOf k rest query)) → IsTrue r ↔ (AreSuited options options given × HaveRead plain)
 read_test plain given options x k rest r e suited iff = (
   λ t. let q = iff.0 t in (suited, (x, k, rest, q.0, e, q.1)),
@@ -107,7 +107,7 @@ read_test plain given options x k rest r e suited iff = (
 )
 
 -- a line that has a read is that of a read, and with the options of a walk that of a walk
-module _ (name : List ℕ) (plain : List (List ℕ)) (given : Given) (values : AreValues given) (r : Bool) where
+module _ (name : List ℕ) (plain : List (List ℕ)) (given : OptionWords) (values : AreValues given) (r : Bool) where
   pub read_parts : name ≡ codes "read" → (IsTrue r ↔ (AreSuited [] [] given × HaveRead plain)) → IsTrue r ↔ AreSome name plain given
   read_parts e = by_name name (codes "read") plain given (AreSuited [] [] given × HaveRead plain) r e
       (λ s. let read = s.1 in (Read read.0 read.3, record { named = refl; suited = s.0; is_said = (read.1, read.2, read.4, read.5) }))
@@ -132,7 +132,7 @@ same_trial all x y first second size workers a b said =
     let seconds : second ≡ y = cc in
     subst (λ (w : List ℕ). IsTrialOf w y size workers) firsts (subst (λ (w : List ℕ). IsTrialOf first w size workers) seconds said)
 
-pub trial_parts : (plain : List (List ℕ)) (given : Given) (x y : List ℕ) (r : Bool) → plain ≡ x ∷ y ∷ [] → AreSuited [] [] given
+pub trial_parts : (plain : List (List ℕ)) (given : OptionWords) (x y : List ℕ) (r : Bool) → plain ≡ x ∷ y ∷ [] → AreSuited [] [] given
     → (IsTrue r ↔ ((size workers : ℕ) × IsTrialOf x y size workers)) → IsTrue r ↔ AreSome (codes "trial") plain given
 trial_parts plain given x y r e suited iff = (
   λ t. let q = iff.0 t in (Trial q.0 q.1, record { named = refl; suited = suited; is_said = (x, y, e, q.2) }),
@@ -141,7 +141,7 @@ trial_parts plain given x y r e suited iff = (
 )
 
 -- so two words of which the first says a size are those of a trial where the second says a number of workers
-pub trial_test : (ws : List (Bor (List ℕ))) (given : Given) (d : Bor (List ℕ)) (s w : Option ℕ) → length ws ≡ 2 → AreSuited [] [] given
+pub trial_test : (ws : List (Bor (List ℕ))) (given : OptionWords) (d : Bor (List ℕ)) (s w : Option ℕ) → length ws ≡ 2 → AreSuited [] [] given
     → MatchOption s ((n : ℕ) → ¬ SaysSize (get_or ws 0 d).now n) (SaysSize (get_or ws 0 d).now) → IsTrue (is_some s)
     → MatchOption w ((n : ℕ) → ¬ SaysWorkers (get_or ws 1 d).now n) (SaysWorkers (get_or ws 1 d).now)
     → IsTrue (is_some w) ↔ AreSome (codes "trial") (texts_of ws) given

@@ -14,7 +14,7 @@ use Rattle.snb_schema.specs.declared.column.Value.TheVariants.{Digits, SmallDigi
 use Rattle.snb_schema.specs.declared.query.Query.{Query}
 use Rattle.snb_schema.specs.declared.read_kind.ReadKind.{ReadKind}
 use Rattle.snb_schema.specs.Columns.{Spells, SpellsAll}
-use Rattle.snb_schema.specs.ReadKinds.{kind_of, parameter_columns, parameter_values, read_word}
+use Rattle.snb_schema.specs.ReadKinds.{read_kind_of, parameter_columns, parameter_values, read_word}
 use Rattle.snb_tool_words.specs.Commands.{IsReadOf}
 use Rattle.snb_schema.proofs.Laws.{one_kind}
 
@@ -24,8 +24,8 @@ few_columns kind = search rules
 
 pub few_parameters : (kind : List ℕ) (parameters : List (List ℕ)) (query : Query) → IsReadOf kind parameters query → (1 ≤ length parameters) × (length parameters < 4)
 few_parameters kind parameters query r =
-    let long = spelled_long (parameter_columns (kind_of query)) parameters (parameter_values query) r.1 in
-    let few = few_columns (kind_of query) in
+    let long = spelled_long (parameter_columns (read_kind_of query)) parameters (parameter_values query) r.1 in
+    let few = few_columns (read_kind_of query) in
     omega arith
 
 -- ---- words by their columns
@@ -72,8 +72,8 @@ module _ (c : Column) (cs all : List Column) (x : List ℕ) (xs words : List (Li
 -- words name one read
 pub one_read : OneList → (kind : List ℕ) (parameters : List (List ℕ)) (a b : Query) → IsReadOf kind parameters a → IsReadOf kind parameters b → a ≡ b
 one_read list kind parameters a b x y =
-    let alike = one_kind (kind_of a) (kind_of b) (sym x.0 ∙ y.0) in
-    let same = list (parameter_columns (kind_of a)) parameters (parameter_values a) (parameter_values b) x.1
+    let alike = one_kind (read_kind_of a) (read_kind_of b) (sym x.0 ∙ y.0) in
+    let same = list (parameter_columns (read_kind_of a)) parameters (parameter_values a) (parameter_values b) x.1
     (subst (λ (k : ReadKind). SpellsAll (parameter_columns k) parameters (parameter_values b)) (sym alike) y.1) in
     sym (query_back a) ∙ (λ i. query_by (alike i) (same i)) ∙ query_back b
 
@@ -87,6 +87,6 @@ read_is again kind word words columns r named same iff = (
       let is = made kind s.0 in
       (query_by kind s.0, (named ∙ ap read_word (sym is.0), rw (is.0, is.1, again (parameter_columns kind) words s.0 all) all)),
   λ q.
-      let alike = one_kind kind (kind_of q.0) (sym named ∙ q.1.0) in
+      let alike = one_kind kind (read_kind_of q.0) (sym named ∙ q.1.0) in
       iff.1 (parameter_values q.0, subst (λ (cs : List Column). SpellsAll cs words (parameter_values q.0)) (sym (same ∙ ap parameter_columns alike)) q.1.1),
 )

@@ -8,7 +8,7 @@ use Rattle.snb_schema.specs.declared.column.Value.{Value}
 use Rattle.snb_schema.specs.declared.query.Query.{Query}
 use Rattle.snb_schema.specs.declared.read_kind.ReadKind.{ReadKind}
 use Rattle.snb_schema.specs.Columns.{Spells}
-use Rattle.snb_schema.specs.ReadKinds.{kind_of, parameter_columns, parameter_values}
+use Rattle.snb_schema.specs.ReadKinds.{read_kind_of, parameter_columns, parameter_values}
 use Rattle.snb_input_fields.specs.Queries.{query_by}
 use Rattle.snb_input_fields.proofs.Laws.{query_back}
 use Rattle.snb_tool_words.specs.Options.{MustSay}
@@ -32,7 +32,7 @@ values_long [] found [] s = refl
 values_long (c ∷ cs) (word ∷ found) (v ∷ vs) s = ap suc (values_long cs found vs s.1)
 values_long cs found vs s = absurd s
 
-module _ (word_of : Text → Option Text) (query : Query) (read : IsReadFound word_of query) (kind : ReadKind) (alike : kind ≡ kind_of query) (columns : List Column) (are : columns ≡ parameter_columns kind) where
+module _ (word_of : Text → Option Text) (query : Query) (read : IsReadFound word_of query) (kind : ReadKind) (alike : kind ≡ read_kind_of query) (columns : List Column) (are : columns ≡ parameter_columns kind) where
   of_columns : AreValuesFound columns (map word_of read_places) (parameter_values query)
   of_columns = rw (are, alike) read.parameters
 

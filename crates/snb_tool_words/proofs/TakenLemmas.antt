@@ -15,7 +15,7 @@ use Rattle.clap.specs.Walk.{Rule, Text, Walk}
 use Rattle.snb_tool_words.specs.declared.options.OptionName.{OptionName}
 use Rattle.snb_tool_words.specs.declared.options.OptionName.TheVariants.{Workers, Ratio, Frequencies, Via, Chance, Words}
 use Rattle.snb_tool_words.specs.declared.options.Via.TheVariants.{Graph, Table}
-use Rattle.snb_tool_words.specs.Options.{Given, IsValueOf, Say, option_name, put}
+use Rattle.snb_tool_words.specs.Options.{OptionWords, IsValueOf, Say, option_name, put}
 use Rattle.snb_tool_words.specs.Taken.{app_with, option_rule}
 use Rattle.snb_tool_words.specs.Words.{IsPlainWord, texts_of}
 use Rattle.snb_tool_words.proofs.OptionLemmas.{told}
@@ -84,11 +84,11 @@ value_other n m v (p ∷ ps) apart = elim (cases_Bool (bytes_eq p.0 n)) [
 ]
 
 -- what is held by the names of options is what is given
-abbrev pub Hold : Pairs → Given → Type 0
+abbrev pub Hold : Pairs → OptionWords → Type 0
 Hold pairs given = (o : OptionName) → value_of (option_name o) pairs ≡ given o
 
 -- and so with one option more
-hold_more : (seen : Pairs) (old : Given) (option : OptionName) (value : Text) → Hold seen old → old option ≡ None → Hold (seen ++ (option_name option, value) ∷ []) (put old option value)
+hold_more : (seen : Pairs) (old : OptionWords) (option : OptionName) (value : Text) → Hold seen old → old option ≡ None → Hold (seen ++ (option_name option, value) ∷ []) (put old option value)
 hold_more seen old option value hold fresh o = elim (cases_Bool (bytes_eq (option_name option) (option_name o))) [
   | inl same ↦
       let none : old o ≡ None = subst (λ (p : OptionName). old p ≡ None) (told option o same) fresh in
@@ -101,14 +101,14 @@ abbrev pub IsNoOption : Text → Type 0
 IsNoOption name = (o : OptionName) → bytes_eq (option_name o) name ≡ false
 
 -- from there the words run, this is given, and beside it what was seen
-pub record LineRuns (s : Shape) (w : Walk) (seen : Pairs) (words : List Text) (given : Given) : Type 0 where
+pub record LineRuns (s : Shape) (w : Walk) (seen : Pairs) (words : List Text) (given : OptionWords) : Type 0 where
   pub pairs : Pairs
   pub runs : Runs s w words pairs
   pub hold : Hold pairs given
   pub others : (n : Text) → IsNoOption n → value_of n pairs ≡ value_of n seen
 
 module _ (s : Shape) (own : s.args_override_self ≡ false) (options : (o : OptionName) → IsOption s.rules (option_name o)) (k : ℕ) where
-  pub options_run : (words : List Text) (old given : Given) (ps : Pairs) (q u : Text) → IsId s.rules q → value_of q ps ≡ None → Hold (ps ++ (q, u) ∷ []) old
+  pub options_run : (words : List Text) (old given : OptionWords) (ps : Pairs) (q u : Text) → IsId s.rules q → value_of q ps ≡ None → Hold (ps ++ (q, u) ∷ []) old
       → Say old words given → LineRuns s (after k (map to_row ps) q u) (ps ++ (q, u) ∷ []) words given
   options_run [] old given ps q u known none hold say = record {
     pairs = ps ++ (q, u) ∷ [];

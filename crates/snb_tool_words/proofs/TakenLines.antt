@@ -8,9 +8,9 @@ use Rattle.snb_tool_words.specs.declared.command.Command.{Command}
 use Rattle.snb_tool_words.specs.declared.command.Command.TheVariants.{Check, Run, Audit, Latency, Expect, Validate, Read, Walk, Trial}
 use Rattle.snb_tool_words.specs.declared.options.OptionName.{OptionName}
 use Rattle.snb_tool_words.specs.Commands.{IsLineOf, IsSaid}
-use Rattle.snb_tool_words.specs.Options.{Given, Say, no_options, option_name}
+use Rattle.snb_tool_words.specs.Options.{OptionWords, Say, no_options, option_name}
 use Rattle.snb_tool_words.specs.Taken.{AreFoundOf, IsFoundBy, IsLineBy, given_in, line_app, place_names, plain_in}
-use Rattle.snb_tool_words.specs.Words.{IsLine, IsPlainWord}
+use Rattle.snb_tool_words.specs.Words.{AreLineWords, IsPlainWord}
 use Rattle.snb_tool_words.proofs.OptionLemmas.{each_option}
 use Rattle.snb_tool_words.proofs.ReadLemmas.{few_parameters}
 use Rattle.snb_tool_words.proofs.TakenLemmas.{Hold, IsNoOption, LineRuns, options_run}
@@ -31,7 +31,7 @@ ArePlaced rules k seen (p ∷ ps) = IsPlaced rules k p.0 × (value_of p.0 seen �
 abbrev words_of : Pairs → List Text
 words_of ps = map (λ p. p.1) ps
 
-module _ (s : Shape) (own : s.args_override_self ≡ false) (each : (o : OptionName) → IsOption s.rules (option_name o)) (options : List Text) (given : Given) (say : Say no_options options given) where
+module _ (s : Shape) (own : s.args_override_self ≡ false) (each : (o : OptionName) → IsOption s.rules (option_name o)) (options : List Text) (given : OptionWords) (say : Say no_options options given) where
   -- plain words run, and the options after them
   places_run : (ps : Pairs) (k : ℕ) (seen : Pairs) (q u : Text) → IsId s.rules q → value_of q seen ≡ None → ArePlaced s.rules k (seen ++ (q, u) ∷ []) ps → All IsPlainWord (words_of ps)
       → Hold (onto (seen ++ (q, u) ∷ []) ps) no_options → LineRuns s (after k (map to_row seen) q u) (onto (seen ++ (q, u) ∷ []) ps) (words_of ps ++ options) given
@@ -102,7 +102,7 @@ abbrev seen_of : List Text → Pairs
 seen_of plain = at_places place_names plain
 
 -- from one to five plain words, and options after them, run
-few_run : (plain : List Text) → 1 ≤ length plain → length plain ≤ 5 → All IsPlainWord plain → (options : List Text) (given : Given) → Say no_options options given
+few_run : (plain : List Text) → 1 ≤ length plain → length plain ≤ 5 → All IsPlainWord plain → (options : List Text) (given : OptionWords) → Say no_options options given
     → LineRuns shape (walk_from nothing_held) (seen_of plain) (plain ++ options) given
 few_run [] some few plain options given say = absurd (omega arith)
 few_run (a ∷ []) some few plain options given say =
@@ -145,12 +145,12 @@ plain_by f g same =
 -- ---- a line
 
 -- `clap` takes the words, and finds the plain words and what is given
-pub record IsTaken (words parts : List Text) (said : Given) : Type 0 where
+pub record IsTaken (words parts : List Text) (said : OptionWords) : Type 0 where
   pub takes : takes line_app words ≡ true
   pub plain : plain_in (λ n. first_of n (matches_of line_app words)) ≡ parts
   pub given : (o : OptionName) → first_of (option_name o) (matches_of line_app words) ≡ said o
 
-is_taken : (words : List Text) (name : Text) (plain : List Text) (given : Given) → 1 ≤ length plain → length plain ≤ 5 → IsLine words name plain given → IsTaken words plain given
+is_taken : (words : List Text) (name : Text) (plain : List Text) (given : OptionWords) → 1 ≤ length plain → length plain ≤ 5 → AreLineWords words name plain given → IsTaken words plain given
 is_taken words name plain given some few line =
     let run = few_run plain some few line.is_plain line.options given line.say in
     let all = finds line_app shape is_built name (plain ++ line.options) run.pairs run.runs in
@@ -161,7 +161,7 @@ is_taken words name plain given some few line =
     })
 
 -- a command's line has one to five plain words
-few_plain : (command : Command) (plain : List Text) (given : Given) → IsSaid command plain given → (1 ≤ length plain) × (length plain ≤ 5)
+few_plain : (command : Command) (plain : List Text) (given : OptionWords) → IsSaid command plain given → (1 ≤ length plain) × (length plain ≤ 5)
 few_plain (Check folder table) plain given s = rw s.0 (omega arith, omega arith)
 few_plain (Run folder workers ratio table) plain given s = rw s.0 (omega arith, omega arith)
 few_plain (Audit folder log ratio table) plain given s = rw s.0 (omega arith, omega arith)
@@ -193,6 +193,6 @@ module _ (name : Text) (words : List Text) (line : IsLineBy name words) (word_of
     name = name;
     plain = line.2.plain;
     given = line.2.given;
-    line = let named : line.2.name ≡ name = line.2.are.named ∙ sym line.1 in subst (λ (n : Text). IsLine words n line.2.plain line.2.given) named line.2.line;
+    line = let named : line.2.name ≡ name = line.2.are.named ∙ sym line.1 in subst (λ (n : Text). AreLineWords words n line.2.plain line.2.given) named line.2.line;
     are = rw (plain_is, given_is) at are;
   }

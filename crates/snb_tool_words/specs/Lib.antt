@@ -1,4 +1,5 @@
 pub mod Commands
+pub mod CommandFacts
 pub mod Laws
 pub mod Options
 pub mod Taken

@@ -3,7 +3,7 @@ use Rattle.std.specs.Prelude.{◌≡◌, ℕ, ◌≤◌, ◌++◌, ◌==◌, tru
 use Rattle.std.specs.List.{slice_split}
 use Rattle.std.specs.Str.{bytes_eq}
 use Rattle.snb_base.specs.Spellings.{EachSpells, Num, SpellsId}
-use Rattle.snb_ratio.specs.Chances.{Falling, SpellsChance}
+use Rattle.snb_ratio.specs.Chances.{ChanceFall, SpellsChance}
 use Rattle.snb_ratio.specs.Ratios.{SpellsRatio}
 use Rattle.snb_schema.specs.declared.limits.TheConstants.{MAX_WORKERS}
 use Rattle.snb_schema.specs.QueryPlaces.{values_of}
@@ -15,8 +15,8 @@ use Rattle.snb_tool_words.specs.declared.options.Via.{Via as AnyVia}
 use Rattle.snb_tool_words.specs.declared.options.Via.TheVariants.{Graph, Table}
 
 -- which options are given, and the word after the name of each
-abbrev pub Given : Type 0
-Given = OptionName → Option (List ℕ)
+abbrev pub OptionWords : Type 0
+OptionWords = OptionName → Option (List ℕ)
 
 -- the name of an option
 abbrev pub option_name : OptionName → List ℕ
@@ -32,12 +32,13 @@ abbrev pub option_word : OptionName → List ℕ
 option_word option = codes "--" ++ option_name option
 
 -- no option is given
-abbrev pub no_options : Given
+abbrev pub no_options : OptionWords
 no_options option = None
 
 -- with this word after the name of this option, and the others as they are
-abbrev pub put : Given → OptionName → List ℕ → Given
-put given option word other = if bytes_eq (option_name option) (option_name other) then Some word else given other
+abbrev pub put : OptionWords → OptionName → List ℕ → OptionWords
+put given option word other =
+    if bytes_eq (option_name option) (option_name other) then Some word else given other
 
 -- the word says a number of workers
 abbrev pub SaysWorkers : List ℕ → ℕ → Type 0
@@ -45,7 +46,8 @@ SaysWorkers word n = Num word n MAX_WORKERS × (1 ≤ n)
 
 -- the word says these frequencies
 abbrev pub SaysFrequencies : List ℕ → FrequencyTable → Type 0
-SaysFrequencies word table = (pairs : List (ℕ × ℕ)) × SpellsFrequencies word pairs × HasFrequencies table pairs
+SaysFrequencies word table =
+    (pairs : List (ℕ × ℕ)) × SpellsFrequencies word pairs × HasFrequencies table pairs
 
 -- the word says by what reads are answered: it names the table, and nothing names the graph
 abbrev pub SaysVia : List ℕ → AnyVia → Type 0
@@ -63,11 +65,11 @@ IsValueOf Workers word = (n : ℕ) × SaysWorkers word n
 IsValueOf Ratio word = (ratio : ℕ) × SpellsRatio word ratio
 IsValueOf Frequencies word = (table : FrequencyTable) × SaysFrequencies word table
 IsValueOf Via word = (via : AnyVia) × SaysVia word via
-IsValueOf Chance word = (chance : Falling) × SpellsChance word chance
+IsValueOf Chance word = (chance : ChanceFall) × SpellsChance word chance
 IsValueOf Words word = (words : List ℕ) × SpellsWords word words
 
 -- one option more, which was not given yet: its name, and a value of it
-pub record Adds (old : Given) (name value : List ℕ) (new : Given) : Type 0 where
+pub record Adds (old : OptionWords) (name value : List ℕ) (new : OptionWords) : Type 0 where
   pub option : OptionName
   pub named : name ≡ option_word option
   pub fresh : old option ≡ None
@@ -75,28 +77,30 @@ pub record Adds (old : Given) (name value : List ℕ) (new : Given) : Type 0 whe
   pub added : new ≡ put old option value
 
 -- each two of the words are one option more
-abbrev pub Say : Given → List (List ℕ) → Given → Type 0
+abbrev pub Say : OptionWords → List (List ℕ) → OptionWords → Type 0
 Say old [] new = old ≡ new
 Say old (name ∷ []) new = ⊥
-Say old (name ∷ value ∷ rest) new = (more : Given) × Adds old name value more × Say more rest new
+Say old (name ∷ value ∷ rest) new =
+    (more : OptionWords) × Adds old name value more × Say more rest new
 
 -- the option is given
-abbrev pub IsGiven : Given → OptionName → Type 0
+abbrev pub IsGiven : OptionWords → OptionName → Type 0
 IsGiven given option = true ≡ is_some (given option)
 
 -- an option that is given is admitted, and one that is needed is given
-abbrev pub IsSuited : List OptionName → List OptionName → Given → OptionName → Type 0
+abbrev pub IsSuited : List OptionName → List OptionName → OptionWords → OptionName → Type 0
 IsSuited admitted needed given option =
-    (IsGiven given option → Contains admitted option) × (Contains needed option → IsGiven given option)
+    (IsGiven given option → Contains admitted option)
+    × (Contains needed option → IsGiven given option)
 
 -- those that are given are admitted, and those that are needed are given
-abbrev pub AreSuited : List OptionName → List OptionName → Given → Type 0
+abbrev pub AreSuited : List OptionName → List OptionName → OptionWords → Type 0
 AreSuited admitted needed given = (option : OptionName) → IsSuited admitted needed given option
 
 -- what the word of an option says, or a default where it isn't given
-abbrev pub Says : {A : Type 0} → (List ℕ → A → Type 0) → A → Option (List ℕ) → A → Type 0
-Says Spells default None a = a ≡ default
-Says Spells default (Some word) a = Spells word a
+abbrev pub OptionSays : {A : Type 0} → (List ℕ → A → Type 0) → A → Option (List ℕ) → A → Type 0
+OptionSays Spells default None a = a ≡ default
+OptionSays Spells default (Some word) a = Spells word a
 
 -- what the word of an option says that must be given
 abbrev pub MustSay : {A : Type 0} → (List ℕ → A → Type 0) → Option (List ℕ) → A → Type 0

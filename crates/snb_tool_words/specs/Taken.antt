@@ -1,4 +1,5 @@
--- What `clap` sees of a line, and what it finds there. Only the contracts of private functions cite these definitions.
+-- What `clap` sees of a line, and what it finds there. Only the contracts of private functions cite
+-- these definitions.
 use Rattle.std.specs.Prelude.{◌≡◌, ℕ, ◌≤◌, List, [], ◌∷◌, ◌++◌, Option, Some, None, true, codes, map}
 use Rattle.std.specs.Option.{IfSome, option_map}
 use Rattle.snb_base.specs.Spellings.{Num}
@@ -9,7 +10,7 @@ use Rattle.snb_schema.specs.declared.column.Value.{Value}
 use Rattle.snb_schema.specs.declared.query.Query.{Query}
 use Rattle.snb_schema.specs.declared.read_kind.ReadKind.{ReadKind}
 use Rattle.snb_schema.specs.Columns.{Spells}
-use Rattle.snb_schema.specs.ReadKinds.{kind_of, parameter_columns, parameter_values, read_word}
+use Rattle.snb_schema.specs.ReadKinds.{read_kind_of, parameter_columns, parameter_values, read_word}
 use Rattle.clap.specs.Simple.{App, new_rule, new_shape}
 use Rattle.clap.specs.Walk.{Rule}
 use Rattle.snb_tool_words.specs.declared.command.Command.{Command}
@@ -17,10 +18,10 @@ use Rattle.snb_tool_words.specs.declared.options.OptionName.{OptionName}
 use Rattle.snb_tool_words.specs.declared.options.OptionName.TheVariants as names
 use Rattle.snb_tool_words.specs.declared.options.Options.{Options}
 use Rattle.snb_tool_words.specs.Commands.{AreOf, IsReadOf, IsLineOf, form_of}
-use Rattle.snb_tool_words.specs.Options.{Given, IsValueOf, MustSay, option_name}
+use Rattle.snb_tool_words.specs.Options.{OptionWords, IsValueOf, MustSay, option_name}
 
 -- the words of the options
-abbrev pub given_of : Options → Given
+abbrev pub given_of : Options → OptionWords
 given_of options names.Workers = option_map (λ word. word.now) options.workers
 given_of options names.Ratio = option_map (λ word. word.now) options.ratio
 given_of options names.Frequencies = option_map (λ word. word.now) options.frequencies
@@ -29,7 +30,7 @@ given_of options names.Chance = option_map (λ word. word.now) options.chance
 given_of options names.Words = option_map (λ word. word.now) options.words
 
 -- each word that is given is a value of its option
-abbrev pub AreValues : Given → Type 0
+abbrev pub AreValues : OptionWords → Type 0
 AreValues given = (option : OptionName) → IfSome (given option) (IsValueOf option)
 
 -- an option of this name, which has one value
@@ -39,7 +40,8 @@ option_rule name = record (new_rule name) { long = Some name }
 -- the command that has these places and these options, and no flag for help
 abbrev pub app_with : List (List ℕ) → List (List ℕ) → App
 app_with places options = record {
-  top = record (new_shape (codes "snb")) { rules = map new_rule places ++ map option_rule options; disable_help_flag = true };
+  top = record (new_shape (codes "snb"))
+      { rules = map new_rule places ++ map option_rule options; disable_help_flag = true };
   subs = [];
 }
 
@@ -49,14 +51,17 @@ place_names = codes "first" ∷ codes "second" ∷ codes "third" ∷ codes "four
 
 -- the command that has all places and all options
 abbrev pub line_app : App
-line_app = app_with place_names (map option_name (names.Workers ∷ names.Ratio ∷ names.Frequencies ∷ names.Via ∷ names.Chance ∷ names.Words ∷ []))
+line_app =
+    app_with place_names
+    (map option_name
+    (names.Workers ∷ names.Ratio ∷ names.Frequencies ∷ names.Via ∷ names.Chance ∷ names.Words ∷ []))
 
 -- the words are the line of a command of this name
 abbrev pub IsLineBy : List ℕ → List (List ℕ) → Type 0
 IsLineBy name words = (command : Command) × (name ≡ (form_of command).name) × IsLineOf words command
 
 -- the parts of a line are those of a command of this name
-abbrev pub AreSome : List ℕ → List (List ℕ) → Given → Type 0
+abbrev pub AreSome : List ℕ → List (List ℕ) → OptionWords → Type 0
 AreSome name plain given = (command : Command) × AreOf command name plain given
 
 -- the words before the first that wasn't found
@@ -70,7 +75,7 @@ abbrev pub plain_in : (List ℕ → Option (List ℕ)) → List (List ℕ)
 plain_in word_of = words_before (map word_of place_names)
 
 -- the words of options that were found
-abbrev pub given_in : (List ℕ → Option (List ℕ)) → Given
+abbrev pub given_in : (List ℕ → Option (List ℕ)) → OptionWords
 given_in word_of option = word_of (option_name option)
 
 -- the words that were found are those of a command and its name
@@ -83,7 +88,9 @@ IsFoundBy name word_of = AreSome name (plain_in word_of) (given_in word_of)
 
 -- the plain words are a folder, and the kind and the parameters of a read
 abbrev pub HaveRead : List (List ℕ) → Type 0
-HaveRead plain = (folder kind : List ℕ) × (parameters : List (List ℕ)) × (query : Query) × (plain ≡ folder ∷ kind ∷ parameters) × IsReadOf kind parameters query
+HaveRead plain =
+    (folder kind : List ℕ) × (parameters : List (List ℕ)) × (query : Query)
+    × (plain ≡ folder ∷ kind ∷ parameters) × IsReadOf kind parameters query
 
 -- the word says the size of a trial
 abbrev pub SaysSize : List ℕ → ℕ → Type 0
@@ -100,7 +107,8 @@ IsParameter _ = ⊥
 -- the words that were found begin with one for each column, which spells the value in it
 abbrev pub AreValuesFound : List Column → List (Option (List ℕ)) → List Value → Type 0
 AreValuesFound [] words [] = Unit {0}
-AreValuesFound (c ∷ cs) (word ∷ words) (v ∷ vs) = MustSay (Spells c) word v × AreValuesFound cs words vs
+AreValuesFound (c ∷ cs) (word ∷ words) (v ∷ vs) =
+    MustSay (Spells c) word v × AreValuesFound cs words vs
 AreValuesFound cs words vs = ⊥
 
 -- the word names the kind
@@ -109,5 +117,6 @@ NamesKind word kind = word ≡ read_word kind
 
 -- the words that were found at the places of a read are its kind and its parameters
 pub record IsReadFound (word_of : List ℕ → Option (List ℕ)) (query : Query) : Type 0 where
-  pub kind : MustSay NamesKind (word_of (codes "second")) (kind_of query)
-  pub parameters : AreValuesFound (parameter_columns (kind_of query)) (map word_of (codes "third" ∷ codes "fourth" ∷ codes "fifth" ∷ [])) (parameter_values query)
+  pub kind : MustSay NamesKind (word_of (codes "second")) (read_kind_of query)
+  pub parameters : AreValuesFound (parameter_columns (read_kind_of query))
+      (map word_of (codes "third" ∷ codes "fourth" ∷ codes "fifth" ∷ [])) (parameter_values query)

@@ -3,7 +3,8 @@
 ghost use Rattle.std.specs.Prelude.{◌≡◌, ◌↔◌, IfOk, IfSome, IsTrue, MatchOption, OnErr, codes, false, true};
 ghost use Rattle.clap.specs.Words.{first_value, found_of};
 ghost use Rattle.snb_tool_words.specs.declared.command.Command.{Command as AnyCommand};
-ghost use Rattle.snb_tool_words.specs.Commands.{AreOf, IsLineOf, IsOtherLine, IsRunnable, form_of, needs_table, waits};
+ghost use Rattle.snb_tool_words.specs.Commands.{AreOf, IsLineOf, IsOtherLine, form_of};
+ghost use Rattle.snb_tool_words.specs.CommandFacts.{IsRunnable, needs_table, command_waits};
 ghost use Rattle.snb_tool_words.specs.Options.{AreSuited};
 ghost use Rattle.snb_tool_words.specs.Taken.{AreFoundOf, AreSome, AreValues, HaveRead, IsFoundBy, IsLineBy, given_of};
 ghost use Rattle.snb_tool_words.specs.Words.{texts_of};
@@ -179,7 +180,8 @@ const NEEDED_BY_RUN: [OptionName; 1] = [OptionName::Workers];
 // Whether a line has these options and no others, and its plain words are a folder, and the kind and the
 // parameters of a read.
 fn has_read(line: &Line<'_, '_>, options: &[OptionName]) -> bool
-    ensures { IsTrue result ↔ (AreSuited options.now options.now (given_of line.now.given) × HaveRead (texts_of line.now.plain.now)) }
+    ensures { IsTrue result
+        ↔ (AreSuited options.now options.now (given_of line.now.given) × HaveRead (texts_of line.now.plain.now)) }
 {
     if !line.given.are_suited(options, options) {
         return false;
@@ -375,7 +377,8 @@ fn take(alloc: Global, name: &str, words: &[&str]) -> Result<Command, AllocError
 
 // Whether the command whose parts these are asks a table of handlers.
 fn asks(line: &Line<'_, '_>) -> bool
-    ensures { (command : AnyCommand) → AreOf command line.now.name.now (texts_of line.now.plain.now) (given_of line.now.given) → result ≡ needs_table command }
+    ensures { (command : AnyCommand) → AreOf command line.now.name.now (texts_of line.now.plain.now)
+        (given_of line.now.given) → result ≡ needs_table command }
 {
     match line.name {
         "walk" => true,
@@ -401,7 +404,7 @@ pub fn asks_table(words: &[&str]) -> Option<bool>
 
 // Whether this is the name of a command that runs a plan.
 fn is_run(name: &str) -> bool
-    ensures { (command : AnyCommand) → name.now ≡ (form_of command).name → waits command ≡ result }
+    ensures { (command : AnyCommand) → name.now ≡ (form_of command).name → command_waits command ≡ result }
 {
     match name {
         "run" => true,
@@ -413,7 +416,7 @@ fn is_run(name: &str) -> bool
 /// Whether the command that the words are the line of runs a plan, and so waits. Of words that are no command's line
 /// it says nothing. Takes no memory.
 pub fn waits(words: &[&str]) -> bool
-    ensures { (command : AnyCommand) → IsLineOf (texts_of words.now) command → waits command ≡ result }
+    ensures { (command : AnyCommand) → IsLineOf (texts_of words.now) command → command_waits command ≡ result }
 {
     match words {
         [name, ..] => is_run(name),
@@ -428,7 +431,8 @@ pub fn waits(words: &[&str]) -> bool
 /// words each, in any order, each at most once: some that the command admits, all that it needs among
 /// them.
 pub fn command_of(alloc: Global, words: &[&str]) -> Result<Option<Command>, AllocError>
-    ensures is_line { IfOk result (λ found. MatchOption found (IsOtherLine (texts_of words.now)) (IsLineOf (texts_of words.now))) }
+    ensures is_line { IfOk result
+        (λ found. MatchOption found (IsOtherLine (texts_of words.now)) (IsLineOf (texts_of words.now))) }
     ensures runnable { IfOk result (λ found. IfSome found IsRunnable) }
     ensures memory { OnErr result (¬ IsOtherLine (texts_of words.now)) }
 {

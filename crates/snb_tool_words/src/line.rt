@@ -2,9 +2,9 @@
 
 ghost use Rattle.std.specs.Prelude.{◌≡◌, ℕ, ◌<◌, ◌≤◌, ◌↔◌, List, length, slice_index_or, take, All, IsTrue, MatchOption};
 ghost use Rattle.std.specs.Borrow.{Bor};
-ghost use Rattle.snb_tool_words.specs.Options.{Given};
+ghost use Rattle.snb_tool_words.specs.Options.{OptionWords};
 ghost use Rattle.snb_tool_words.specs.Taken.{given_of};
-ghost use Rattle.snb_tool_words.specs.Words.{IsLine, IsPlainWord, texts_of};
+ghost use Rattle.snb_tool_words.specs.Words.{AreLineWords, IsPlainWord, texts_of};
 
 use crate::options::{OptionName, Options, options_of};
 
@@ -25,7 +25,8 @@ impl Line<'_, '_> {
 
     /// Whether it has so many plain words, and its options are suited.
     pub fn suits(&self, places: usize, admitted: &[OptionName], needed: &[OptionName]) -> bool
-        ensures { IsTrue result ↔ ((length self.now.plain.now ≡ places) × AreSuited admitted.now needed.now (given_of self.now.given)) }
+        ensures { IsTrue result
+            ↔ ((length self.now.plain.now ≡ places) × AreSuited admitted.now needed.now (given_of self.now.given)) }
     {
         self.plain.len() == places && self.given.are_suited(admitted, needed)
     }
@@ -45,7 +46,8 @@ fn is_plain(word: &str) -> bool
 fn plain_count(words: &[&str]) -> usize
     ensures within { result ≤ length words.now }
     ensures plain { All (λ word. IsPlainWord word.now) (take result words.now) }
-    ensures apart { (d : Bor (List ℕ)) → result < length words.now → ¬ IsPlainWord (slice_index_or words.now result d).now }
+    ensures apart { (d : Bor (List ℕ)) → result < length words.now
+        → ¬ IsPlainWord (slice_index_or words.now result d).now }
 {
     for i in 0..words.len() {
         if !is_plain(words[i]) {
@@ -57,8 +59,10 @@ fn plain_count(words: &[&str]) -> usize
 
 /// The parts of the words, or None where they are no line.
 pub fn line_of<'w, 'a>(words: &'w [&'a str]) -> Option<Line<'w, 'a>>
-    ensures { MatchOption result ((name : List ℕ) (plain : List (List ℕ)) (given : Given) → ¬ IsLine (texts_of words.now) name plain given)
-        (λ line. IsLine (texts_of words.now) line.name.now (texts_of line.plain.now) (given_of line.given)) }
+    ensures { MatchOption result
+        ((name : List ℕ) (plain : List (List ℕ)) (given : OptionWords)
+        → ¬ AreLineWords (texts_of words.now) name plain given)
+        (λ line. AreLineWords (texts_of words.now) line.name.now (texts_of line.plain.now) (given_of line.given)) }
 {
     match words {
         [name, rest @ ..] => {

@@ -3,12 +3,12 @@
 ghost use Rattle.std.specs.Prelude.{◌≡◌, ◌≢◌, ℕ, ◌≤◌, ◌↔◌, Contains, IsTrue, MatchOption};
 ghost use Rattle.std.specs.Option.{option_map};
 ghost use Rattle.snb_base.specs.Spellings.{Num};
-ghost use Rattle.snb_ratio.specs.Chances.{Falling, SpellsChance};
+ghost use Rattle.snb_ratio.specs.Chances.{ChanceFall, SpellsChance};
 ghost use Rattle.snb_ratio.specs.Ratios.{SpellsRatio};
 ghost use Rattle.snb_schema.specs.Frequencies.{FrequencyTable};
 ghost use Rattle.snb_tool_words.specs.declared.options.OptionName.{OptionName as AnyName};
 ghost use Rattle.snb_tool_words.specs.declared.options.Via.{Via as AnyVia};
-ghost use Rattle.snb_tool_words.specs.Options.{Adds, AreSuited, Given, IsGiven, IsSuited, IsValueOf, Say, SaysFrequencies, SaysVia, SaysWorkers, no_options, option_word, put};
+ghost use Rattle.snb_tool_words.specs.Options.{Adds, AreSuited, OptionWords, IsGiven, IsSuited, IsValueOf, Say, SaysFrequencies, SaysVia, SaysWorkers, no_options, option_word, put};
 ghost use Rattle.snb_tool_words.specs.Taken.{SaysSize, given_of};
 ghost use Rattle.snb_tool_words.specs.Words.{texts_of};
 
@@ -73,7 +73,8 @@ const ALL: [OptionName; 6] = [
 
 // The option whose name on a command line is the word, or None.
 fn option_of(word: &str) -> Option<OptionName>
-    ensures { MatchOption result ((option : AnyName) → word.now ≢ option_word option) (λ option. word.now ≡ option_word option) }
+    ensures { MatchOption result ((option : AnyName) → word.now ≢ option_word option)
+        (λ option. word.now ≡ option_word option) }
 {
     match word {
         "--workers" => Some(OptionName::Workers),
@@ -215,7 +216,8 @@ pub fn ratio_of(word: &str) -> Option<Ratio>
 
 /// The frequencies that the word says, or None.
 pub fn frequencies_of(word: &str) -> Option<Frequencies>
-    ensures { MatchOption result ((table : FrequencyTable) → ¬ SaysFrequencies word.now table) (SaysFrequencies word.now) }
+    ensures { MatchOption result ((table : FrequencyTable) → ¬ SaysFrequencies word.now table)
+        (SaysFrequencies word.now) }
 {
     Frequencies::read(word.as_bytes())
 }
@@ -232,7 +234,7 @@ pub fn via_of(word: &str) -> Option<Via>
 
 /// The chance that the word says, or None.
 pub fn chance_of(word: &str) -> Option<Chance>
-    ensures { MatchOption result ((chance : Falling) → ¬ SpellsChance word.now chance) (SpellsChance word.now) }
+    ensures { MatchOption result ((chance : ChanceFall) → ¬ SpellsChance word.now chance) (SpellsChance word.now) }
 {
     Chance::read(word.as_bytes())
 }
@@ -253,7 +255,7 @@ fn is_value(option: OptionName, word: &str) -> bool
 
 // The options with one more, or None where the two words aren't one that wasn't given yet.
 fn with_option<'a>(old: Options<'a>, name: &str, value: &'a str) -> Option<Options<'a>>
-    ensures { MatchOption result ((more : Given) → ¬ Adds (given_of old.entry) name.now value.now more)
+    ensures { MatchOption result ((more : OptionWords) → ¬ Adds (given_of old.entry) name.now value.now more)
         (λ new. Adds (given_of old.entry) name.now value.now (given_of new)) }
 {
     let option = option_of(name)?;
@@ -265,7 +267,7 @@ fn with_option<'a>(old: Options<'a>, name: &str, value: &'a str) -> Option<Optio
 
 // The options with those that the words say, or None where they say none.
 fn with_options<'a>(old: Options<'a>, words: &[&'a str]) -> Option<Options<'a>>
-    ensures { MatchOption result ((more : Given) → ¬ Say (given_of old.entry) (texts_of words.now) more)
+    ensures { MatchOption result ((more : OptionWords) → ¬ Say (given_of old.entry) (texts_of words.now) more)
         (λ new. Say (given_of old.entry) (texts_of words.now) (given_of new)) }
 {
     match words {
@@ -277,7 +279,7 @@ fn with_options<'a>(old: Options<'a>, words: &[&'a str]) -> Option<Options<'a>>
 
 /// The options that the words say, or None where they say none.
 pub fn options_of<'a>(words: &[&'a str]) -> Option<Options<'a>>
-    ensures { MatchOption result ((given : Given) → ¬ Say no_options (texts_of words.now) given)
+    ensures { MatchOption result ((given : OptionWords) → ¬ Say no_options (texts_of words.now) given)
         (λ options. Say no_options (texts_of words.now) (given_of options)) }
 {
     with_options(Options::none(), words)

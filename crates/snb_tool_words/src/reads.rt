@@ -10,7 +10,7 @@ ghost use Rattle.snb_tool_words.specs.Taken.{IsParameter};
 ghost use Rattle.snb_tool_words.specs.Words.{texts_of};
 
 use snb_base::read_number;
-use snb_clock::read_date;
+use snb_dates::read_date;
 use snb_input_fields::law::taken_again;
 use snb_schema::{Column, ReadKind};
 

@@ -3,15 +3,15 @@
 ghost use Rattle.std.specs.Prelude.{◌≡◌, ℕ, List, [], Some, IfOk, IsSome, codes, false, option_map, true};
 ghost use Rattle.clap.specs.Takes.{takes};
 ghost use Rattle.clap.specs.Words.{app_of, first_of, first_value, found_of, matches_of, rule_of};
-ghost use Rattle.snb_ratio.specs.Chances.{Falling, SpellsChance};
-ghost use Rattle.snb_ratio.specs.Ratios.{SpellsRatio};
+ghost use Rattle.snb_ratio.specs.Chances.{ChanceFall, SpellsChance};
+ghost use Rattle.snb_ratio.specs.Ratios.{SpellsRatio, real_time};
 ghost use Rattle.snb_schema.specs.declared.column.Value.{Value as AnyValue};
 ghost use Rattle.snb_schema.specs.declared.query.Query.{Query as AnyQuery};
 ghost use Rattle.snb_schema.specs.declared.read_kind.ReadKind.{ReadKind as AnyKind};
 ghost use Rattle.snb_schema.specs.Columns.{Spells};
 ghost use Rattle.snb_schema.specs.Frequencies.{FrequencyTable};
 ghost use Rattle.snb_tool_words.specs.declared.options.Via.{Via as AnyVia};
-ghost use Rattle.snb_tool_words.specs.Options.{MustSay, Says, SaysFrequencies, SaysVia, SaysWorkers, SpellsWords, no_frequencies};
+ghost use Rattle.snb_tool_words.specs.Options.{MustSay, OptionSays, SaysFrequencies, SaysVia, SaysWorkers, SpellsWords, no_frequencies};
 ghost use Rattle.snb_tool_words.specs.Taken.{IsReadFound, NamesKind, SaysSize, app_with, line_app, option_rule};
 ghost use Rattle.snb_tool_words.specs.Words.{texts_of};
 
@@ -114,8 +114,9 @@ pub fn workers_in(matches: &ArgMatches<'_>, name: &str) -> u32
 
 /// The ratio that its option says, or 1. The condition: it says one where it is given.
 pub fn ratio_in(matches: &ArgMatches<'_>) -> Ratio
-    requires { (ratio : ℕ) × Says SpellsRatio 1000000 (first_value (found_of matches.now) (codes "ratio")) ratio }
-    ensures { Says SpellsRatio 1000000 (first_value (found_of matches.now) (codes "ratio")) result }
+    requires { (ratio : ℕ) × OptionSays SpellsRatio real_time (first_value (found_of matches.now) (codes "ratio"))
+        ratio }
+    ensures { OptionSays SpellsRatio real_time (first_value (found_of matches.now) (codes "ratio")) result }
 {
     let Some(word) = matches.get_str("ratio") else {
         return Ratio::one();
@@ -128,8 +129,9 @@ pub fn ratio_in(matches: &ArgMatches<'_>) -> Ratio
 
 /// The frequencies that their option says, or none. The condition: it says some where it is given.
 pub fn frequencies_in(matches: &ArgMatches<'_>) -> Frequencies
-    requires { (table : FrequencyTable) × Says SaysFrequencies no_frequencies (first_value (found_of matches.now) (codes "freq")) table }
-    ensures { Says SaysFrequencies no_frequencies (first_value (found_of matches.now) (codes "freq")) result }
+    requires { (table : FrequencyTable) × OptionSays SaysFrequencies no_frequencies
+        (first_value (found_of matches.now) (codes "freq")) table }
+    ensures { OptionSays SaysFrequencies no_frequencies (first_value (found_of matches.now) (codes "freq")) result }
 {
     let Some(word) = matches.get_str("freq") else {
         return Frequencies::none();
@@ -143,8 +145,8 @@ pub fn frequencies_in(matches: &ArgMatches<'_>) -> Frequencies
 /// By what its option says that reads are answered, or the graph. The condition: it says it where it is
 /// given.
 pub fn via_in(matches: &ArgMatches<'_>) -> Via
-    requires { (via : AnyVia) × Says SaysVia Via.Graph (first_value (found_of matches.now) (codes "via")) via }
-    ensures { Says SaysVia Via.Graph (first_value (found_of matches.now) (codes "via")) result }
+    requires { (via : AnyVia) × OptionSays SaysVia Via.Graph (first_value (found_of matches.now) (codes "via")) via }
+    ensures { OptionSays SaysVia Via.Graph (first_value (found_of matches.now) (codes "via")) result }
 {
     let Some(word) = matches.get_str("via") else {
         return Via::Graph;
@@ -157,7 +159,8 @@ pub fn via_in(matches: &ArgMatches<'_>) -> Via
 
 /// The chance that its option says. The condition: it says one.
 pub fn chance_in(matches: &ArgMatches<'_>) -> Chance
-    requires { (chance : Falling) × MustSay SpellsChance (first_value (found_of matches.now) (codes "chance")) chance }
+    requires { (chance : ChanceFall) × MustSay SpellsChance (first_value (found_of matches.now) (codes "chance"))
+        chance }
     ensures { MustSay SpellsChance (first_value (found_of matches.now) (codes "chance")) result }
 {
     match matches.get_str("chance").and_then(chance_of) {
@@ -180,7 +183,8 @@ pub fn words_in(alloc: Global, matches: &ArgMatches<'_>) -> Result<Numbers, Allo
 // The kind of a read that was found. The condition: one was.
 fn kind_in(matches: &ArgMatches<'_>) -> ReadKind
     requires { (kind : AnyKind) × MustSay NamesKind (first_value (found_of matches.now) (codes "second")) kind }
-    ensures { (kind : AnyKind) → MustSay NamesKind (first_value (found_of matches.now) (codes "second")) kind → result ≡ kind }
+    ensures { (kind : AnyKind) → MustSay NamesKind (first_value (found_of matches.now) (codes "second")) kind
+        → result ≡ kind }
 {
     let Some(word) = matches.get_str("second") else {
         unreachable!()
@@ -195,7 +199,9 @@ fn kind_in(matches: &ArgMatches<'_>) -> ReadKind
 // that spells one.
 fn value_of(alloc: Global, column: Column, word: Option<&str>) -> Result<Value, AllocError>
     requires { (value : AnyValue) × MustSay (Spells column) (option_map (λ w. w.now) word) value }
-    ensures { IfOk result (λ made. (value : AnyValue) → MustSay (Spells column) (option_map (λ w. w.now) word.entry) value → made ≡ value) }
+    ensures { IfOk result
+        (λ made. (value : AnyValue) → MustSay (Spells column) (option_map (λ w. w.now) word.entry) value
+        → made ≡ value) }
 {
     one_value();
     let Some(word) = word else { unreachable!() };
@@ -209,7 +215,8 @@ fn value_of(alloc: Global, column: Column, word: Option<&str>) -> Result<Value, 
 /// read were found.
 pub fn query_in(alloc: Global, matches: &ArgMatches<'_>) -> Result<Query, AllocError>
     requires { (query : AnyQuery) × IsReadFound (first_value (found_of matches.now)) query }
-    ensures { IfOk result (λ made. (query : AnyQuery) → IsReadFound (first_value (found_of matches.now)) query → made ≡ query) }
+    ensures { IfOk result
+        (λ made. (query : AnyQuery) → IsReadFound (first_value (found_of matches.now)) query → made ≡ query) }
 {
     let kind = kind_in(matches);
     let columns = kind.columns();

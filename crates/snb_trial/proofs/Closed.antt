@@ -25,8 +25,9 @@ use Rattle.snb_schema.specs.RowKeys.{RowKey, named_key, row_key}
 use Rattle.snb_history.specs.Schedule.{ComesBefore}
 use Rattle.snb_graph_model.specs.Graphs.{HoldsKey}
 use Rattle.snb_plan.specs.Closed.{IsClosed, IsClosedAt, IsMet, IsTaken, Update, is_in_lane}
-use Rattle.snb_plan.specs.Plans.{IsLineOf, IsPlan, IsRead, IsUpdate, Operation, Placed, Plan, file_of, first_t, lane_of, update_from, update_operation, updates_in}
-use Rattle.snb_trial.specs.Trial.{dataset, half, lane, lanes, line_of}
+use Rattle.snb_plan.specs.Plans.{IsPlan, IsRead, IsUpdate, Operation, Plan, first_t, update_from, update_operation, updates_in}
+use Rattle.snb_plan.specs.Merging.{IsLineHere, PlacedLine, file_of, lane_of}
+use Rattle.snb_trial.specs.Trial.{dataset, half, lane, lanes, trial_line}
 use Rattle.snb_trial.proofs.Elements.{behind_it, before_it, given_in_order}
 use Rattle.snb_trial.proofs.Numbered.{Rises}
 use Rattle.snb_trial.proofs.Seven.{Comment, Forum, Friendship, IsLineIn, Like, Membership, Person, Post, Seven, at_t, entry_of, in_lanes, in_line, in_order, lane_is, lane_later, lane_number, later, line_in, of_lane}
@@ -166,13 +167,13 @@ same_lane n l m x y a b e =
 
 -- ---- lines of the lanes
 
-line_here : (n : ℕ) (p : Placed) → IsLineOf (lanes n) p → IsLineIn n p.lane p.line
+line_here : (n : ℕ) (p : PlacedLine) → IsLineHere (lanes n) p → IsLineIn n p.lane p.line
 line_here n p is =
     let few : p.lane < 5 = is.in_lanes in
     line_in n p.lane p.line (subst (λ (xs : List Line). Contains xs p.line) (lane_is n p.lane few) (at_contains (lane_of (lanes n) p.lane) p.place p.line is.here))
 
 -- of two lines in order the first has the smaller t
-earlier : (n : ℕ) (p q : Placed) → IsLineOf (lanes n) p → IsLineOf (lanes n) q
+earlier : (n : ℕ) (p q : PlacedLine) → IsLineHere (lanes n) p → IsLineHere (lanes n) q
     → (p.line.t < q.line.t) ⊎ ((p.line.t ≡ q.line.t) × ((p.lane < q.lane) ⊎ ((p.lane ≡ q.lane) × (p.place < q.place))))
     → p.line.t < q.line.t
 earlier n p q a b (inl lt) = lt
@@ -190,20 +191,20 @@ earlier n p q a b (inr (t, inr (same, lt))) =
 abbrev update_of : Operation → Option Update
 update_of o = update_from o.step o.work o.source
 
-abbrev of_line : ℕ → Placed → Update
+abbrev of_line : ℕ → PlacedLine → Update
 of_line n p = record { lane = p.lane; file = file_of (lanes n) p.lane; line = p.line }
 
 abbrev SoonerUpdate : Update → Update → Type 0
 SoonerUpdate v w = v.line.t < w.line.t
 
 module _ (n : ℕ) (asked : QueryLists) (frequencies : FrequencyTable) (ratio : ℕ) (plan : Plan) (is_plan : IsPlan (lanes n) asked frequencies ratio plan) where
-  abbrev as_planned : Placed → Operation
+  abbrev as_planned : PlacedLine → Operation
   as_planned p = update_operation (lanes n) ratio (first_t plan.operations) p
 
   -- an operation that is the update of a line
   record IsFrom (o : Operation) (v : Update) : Type 0 where
-    line : Placed
-    of : IsLineOf (lanes n) line
+    line : PlacedLine
+    of : IsLineHere (lanes n) line
     is : o ≡ as_planned line
     update : of_line n line ≡ v
 
@@ -239,17 +240,17 @@ module _ (n : ℕ) (asked : QueryLists) (frequencies : FrequencyTable) (ratio : 
     at : Contains (updates_in plan) v
     lane : lane_number which i ≡ v.lane
     number : ℕ
-    line : line_of (number, entry_of which i) ≡ v.line
+    line : trial_line (number, entry_of which i) ≡ v.line
 
   present : (which : Seven) (i : ℕ) → 1 ≤ i → i ≤ n → (v : Update) × IsPresent which i v
   present which i some few =
       let l = lane_number which i in
       let there = in_line n i which some few in
-      let x : Line = line_of (there.0, entry_of which i) in
+      let x : Line = trial_line (there.0, entry_of which i) in
       let place = contains_at (lane (of_lane l) n) x there.1 in
-      let p : Placed = record { lane = l; place = place.0; line = x } in
+      let p : PlacedLine = record { lane = l; place = place.0; line = x } in
       let in_five : l < 5 = in_lanes which i in
-      let of : IsLineOf (lanes n) p = record { in_lanes = in_five; here = subst (λ (xs : List Line). slice_get xs place.0 ≡ Some x) (sym (lane_is n l in_five)) place.1 } in
+      let of : IsLineHere (lanes n) p = record { in_lanes = in_five; here = subst (λ (xs : List Line). slice_get xs place.0 ≡ Some x) (sym (lane_is n l in_five)) place.1 } in
       let o : Contains plan.operations (as_planned p) = (is_plan.numbered.those (as_planned p)).1 (inl (p, (is_plan.are_updates.those p).1 of, refl)) in (
         of_line n p,
         record { at = gives update_of plan.operations (as_planned p) (of_line n p) o refl; lane = refl; number = there.0; line = refl },

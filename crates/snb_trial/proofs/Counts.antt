@@ -3,11 +3,11 @@ use Rattle.std.proofs.Common.{◌≡◌, ◌∷◌, ℕ, zero, suc, ◌+◌, ◌
 use Rattle.std.specs.Prelude.{◌==◌, if◌then◌else◌}
 use Rattle.std.specs.List.{flat_map, range_with_len}
 use Rattle.snb_schema.specs.LineLanes.{update_count}
-use Rattle.snb_trial.specs.Trial.{Entry, comment, forum, forum_lane, lane, lanes, like, membership, person_lane, post}
+use Rattle.snb_trial.specs.Trial.{TrialInsert, comment, forum, forum_lane, lane, lanes, like, membership, person_lane, post}
 use Rattle.snb_trial.proofs.Numbered.{length-lines}
 
 -- the updates of each i of a range
-abbrev spread : (ℕ → List Entry) → ℕ → ℕ → List Entry
+abbrev spread : (ℕ → List TrialInsert) → ℕ → ℕ → List TrialInsert
 spread of a n = flat_map of (range_with_len a n)
 
 persons_count : (k a n : ℕ) → length (spread (person_lane k) a n) ≡ n

@@ -7,7 +7,7 @@ use Rattle.std.proofs.lemmas.List.Elements.{All-from_recursion}
 use Rattle.std.proofs.lemmas.List.Kept.{AllPairs-cons}
 use Rattle.snb_base.proofs.Laws.{contains_cases, contains_here, none_in, pairs_none}
 use Rattle.snb_schema.specs.declared.op.Line.{Line}
-use Rattle.snb_trial.specs.Trial.{Entry, comment, forum, forum_lane, friendship, lane, lanes, like, line_of, membership, person, person_lane, post}
+use Rattle.snb_trial.specs.Trial.{TrialInsert, comment, forum, forum_lane, friendship, lane, lanes, like, trial_line, membership, person, person_lane, post}
 use Rattle.snb_trial.proofs.Numbered.{AreTimed, Rises, Sooner, entry_line, lane_rises, line_entry}
 use Rattle.snb_trial.proofs.Elements.{from_range, to_range}
 
@@ -21,7 +21,7 @@ pub data Seven : Type 0 where
   Comment : Seven
   Like : Seven
 
-abbrev pub entry_of : Seven → ℕ → Entry
+abbrev pub entry_of : Seven → ℕ → TrialInsert
 entry_of Person i = person i
 entry_of Friendship i = friendship i
 entry_of Forum i = forum i
@@ -66,7 +66,7 @@ in_lanes Comment i = omega arith
 in_lanes Like i = omega arith
 
 -- what the lane of a number has of an i
-abbrev pub of_lane : ℕ → ℕ → List Entry
+abbrev pub of_lane : ℕ → ℕ → List TrialInsert
 of_lane zero = person_lane 0
 of_lane (suc zero) = person_lane 1
 of_lane (suc (suc k)) = forum_lane k
@@ -74,7 +74,7 @@ of_lane (suc (suc k)) = forum_lane k
 -- ---- what a lane has of an i is some of the seven
 
 -- the update is one of the seven of i, which stands in this lane
-pub record IsOneOf (l i : ℕ) (e : Entry) : Type 0 where
+pub record IsOneOf (l i : ℕ) (e : TrialInsert) : Type 0 where
   pub which : Seven
   pub is : entry_of which i ≡ e
   pub there : lane_number which i ≡ l
@@ -85,7 +85,7 @@ next_lane k i lt q = elim (cases_eq (i % 2) k) [
   | inr differ ↦ omega (arith, lt, differ)
 ]
 
-person_of : (k i : ℕ) (e : Entry) → k < 2 → Contains (person_lane k i) e → IsOneOf k i e
+person_of : (k i : ℕ) (e : TrialInsert) → k < 2 → Contains (person_lane k i) e → IsOneOf k i e
 person_of k i e lt c = by (i % 2 == k) refl c
   where
     by : (b : Bool) → (i % 2 == k) ≡ b → Contains ((if b then person i else friendship i) ∷ []) e → IsOneOf k i e
@@ -100,7 +100,7 @@ person_of k i e lt c = by (i % 2 == k) refl c
           | inr none ↦ absurd (none_in e none)
         ]
 
-forum_of : (k i : ℕ) (e : Entry) → Contains (forum_lane k i) e → IsOneOf (suc (suc k)) i e
+forum_of : (k i : ℕ) (e : TrialInsert) → Contains (forum_lane k i) e → IsOneOf (suc (suc k)) i e
 forum_of k i e c = by (i % 3 == k) refl c
   where
     by : (b : Bool) → (i % 3 == k) ≡ b → Contains (if b then forum i ∷ membership i ∷ post i ∷ comment i ∷ like i ∷ [] else []) e → IsOneOf (suc (suc k)) i e
@@ -124,7 +124,7 @@ forum_of k i e c = by (i % 3 == k) refl c
           ]
         ]
 
-pub one_of : (l i : ℕ) (e : Entry) → Contains (of_lane l i) e → IsOneOf l i e
+pub one_of : (l i : ℕ) (e : TrialInsert) → Contains (of_lane l i) e → IsOneOf l i e
 one_of zero i e c = person_of 0 i e (omega arith) c
 one_of (suc zero) i e c = person_of 1 i e (omega arith) c
 one_of (suc (suc k)) i e c = forum_of k i e c
@@ -143,11 +143,11 @@ friend_here k i e = subst (λ (b : Bool). Contains ((if b then person i else fri
       | inr miss ↦ miss
     ]
 
-forums_here : (i : ℕ) (e : Entry) → Contains (forum i ∷ membership i ∷ post i ∷ comment i ∷ like i ∷ []) e → Contains (forum_lane (i % 3) i) e
+forums_here : (i : ℕ) (e : TrialInsert) → Contains (forum i ∷ membership i ∷ post i ∷ comment i ∷ like i ∷ []) e → Contains (forum_lane (i % 3) i) e
 forums_here i e c =
     subst (λ (b : Bool). Contains (if b then forum i ∷ membership i ∷ post i ∷ comment i ∷ like i ∷ [] else []) e) (sym (eq-eqb (i % 3) (i % 3) refl)) c
 
-persons_here : (e : Entry) (i l : ℕ) → l < 2 → ((k : ℕ) → l ≡ k → Contains (person_lane k i) e) → Contains (of_lane l i) e
+persons_here : (e : TrialInsert) (i l : ℕ) → l < 2 → ((k : ℕ) → l ≡ k → Contains (person_lane k i) e) → Contains (of_lane l i) e
 persons_here e i zero lt here = here 0 refl
 persons_here e i (suc zero) lt here = here 1 refl
 persons_here e i (suc (suc l)) lt here = absurd (omega (arith, lt))
@@ -163,7 +163,7 @@ one_here Like i = forums_here i (like i) (4, omega arith, refl)
 
 -- ---- in order
 
-single : (e : Entry) → AllPairs Sooner (e ∷ [])
+single : (e : TrialInsert) → AllPairs Sooner (e ∷ [])
 single e i j d below lt = absurd (omega (arith, below, lt))
 
 five_rise : (i : ℕ) → AllPairs Sooner (forum i ∷ membership i ∷ post i ∷ comment i ∷ like i ∷ [])
@@ -188,7 +188,7 @@ lane_timed l = record {
   within = λ i e c.
       let one = one_of l i e c in
       let t = at_t one.which i in
-      let at : (entry_of one.which i).t ≡ e.t = ap (λ (x : Entry). x.t) one.is in
+      let at : (entry_of one.which i).t ≡ e.t = ap (λ (x : TrialInsert). x.t) one.is in
       let same = t.0 in
       let less = t.1 in
       (omega (arith, at, same), omega (arith, at, same, less));
@@ -206,7 +206,7 @@ pub record IsLineIn (n l : ℕ) (x : Line) : Type 0 where
   pub number : ℕ
   pub some : 1 ≤ i
   pub few : i ≤ n
-  pub is : line_of (number, entry_of which i) ≡ x
+  pub is : trial_line (number, entry_of which i) ≡ x
   pub there : lane_number which i ≡ l
 
 pub line_in : (n l : ℕ) (x : Line) → Contains (lane (of_lane l) n) x → IsLineIn n l x
@@ -221,11 +221,11 @@ line_in n l x c =
       number = w.1;
       some = r.1;
       few = omega (arith, high);
-      is = ap (λ (e : Entry). line_of (w.1, e)) one.is ∙ w.3;
+      is = ap (λ (e : TrialInsert). trial_line (w.1, e)) one.is ∙ w.3;
       there = one.there;
     }
 
-pub in_line : (n i : ℕ) (which : Seven) → 1 ≤ i → i ≤ n → (number : ℕ) × Contains (lane (of_lane (lane_number which i)) n) (line_of (number, entry_of which i))
+pub in_line : (n i : ℕ) (which : Seven) → 1 ≤ i → i ≤ n → (number : ℕ) × Contains (lane (of_lane (lane_number which i)) n) (trial_line (number, entry_of which i))
 in_line n i which some few =
     entry_line 1 (flat_map (of_lane (lane_number which i)) (range_with_len 1 n)) (entry_of which i)
     (to_range (of_lane (lane_number which i)) 1 n i (entry_of which i) some (omega (arith, few)) (one_here which i))

@@ -20,9 +20,10 @@ use Rattle.snb_schema.specs.Columns.{Spells, SpellsAll, canonical_field, no_id}
 use Rattle.snb_schema.specs.Lines.{HasNoBar, HasNoEnd}
 use Rattle.snb_schema.specs.StreamLines.{AreOfStream, AreOfStreams, IsOfLine}
 use Rattle.snb_schema.specs.TableRows.{IsFieldText}
-use Rattle.snb_schema.specs.UpdateLines.{IsOfTwo, canonical_line, forum_inserts, kind_of, line_columns, line_values, op_number, op_values, person_inserts}
+use Rattle.snb_schema.specs.UpdateLines.{IsOfTwo, canonical_line, forum_inserts, person_inserts}
+use Rattle.snb_schema.specs.InsertLines.{kind_of, line_columns, line_values, op_number, op_values}
 use Rattle.snb_columns.specs.Laws.{OwnLineOfValues}
-use Rattle.snb_trial.specs.Trial.{half, lane, lanes, line_of}
+use Rattle.snb_trial.specs.Trial.{half, lane, lanes, trial_line}
 use Rattle.snb_trial.proofs.Seven.{Comment, Forum, Friendship, IsLineIn, Like, Membership, Person, Post, Seven, entry_of, in_order, lane_number, line_in, of_lane}
 use Rattle.snb_columns.proofs.Laws.{all_digits}
 
@@ -127,7 +128,7 @@ letter b ascii bar end = record {
 pub address : IsFieldText (codes "0.0.0.0")
 address = record { utf8 = IsUtf8-from_ascii (codes "0.0.0.0") (grind arith); no_bar = grind arith; one_line = grind arith }
 
-fits : (which : Seven) (i number : ℕ) → i ≤ MAX_TRIAL → let x = line_of (number, entry_of which i) in AreFit (line_columns (kind_of x.op)) (line_values x.t x.t_d x.op)
+fits : (which : Seven) (i number : ℕ) → i ≤ MAX_TRIAL → let x = trial_line (number, entry_of which i) in AreFit (line_columns (kind_of x.op)) (line_values x.t x.t_d x.op)
 fits Person i number few =
     let a : (1000 * i ≤ MAX_TIME) × (1000 * i < 10 ^ 19) = (omega arith, omega arith) in (
       a,
@@ -253,7 +254,7 @@ of_stream own l n kinds few theirs = record {
     of_line : (x : Line) → IsLineIn n l x → IsOfLine x
     of_line x in' =
         let within = in'.few in
-        subst IsOfLine in'.is (has_line own (line_of (in'.number, entry_of in'.which in'.i)) (fits in'.which in'.i in'.number (omega (arith, within, few))) (of_two in'.which in'.i in'.some))
+        subst IsOfLine in'.is (has_line own (trial_line (in'.number, entry_of in'.which in'.i)) (fits in'.which in'.i in'.number (omega (arith, within, few))) (of_two in'.which in'.i in'.some))
 
     of_kind : (x : Line) → IsLineIn n l x → Contains kinds (kind_of x.op)
     of_kind x in' = subst (λ (y : Line). Contains kinds (kind_of y.op)) in'.is (theirs in'.which in'.i in'.there)

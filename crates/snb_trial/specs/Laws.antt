@@ -28,7 +28,9 @@ NamesTwo frequencies = (q : ℕ) → 0 < frequency_at frequencies q → (q ≡ 2
 
 -- the lists have a parameter for each query of such frequencies
 abbrev pub ListsAreEnough : Type 0
-ListsAreEnough = (n : ℕ) (frequencies : FrequencyTable) → NamesTwo frequencies → HaveParameters (lists n) frequencies
+ListsAreEnough =
+    (n : ℕ) (frequencies : FrequencyTable) → NamesTwo frequencies
+    → HaveParameters (lists n) frequencies
 
 -- the updates of each plan of the lanes are closed over the dataset
 abbrev pub UpdatesAreClosed : Type 0

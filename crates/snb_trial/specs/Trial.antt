@@ -37,7 +37,8 @@ dataset =
     ∷ row.Place (record { id = 1; name = codes "b"; url = codes "u"; kind = codes "country" })
     ∷ row.TagClass (record { id = 0; name = codes "x"; url = codes "u" })
     ∷ row.Tag (record { id = 0; name = codes "x"; url = codes "u" })
-    ∷ row.Organisation (record { id = 0; kind = codes "company"; name = codes "o"; url = codes "u" })
+    ∷ row.Organisation
+    (record { id = 0; kind = codes "company"; name = codes "o"; url = codes "u" })
     ∷ first_person
     ∷ row.Link table.PlaceIsPartOfPlace 0 1
     ∷ row.Link table.TagHasTypeTagClass 0 0
@@ -48,7 +49,7 @@ dataset =
 -- ---- the updates of an i
 
 -- an update: its two times, and what it inserts
-pub record Entry : Type 0 where
+pub record TrialInsert : Type 0 where
   pub t : ℕ
   pub t_d : ℕ
   pub op : Op
@@ -58,61 +59,68 @@ abbrev pub half : ℕ → ℕ
 half i = i / 2
 
 -- an update so many milliseconds after 1000 i, where t_d is; its date is its t
-abbrev pub after : ℕ → ℕ → (ℕ → Op) → Entry
+abbrev pub after : ℕ → ℕ → (ℕ → Op) → TrialInsert
 after i later op = record { t = 1000 * i + later; t_d = 1000 * i; op = op (1000 * i + later) }
 
 -- person i, of city 0, with the texts of person 0
-abbrev pub person : ℕ → Entry
+abbrev pub person : ℕ → TrialInsert
 person i = record {
   t = 1000 * i;
   t_d = 0;
-  op = AddPerson i (codes "F") (codes "L") (codes "g") 0 (1000 * i) (codes "0.0.0.0") (codes "b") 0 [] [] [] [] [];
+  op = AddPerson i (codes "F") (codes "L") (codes "g") 0 (1000 * i) (codes "0.0.0.0") (codes "b")
+      0 [] [] [] [] [];
 }
 
 -- the friendship of i and its half
-abbrev pub friendship : ℕ → Entry
+abbrev pub friendship : ℕ → TrialInsert
 friendship i = after i 500 (AddFriend i (half i))
 
 -- forum i, whose moderator is i
-abbrev pub forum : ℕ → Entry
+abbrev pub forum : ℕ → TrialInsert
 forum i = after i 600 (λ t. AddForum i (codes "T") t i [])
 
 -- the membership of the half in forum i
-abbrev pub membership : ℕ → Entry
+abbrev pub membership : ℕ → TrialInsert
 membership i = after i 700 (AddMember (half i) i)
 
 -- post 2i by i in forum i, of country 1
-abbrev pub post : ℕ → Entry
-post i = after i 800 (λ t. AddPost (2 * i) [] t (codes "0.0.0.0") (codes "b") (codes "l") (codes "c") 1 i i 1 [])
+abbrev pub post : ℕ → TrialInsert
+post i = after i 800
+    (λ t. AddPost (2 * i) [] t (codes "0.0.0.0") (codes "b") (codes "l") (codes "c") 1 i i 1 [])
 
 -- comment 2i + 1 by the half on post 2i, of country 1
-abbrev pub comment : ℕ → Entry
-comment i = after i 900 (λ t. AddComment (2 * i + 1) t (codes "0.0.0.0") (codes "b") (codes "c") 1 (half i) 1 (parents.Post (2 * i)) [])
+abbrev pub comment : ℕ → TrialInsert
+comment i =
+    after i 900
+    (λ t. AddComment (2 * i + 1) t (codes "0.0.0.0") (codes "b") (codes "c") 1 (half i) 1
+    (parents.Post (2 * i)) [])
 
 -- the like of post 2i by the half
-abbrev pub like : ℕ → Entry
+abbrev pub like : ℕ → TrialInsert
 like i = after i 950 (LikePost (half i) (2 * i))
 
 -- ---- lanes
 
 -- what a lane of persons has of an i: person i in lane i mod 2, and the friendship in the other
-abbrev pub person_lane : ℕ → ℕ → List Entry
+abbrev pub person_lane : ℕ → ℕ → List TrialInsert
 person_lane lane i = (if i % 2 == lane then person i else friendship i) ∷ []
 
 -- what a forum lane has of an i: all else in lane i mod 3
-abbrev pub forum_lane : ℕ → ℕ → List Entry
-forum_lane lane i = if i % 3 == lane then forum i ∷ membership i ∷ post i ∷ comment i ∷ like i ∷ [] else []
+abbrev pub forum_lane : ℕ → ℕ → List TrialInsert
+forum_lane lane i =
+    if i % 3 == lane then forum i ∷ membership i ∷ post i ∷ comment i ∷ like i ∷ [] else []
 
 -- an update as the line of this number
-abbrev pub line_of : ℕ × Entry → Line
-line_of numbered = record { t = numbered.1.t; t_d = numbered.1.t_d; op = numbered.1.op; number = numbered.0 }
+abbrev pub trial_line : ℕ × TrialInsert → Line
+trial_line numbered =
+    record { t = numbered.1.t; t_d = numbered.1.t_d; op = numbered.1.op; number = numbered.0 }
 
 -- updates as lines with numbers that rise by one from the first
-abbrev pub lines_from : ℕ → List Entry → List Line
-lines_from first entries = map line_of (enumerate_from first entries)
+abbrev pub lines_from : ℕ → List TrialInsert → List Line
+lines_from first entries = map trial_line (enumerate_from first entries)
 
 -- the lines of a lane that has these updates of each i from 1 to n, numbered from 1
-abbrev pub lane : (ℕ → List Entry) → ℕ → List Line
+abbrev pub lane : (ℕ → List TrialInsert) → ℕ → List Line
 lane of n = lines_from 1 (flat_map of (range_with_len 1 n))
 
 -- two lanes of persons, and three forum lanes

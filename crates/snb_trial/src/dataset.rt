@@ -12,7 +12,8 @@ use std::alloc::{AllocError, Global};
 
 // A place.
 fn place(alloc: Global, id: u64, name: &str, kind: &str) -> Result<Row, AllocError>
-    ensures { IfOk result (λ made. made ≡ row.Place (record { id = id; name = name.now; url = codes "u"; kind = kind.now })) }
+    ensures { IfOk result
+        (λ made. made ≡ row.Place (record { id = id; name = name.now; url = codes "u"; kind = kind.now })) }
 {
     let place = Place {
         id,
@@ -36,7 +37,9 @@ fn named(alloc: Global) -> Result<Named, AllocError>
 
 // The organisation.
 fn company(alloc: Global) -> Result<Row, AllocError>
-    ensures { IfOk result (λ made. made ≡ row.Organisation (record { id = 0; kind = codes "company"; name = codes "o"; url = codes "u" })) }
+    ensures { IfOk result
+        (λ made. made ≡ row.Organisation
+        (record { id = 0; kind = codes "company"; name = codes "o"; url = codes "u" })) }
 {
     let organisation = Organisation {
         id: 0,

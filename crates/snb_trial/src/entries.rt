@@ -2,7 +2,7 @@
 
 ghost use Rattle.std.specs.Prelude.{◌≡◌, ◌≤◌, IfOk};
 ghost use Rattle.snb_schema.specs.declared.limits.TheConstants.{MAX_TRIAL};
-ghost use Rattle.snb_trial.specs.Trial.{comment, forum, friendship, like, line_of, membership, person, post};
+ghost use Rattle.snb_trial.specs.Trial.{comment, forum, friendship, like, trial_line, membership, person, post};
 
 use snb_base::{Numbers, Pairs, Text, Texts};
 use snb_schema::{Line, Op, Parent};
@@ -11,7 +11,7 @@ use std::alloc::{AllocError, Global};
 /// Person i.
 pub fn person_line(alloc: Global, i: u64, number: u32) -> Result<Line, AllocError>
     requires { i ≤ MAX_TRIAL }
-    ensures { IfOk result (λ line. line ≡ line_of (number, person i)) }
+    ensures { IfOk result (λ line. line ≡ trial_line (number, person i)) }
 {
     let op = Op::AddPerson {
         person_id: i,
@@ -40,7 +40,7 @@ pub fn person_line(alloc: Global, i: u64, number: u32) -> Result<Line, AllocErro
 /// The friendship of i and its half.
 pub fn friendship_line(i: u64, number: u32) -> Line
     requires { i ≤ MAX_TRIAL }
-    ensures { result ≡ line_of (number, friendship i) }
+    ensures { result ≡ trial_line (number, friendship i) }
 {
     let t = 1000 * i + 500;
     Line {
@@ -58,7 +58,7 @@ pub fn friendship_line(i: u64, number: u32) -> Line
 /// Forum i.
 pub fn forum_line(alloc: Global, i: u64, number: u32) -> Result<Line, AllocError>
     requires { i ≤ MAX_TRIAL }
-    ensures { IfOk result (λ line. line ≡ line_of (number, forum i)) }
+    ensures { IfOk result (λ line. line ≡ trial_line (number, forum i)) }
 {
     let t = 1000 * i + 600;
     let op = Op::AddForum {
@@ -79,7 +79,7 @@ pub fn forum_line(alloc: Global, i: u64, number: u32) -> Result<Line, AllocError
 /// The membership of the half in forum i.
 pub fn membership_line(i: u64, number: u32) -> Line
     requires { i ≤ MAX_TRIAL }
-    ensures { result ≡ line_of (number, membership i) }
+    ensures { result ≡ trial_line (number, membership i) }
 {
     let t = 1000 * i + 700;
     Line {
@@ -97,7 +97,7 @@ pub fn membership_line(i: u64, number: u32) -> Line
 /// Post 2i by i in forum i.
 pub fn post_line(alloc: Global, i: u64, number: u32) -> Result<Line, AllocError>
     requires { i ≤ MAX_TRIAL }
-    ensures { IfOk result (λ line. line ≡ line_of (number, post i)) }
+    ensures { IfOk result (λ line. line ≡ trial_line (number, post i)) }
 {
     let t = 1000 * i + 800;
     let op = Op::AddPost {
@@ -125,7 +125,7 @@ pub fn post_line(alloc: Global, i: u64, number: u32) -> Result<Line, AllocError>
 /// Comment 2i + 1 by the half on post 2i.
 pub fn comment_line(alloc: Global, i: u64, number: u32) -> Result<Line, AllocError>
     requires { i ≤ MAX_TRIAL }
-    ensures { IfOk result (λ line. line ≡ line_of (number, comment i)) }
+    ensures { IfOk result (λ line. line ≡ trial_line (number, comment i)) }
 {
     let t = 1000 * i + 900;
     let op = Op::AddComment {
@@ -151,7 +151,7 @@ pub fn comment_line(alloc: Global, i: u64, number: u32) -> Result<Line, AllocErr
 /// The like of post 2i by the half.
 pub fn like_line(i: u64, number: u32) -> Line
     requires { i ≤ MAX_TRIAL }
-    ensures { result ≡ line_of (number, like i) }
+    ensures { result ≡ trial_line (number, like i) }
 {
     let t = 1000 * i + 950;
     Line {

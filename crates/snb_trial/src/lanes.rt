@@ -14,7 +14,8 @@ use std::alloc::{AllocError, Global};
 fn push_person(alloc: Global, lines: &mut Vec<Line>, part: u64, i: u64) -> Result<(), AllocError>
     requires few { i ≤ MAX_TRIAL }
     requires room { length lines.old.items ≤ 25000 }
-    ensures { OnOk result (lines.new.items ≡ lines.old.items ++ lines_from (length lines.old.items + 1) (person_lane part i)) }
+    ensures { OnOk result
+        (lines.new.items ≡ lines.old.items ++ lines_from (length lines.old.items + 1) (person_lane part i)) }
 {
     let number = lines.len() as u32 + 1;
     if i % 2 == part {
@@ -29,7 +30,8 @@ fn push_person(alloc: Global, lines: &mut Vec<Line>, part: u64, i: u64) -> Resul
 fn push_forum(alloc: Global, lines: &mut Vec<Line>, part: u64, i: u64) -> Result<(), AllocError>
     requires few { i ≤ MAX_TRIAL }
     requires room { length lines.old.items ≤ 25000 }
-    ensures { OnOk result (lines.new.items ≡ lines.old.items ++ lines_from (length lines.old.items + 1) (forum_lane part i)) }
+    ensures { OnOk result
+        (lines.new.items ≡ lines.old.items ++ lines_from (length lines.old.items + 1) (forum_lane part i)) }
 {
     if i % 3 != part {
         return Ok(());

@@ -17,7 +17,7 @@ use Rattle.serde_json.specs.View.{items_of}
 use Rattle.serde_json.specs.Written.{compact_text, items_outline, outline}
 use Rattle.serde_json.proofs.Numbers.{number_of-decimal, number_of-negative}
 use Rattle.serde_json.proofs.Texts.{print-outline}
-use Rattle.snb_read_model.specs.Cells.{Cell}
+use Rattle.snb_read_model.specs.Cells.{ByteCell}
 use Rattle.snb_read_model.specs.declared.cell.Cell.TheVariants as cell
 use Rattle.snb_validation.specs.Laws.{AreOfTypes, IsOfType, IsSigned64, as_written, reply_as_written}
 use Rattle.snb_validation.specs.ReplyData.{array_of, cell_data, reply_data, stay_data}
@@ -50,20 +50,20 @@ any : {X : Type 0} (xs : List X) → AllByRecursion (λ x. ⊤) xs
 any [] = tt
 any (x ∷ xs) = (tt, any xs)
 
-cell_read : (c : Cell) → IsOfType c → IsRead (cell_data c) 2
+cell_read : (c : ByteCell) → IsOfType c → IsRead (cell_data c) 2
 cell_read (cell.Number z) h = let r = integer_read z h in (r.0, r.1, omega (arith, r.2))
 cell_read (cell.Flag b) h = (refl, tt, omega arith)
 cell_read (cell.Words t) h = (refl, tt, omega arith)
 cell_read (cell.List ts) h = let r = array_read string (λ t. ⊤) 0 (λ t h. (refl, tt, omega arith)) ts (any ts) in (r.0, r.1, omega (arith, r.2))
 cell_read (cell.Stays ss) h = array_read stay_data (λ s. s.1 < 2 ^ 32) 1 stay_read ss h
 
-reply_read : (r : List (List (List Cell))) → AreOfTypes r → IsRead (reply_data r) 5
+reply_read : (r : List (List (List ByteCell))) → AreOfTypes r → IsRead (reply_data r) 5
 reply_read = array_read (array_of (array_of cell_data)) _ 4 (array_read (array_of cell_data) _ 3 (array_read cell_data IsOfType 2 cell_read))
 
 abbrev last : Option (json.Json × List Token) → Option Data
 last o = option_and_then of_json (option_and_then (λ p. json.if_last p.0 p.1) o)
 
-pub text_read : (r : List (List (List Cell))) → AreOfTypes r → read (compact_text (reply_data r)) ≡ Some (reply_data r)
+pub text_read : (r : List (List (List ByteCell))) → AreOfTypes r → read (compact_text (reply_data r)) ≡ Some (reply_data r)
 text_read r h =
     let k = reply_read r h in
     let j = outline (reply_data r) in
@@ -94,7 +94,7 @@ integer_one (negsuc m) (negsuc n) e = cc
 stay_one : (s t : List ℕ × ℕ × List ℕ) → stay_data s ≡ stay_data t → s ≡ t
 stay_one (a, m, b) (c, n, d) e = cc
 
-cell_one : (a b : Cell) → cell_data a ≡ cell_data b → as_written a ≡ as_written b
+cell_one : (a b : ByteCell) → cell_data a ≡ cell_data b → as_written a ≡ as_written b
 cell_one (cell.Number y) (cell.Number z) e = let same : of_integer y ≡ of_integer z = cc in ap cell.Number (integer_one y z same)
 cell_one (cell.Flag a) (cell.Flag b) e = cc
 cell_one (cell.Words a) (cell.Words b) e = cc
@@ -110,10 +110,10 @@ cell_one (cell.Stays (s ∷ ss)) (cell.List []) e = absurd cc
 cell_one (cell.Stays (s ∷ ss)) (cell.List (t ∷ ts)) e = absurd cc
 cell_one a b e = absurd cc
 
-pub data_one : (a b : List (List (List Cell))) → reply_data a ≡ reply_data b → reply_as_written a ≡ reply_as_written b
+pub data_one : (a b : List (List (List ByteCell))) → reply_data a ≡ reply_data b → reply_as_written a ≡ reply_as_written b
 data_one = array_as (array_of (array_of cell_data)) _ (array_as (array_of cell_data) _ (array_as cell_data as_written cell_one))
 
-pub text_one : (a b : List (List (List Cell))) → AreOfTypes a → AreOfTypes b → compact_text (reply_data a) ≡ compact_text (reply_data b) → reply_as_written a ≡ reply_as_written b
+pub text_one : (a b : List (List (List ByteCell))) → AreOfTypes a → AreOfTypes b → compact_text (reply_data a) ≡ compact_text (reply_data b) → reply_as_written a ≡ reply_as_written b
 text_one a b h k e =
     let same : Some (reply_data a) ≡ Some (reply_data b) = sym (text_read a h) ∙ ap read e ∙ text_read b k in
     let data_same : reply_data a ≡ reply_data b = cc in

@@ -10,7 +10,9 @@ use Rattle.serde_json.specs.Written.{outline}
 abbrev pub data_tokens : Data → List Token
 data_tokens d = json_tokens (outline d)
 
--- the value's tokens are appended, and what the buffer held before the writer stays, also on an error
-pub record WritesData {E : Type 0} (r : Result (Unit {0}) E) (old new : Written) (d : Data) : Type 0 where
+-- the value's tokens are appended, and what the buffer held before the writer stays, also on an
+-- error
+pub record WritesData {E : Type 0} (r : Result (Unit {0}) E) (old new : Written) (d : Data)
+    : Type 0 where
   pub ok : OnOk r (new.tokens ≡ old.tokens ++ data_tokens d)
   pub before : new.before ≡ old.before

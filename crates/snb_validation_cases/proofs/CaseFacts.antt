@@ -9,7 +9,7 @@ use Rattle.snb_schema.specs.declared.op.Line.{Line}
 use Rattle.snb_schema.specs.declared.query.Query.{Query}
 use Rattle.snb_schema.specs.Faults.{OnBadColumn}
 use Rattle.snb_schema.specs.UpdateLines.{IsBadLine}
-use Rattle.snb_read_model.specs.Cells.{Cell}
+use Rattle.snb_read_model.specs.Cells.{ByteCell}
 use Rattle.snb_validation_cases.specs.CaseFile.{header_data}
 use Rattle.snb_validation_cases.specs.Cases.{IsAsk, IsAskOf, IsInsert, IsInsertLine}
 
@@ -31,7 +31,7 @@ insert_found d held e None none = λ line h. none line (one_insert d held line e
 insert_found d held e (Some line) h = record { held = held; keys = e; is_line = h }
 
 -- what a read holds under its keys
-pub one_ask : (d params word held : Data) (query : Query) (reply : List (List (List Cell))) → as_object d ≡ Some (member (codes "params") params (member (codes "read") word (member (codes "reply") held no_members)))
+pub one_ask : (d params word held : Data) (query : Query) (reply : List (List (List ByteCell))) → as_object d ≡ Some (member (codes "params") params (member (codes "read") word (member (codes "reply") held no_members)))
     → IsAsk d query reply → IsAskOf params word held query reply
 one_ask d params word held query reply e x =
     let keys : Some (member (codes "params") x.params (member (codes "read") x.word (member (codes "reply") x.held no_members))) ≡ Some (member (codes "params") params (member (codes "read") word (member (codes "reply") held no_members))) = sym x.keys ∙ e in
@@ -42,8 +42,8 @@ one_ask d params word held query reply e x =
 
 -- what the three values under the keys are found to be, the object is
 pub ask_found : (d params word held : Data) → as_object d ≡ Some (member (codes "params") params (member (codes "read") word (member (codes "reply") held no_members)))
-    → (found : Option (Query × List (List (List Cell)))) → MatchOption found ((query : Query) (reply : List (List (List Cell))) → ¬ IsAskOf params word held query reply) (λ ask. IsAskOf params word held ask.0 ask.1)
-    → MatchOption found ((query : Query) (reply : List (List (List Cell))) → ¬ IsAsk d query reply) (λ ask. IsAsk d ask.0 ask.1)
+    → (found : Option (Query × List (List (List ByteCell)))) → MatchOption found ((query : Query) (reply : List (List (List ByteCell))) → ¬ IsAskOf params word held query reply) (λ ask. IsAskOf params word held ask.0 ask.1)
+    → MatchOption found ((query : Query) (reply : List (List (List ByteCell))) → ¬ IsAsk d query reply) (λ ask. IsAsk d ask.0 ask.1)
 ask_found d params word held e None none = λ query reply h. none query reply (one_ask d params word held query reply e h)
 ask_found d params word held e (Some ask) h = record { params = params; word = word; held = held; keys = e; asks = h }
 

@@ -8,7 +8,7 @@ use Rattle.snb_schema.specs.declared.column.Value.TheVariants.{Digits, SmallDigi
 use Rattle.snb_schema.specs.declared.query.Query.{Query}
 use Rattle.snb_schema.specs.declared.read_kind.ReadKind.{ReadKind}
 use Rattle.snb_schema.specs.declared.read_kind.ReadKind.TheVariants as kinds
-use Rattle.snb_schema.specs.ReadKinds.{kind_of, parameter_columns, parameter_values, read_word}
+use Rattle.snb_schema.specs.ReadKinds.{read_kind_of, parameter_columns, parameter_values, read_word}
 use Rattle.snb_input_fields.specs.Queries.{query_by}
 use Rattle.snb_input_fields.specs.Values.{taken}
 use Rattle.snb_input_fields.proofs.Laws.{made, query_back}
@@ -83,11 +83,11 @@ pub none_made : (kind : ReadKind) (columns : List Column) (ds : List Data) → c
 none_made kind columns ds same none query h = none (parameter_values query) (subst (λ (cs : List Column). AreAlong IsParameter cs ds (parameter_values query)) (sym (same ∙ ap parameter_columns h.0)) h.1)
 
 -- parameters are those of one query of a kind
-query_of_one : (ds : List Data) (a b : Query) → kind_of a ≡ kind_of b → AreParameters ds a → AreParameters ds b → a ≡ b
+query_of_one : (ds : List Data) (a b : Query) → read_kind_of a ≡ read_kind_of b → AreParameters ds a → AreParameters ds b → a ≡ b
 query_of_one ds a b alike x y =
-    let same = along_one IsParameter parameter_one (parameter_columns (kind_of a)) ds (parameter_values a) (parameter_values b) x
+    let same = along_one IsParameter parameter_one (parameter_columns (read_kind_of a)) ds (parameter_values a) (parameter_values b) x
     (subst (λ (k : ReadKind). AreAlong IsParameter (parameter_columns k) ds (parameter_values b)) (sym alike) y) in
     sym (query_back a) ∙ (λ i. query_by (alike i) (same i)) ∙ query_back b
 
-pub query_one : (d : Data) (a b : Query) → kind_of a ≡ kind_of b → IsArray AreParameters d a → IsArray AreParameters d b → a ≡ b
+pub query_one : (d : Data) (a b : Query) → read_kind_of a ≡ read_kind_of b → IsArray AreParameters d a → IsArray AreParameters d b → a ≡ b
 query_one d a b alike x (ds, is, all) = query_of_one ds a b alike (array_all AreParameters d ds a is x) all

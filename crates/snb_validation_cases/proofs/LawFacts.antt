@@ -3,9 +3,9 @@ use Rattle.std.proofs.Common.{◌≡◌, ◌∙◌, ap, refl, sym, subst, List, 
 use Rattle.serde_json.specs.Data.{Data, member, no_members}
 use Rattle.snb_schema.specs.declared.op.Line.{Line}
 use Rattle.snb_schema.specs.declared.query.Query.{Query}
-use Rattle.snb_schema.specs.ReadKinds.{kind_of}
+use Rattle.snb_schema.specs.ReadKinds.{read_kind_of}
 use Rattle.snb_schema.specs.UpdateLines.{IsLine}
-use Rattle.snb_read_model.specs.Cells.{Cell}
+use Rattle.snb_read_model.specs.Cells.{ByteCell}
 use Rattle.snb_input_lines.specs.Laws.{IsExact}
 use Rattle.snb_streams.specs.Laws.{OneInsert}
 use Rattle.snb_validation_cases.specs.declared.case.Case.{Case}
@@ -14,7 +14,7 @@ use Rattle.snb_validation_cases.specs.declared.case.CaseAt.{CaseAt}
 use Rattle.snb_validation_cases.specs.CaseFile.{case_language}
 use Rattle.snb_validation_cases.specs.Laws.{OneCase}
 use Rattle.snb_validation_cases.specs.Cases.{IsAsk, IsAskOf, IsCase, IsInsert, IsInsertLine, SpellsCase}
-use Rattle.snb_validation_cases.specs.Replies.{IsReplyTo}
+use Rattle.snb_validation_cases.specs.Replies.{IsReplyData}
 use Rattle.snb_validation_cases.proofs.CaseFacts.{one_ask, one_insert}
 use Rattle.snb_validation_cases.proofs.KindFacts.{query_one}
 use Rattle.snb_validation_cases.proofs.OneFacts.{reply_one, text_one}
@@ -34,20 +34,20 @@ insert_one : OneInsert → (d : Data) (a b : Line) → IsInsert d a → IsInsert
 insert_one one d a b x y = line_one one y.held a b (one_insert d y.held a y.keys x) y.is_line
 
 -- what three values ask is one query, and one reply
-ask_query : (params word held other : Data) (a b : Query) (r s : List (List (List Cell))) → IsAskOf params word held a r → IsAskOf params word other b s → a ≡ b
-ask_query params word held other a b r s x y = query_one params a b (one_kind (kind_of a) (kind_of b) (text_one word _ _ x.0 y.0)) x.1 y.1
+ask_query : (params word held other : Data) (a b : Query) (r s : List (List (List ByteCell))) → IsAskOf params word held a r → IsAskOf params word other b s → a ≡ b
+ask_query params word held other a b r s x y = query_one params a b (one_kind (read_kind_of a) (read_kind_of b) (text_one word _ _ x.0 y.0)) x.1 y.1
 
-case_ask : (params word held : Data) (a b : Query) (r s : List (List (List Cell))) → IsAskOf params word held a r → IsAskOf params word held b s → Ask a r ≡ Ask b s
+case_ask : (params word held : Data) (a b : Query) (r s : List (List (List ByteCell))) → IsAskOf params word held a r → IsAskOf params word held b s → Ask a r ≡ Ask b s
 case_ask params word held a b r s x y =
     let same = ask_query params word held held a b r s x y in
-    let replies = reply_one b held r s (subst (λ (q : Query). IsReplyTo q held r) same x.2) y.2 in
+    let replies = reply_one b held r s (subst (λ (q : Query). IsReplyData q held r) same x.2) y.2 in
     cc
 
-ask_one : (d : Data) (a b : Query) (r s : List (List (List Cell))) → IsAsk d a r → IsAsk d b s → Ask a r ≡ Ask b s
+ask_one : (d : Data) (a b : Query) (r s : List (List (List ByteCell))) → IsAsk d a r → IsAsk d b s → Ask a r ≡ Ask b s
 ask_one d a b r s x y = case_ask y.params y.word y.held a b r s (one_ask d y.params y.word y.held a r y.keys x) y.asks
 
 -- a value is no insert and a read at once
-apart : (d : Data) (a : Line) (b : Query) (r : List (List (List Cell))) → IsInsert d a → ¬ IsAsk d b r
+apart : (d : Data) (a : Line) (b : Query) (r : List (List (List ByteCell))) → IsInsert d a → ¬ IsAsk d b r
 apart d a b r x y =
     let keys : Some (member (codes "insert") x.held no_members) ≡ Some (member (codes "params") y.params (member (codes "read") y.word (member (codes "reply") y.held no_members))) = sym x.keys ∙ y.keys in
     cc

@@ -10,16 +10,16 @@ use Rattle.snb_schema.specs.declared.column.Value.{Value}
 use Rattle.snb_schema.specs.declared.column.Value.TheVariants.{Digits, SmallDigits, Letters}
 use Rattle.snb_schema.specs.declared.limits.TheConstants.{MAX_TIME, MAX_YEAR}
 use Rattle.snb_schema.specs.declared.query.Query.{Query}
-use Rattle.snb_read_model.specs.Cells.{Cell}
+use Rattle.snb_read_model.specs.Cells.{ByteCell}
 use Rattle.snb_read_model.specs.declared.cell.Cell.TheVariants as cell
 use Rattle.snb_read_model.specs.Replies.{tail_reads}
-use Rattle.snb_read_model.specs.Columns.{Column, Number, Flag, Words, Texts, Stays, IsOfColumn, columns_of}
+use Rattle.snb_read_model.specs.Columns.{CellKind, Number, Flag, Words, Texts, Stays, IsOfColumn, columns_of}
 use Rattle.snb_validation_cases.specs.Parameters.{IsParameter}
-use Rattle.snb_validation_cases.specs.Replies.{AreReply, AreStay, IsAnswerTo, IsCellIn, IsCellValue, IsReplyTo, IsRow, IsStay, IsStayOf}
-use Rattle.snb_validation_cases.specs.Values.{AreAlong, IsArray, IsNumberTo, IsText}
+use Rattle.snb_validation_cases.specs.Replies.{AreReply, AreStay, IsAnswerTo, IsCellIn, IsCellValue, IsReplyData, IsRow, IsStayData, IsStayOf}
+use Rattle.snb_validation_cases.specs.Values.{AreAlong, IsArray, IsNumberTo, IsString}
 use Rattle.snb_validation_cases.proofs.ValueFacts.{array_all}
 
-pub text_one : (d : Data) (a b : List ℕ) → IsText d a → IsText d b → a ≡ b
+pub text_one : (d : Data) (a b : List ℕ) → IsString d a → IsString d b → a ≡ b
 text_one d a b x y = let same : Some a ≡ Some b = sym x ∙ y in cc
 
 pub number_one : (most : ℕ) (d : Data) (a b : ℕ) → IsNumberTo most d a → IsNumberTo most d b → a ≡ b
@@ -64,7 +64,7 @@ is_date : (d : Data) (v : Value) → IsParameter column.Date d v → (n : ℕ) �
 is_date d (Digits n) h = (n, refl, h)
 is_date d v h = absurd h
 
-is_letters : (d : Data) (v : Value) → IsParameter column.Words d v → (text : List ℕ) × (v ≡ Letters text) × IsText d text
+is_letters : (d : Data) (v : Value) → IsParameter column.Words d v → (text : List ℕ) × (v ≡ Letters text) × IsString d text
 is_letters d (Letters text) h = (text, refl, h)
 is_letters d v h = absurd h
 
@@ -91,11 +91,11 @@ three_one (n ∷ y ∷ []) s t h k = absurd h
 three_one (n ∷ y ∷ p ∷ []) s t h k = stay_of_one n y p s t h k
 three_one (n ∷ y ∷ p ∷ d ∷ ds) s t h k = absurd h
 
-stay_one : (d : Data) (s t : List ℕ × ℕ × List ℕ) → IsStay d s → IsStay d t → s ≡ t
+stay_one : (d : Data) (s t : List ℕ × ℕ × List ℕ) → IsStayData d s → IsStayData d t → s ≡ t
 stay_one = array_one AreStay three_one
 
 -- which of the five a cell is
-abbrev tag : Cell → ℕ
+abbrev tag : ByteCell → ℕ
 tag (cell.Number z) = 0
 tag (cell.Flag b) = 1
 tag (cell.Words t) = 2
@@ -103,14 +103,14 @@ tag (cell.List ts) = 3
 tag (cell.Stays ss) = 4
 
 -- and which a column has
-abbrev column_tag : Column → ℕ
+abbrev column_tag : CellKind → ℕ
 column_tag Number = 0
 column_tag Flag = 1
 column_tag Words = 2
 column_tag Texts = 3
 column_tag Stays = 4
 
-tag_is : (c : Column) (x : Cell) → IsOfColumn c x → tag x ≡ column_tag c
+tag_is : (c : CellKind) (x : ByteCell) → IsOfColumn c x → tag x ≡ column_tag c
 tag_is Number (cell.Number z) h = refl
 tag_is Number (cell.Flag b) h = absurd h
 tag_is Number (cell.Words t) h = absurd h
@@ -137,47 +137,47 @@ tag_is Stays (cell.Words t) h = absurd h
 tag_is Stays (cell.List ts) h = absurd h
 tag_is Stays (cell.Stays ss) h = refl
 
-value_one : (d : Data) (x y : Cell) → tag x ≡ tag y → IsCellValue d x → IsCellValue d y → x ≡ y
+value_one : (d : Data) (x y : ByteCell) → tag x ≡ tag y → IsCellValue d x → IsCellValue d y → x ≡ y
 value_one d (cell.Number a) (cell.Number b) e h k = let same : Some a ≡ Some b = sym h ∙ k in cc
 value_one d (cell.Flag a) (cell.Flag b) e h k = let same : Some a ≡ Some b = sym h ∙ k in cc
 value_one d (cell.Words a) (cell.Words b) e h k = ap cell.Words (text_one d a b h k)
-value_one d (cell.List a) (cell.List b) e h k = ap cell.List (array_one (AllZip IsText) (zip_one IsText text_one) d a b h k)
-value_one d (cell.Stays a) (cell.Stays b) e h k = ap cell.Stays (array_one (AllZip IsStay) (zip_one IsStay stay_one) d a b h k)
+value_one d (cell.List a) (cell.List b) e h k = ap cell.List (array_one (AllZip IsString) (zip_one IsString text_one) d a b h k)
+value_one d (cell.Stays a) (cell.Stays b) e h k = ap cell.Stays (array_one (AllZip IsStayData) (zip_one IsStayData stay_one) d a b h k)
 value_one d x y e h k = absurd (omega (arith, e))
 
-cell_one : (c : Column) (d : Data) (x y : Cell) → IsCellIn c d x → IsCellIn c d y → x ≡ y
+cell_one : (c : CellKind) (d : Data) (x y : ByteCell) → IsCellIn c d x → IsCellIn c d y → x ≡ y
 cell_one c d x y h k = value_one d x y (tag_is c x h.0 ∙ sym (tag_is c y k.0)) h.1 k.1
 
-row_one : (query : Query) (d : Data) (x y : List Cell) → IsRow query d x → IsRow query d y → x ≡ y
+row_one : (query : Query) (d : Data) (x y : List ByteCell) → IsRow query d x → IsRow query d y → x ≡ y
 row_one query = array_one (AreAlong IsCellIn (columns_of query)) (along_one IsCellIn cell_one (columns_of query))
 
-answer_one : (query : Query) (d : Data) (x y : List (List Cell)) → IsAnswerTo query d x → IsAnswerTo query d y → x ≡ y
+answer_one : (query : Query) (d : Data) (x y : List (List ByteCell)) → IsAnswerTo query d x → IsAnswerTo query d y → x ≡ y
 answer_one query = array_one (AllZip (IsRow query)) (zip_one (IsRow query) (row_one query))
 
-joined_one : (query : Query) (ds : List Data) (o p : List (List Cell)) (t u : List (List (List Cell))) → AreAlong IsAnswerTo (query ∷ tail_reads query o) ds (o ∷ t) → AreAlong IsAnswerTo (query ∷ tail_reads query p) ds (p ∷ u) → o ∷ t ≡ p ∷ u
+joined_one : (query : Query) (ds : List Data) (o p : List (List ByteCell)) (t u : List (List (List ByteCell))) → AreAlong IsAnswerTo (query ∷ tail_reads query o) ds (o ∷ t) → AreAlong IsAnswerTo (query ∷ tail_reads query p) ds (p ∷ u) → o ∷ t ≡ p ∷ u
 joined_one query [] o p t u h k = absurd h
 joined_one query (d ∷ ds) o p t u h k =
     let same = answer_one query d o p h.0 k.0 in
     ap₂ (λ z zs. z ∷ zs) same
-    (along_one IsAnswerTo answer_one (tail_reads query o) ds t u h.1 (subst (λ (a : List (List Cell)). AreAlong IsAnswerTo (tail_reads query a) ds u) (sym same) k.1))
+    (along_one IsAnswerTo answer_one (tail_reads query o) ds t u h.1 (subst (λ (a : List (List ByteCell)). AreAlong IsAnswerTo (tail_reads query a) ds u) (sym same) k.1))
 
-are_one : (query : Query) (ds : List Data) (x y : List (List (List Cell))) → AreReply query ds x → AreReply query ds y → x ≡ y
+are_one : (query : Query) (ds : List Data) (x y : List (List (List ByteCell))) → AreReply query ds x → AreReply query ds y → x ≡ y
 are_one query ds x y a b = a.is ∙ joined_one query ds a.own b.own a.tail b.tail a.answers b.answers ∙ sym b.is
 
-pub reply_one : (query : Query) (d : Data) (x y : List (List (List Cell))) → IsReplyTo query d x → IsReplyTo query d y → x ≡ y
+pub reply_one : (query : Query) (d : Data) (x y : List (List (List ByteCell))) → IsReplyData query d x → IsReplyData query d y → x ≡ y
 reply_one query = array_one (AreReply query) (are_one query)
 
 -- values of which the first is no answer are no reply
-pub no_own : (query : Query) (vs : List Json) (v : Json) → v ≡ get_or vs 0 v → 1 ≤ length vs → ((own : List (List Cell)) → ¬ IsAnswerTo query (view v) own) → (reply : List (List (List Cell))) → ¬ AreReply query (map view vs) reply
+pub no_own : (query : Query) (vs : List Json) (v : Json) → v ≡ get_or vs 0 v → 1 ≤ length vs → ((own : List (List ByteCell)) → ¬ IsAnswerTo query (view v) own) → (reply : List (List (List ByteCell))) → ¬ AreReply query (map view vs) reply
 no_own query [] v e l none reply r = absurd (omega (arith, l))
 no_own query (w ∷ vs) v e l none reply r = none r.own (subst (λ (x : Json). IsAnswerTo query (view x) r.own) (sym e) r.answers.0)
 
 -- nor those of which the others are no tail
-pub no_tail : (query : Query) (vs : List Json) (v : Json) (own : List (List Cell)) → v ≡ get_or vs 0 v → 1 ≤ length vs → IsAnswerTo query (view v) own
-    → ((tail : List (List (List Cell))) → ¬ AreAlong IsAnswerTo (tail_reads query own) (map view (take (length vs - 1) (drop 1 vs))) tail) → (reply : List (List (List Cell))) → ¬ AreReply query (map view vs) reply
+pub no_tail : (query : Query) (vs : List Json) (v : Json) (own : List (List ByteCell)) → v ≡ get_or vs 0 v → 1 ≤ length vs → IsAnswerTo query (view v) own
+    → ((tail : List (List (List ByteCell))) → ¬ AreAlong IsAnswerTo (tail_reads query own) (map view (take (length vs - 1) (drop 1 vs))) tail) → (reply : List (List (List ByteCell))) → ¬ AreReply query (map view vs) reply
 no_tail query [] v own e l is none reply r = absurd (omega (arith, l))
 no_tail query (w ∷ vs) v own e l is none reply r =
     let same = answer_one query (view w) r.own own r.answers.0 (subst (λ (x : Json). IsAnswerTo query (view x) own) e is) in
     let all = take_all (length (w ∷ vs) - 1) vs (omega arith) in
     none r.tail (subst (λ (xs : List Json). AreAlong IsAnswerTo (tail_reads query own) (map view xs) r.tail) (sym all)
-    (subst (λ (a : List (List Cell)). AreAlong IsAnswerTo (tail_reads query a) (map view vs) r.tail) same r.answers.1))
+    (subst (λ (a : List (List ByteCell)). AreAlong IsAnswerTo (tail_reads query a) (map view vs) r.tail) same r.answers.1))

@@ -10,7 +10,8 @@ use Rattle.snb_validation_cases.specs.Cases.{SpellsCase, SpellsNone}
 abbrev pub header_data : Data
 header_data = object (member (codes "cases") (number (unsigned 1)) no_members)
 
--- the header is the object `{"cases":1}`, and each later line spells a case; a line that doesn't is bad in column 0
+-- the header is the object `{"cases":1}`, and each later line spells a case; a line that doesn't is
+-- bad in column 0
 abbrev pub case_language : Language (Unit {0}) CaseAt
 case_language = record {
   begins = None;

@@ -5,8 +5,8 @@ use Rattle.serde_json.specs.Find.{as_array, as_number, as_str, as_u64}
 use Rattle.serde_json.specs.View.{items_of}
 
 -- a string
-abbrev pub IsText : Data → List ℕ → Type 0
-IsText d text = as_str d ≡ Some text
+abbrev pub IsString : Data → List ℕ → Type 0
+IsString d text = as_str d ≡ Some text
 
 -- a number from 0 up to `most`, which is read as an integer and not as a float
 abbrev pub IsNumberTo : ℕ → Data → ℕ → Type 0
@@ -17,7 +17,8 @@ abbrev pub IsArray : {X : Type 0} → (List Data → X → Type 0) → Data → 
 IsArray R d x = (ds : List Data) × (as_array d ≡ Some (items_of ds)) × R ds x
 
 -- there is a value for each column, and in that column it is the thing beside it
-abbrev pub AreAlong : {C X : Type 0} → (C → Data → X → Type 0) → List C → List Data → List X → Type 0
+abbrev pub AreAlong : {C X : Type 0} → (C → Data → X → Type 0) → List C → List Data → List X
+    → Type 0
 AreAlong R [] [] [] = Unit {0}
 AreAlong R (c ∷ cs) (d ∷ ds) (x ∷ xs) = R c d x × AreAlong R cs ds xs
 AreAlong R _ _ _ = ⊥

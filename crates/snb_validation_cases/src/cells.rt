@@ -3,10 +3,10 @@
 ghost use Rattle.std.specs.Prelude.{◌≡◌, ℕ, List, IfOk, MatchOption, map};
 ghost use Rattle.std.specs.List.{AllZip};
 ghost use Rattle.serde_json.specs.View.{view};
-ghost use Rattle.snb_read_model.specs.Cells.{Cell as AnyCell};
+ghost use Rattle.snb_read_model.specs.Cells.{ByteCell as AnyCell};
 ghost use Rattle.snb_read_model.specs.Columns.{Number, Flag, Words as WordsColumn, Texts as TextsColumn, Stays as StaysColumn, columns_of as read_columns};
 ghost use Rattle.snb_validation_cases.specs.CellColumns.{IsCellOf, column_of};
-ghost use Rattle.snb_validation_cases.specs.Replies.{AreStay, IsCellIn, IsStay, IsStayOf};
+ghost use Rattle.snb_validation_cases.specs.Replies.{AreStay, IsCellIn, IsStayData, IsStayOf};
 ghost use Rattle.snb_validation_cases.specs.Values.{IsArray};
 
 use crate::values::{items_in, number_in, text_in, texts_in};
@@ -156,7 +156,8 @@ pub fn columns_of(query: &Query) -> &'static [CellColumn]
 
 // The number that a value is.
 fn integer_in(value: &Value) -> Option<Cell<Text>>
-    ensures { MatchOption result ((cell : AnyCell) → ¬ IsCellIn Number (view value.now) cell) (IsCellIn Number (view value.now)) }
+    ensures { MatchOption result ((cell : AnyCell) → ¬ IsCellIn Number (view value.now) cell)
+        (IsCellIn Number (view value.now)) }
 {
     match value.as_i64() {
         Some(value) => Some(Cell::Number { value }),
@@ -166,7 +167,8 @@ fn integer_in(value: &Value) -> Option<Cell<Text>>
 
 // The truth value that a value is.
 fn flag_in(value: &Value) -> Option<Cell<Text>>
-    ensures { MatchOption result ((cell : AnyCell) → ¬ IsCellIn Flag (view value.now) cell) (IsCellIn Flag (view value.now)) }
+    ensures { MatchOption result ((cell : AnyCell) → ¬ IsCellIn Flag (view value.now) cell)
+        (IsCellIn Flag (view value.now)) }
 {
     match value.as_bool() {
         Some(value) => Some(Cell::Flag { value }),
@@ -236,8 +238,8 @@ fn stay_of_items(alloc: Global, items: &[Value]) -> Result<Option<(Text, u32, Te
 // The stay that a value is.
 fn stay_in(alloc: Global, value: &Value) -> Result<Option<(Text, u32, Text)>, AllocError>
     ensures { IfOk result (λ found. MatchOption found
-        ((stay : List ℕ × ℕ × List ℕ) → ¬ IsStay (view value.now) stay)
-        (IsStay (view value.now))) }
+        ((stay : List ℕ × ℕ × List ℕ) → ¬ IsStayData (view value.now) stay)
+        (IsStayData (view value.now))) }
 {
     match items_in(value) {
         Some(items) => stay_of_items(alloc, items),
@@ -248,8 +250,8 @@ fn stay_in(alloc: Global, value: &Value) -> Result<Option<(Text, u32, Text)>, Al
 // The stays that these values are.
 fn stays_of(alloc: Global, items: &[Value]) -> Result<Option<Stays<Text>>, AllocError>
     ensures { IfOk result (λ found. MatchOption found
-        ((stays : List (List ℕ × ℕ × List ℕ)) → ¬ AllZip IsStay (map view items.now) stays)
-        (AllZip IsStay (map view items.now))) }
+        ((stays : List (List ℕ × ℕ × List ℕ)) → ¬ AllZip IsStayData (map view items.now) stays)
+        (AllZip IsStayData (map view items.now))) }
 {
     let mut stays = Vec::new(alloc);
     'items: for item in items {
@@ -264,8 +266,8 @@ fn stays_of(alloc: Global, items: &[Value]) -> Result<Option<Stays<Text>>, Alloc
 // The array of stays that a value is.
 fn array_of_stays(alloc: Global, value: &Value) -> Result<Option<Stays<Text>>, AllocError>
     ensures { IfOk result (λ found. MatchOption found
-        ((stays : List (List ℕ × ℕ × List ℕ)) → ¬ IsArray (AllZip IsStay) (view value.now) stays)
-        (IsArray (AllZip IsStay) (view value.now))) }
+        ((stays : List (List ℕ × ℕ × List ℕ)) → ¬ IsArray (AllZip IsStayData) (view value.now) stays)
+        (IsArray (AllZip IsStayData) (view value.now))) }
 {
     match items_in(value) {
         Some(items) => stays_of(alloc, items),

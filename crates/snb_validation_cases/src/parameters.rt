@@ -17,7 +17,8 @@ use std::alloc::{AllocError, Global};
 
 // The number up to `most` that a value is.
 fn digits_in(value: &Json, most: u64) -> Option<Value>
-    ensures { MatchOption result ((v : AnyValue) → ¬ IsParameter (Number most) (view value.now) v) (IsParameter (Number most) (view value.now)) }
+    ensures { MatchOption result ((v : AnyValue) → ¬ IsParameter (Number most) (view value.now) v)
+        (IsParameter (Number most) (view value.now)) }
 {
     match number_in(value, most) {
         Some(n) => Some(Value::Digits { n }),
@@ -27,7 +28,8 @@ fn digits_in(value: &Json, most: u64) -> Option<Value>
 
 // The date that a value is.
 fn date_in(value: &Json) -> Option<Value>
-    ensures { MatchOption result ((v : AnyValue) → ¬ IsParameter Date (view value.now) v) (IsParameter Date (view value.now)) }
+    ensures { MatchOption result ((v : AnyValue) → ¬ IsParameter Date (view value.now) v)
+        (IsParameter Date (view value.now)) }
 {
     match number_in(value, MAX_TIME) {
         Some(n) => Some(Value::Digits { n }),
@@ -37,7 +39,8 @@ fn date_in(value: &Json) -> Option<Value>
 
 // The small number up to `most` that a value is.
 fn small_digits_in(value: &Json, most: u32) -> Option<Value>
-    ensures { MatchOption result ((v : AnyValue) → ¬ IsParameter (Small most) (view value.now) v) (IsParameter (Small most) (view value.now)) }
+    ensures { MatchOption result ((v : AnyValue) → ¬ IsParameter (Small most) (view value.now) v)
+        (IsParameter (Small most) (view value.now)) }
 {
     match number_in(value, u64::from(most)) {
         Some(n) => Some(Value::SmallDigits { n: n as u32 }),

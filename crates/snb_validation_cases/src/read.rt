@@ -8,10 +8,10 @@ ghost use Rattle.snb_schema.specs.declared.query.Query.{Query as AnyQuery};
 ghost use Rattle.snb_schema.specs.declared.read_kind.ReadKind.{ReadKind as AnyKind};
 ghost use Rattle.snb_schema.specs.ReadKinds.{read_word};
 ghost use Rattle.snb_schema.specs.UpdateLines.{IsLine};
-ghost use Rattle.snb_read_model.specs.Cells.{Cell as AnyCell};
+ghost use Rattle.snb_read_model.specs.Cells.{ByteCell as AnyCell};
 ghost use Rattle.snb_validation_cases.specs.declared.case.Case.{Case as AnyCase};
 ghost use Rattle.snb_validation_cases.specs.Cases.{IsAsk, IsAskOf, IsCase, IsInsert, IsInsertLine, OnBadCase, SpellsCase, SpellsNone};
-ghost use Rattle.snb_validation_cases.specs.Values.{IsText};
+ghost use Rattle.snb_validation_cases.specs.Values.{IsString};
 
 use crate::case::{Case, CaseFault};
 use crate::members::{asked_parts, held_alone};
@@ -82,7 +82,8 @@ fn insert_in(alloc: Global, value: &Value) -> Result<Option<Line>, AllocError>
 
 // The kind of read whose word a value is.
 fn kind_in(value: &Value) -> Option<ReadKind>
-    ensures { MatchOption result ((kind : AnyKind) → ¬ IsText (view value.now) (read_word kind)) (λ kind. IsText (view value.now) (read_word kind)) }
+    ensures { MatchOption result ((kind : AnyKind) → ¬ IsString (view value.now) (read_word kind))
+        (λ kind. IsString (view value.now) (read_word kind)) }
 {
     match value.as_str() {
         Some(word) => ReadKind::of_word(word),

@@ -3,11 +3,11 @@
 ghost use Rattle.std.specs.Prelude.{◌≡◌, ◌∷◌, List, IfOk, MatchOption, map, ⊤};
 ghost use Rattle.std.specs.List.{AllZip};
 ghost use Rattle.serde_json.specs.View.{view};
-ghost use Rattle.snb_read_model.specs.Cells.{Cell as AnyCell};
+ghost use Rattle.snb_read_model.specs.Cells.{ByteCell as AnyCell};
 ghost use Rattle.snb_read_model.specs.Replies.{tail_reads};
 ghost use Rattle.snb_read_model.specs.Columns.{HaveColumns, columns_of as read_columns};
 ghost use Rattle.snb_validation_cases.specs.CellColumns.{IsCellOf};
-ghost use Rattle.snb_validation_cases.specs.Replies.{AreReply, IsAnswerTo, IsCellIn, IsReplyTo, IsRow};
+ghost use Rattle.snb_validation_cases.specs.Replies.{AreReply, IsAnswerTo, IsCellIn, IsReplyData, IsRow};
 ghost use Rattle.snb_validation_cases.specs.Values.{AreAlong};
 
 use crate::cells::{CellColumn, cell_in, columns_of};
@@ -176,8 +176,8 @@ pub fn reply_in(
     value: &Value,
 ) -> Result<Option<Reply<Text>>, AllocError>
     ensures { IfOk result (λ found. MatchOption found
-        ((reply : List (List (List AnyCell))) → ¬ IsReplyTo query.now (view value.now) reply)
-        (IsReplyTo query.now (view value.now))) }
+        ((reply : List (List (List AnyCell))) → ¬ IsReplyData query.now (view value.now) reply)
+        (IsReplyData query.now (view value.now))) }
 {
     match items_in(value) {
         Some(items) => reply_of(alloc, query, items),

@@ -4,7 +4,7 @@ ghost use Rattle.std.specs.Prelude.{◌≡◌, ℕ, List, None, Some, IfOk, Matc
 ghost use Rattle.std.specs.List.{AllZip};
 ghost use Rattle.serde_json.specs.Find.{as_array};
 ghost use Rattle.serde_json.specs.View.{items_of, view};
-ghost use Rattle.snb_validation_cases.specs.Values.{IsArray, IsNumberTo, IsText};
+ghost use Rattle.snb_validation_cases.specs.Values.{IsArray, IsNumberTo, IsString};
 
 use serde_json::Value;
 use snb_base::Text;
@@ -30,7 +30,8 @@ fn at_most(n: u64, most: u64) -> Option<u64>
 
 /// The text that a value is.
 pub fn text_in(alloc: Global, value: &Value) -> Result<Option<Text>, AllocError>
-    ensures { IfOk result (λ found. MatchOption found ((text : List ℕ) → ¬ IsText (view value.now) text) (IsText (view value.now))) }
+    ensures { IfOk result
+        (λ found. MatchOption found ((text : List ℕ) → ¬ IsString (view value.now) text) (IsString (view value.now))) }
 {
     match value.as_str() {
         Some(text) => Ok(Some(Text::from_str(alloc, text)?)),
@@ -40,7 +41,8 @@ pub fn text_in(alloc: Global, value: &Value) -> Result<Option<Text>, AllocError>
 
 /// The values of an array.
 pub fn items_in(value: &Value) -> Option<&[Value]>
-    ensures { MatchOption result (as_array (view value.now) ≡ None) (λ items. as_array (view value.now) ≡ Some (items_of (map view items.now))) }
+    ensures { MatchOption result (as_array (view value.now) ≡ None)
+        (λ items. as_array (view value.now) ≡ Some (items_of (map view items.now))) }
 {
     match value.as_array() {
         Some(items) => Some(items.as_slice()),
@@ -51,8 +53,8 @@ pub fn items_in(value: &Value) -> Option<&[Value]>
 // The texts that these values are.
 fn texts_of(alloc: Global, items: &[Value]) -> Result<Option<CellTexts<Text>>, AllocError>
     ensures { IfOk result (λ found. MatchOption found
-        ((texts : List (List ℕ)) → ¬ AllZip IsText (map view items.now) texts)
-        (AllZip IsText (map view items.now))) }
+        ((texts : List (List ℕ)) → ¬ AllZip IsString (map view items.now) texts)
+        (AllZip IsString (map view items.now))) }
 {
     let mut texts = Vec::new(alloc);
     'items: for item in items {
@@ -67,8 +69,8 @@ fn texts_of(alloc: Global, items: &[Value]) -> Result<Option<CellTexts<Text>>, A
 /// The array of texts that a value is.
 pub fn texts_in(alloc: Global, value: &Value) -> Result<Option<CellTexts<Text>>, AllocError>
     ensures { IfOk result (λ found. MatchOption found
-        ((texts : List (List ℕ)) → ¬ IsArray (AllZip IsText) (view value.now) texts)
-        (IsArray (AllZip IsText) (view value.now))) }
+        ((texts : List (List ℕ)) → ¬ IsArray (AllZip IsString) (view value.now) texts)
+        (IsArray (AllZip IsString) (view value.now))) }
 {
     match items_in(value) {
         Some(items) => texts_of(alloc, items),

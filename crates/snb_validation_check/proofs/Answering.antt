@@ -10,7 +10,7 @@ use Rattle.snb_input_files.specs.declared.load.Load.{Load}
 use Rattle.snb_input_files.specs.declared.load.Load.TheVariants.{Refused, ReadFault, Memory}
 use Rattle.snb_input_files.specs.declared.load.Used.{Used}
 use Rattle.snb_input_files.specs.Loading.{IsAnswer}
-use Rattle.snb_input_files.specs.Places.{FilesSay, Source}
+use Rattle.snb_input_files.specs.Places.{FilesSay, ReadFile}
 use Rattle.snb_schema.specs.declared.refusal.Refusal.TheVariants as refusals
 use Rattle.snb_validation_cases.specs.declared.case.CaseAt.{CaseAt}
 use Rattle.snb_validation_check.specs.CasesFile.{IsCasesAnswer, case_format, cases_file}
@@ -29,7 +29,7 @@ none_used = record { bytes = 0; rows = 0 }
 module _ (base : List Row) (contents : Option Files) (name : List ℕ) (file_sink : Counted) where
   -- what loading answers where it began with this graph
   pub first_answer : (result : Result (Found Counted) Load) → file_sink ≡ record { checked = record { graph = base; first = None }; reads = 0 } → IsGraph base → Sound base
-      → ((begun : Counted) (past : List Source) (done : List (List CaseAt)) → FilesSay (case_format begun.checked.graph) past done → IsHeard begun.checked.graph file_sink done []
+      → ((begun : Counted) (past : List ReadFile) (done : List (List CaseAt)) → FilesSay (case_format begun.checked.graph) past done → IsHeard begun.checked.graph file_sink done []
       → IsAnswer (case_format begun.checked.graph) (IsHeard begun.checked.graph) contents name cases_file none_used past file_sink result)
       → IsAnswer (case_format base) (IsHeard base) contents name cases_file none_used [] file_sink result
   first_answer result is graph sound answer =

@@ -7,16 +7,16 @@ use Rattle.snb_schema.specs.declared.row.Row.{Row}
 use Rattle.snb_graph_model.specs.Graphs.{HasGained}
 use Rattle.snb_graph_model.specs.Laws.{GraphsAreTheirRows}
 use Rattle.snb_validation_cases.specs.declared.case.CaseAt.{CaseAt}
-use Rattle.snb_validation_check.specs.Checks.{IsAfter, inserted, rows_of_case}
+use Rattle.snb_validation_check.specs.Checks.{IsAfterCases, inserted, rows_of_case}
 
 -- the rows of one case more
 inserted_push : (cases : List CaseAt) (x : CaseAt) → inserted (cases ++ x ∷ []) ≡ inserted cases ++ rows_of_case x.case
 inserted_push cases x =
     flat_map-append (λ (c : CaseAt). rows_of_case c.case) cases (x ∷ []) ∙ ap (λ (rows : List Row). inserted cases ++ rows) (append-nil (rows_of_case x.case))
 
-module _ (base : List Row) (cases : List CaseAt) (x : CaseAt) (graph : List Row) (after : IsAfter base cases graph) where
+module _ (base : List Row) (cases : List CaseAt) (x : CaseAt) (graph : List Row) (after : IsAfterCases base cases graph) where
   -- a graph that gains the rows of the next case is the one after it
-  pub after_more : (new : List Row) → HasGained graph (rows_of_case x.case) new → IsAfter base (cases ++ x ∷ []) new
+  pub after_more : (new : List Row) → HasGained graph (rows_of_case x.case) new → IsAfterCases base (cases ++ x ∷ []) new
   after_more new gained =
       subst (λ (rows : List Row). HasGained base rows new) (sym (inserted_push cases x))
       (record {
@@ -28,13 +28,13 @@ module _ (base : List Row) (cases : List CaseAt) (x : CaseAt) (graph : List Row)
       })
 
   -- after a case without rows the graph is as it was
-  pub after_same : rows_of_case x.case ≡ [] → IsAfter base (cases ++ x ∷ []) graph
+  pub after_same : rows_of_case x.case ≡ [] → IsAfterCases base (cases ++ x ∷ []) graph
   after_same none =
       subst (λ (rows : List Row). HasGained base rows graph)
       (sym (inserted_push cases x ∙ (ap (λ (rows : List Row). inserted cases ++ rows) none ∙ append-nil (inserted cases)))) after
 
 -- there is one graph after cases
-pub one_after : GraphsAreTheirRows → (base : List Row) (cases : List CaseAt) (g h : List Row) → IsAfter base cases g → IsAfter base cases h → g ≡ h
+pub one_after : GraphsAreTheirRows → (base : List Row) (cases : List CaseAt) (g h : List Row) → IsAfterCases base cases g → IsAfterCases base cases h → g ≡ h
 one_after rows base cases g h a b =
     let all = base ++ inserted cases in
     rows g h a.graph b.graph

@@ -19,9 +19,9 @@ use Rattle.snb_validation_cases.specs.declared.case.CaseAt.{CaseAt}
 use Rattle.snb_validation_cases.specs.CaseFile.{case_language}
 use Rattle.snb_validation_cases.specs.Cases.{IsCase}
 use Rattle.snb_validation_cases.specs.Laws.{OneCaseColumn, OneCaseLine, OneHeaderColumn}
-use Rattle.snb_validation_check.specs.CasesFile.{IsAmiss, said_cases}
+use Rattle.snb_validation_check.specs.CasesFile.{IsCaseAmiss, said_cases}
 use Rattle.snb_validation_check.specs.CaseTakers.{AreCaseTakers, CasesAreLawful, Counted, HasTaken, IsHeard, RefusesCase, TakesCase}
-use Rattle.snb_validation_check.specs.Checks.{Finds, IsAfter, count_reads, is_read}
+use Rattle.snb_validation_check.specs.Checks.{Finds, IsAfterCases, count_reads, is_read}
 use Rattle.snb_validation_check.specs.Steps.{HasText, Steps}
 use Rattle.snb_validation_check.proofs.CasesFacts.{finds_insert, finds_read, right_none}
 use Rattle.snb_validation_check.proofs.Inserting.{after_more, after_same}
@@ -54,14 +54,14 @@ module _ (rows : GraphsAreTheirRows) (base : List Row) where
   module _ (cases : List CaseAt) (old new : Counted) (h : HasTaken base old cases) where
     -- what a step makes of the graph, and of what is found
     stepped : (c : Case) (n : ℕ) → Steps old.checked c n new.checked
-        → IsAfter base (cases ++ record { line = n; case = c } ∷ []) new.checked.graph × Finds base (cases ++ record { line = n; case = c } ∷ []) new.checked.first
+        → IsAfterCases base (cases ++ record { line = n; case = c } ∷ []) new.checked.graph × Finds base (cases ++ record { line = n; case = c } ∷ []) new.checked.first
     stepped (Insert line) n steps = (
       after_more base cases (record { line = n; case = Insert line }) old.checked.graph h.after new.checked.graph steps.0,
       subst (Finds base (cases ++ record { line = n; case = Insert line } ∷ [])) (sym steps.1)
           (finds_insert rows base cases line n old.checked.graph old.checked.first h.after h.found),
     )
     stepped (Ask query due) n steps = (
-      subst (IsAfter base (cases ++ record { line = n; case = Ask query due } ∷ [])) (sym steps.0)
+      subst (IsAfterCases base (cases ++ record { line = n; case = Ask query due } ∷ [])) (sym steps.0)
           (after_same base cases (record { line = n; case = Ask query due }) old.checked.graph h.after refl),
       finds_read rows base cases n query due old.checked.graph h.after h.sound old.checked.first new.checked.first steps.1 h.found,
     )
@@ -78,7 +78,7 @@ module _ (rows : GraphsAreTheirRows) (base : List Row) where
         }
 
   -- what a file_sink takes it was told, and what it refuses is refused by all that it was told before
-  cases_hear : Hears TakesCase RefusesCase (IsHeard base) (IsAmiss base)
+  cases_hear : Hears TakesCase RefusesCase (IsHeard base) (IsCaseAmiss base)
   cases_hear = record {
     more = λ old new file x done mine h t.
         subst (HasTaken base new) (append_assoc (flat_map (λ (cs : List CaseAt). cs) done) mine (x ∷ [])) (taken_more (said_cases done mine) old new h file x t);

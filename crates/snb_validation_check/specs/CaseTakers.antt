@@ -1,4 +1,5 @@
--- What takes the cases of a file. Cited by contracts of private functions, and by the private file_sink.
+-- What takes the cases of a file. Cited by contracts of private functions, and by the private
+-- file_sink.
 use Rattle.std.specs.Prelude.{◌≡◌, ◌+◌, ℕ, List, [], ◌∷◌, None}
 use Rattle.snb_schema.specs.declared.file.FileId.{FileId}
 use Rattle.snb_schema.specs.declared.refusal.Refusal.{Refusal}
@@ -8,8 +9,8 @@ use Rattle.snb_input_lines.specs.Sinks.{Refuses, SinkMeaning}
 use Rattle.snb_input_files.specs.Format.{AreTakers, Lawful, Stage}
 use Rattle.snb_validation_cases.specs.declared.case.CaseAt.{CaseAt}
 use Rattle.snb_validation_cases.specs.CaseFile.{case_language}
-use Rattle.snb_validation_check.specs.CasesFile.{IsAmiss, IsRefused, case_format, said_cases}
-use Rattle.snb_validation_check.specs.Checks.{Finds, IsAfter, count_reads}
+use Rattle.snb_validation_check.specs.CasesFile.{IsCaseAmiss, IsCaseRefused, case_format, said_cases}
+use Rattle.snb_validation_check.specs.Checks.{Finds, IsAfterCases, count_reads}
 use Rattle.snb_validation_check.specs.Steps.{Checked, HasText, Steps}
 
 -- a checker, and how many reads it took
@@ -17,20 +18,21 @@ pub record Counted : Type 0 where
   pub checked : Checked
   pub reads : ℕ
 
--- a case that isn't refused is taken by the checker, whose graph stays sound, and is counted where it is a read
+-- a case that isn't refused is taken by the checker, whose graph stays sound, and is counted where
+-- it is a read
 pub record TakesCase (old : Counted) (file : FileId) (x : CaseAt) (new : Counted) : Type 0 where
   pub steps : Steps old.checked x.case x.line new.checked
-  pub fine : (r : Refusal) → ¬ IsRefused old.checked.graph file x r
+  pub fine : (r : Refusal) → ¬ IsCaseRefused old.checked.graph file x r
   pub sound : Sound new.checked.graph
   pub counted : new.reads ≡ old.reads + count_reads (x ∷ [])
 
 -- and one that is refused isn't
 abbrev pub RefusesCase : Refuses Counted CaseAt
-RefusesCase old file x r = IsRefused old.checked.graph file x r
+RefusesCase old file x r = IsCaseRefused old.checked.graph file x r
 
 -- it has taken these cases, and began with this graph
 pub record HasTaken (base : List Row) (s : Counted) (cases : List CaseAt) : Type 0 where
-  pub after : IsAfter base cases s.checked.graph
+  pub after : IsAfterCases base cases s.checked.graph
   pub sound : Sound s.checked.graph
   pub reads : s.reads ≡ count_reads cases
   pub found : Finds base cases s.checked.first
@@ -59,7 +61,7 @@ abbrev pub case_stage : Stage Counted (Unit {0}) CaseAt
 case_stage = record {
   grammar_of = λ file. tt;
   limit = None;
-  own = λ begun. IsAmiss begun.checked.graph;
+  own = λ begun. IsCaseAmiss begun.checked.graph;
   bare = λ file items. None;
   heard = λ begun. IsHeard begun.checked.graph;
 }

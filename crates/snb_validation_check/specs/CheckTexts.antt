@@ -6,10 +6,12 @@ use Rattle.snb_validation.specs.ReplyData.{reply_data}
 use Rattle.snb_validation_check.specs.declared.difference.Difference.{Difference}
 use Rattle.snb_validation_check.specs.declared.text.Tally.{Tally}
 
--- the line of the first difference, the reply that is due, and the one that the graph gives, each on a line
+-- the line of the first difference, the reply that is due, and the one that the graph gives, each
+-- on a line
 abbrev pub difference_text : Difference → List ℕ
 difference_text d =
-    codes "differs line " ++ decimal d.line ++ codes "\nexpected " ++ compact_text (reply_data d.expected)
+    codes "differs line " ++ decimal d.line ++ codes "\nexpected "
+    ++ compact_text (reply_data d.expected)
     ++ codes "\ngiven " ++ compact_text (reply_data d.given) ++ codes "\n"
 
 -- how many reads there are where no reply differs, and else the first difference

@@ -8,7 +8,7 @@ ghost use Rattle.snb_schema.specs.References.{refs_of};
 ghost use Rattle.snb_graph_model.specs.Graphs.{HasGained};
 ghost use Rattle.snb_graph_model.specs.Soundness.{Sound};
 ghost use Rattle.snb_inserts.specs.Applying.{HasLine, IsDuplicate, IsFirstMissing};
-ghost use Rattle.snb_validation_check.specs.Steps.{HasCompared, HasText, IsTaken, IsUnmet, Steps};
+ghost use Rattle.snb_validation_check.specs.Steps.{HasCompared, HasText, CaseRepeats, IsUnmet, Steps};
 
 use crate::difference::Difference;
 use snb_base::Text;
@@ -133,7 +133,8 @@ impl Checker {
         requires line { HasLine op.now }
         ensures ok { OnOk result (HasGained self.old.graph (rows_of op.now) self.new.graph) }
         ensures kept { self.new.first ≡ self.old.first }
-        ensures missing { (missing : MissingNode) → (result ≡ Err (Applied.Missing missing)) ↔ IsFirstMissing self.old.graph (refs_of op.now) missing }
+        ensures missing { (missing : MissingNode) → (result ≡ Err (Applied.Missing missing))
+            ↔ IsFirstMissing self.old.graph (refs_of op.now) missing }
         ensures duplicate { (result ≡ Err Applied.Duplicate) ↔ IsDuplicate self.old.graph op.now }
         ensures err { OnErr result (self.new ≡ self.old) }
     {
@@ -159,8 +160,9 @@ impl Checker {
         requires ready { A.ready answers.now }
         requires text { HasText case.now }
         ensures ok { OnOk result (Steps self.old case.now number self.new) }
-        ensures missing { (missing : MissingNode) → (result ≡ Err (StepFault.Missing missing)) ↔ IsUnmet self.old.graph case.now missing }
-        ensures duplicate { (result ≡ Err StepFault.Duplicate) ↔ IsTaken self.old.graph case.now }
+        ensures missing { (missing : MissingNode) → (result ≡ Err (StepFault.Missing missing))
+            ↔ IsUnmet self.old.graph case.now missing }
+        ensures duplicate { (result ≡ Err StepFault.Duplicate) ↔ CaseRepeats self.old.graph case.now }
         ensures err { OnErr result (self.new ≡ self.old) }
     {
         match case {

@@ -1,7 +1,7 @@
 //! The cases of a file, checked against a graph.
 
 ghost use Rattle.std.specs.Prelude.{◌≡◌, [], ◌∷◌, None, true};
-ghost use Rattle.snb_base.specs.Reads.{IsRead};
+ghost use Rattle.snb_base.specs.Reads.{IsShelfRead};
 ghost use Rattle.snb_input_files.specs.Loading.{is_read_fault};
 ghost use Rattle.snb_graph_model.specs.Soundness.{Sound};
 ghost use Rattle.snb_validation_check.specs.CaseTakers.{AreCaseTakers, CasesAreLawful};
@@ -185,7 +185,7 @@ pub fn check_cases_via<S: Shelf, A: Replies>(
     requires sound { Sound graph }
     requires allowed { S.may shelf.old path.now ≡ true }
     ensures answer { IsCasesAnswer (S.contents shelf.old) path.now graph result }
-    ensures read { IsRead (is_read_fault result) S.Shelf shelf.old shelf.new }
+    ensures read { IsShelfRead (is_read_fault result) S.Shelf shelf.old shelf.new }
 {
     cases_are_lawful();
     graph.known();

@@ -1,6 +1,6 @@
 //! Laws of checked cases. The function does nothing; its contract is the laws.
 
-ghost use Rattle.snb_validation_check.specs.Laws.{CasesRefuseOnce, CasesRefusedOrNot, FindingIsOne, TallyIsOne};
+ghost use Rattle.snb_validation_check.specs.Laws.{CasesRefuseOnce, CasesRefusedOrNot, FindingIsOne, RightOnEach, TallyIsOne};
 
 use crate::file::cases_are_lawful;
 use snb_graph_model::law::graphs_are_their_rows;
@@ -16,5 +16,13 @@ pub fn one_cases_refusal()
 {
     cases_are_lawful();
     one_reply();
+    graphs_are_their_rows();
+}
+
+/// Where all replies that cases have are right, each is the one on each graph that is the base with the inserts
+/// before its case.
+pub fn right_on_each_graph()
+    ensures { RightOnEach }
+{
     graphs_are_their_rows();
 }

@@ -8,14 +8,15 @@ use Rattle.snb_input_lines.specs.Laws.{IsExact}
 use Rattle.snb_input_lines.specs.Reading.{ReadsLine, Says}
 use Rattle.snb_input_lines.proofs.Laws.{one_reading, says_cut}
 use Rattle.snb_base.specs.FirstOf.{FirstOf, NoneOf}
-use Rattle.snb_input_files.specs.Places.{FailsOwn, FilesSay, HasBadColumn, IsBare, IsNoHeader, IsRowTooMany, Knows, LacksHeader, LinesRefuse, Place, line_checks, opening}
+use Rattle.snb_input_files.specs.Places.{FilesSay, HasKnown, InputPlace, opening}
+use Rattle.snb_input_files.specs.PlaceChecks.{FailsOwn, HasBadColumn, IsBare, HasBadHeader, IsRowTooMany, LacksHeader, LinesRefuse, line_checks}
 use Rattle.snb_input_files.proofs.Laws.{says_knows}
 use Rattle.snb_validation_cases.specs.declared.case.CaseAt.{CaseAt}
 use Rattle.snb_validation_cases.specs.CaseFile.{case_language}
 use Rattle.snb_validation_check.specs.CasesFile.{IsRefusedAfter, case_format, cases_checks, cases_file, said_cases}
 
 -- after lines either the header is known or it isn't
-known_apart : (ls : List (List ℕ)) (k : Unit {0}) → Knows None case_language.heads ls None → Knows None case_language.heads ls (Some k) → ⊥
+known_apart : (ls : List (List ℕ)) (k : Unit {0}) → HasKnown None case_language.heads ls None → HasKnown None case_language.heads ls (Some k) → ⊥
 known_apart [] k p q = absurd cc
 known_apart (l ∷ ls) k p q = let none = p.2 in absurd cc
 
@@ -27,18 +28,18 @@ none_past base (xs ∷ done) said = absurd said
 module _ (base : List Row) (exact : IsExact case_language) (bytes : List ℕ) (few : length bytes ≤ MAX_BYTES) (items : List CaseAt)
     (welcome : (before rest : List CaseAt) (x : CaseAt) (r : Refusal) → before ++ x ∷ rest ≡ items → ¬ IsRefusedAfter base before cases_file x r) where
   -- a place in the file
-  abbrev place : List (List ℕ) → Place
+  abbrev place : List (List ℕ) → InputPlace
   place before = record (opening cases_file 0 0 [] bytes) { before = before }
 
   module _ (before : List (List ℕ)) (front : List CaseAt) where
     -- what is known there is what the header said
-    knows : (known : Option (Unit {0})) → Says case_language None 0 before front known → Knows None case_language.heads (filled before) known
+    knows : (known : Option (Unit {0})) → Says case_language None 0 before front known → HasKnown None case_language.heads (filled before) known
     knows known says = says_knows case_language before None known 0 front says
 
     -- what is tried of what a line says
     abbrev said_checks : List ℕ → List {1} (Refusal → Type 0)
     said_checks line =
-        IsNoHeader (case_format base) (place before) line ∷ HasBadColumn (case_format base) (place before) line ∷ IsRowTooMany (case_format base) (place before) ∷ FailsOwn (case_format base) (place before) line ∷ []
+        HasBadHeader (case_format base) (place before) line ∷ HasBadColumn (case_format base) (place before) line ∷ IsRowTooMany (case_format base) (place before) ∷ FailsOwn (case_format base) (place before) line ∷ []
 
     -- what the header says is refused for nothing
     header_good : (line : List ℕ) → Says case_language None 0 before front None → case_language.heads line tt → (r : Refusal) → ¬ FirstOf (said_checks line) r

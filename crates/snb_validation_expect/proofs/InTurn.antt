@@ -9,7 +9,7 @@ use Rattle.snb_schema.specs.Inserts.{rows_of}
 use Rattle.snb_plan.specs.declared.plan.Source.{Source}
 use Rattle.snb_plan.specs.Plans.{Operation, Plan, Work, queries_in, query_from}
 use Rattle.snb_plan.specs.Plans as plans
-use Rattle.snb_read_model.specs.Cells.{Cell}
+use Rattle.snb_read_model.specs.Cells.{ByteCell}
 use Rattle.snb_workers_replay.specs.Replay.{insert_in, rows_before}
 use Rattle.snb_validation_cases.specs.declared.case.Case.{Case}
 use Rattle.snb_validation_cases.specs.declared.case.Case.TheVariants.{Ask}
@@ -21,8 +21,8 @@ use Rattle.snb_base.proofs.Laws.{not_empty}
 
 -- the case is of what an operation does, on whatever graph
 abbrev pub IsOfWork : Work → Case → Type 0
-IsOfWork (plans.Insert line) c = c ≡ insert_case line
-IsOfWork (plans.Ask query) c = (reply : List (List (List Cell))) × (c ≡ Ask query reply)
+IsOfWork (plans.InsertWork line) c = c ≡ insert_case line
+IsOfWork (plans.AskWork query) c = (reply : List (List (List ByteCell))) × (c ≡ Ask query reply)
 
 abbrev pub IsOf : Operation → Case → Type 0
 IsOf o c = IsOfWork o.work c
@@ -34,8 +34,8 @@ operation step work source = record { step = step; work = work; source = source 
 -- ---- from places to pairs
 
 pub of_work : (graph : List Row) (w : Work) (c : Case) → IsCaseOf graph w c → IsOfWork w c
-of_work graph (plans.Insert line) c is = is
-of_work graph (plans.Ask query) c is = (is.0, is.2)
+of_work graph (plans.InsertWork line) c is = is
+of_work graph (plans.AskWork query) c is = (is.0, is.2)
 
 -- where a list has a case at each place
 pairs : (operations : List Operation) (cases : List Case) → length cases ≡ length operations
@@ -59,14 +59,14 @@ all_of base plan cases e =
 -- the rows that its case inserts
 rows_of_one : (step : Step) (w : Work) (source : Option Source) (c : Case) (more : List Op) → IsOfWork w c
     → rows_of_case c ++ flat_map rows_of more ≡ flat_map rows_of (cons_option (insert_in (Some (operation step w source))) more)
-rows_of_one step (plans.Insert line) source c more is = ap (λ (d : Case). rows_of_case d ++ flat_map rows_of more) is
-rows_of_one step (plans.Ask query) source c more is = ap (λ (d : Case). rows_of_case d ++ flat_map rows_of more) is.1
+rows_of_one step (plans.InsertWork line) source c more is = ap (λ (d : Case). rows_of_case d ++ flat_map rows_of more) is
+rows_of_one step (plans.AskWork query) source c more is = ap (λ (d : Case). rows_of_case d ++ flat_map rows_of more) is.1
 
 -- whether it is a read
 read_of_one : (w : Work) (n : ℕ) (c : Case) (cases : List Case) (more : List Operation) → IsOfWork w c → count_reads (placed (n + 1) cases) ≡ length (filter_map (λ (o : Operation). query_from o.work) more)
     → count_reads (record { line = n; case = c } ∷ placed (n + 1) cases) ≡ length (cons_option (query_from w) (filter_map (λ (o : Operation). query_from o.work) more))
-read_of_one (plans.Insert line) n c cases more is e = ap (λ (d : Case). count_reads (record { line = n; case = d } ∷ placed (n + 1) cases)) is ∙ e
-read_of_one (plans.Ask query) n c cases more is e = ap (λ (d : Case). count_reads (record { line = n; case = d } ∷ placed (n + 1) cases)) is.1 ∙ ap (λ (m : ℕ). suc m) e
+read_of_one (plans.InsertWork line) n c cases more is e = ap (λ (d : Case). count_reads (record { line = n; case = d } ∷ placed (n + 1) cases)) is ∙ e
+read_of_one (plans.AskWork query) n c cases more is e = ap (λ (d : Case). count_reads (record { line = n; case = d } ∷ placed (n + 1) cases)) is.1 ∙ ap (λ (m : ℕ). suc m) e
 
 -- ---- all operations
 

@@ -8,7 +8,7 @@ use Rattle.snb_schema.specs.declared.column.Value.{Value}
 use Rattle.snb_schema.specs.declared.column.Value.TheVariants as value
 use Rattle.snb_schema.specs.declared.query.Query.{Query}
 use Rattle.snb_schema.specs.ReadKinds.{parameter_values}
-use Rattle.snb_read_model.specs.Cells.{Cell}
+use Rattle.snb_read_model.specs.Cells.{ByteCell}
 use Rattle.snb_validation.specs.ReplyData.{array_of}
 use Rattle.snb_validation.proofs.Laws.{reply_low, reply_plain}
 use Rattle.snb_validation_cases.specs.declared.case.Case.TheVariants.{Ask}
@@ -34,8 +34,8 @@ parameters_low : (vs : List Value) → items_depth (items_of (map parameter_data
 parameters_low [] = omega arith
 parameters_low (v ∷ vs) = omega (arith, parameter_low v, parameters_low vs)
 
-pub ask_plain : (query : Query) (reply : List (List (List Cell))) → has_float (case_data (Ask query reply)) ≡ false
+pub ask_plain : (query : Query) (reply : List (List (List ByteCell))) → has_float (case_data (Ask query reply)) ≡ false
 ask_plain query reply = rw (parameters_plain (parameter_values query), reply_plain reply) refl
 
-pub ask_low : (query : Query) (reply : List (List (List Cell))) → depth (case_data (Ask query reply)) ≤ max_depth
+pub ask_low : (query : Query) (reply : List (List (List ByteCell))) → depth (case_data (Ask query reply)) ≤ max_depth
 ask_low query reply = omega (arith, parameters_low (parameter_values query), reply_low reply)

@@ -19,7 +19,7 @@ use Rattle.snb_schema.specs.Inserts.{rows_of}
 use Rattle.snb_graph_model.specs.Graphs.{HasGained, HoldsKey, IsGraph}
 use Rattle.snb_graph_model.specs.Soundness.{Sound}
 use Rattle.snb_plan.specs.Closed.{IsClosed}
-use Rattle.snb_plan.specs.Plans.{Ask, Insert, IsOfStreams, Operation, Plan, queries_in, query_from, updates_in}
+use Rattle.snb_plan.specs.Plans.{AskWork, InsertWork, IsOfStreams, Operation, Plan, queries_in, query_from, updates_in}
 use Rattle.snb_workers_replay.proofs.Laws.{before_none, before_some, read_inserts, work_inserts}
 use Rattle.snb_validation_cases.specs.Cases.{SpellsCase}
 use Rattle.snb_validation_cases.specs.declared.case.Case.{Case}
@@ -59,7 +59,7 @@ none_put base plan old graph at = record {
 -- ---- one case
 
 module _ (base : List Row) (plan : Plan) (k : ℕ) (o : Operation) (old new : List ℕ) (graph now : List Row) (at : IsAt base plan k graph) (here : slice_get plan.operations k ≡ Some o) where
-  pub put_insert : (line : Line) → o.work ≡ Insert line → HasPutInsert line old new → HasGained graph (rows_of line.op) now → Sound now → HasPut base plan k old new now
+  pub put_insert : (line : Line) → o.work ≡ InsertWork line → HasPutInsert line old new → HasGained graph (rows_of line.op) now → Sound now → HasPut base plan k old new now
   put_insert line does put gained sound = record {
     case = insert_case line;
     expected = record { operation = o; there = here; graph = graph; before = at.before; is = rw does refl };
@@ -69,12 +69,12 @@ module _ (base : List Row) (plan : Plan) (k : ℕ) (o : Operation) (old new : Li
   }
 
   -- the query is one of the plan's
-  asked : (query : Query) → o.work ≡ Ask query → HaveWords (queries_in plan) → HasWords query
+  asked : (query : Query) → o.work ≡ AskWork query → HaveWords (queries_in plan) → HasWords query
   asked query does words =
       All-contains HasWords (queries_in plan) query words
       (gives (λ (x : Operation). query_from x.work) plan.operations o query (k, slice_get_within plan.operations k o here, get_or_from_slice_get plan.operations k o o here) (ap query_from does))
 
-  pub put_ask : (query : Query) → o.work ≡ Ask query → HasPutAsk graph query old new → HasPut base plan k old new graph
+  pub put_ask : (query : Query) → o.work ≡ AskWork query → HasPutAsk graph query old new → HasPut base plan k old new graph
   put_ask query does put = record {
     case = cases.Ask query put.reply;
     expected = record { operation = o; there = here; graph = graph; before = at.before; is = rw does (put.reply, put.replies, refl) };
@@ -84,7 +84,7 @@ module _ (base : List Row) (plan : Plan) (k : ℕ) (o : Operation) (old new : Li
   }
 
 module _ (plan : Plan) (k : ℕ) (o : Operation) (old new : List ℕ) (graph : List Row) (r : Result (Unit {0}) AllocError) (here : slice_get plan.operations k ≡ Some o) where
-  pub inserts : (now : List Row) (line : Line) → o.work ≡ Insert line → OnOk r (HasPutInsert line old new) → OnOk r (HasGained graph (rows_of line.op) now) → OnOk r (Sound now)
+  pub inserts : (now : List Row) (line : Line) → o.work ≡ InsertWork line → OnOk r (HasPutInsert line old new) → OnOk r (HasGained graph (rows_of line.op) now) → OnOk r (Sound now)
       → OnOk r ((base : List Row) → IsAt base plan k graph → HasPut base plan k old new now)
   inserts now line does = to r
     where
@@ -93,7 +93,7 @@ module _ (plan : Plan) (k : ℕ) (o : Operation) (old new : List ℕ) (graph : L
       to (Ok x) put gained sound = λ base at. put_insert base plan k o old new graph now at here line does put gained sound
       to (Err e) put gained sound = tt
 
-  pub asks : (query : Query) → o.work ≡ Ask query → OnOk r (HasPutAsk graph query old new) → OnOk r ((base : List Row) → IsAt base plan k graph → HasPut base plan k old new graph)
+  pub asks : (query : Query) → o.work ≡ AskWork query → OnOk r (HasPutAsk graph query old new) → OnOk r ((base : List Row) → IsAt base plan k graph → HasPut base plan k old new graph)
   asks query does = on_ok_weaker r (λ put base at. put_ask base plan k o old new graph graph at here query does put)
 
 -- ---- one case after those before

@@ -9,9 +9,12 @@ use Rattle.snb_validation_check.specs.CasesFile.{IsTally}
 use Rattle.snb_validation_expect.specs.CaseTexts.{cases_text}
 use Rattle.snb_validation_expect.specs.Expected.{AreExpected, AreReadBack}
 
--- over a base over which the plan's updates are closed, nothing is wrong with the file of the plan's cases, each of which is read from its
--- line, and no reply in it differs
+-- over a base over which the plan's updates are closed, nothing is wrong with the file of the
+-- plan's cases, each of which is read from its line, and no reply in it differs
 abbrev pub ExpectedAreRight : Type 0
 ExpectedAreRight =
-    (base : List Row) (plan : Plan) (cases : List Case) → IsReplayed base plan → AreExpected base plan cases → AreReadBack cases
-    → length (cases_text cases) ≤ MAX_BYTES → IsTally base (Some (cases_text cases)) (record { reads = length (queries_in plan); first = None })
+    (base : List Row) (plan : Plan) (cases : List Case) → IsReplayed base plan
+    → AreExpected base plan cases → AreReadBack cases
+    → length (cases_text cases) ≤ MAX_BYTES
+    → IsTally base (Some (cases_text cases))
+    (record { reads = length (queries_in plan); first = None })

@@ -8,7 +8,8 @@ ghost use Rattle.snb_graph_model.specs.Graphs.{HasGained, HoldsKey};
 ghost use Rattle.snb_graph_model.specs.Soundness.{Sound};
 ghost use Rattle.snb_inserts.specs.Applying.{IsWelcome};
 ghost use Rattle.snb_plan.specs.Closed.{IsClosed};
-ghost use Rattle.snb_plan.specs.Plans.{IsTask, updates_in};
+ghost use Rattle.snb_plan.specs.Plans.{updates_in};
+ghost use Rattle.snb_plan.specs.Tasks.{IsTask};
 ghost use Rattle.snb_validation_expect.specs.Expected.{HasExpected};
 ghost use Rattle.snb_validation_expect.specs.Writing.{HasPut, HasPutAsk, HasPutInsert, HavePut, IsAt};
 
@@ -72,7 +73,9 @@ fn expect_one<A: Replies>(
     requires ready { A.ready answers.now }
     requires there { op < length plan.now.operations }
     requires at { (base : List Row) × IsAt base plan.now op graph.old }
-    ensures ok { OnOk result ((base : List Row) → IsAt base plan.now op graph.old → HasPut base plan.now op to.old.items to.new.items graph.new) }
+    ensures ok { OnOk result
+        ((base : List Row) → IsAt base plan.now op graph.old
+        → HasPut base plan.now op to.old.items to.new.items graph.new) }
     ensures err { OnErr result ((front : List ℕ) × (to.new.items ≡ to.old.items ++ front)) }
 {
     order_is_welcome();
@@ -93,7 +96,8 @@ fn expect_all<A: Replies>(
 ) -> Result<(), AllocError>
     requires ready { A.ready answers.now }
     requires at { IsAt graph plan.now 0 graph }
-    ensures ok { OnOk result ((last : List Row) × HavePut graph plan.now (length plan.now.operations) to.old.items to.new.items last) }
+    ensures ok { OnOk result
+        ((last : List Row) × HavePut graph plan.now (length plan.now.operations) to.old.items to.new.items last) }
     ensures err { OnErr result ((front : List ℕ) × (to.new.items ≡ to.old.items ++ front)) }
 {
     let operations = plan.schedule().steps().len();

@@ -2,7 +2,6 @@
 
 ghost use Rattle.snb_validation_expect.specs.Laws.{ExpectedAreRight};
 
-use snb_graph_model::law::graphs_are_their_rows;
 use snb_validation_cases::law::one_case_line;
 use snb_workers_replay::law::order_is_welcome;
 
@@ -11,7 +10,6 @@ use snb_workers_replay::law::order_is_welcome;
 pub fn expected_cases_are_right()
     ensures { ExpectedAreRight }
 {
-    graphs_are_their_rows();
     order_is_welcome();
     one_case_line();
 }

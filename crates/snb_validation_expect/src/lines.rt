@@ -5,7 +5,7 @@ ghost use Rattle.serde_json.specs.Data.{depth, member, no_members, object, strin
 ghost use Rattle.serde_json.specs.Read.{max_depth, read};
 ghost use Rattle.serde_json.specs.View.{view};
 ghost use Rattle.serde_json.specs.Written.{compact_text, has_float};
-ghost use Rattle.snb_schema.specs.ReadKinds.{kind_of, parameter_values, read_word};
+ghost use Rattle.snb_schema.specs.ReadKinds.{read_kind_of, parameter_values, read_word};
 ghost use Rattle.snb_schema.specs.StreamLines.{IsOfLine};
 ghost use Rattle.snb_schema.specs.UpdateLines.{canonical_line};
 ghost use Rattle.snb_validation.specs.Laws.{AreOfTypes};
@@ -92,7 +92,8 @@ pub fn put_ask(
     to: &mut Vec<u8>,
 ) -> Result<(), AllocError>
     ensures ok { OnOk result (to.new.items ≡ to.old.items ++ case_line (Ask query.now reply.now)) }
-    ensures text { OnOk result (IsJsonText (case_text (Ask query.now reply.now)) (case_data (Ask query.now reply.now))) }
+    ensures text { OnOk result
+        (IsJsonText (case_text (Ask query.now reply.now)) (case_data (Ask query.now reply.now))) }
     ensures types { OnOk result (AreOfTypes reply.now) }
     ensures err { OnErr result (to.new.items ≡ to.old.items) }
 {

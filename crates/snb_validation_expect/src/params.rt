@@ -39,7 +39,8 @@ fn number_and_name(alloc: Global, id: u64, name: &str) -> Result<Value, AllocErr
 
 // The array of an id, a name and a year.
 fn number_name_and_year(alloc: Global, id: u64, name: &str, year: u32) -> Result<Value, AllocError>
-    ensures { IfOk result (λ v. view v ≡ array_of parameter_data (Digits id ∷ Letters name.now ∷ SmallDigits year ∷ [])) }
+    ensures { IfOk result
+        (λ v. view v ≡ array_of parameter_data (Digits id ∷ Letters name.now ∷ SmallDigits year ∷ [])) }
 {
     let id = Value::from(id);
     let name = Value::try_from_str(alloc, name)?;

@@ -7,7 +7,7 @@ use Rattle.snb_schema.specs.declared.row.Row.{Row}
 use Rattle.snb_read_model.specs.Replies.{IsAnswer}
 use Rattle.snb_read_order.proofs.Laws.{zip_more}
 use Rattle.snb_walk.specs.declared.target.Target.{Target}
-use Rattle.snb_walk.specs.Targets.{HaveAnswers, Rows, targets_in, targets_of}
+use Rattle.snb_walk.specs.Targets.{HaveAnswers, AnswerRows, targets_in, targets_of}
 
 pub append_none : {X : Type 0} (xs : List X) → xs ++ [] ≡ xs
 append_none [] = refl
@@ -15,7 +15,7 @@ append_none (x ∷ xs) = ap (λ ys. x ∷ ys) (append_none xs)
 
 module _ (g : List Row) where
   -- one more answer adds its targets
-  more_targets : (reads : List Query) (reply : List Rows) (read : Query) (answer : Rows) → AllZip (IsAnswer g) reads reply
+  more_targets : (reads : List Query) (reply : List AnswerRows) (read : Query) (answer : AnswerRows) → AllZip (IsAnswer g) reads reply
       → targets_in (reads ++ read ∷ []) (reply ++ answer ∷ []) ≡ targets_in reads reply ++ targets_of read answer
   more_targets [] [] read answer z = append_none (targets_of read answer)
   more_targets [] (a ∷ reply) read answer z = absurd z
@@ -23,7 +23,7 @@ module _ (g : List Row) where
   more_targets (q ∷ reads) (a ∷ reply) read answer z =
       ap (λ rest. targets_of q a ++ rest) (more_targets reads reply read answer z.1) ∙ sym (append_assoc (targets_of q a) (targets_in reads reply) (targets_of read answer))
 
-  pub one_more : (reads : List Query) (i : ℕ) (read : Query) (answer : Rows) (reply reply' : List Rows) (targets targets' : List Target)
+  pub one_more : (reads : List Query) (i : ℕ) (read : Query) (answer : AnswerRows) (reply reply' : List AnswerRows) (targets targets' : List Target)
       → i < length reads → read ≡ get_or reads i read → IsAnswer g read answer
       → reply' ≡ reply ++ answer ∷ [] → targets' ≡ targets ++ targets_of read answer
       → HaveAnswers g (take i reads) reply targets → HaveAnswers g (take (i + 1) reads) reply' targets'
@@ -39,6 +39,6 @@ module _ (g : List Row) where
             ∙ ap (λ answers. targets_in (take (i + 1) reads) answers) (sym push);
       }
 
-  pub all_read : (reads : List Query) (i : ℕ) (reply : List Rows) (targets : List Target) → length reads ≤ i
+  pub all_read : (reads : List Query) (i : ℕ) (reply : List AnswerRows) (targets : List Target) → length reads ≤ i
       → HaveAnswers g (take i reads) reply targets → HaveAnswers g reads reply targets
   all_read reads i reply targets high h = subst (λ (qs : List Query). HaveAnswers g qs reply targets) (take_all i reads high) h

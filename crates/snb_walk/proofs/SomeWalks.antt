@@ -3,7 +3,7 @@ use Rattle.std.proofs.Common.{ℕ, zero, suc, ◌+◌, ◌*◌, ◌≤◌, ◌�
 use Rattle.std.proofs.lemmas.Bool.{cases_lt}
 use Rattle.snb_schema.specs.declared.query.Query.{Query}
 use Rattle.snb_schema.specs.declared.row.Row.{Row}
-use Rattle.snb_ratio.specs.Chances.{Falling}
+use Rattle.snb_ratio.specs.Chances.{ChanceFall}
 use Rattle.snb_graph_model.specs.Graphs.{IsGraph}
 use Rattle.snb_graph_model.specs.Soundness.{Sound}
 use Rattle.snb_read_model.specs.Replies.{IsAnswer}
@@ -14,7 +14,7 @@ use Rattle.snb_walk.specs.declared.target.Pick.{Pick}
 use Rattle.snb_walk.specs.declared.target.Stop.{Stop}
 use Rattle.snb_walk.specs.declared.target.Stop.TheVariants.{Chance, Words, Nowhere}
 use Rattle.snb_walk.specs.Picks.{index_of}
-use Rattle.snb_walk.specs.Targets.{Rows, Step, reads_of, targets_in, targets_of}
+use Rattle.snb_walk.specs.Targets.{AnswerRows, WalkStep, reads_of, targets_in, targets_of}
 use Rattle.snb_walk.specs.Walks.{GoesOn, IsStep, MayGo, SomeWalk, Stops, drawn, left_before}
 use Rattle.snb_walk.proofs.Going.{index_of-below}
 use Rattle.snb_base.proofs.Laws.{some_got}
@@ -35,12 +35,12 @@ decide left words i n = elim (cases_lt 0 left) [
   ]
 ]
 
-module _ (some : SomeReply) (g : List Row) (graph : IsGraph g) (sound : Sound g) (pick : Pick) (chance : Falling) (words : List ℕ) where
-  some_answer : (query : Query) → (answer : Rows) × IsAnswer g query answer
+module _ (some : SomeReply) (g : List Row) (graph : IsGraph g) (sound : Sound g) (pick : Pick) (chance : ChanceFall) (words : List ℕ) where
+  some_answer : (query : Query) → (answer : AnswerRows) × IsAnswer g query answer
   some_answer query = let (reply, is) = some g query graph sound in (is.own, is.answer)
 
   -- the step that may be taken
-  some_step : (i : ℕ) (targets : List Target) → MayGo (left_before i chance) words i (length targets) → (step : Step) × IsStep g pick chance words i targets step
+  some_step : (i : ℕ) (targets : List Target) → MayGo (left_before i chance) words i (length targets) → (step : WalkStep) × IsStep g pick chance words i targets step
   some_step i targets may =
       let below = index_of-below pick (length targets) (slice_index words (2 * i + 1)) may.somewhere in
       let (target, picked) = some_got targets (index_of pick (length targets) (slice_index words (2 * i + 1))) below in
@@ -49,7 +49,7 @@ module _ (some : SomeReply) (g : List Row) (graph : IsGraph g) (sound : Sound g)
 
   -- by induction on what is left of the chance
   some_from : 1 ≤ chance.down → (left i : ℕ) (targets : List Target) → left_before i chance ≤ left
-      → (steps : List Step) × (stop : Stop) × GoesOn g pick chance words i targets steps stop
+      → (steps : List WalkStep) × (stop : Stop) × GoesOn g pick chance words i targets steps stop
   some_from falls zero i targets small = elim (decide (left_before i chance) words i (length targets)) [
     | inl may ↦ absurd (omega (arith, may.chance))
     | inr (stop, is) ↦ ([], stop, is)

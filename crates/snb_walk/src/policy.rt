@@ -31,7 +31,8 @@ impl Policy {
     /// answers the index of the pick.
     pub fn new(pick: Pick, call: Call) -> Policy
         requires callable { (ts : _) (w : _) → 0 < length ts.now → pre call ts w }
-        requires picks { (ts : _) (w i : _) → 0 < length ts.now → post call ts w i → i ≡ index_of pick (length ts.now) w }
+        requires picks { (ts : _) (w i : _) → 0 < length ts.now → post call ts w i
+            → i ≡ index_of pick (length ts.now) w }
         ensures { result.pick ≡ pick }
     {
         Policy { pick, call }

@@ -21,7 +21,8 @@ use std::alloc::{AllocError, Global};
 // were, the words, and the targets.
 fn reason(left: u32, step: usize, words: &[u64], targets: &[Target]) -> Option<Stop>
     requires { step ≤ CERTAIN }
-    ensures { MatchOption result (MayGo left words.now step (length targets.now)) (Stops left words.now step (length targets.now)) }
+    ensures { MatchOption result (MayGo left words.now step (length targets.now))
+        (Stops left words.now step (length targets.now)) }
 {
     if left == 0 {
         return Some(Stop::Chance);
@@ -59,7 +60,8 @@ pub fn walk<A: Replies>(
 ) -> Result<Trace, AllocError>
     requires sound { Sound graph.now }
     requires ready { A.ready answers.now }
-    ensures { IfOk result (λ trace. IsWalk graph.now policy.now.pick chance words.now query.now trace.start trace.steps trace.stop) }
+    ensures { IfOk result
+        (λ trace. IsWalk graph.now policy.now.pick chance words.now query.now trace.start trace.steps trace.stop) }
 {
     answers_have_columns();
     let start = answer_of(alloc, answers, graph, query)?;

@@ -18,14 +18,14 @@ use Rattle.snb_history.specs.History.{finishes}
 use Rattle.snb_history.specs.Laws.{OnceEach}
 use Rattle.snb_history.specs.Rules.{IsLegal, V1}
 use Rattle.snb_history.specs.Schedule.{IsOperation}
-use Rattle.snb_plan.specs.Plans.{Ask, Insert, Operation, Plan, Work, schedule_of}
+use Rattle.snb_plan.specs.Plans.{AskWork, InsertWork, Operation, Plan, Work, schedule_of}
 use Rattle.snb_read_laws.specs.Laws.{OneReply}
 use Rattle.snb_validation.specs.ReplyData.{reply_data}
 use Rattle.snb_workers_replay.specs.Replay.{IsAfter}
 use Rattle.snb_answered.specs.declared.done.Answered.{Answered}
 use Rattle.snb_replica.specs.Counts.{HasRightCount, IsCountOf, TellsCounts, first_rows, logged_by, logged_of, rows_by}
 use Rattle.snb_workers.specs.Laws.{CountsOfARun, FinishesAreOfOperations, OneEntry}
-use Rattle.snb_workers.specs.Runs.{AreReplies, Asks, IsAnswered}
+use Rattle.snb_workers.specs.Runs.{AreReplies, Asks, ReplyIsRight}
 
 -- ---- what passes once
 
@@ -123,9 +123,9 @@ module _ (base : List Row) (plan : Plan) (moments : Moments) (workers : ℕ) (h 
   of_entry : (op worker at front : ℕ) (o : Operation) (b : Answered) → Contains h (Finish op worker at front) → slice_get plan.operations op ≡ Some o → Contains replies b → b.op ≡ op
       → IsCountOf base plan h front o.work b.rows
   of_entry op worker at front o b c here there number =
-      let is : IsAnswered base plan moments h h b = All-contains (IsAnswered base plan moments h h) replies b are.each there in
+      let is : ReplyIsRight base plan moments h h b = All-contains (ReplyIsRight base plan moments h h) replies b are.each there in
       let asks : Asks plan op is.query = subst (λ (k : ℕ). Asks plan k is.query) number is.asks in
-      let work : o.work ≡ Ask is.query = ap (λ (x : Operation). x.work) (same_Some o asks.0 (sym here ∙ asks.1)) ∙ asks.2 in
+      let work : o.work ≡ AskWork is.query = ap (λ (x : Operation). x.work) (same_Some o asks.0 (sym here ∙ asks.1)) ∙ asks.2 in
       let same : Finish op worker at front ≡ Finish b.op is.worker is.at b.front =
       passes_once (finishes op) h (Finish op worker at front) (Finish b.op is.worker is.at b.front) (each_once (schedule_of plan) workers h legal op).1 c is.finished (eq-eqb op op refl) (eq-eqb b.op op number) in
       let fronts : b.front ≡ front = cc in
@@ -136,8 +136,8 @@ module _ (base : List Row) (plan : Plan) (moments : Moments) (workers : ℕ) (h 
   -- an operation that has no entry is an insert
   of_none : (op worker at front : ℕ) (o : Operation) → Contains h (Finish op worker at front) → slice_get plan.operations op ≡ Some o → ((b : Answered) → Contains replies b → b.op ≢ op)
       → (work : Work) → o.work ≡ work → IsCountOf base plan h front work 0
-  of_none op worker at front o c here none (Insert line) is = refl
-  of_none op worker at front o c here none (Ask query) is = absurd (let found = are.all op worker at front query c (o, here, is) in none found.0 found.1 found.2)
+  of_none op worker at front o c here none (InsertWork line) is = refl
+  of_none op worker at front o c here none (AskWork query) is = absurd (let found = are.all op worker at front query c (o, here, is) in none found.0 found.1 found.2)
 
   right_at : (e : Event) → Contains h e → HasRightCount base plan h (logged_by replies e)
   right_at (Start op worker at) c = refl

@@ -16,7 +16,8 @@ use Rattle.snb_history.specs.declared.event.Event.TheVariants.{Finish}
 use Rattle.snb_schema.specs.declared.limits.TheConstants.{MAX_WORKERS}
 use Rattle.snb_schema.specs.declared.row.Row.{Row}
 use Rattle.snb_history.specs.History.{finishes, halted, halts, hand, is_by, started, starts}
-use Rattle.snb_history.specs.Laws.{HandIsOwn, PrefixIsLegal}
+use Rattle.snb_history.specs.Laws.{HandIsOwn}
+use Rattle.snb_history.specs.ScheduleLaws.{PrefixIsLegal}
 use Rattle.snb_history.specs.Rules.{IsComplete, IsLegal}
 use Rattle.snb_history.specs.Schedule.{Schedule, IsOperation}
 use Rattle.snb_graph_model.specs.Graphs.{HoldsKey, IsGraph}
@@ -31,7 +32,7 @@ use Rattle.snb_workers.specs.declared.crew.Worker.{Worker}
 use Rattle.snb_answered.specs.declared.done.Answered.{Answered}
 use Rattle.snb_workers.specs.Crews.{AllLeave, AreReady, IsCrew, IsReady, Leaves, opening}
 use Rattle.snb_replica.specs.Replicas.{StandsFor, Taken}
-use Rattle.snb_workers.specs.Runs.{AreByClock, AreReplies, HasRun, IsAnswered}
+use Rattle.snb_workers.specs.Runs.{AreByClock, AreReplies, HasRun, ReplyIsRight}
 use Rattle.snb_workers.specs.Turns.{IsBehind}
 use Rattle.snb_workers.specs.Works.{AreTimely, HasWorked, IsFollowing, IsFree}
 use Rattle.snb_workers.proofs.CrewEvents.{all_by_clock, any_prefix, none_of, seen_there}
@@ -138,7 +139,7 @@ in_piece (x ∷ crew) a c = elim (Contains-append_cases x.replies (flat_map (λ 
 
 -- a reply on a beginning of a history is one on the whole
 answered_whole : (base : List Row) (plan : Plan) (moments : Moments) (workers : ℕ) (finishes seen h : List Event) (a : Answered) → IsPrefix seen h → IsLegal (schedule_of plan) workers seen → ((e : Event) → Contains finishes e → Contains seen e)
-    → IsAnswered base plan moments finishes seen a → IsAnswered base plan moments h h a
+    → ReplyIsRight base plan moments finishes seen a → ReplyIsRight base plan moments h h a
 answered_whole base plan moments workers finishes seen h a pre legal within is =
     let there = within (Finish a.op is.worker is.at a.front) is.finished in
     let front : a.front ≤ length seen = front_within (schedule_of plan) workers seen legal a.op is.worker is.at a.front there in
@@ -284,11 +285,11 @@ module _ {E : Type 0}
             pub answered : AreReplies base plan moments h h replies
             answered = record {
               rise = rise;
-              each = all_from (IsAnswered base plan moments h h) replies (λ a c.
+              each = all_from (ReplyIsRight base plan moments h h) replies (λ a c.
                   let there : Contains (flat_map (λ (w : Worker). w.replies) crew) a = subst (λ (xs : List Answered). Contains xs a) gathered (of_all (λ (x : Answered). Contains all_replies x) replies a each c) in
                   let piece = in_piece crew a there in
                   let low : piece.0 < z.workers = (let n = many_crew in let m : piece.0 < length crew = piece.1 in omega arith) in
-                  let own = of_all (IsAnswered base plan moments (mine (left piece.0).seat) (left piece.0).seat.seen) (left piece.0).replies a (seat_replies piece.0 low).each (piece.2 nobody) in
+                  let own = of_all (ReplyIsRight base plan moments (mine (left piece.0).seat) (left piece.0).seat.seen) (left piece.0).replies a (seat_replies piece.0 low).each (piece.2 nobody) in
                   answered_whole base plan moments z.workers (mine (left piece.0).seat) (left piece.0).seat.seen h a (part piece.0 low).seen (seen_legal piece.0 low)
                   (λ e c. ((in_filter (is_by (left piece.0).seat.worker) (left piece.0).seat.seen e).0 c).0) own);
               all = λ op worker at front query c asks.

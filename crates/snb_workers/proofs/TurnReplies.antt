@@ -15,14 +15,14 @@ use Rattle.snb_schema.specs.declared.query.Query.{Query}
 use Rattle.snb_schema.specs.declared.row.Row.{Row}
 use Rattle.snb_history.specs.History.{started, starts}
 use Rattle.snb_history.specs.Rules.{IsFront, IsLegal}
-use Rattle.snb_plan.specs.Plans.{Ask, Insert, IsOfStreams, Operation, Plan, Work, schedule_of}
+use Rattle.snb_plan.specs.Plans.{AskWork, InsertWork, IsOfStreams, Operation, Plan, Work, schedule_of}
 use Rattle.snb_workers_replay.specs.Replay.{IsAfter}
 use Rattle.snb_answered.specs.declared.done.Answered.{Answered}
 use Rattle.snb_answered.specs.Replies.{HasAdded}
 use Rattle.snb_answered.proofs.Laws.{added_there, still_there}
 use Rattle.snb_replica.specs.Replicas.{StandsFor, Taken}
 use Rattle.snb_replica.specs.ReplyTexts.{IsReplied}
-use Rattle.snb_workers.specs.Runs.{AreReplies, Asks, IsAnswered}
+use Rattle.snb_workers.specs.Runs.{AreReplies, Asks, ReplyIsRight}
 use Rattle.snb_workers.specs.declared.work.Served.{Served}
 use Rattle.snb_workers.specs.Turns.{IsDone, IsReplyNow, IsServed}
 use Rattle.snb_workers.proofs.PlanSteps.{ask_is_query, insert_is_no_query}
@@ -41,7 +41,7 @@ all_added P one old new added all is =
 -- ---- longer histories
 
 -- a reply stays one when events follow
-stays_answered : (base : List Row) (plan : Plan) (moments : Moments) (finishes h events more : List Event) (a : Answered) → a.front ≤ length h → IsAnswered base plan moments finishes h a → IsAnswered base plan moments (finishes ++ events) (h ++ more) a
+stays_answered : (base : List Row) (plan : Plan) (moments : Moments) (finishes h events more : List Event) (a : Answered) → a.front ≤ length h → ReplyIsRight base plan moments finishes h a → ReplyIsRight base plan moments (finishes ++ events) (h ++ more) a
 stays_answered base plan moments finishes h events more a within is =
     record {
       worker = is.worker;
@@ -59,8 +59,8 @@ stays_answered base plan moments finishes h events more a within is =
 abbrev pub AreWithin : List Event → List Answered → Type 0
 AreWithin h replies = All (λ a. a.front ≤ length h) replies
 
-all_stay : (base : List Row) (plan : Plan) (moments : Moments) (finishes h events more : List Event) (replies : List Answered) → AreWithin h replies → All (IsAnswered base plan moments finishes h) replies →
-    All (IsAnswered base plan moments (finishes ++ events) (h ++ more)) replies
+all_stay : (base : List Row) (plan : Plan) (moments : Moments) (finishes h events more : List Event) (replies : List Answered) → AreWithin h replies → All (ReplyIsRight base plan moments finishes h) replies →
+    All (ReplyIsRight base plan moments (finishes ++ events) (h ++ more)) replies
 all_stay base plan moments finishes h events more replies within each k d lt = stays_answered base plan moments finishes h events more _ (within k d lt) (each k d lt)
 
 -- events without a Finish change no replies
@@ -94,11 +94,11 @@ module _ (base : List Row) (plan : Plan) (moments : Moments) (finishes h more : 
   longer = finishes ++ Finish op worker at s.front ∷ []
 
   -- one operation does one thing
-  works : (query : Query) → Asks plan op query → o.work ≡ Ask query
+  works : (query : Query) → Asks plan op query → o.work ≡ AskWork query
   works query asks = ap (λ (x : Operation). x.work) (same_Some o asks.0 (sym here ∙ asks.1)) ∙ asks.2
 
   -- the reply to the read
-  one_answered : (query : Query) (a : Answered) → o.work ≡ Ask query → s.front ≡ r.front → IsReplyNow moments op r query s.now a → IsAnswered base plan moments longer (h ++ more) a
+  one_answered : (query : Query) (a : Answered) → o.work ≡ AskWork query → s.front ≡ r.front → IsReplyNow moments op r query s.now a → ReplyIsRight base plan moments longer (h ++ more) a
   one_answered query a asked seen is =
       let holds : StandsFor base plan h r = stands query (o, here, asked) in
       let number : a.op ≡ op = is.number in
@@ -119,10 +119,10 @@ module _ (base : List Row) (plan : Plan) (moments : Moments) (finishes h more : 
 
   -- by what was done
   answered_by : (work : Work) → o.work ≡ work → IsDone moments op r old new s work → AreReplies base plan moments longer (h ++ more) new
-  answered_by (Insert line) inserts done =
+  answered_by (InsertWork line) inserts done =
       record {
         rise = rise;
-        each = subst (All (IsAnswered base plan moments longer (h ++ more))) (sym done.1) (all_stay base plan moments finishes h (Finish op worker at s.front ∷ []) more old within are.each);
+        each = subst (All (ReplyIsRight base plan moments longer (h ++ more))) (sym done.1) (all_stay base plan moments finishes h (Finish op worker at s.front ∷ []) more old within are.each);
         all = λ k w moment seen query c asks. elim (Contains-push_cases finishes (Finish op worker at s.front) (Finish k w moment seen) c) [
           | inl there ↦ (
               let found = are.all k w moment seen query there asks in
@@ -133,13 +133,13 @@ module _ (base : List Row) (plan : Plan) (moments : Moments) (finishes h more : 
               cc)
         ];
       }
-  answered_by (Ask query) asked done =
+  answered_by (AskWork query) asked done =
       let a : Answered = done.1.0 in
       let is : IsReplyNow moments op r query s.now a = done.1.1 in
       let added : HasAdded a old new = done.1.2 in
       record {
         rise = rise;
-        each = all_added (IsAnswered base plan moments longer (h ++ more)) a old new added (all_stay base plan moments finishes h (Finish op worker at s.front ∷ []) more old within are.each)
+        each = all_added (ReplyIsRight base plan moments longer (h ++ more)) a old new added (all_stay base plan moments finishes h (Finish op worker at s.front ∷ []) more old within are.each)
             (one_answered query a asked done.0 is);
         all = λ k w moment seen other c asks. elim (Contains-push_cases finishes (Finish op worker at s.front) (Finish k w moment seen) c) [
           | inl there ↦ (let found = are.all k w moment seen other there asks in (found.0, still_there a old new found.0 added found.1, found.2))
@@ -161,8 +161,8 @@ pub fronts_served : (plan : Plan) (moments : Moments) (op : ℕ) (s : Served) (r
 fronts_served plan moments op s r old new low served = by served.0.work served.2
   where
     by : (work : Work) → IsDone moments op r old new s work → All (λ a. a.front ≤ r.front) new
-    by (Insert line) done = subst (All (λ a. a.front ≤ r.front)) (sym done.1) low
-    by (Ask query) done = (let told = done.1.1.front in all_added (λ a. a.front ≤ r.front) done.1.0 old new done.1.2 low (omega arith))
+    by (InsertWork line) done = subst (All (λ a. a.front ≤ r.front)) (sym done.1) low
+    by (AskWork query) done = (let told = done.1.1.front in all_added (λ a. a.front ≤ r.front) done.1.0 old new done.1.2 low (omega arith))
 
 -- a read's front is the replica's, which has taken the operation's Start, and an insert's is 0
 pub front_is : (base : List Row) (plan : Plan) (moments : Moments) (h : List Event) (op : ℕ) (s : Served) (r : Taken) (old new : List Answered) → IsOfStreams plan → position_or_len (starts op) h < length h →
@@ -170,12 +170,12 @@ pub front_is : (base : List Row) (plan : Plan) (moments : Moments) (h : List Eve
 front_is base plan moments h op s r old new streams begun stands served = by served.0 served.1 served.0.work refl served.2
   where
     by : (o : Operation) → slice_get plan.operations op ≡ Some o → (work : Work) → o.work ≡ work → IsDone moments op r old new s work → IsFront (schedule_of plan) h op s.front
-    by o here (Insert line) is done =
+    by o here (InsertWork line) is done =
         record {
           of_read = λ read. absurd (let none = insert_is_no_query plan op o line streams here is in cc);
           of_insert = λ insert. done.0;
         }
-    by o here (Ask query) is done =
+    by o here (AskWork query) is done =
         record {
           of_read = λ read. let holds : StandsFor base plan h r = stands query (o, here, is) in let size : s.front ≡ length h = done.0 ∙ holds.front in (omega arith, omega arith);
           of_insert = λ insert. absurd (let some = ask_is_query plan op o query streams here is in cc);

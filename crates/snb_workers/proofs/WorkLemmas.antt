@@ -12,7 +12,8 @@ use Rattle.snb_schema.specs.declared.query.Query.{Query}
 use Rattle.snb_schema.specs.declared.row.Row.{Row}
 use Rattle.snb_schema.specs.declared.limits.TheConstants.{MAX_AT}
 use Rattle.snb_history.specs.History.{halted, hand, last, started}
-use Rattle.snb_history.specs.Laws.{HandIsOwn, PrefixIsLegal}
+use Rattle.snb_history.specs.Laws.{HandIsOwn}
+use Rattle.snb_history.specs.ScheduleLaws.{PrefixIsLegal}
 use Rattle.snb_history.specs.Rules.{IsFront, IsLegal}
 use Rattle.snb_history.specs.Schedule.{Schedule, IsOperation}
 use Rattle.snb_history.proofs.Laws.{hand-push}

@@ -1,4 +1,5 @@
--- What the workers of a run begin with, and what they leave. Cited by contracts of private functions alone.
+-- What the workers of a run begin with, and what they leave. Cited by contracts of private
+-- functions alone.
 use Rattle.std.specs.Prelude.{◌≡◌, ◌<◌, ◌≤◌, ℕ, List, [], length, map, All, Any, Option, Result, Ok, slice_index_or}
 use Rattle.snb_base.specs.Moments.{Moments}
 use Rattle.std.specs.List.{flat_map}
@@ -28,19 +29,23 @@ abbrev pub opening : List Row → Taken
 opening base = record { graph = base; front = 0 }
 
 -- what a worker leaves that began at the seat with a replica of the base
-pub record Leaves (plan : Plan) (moments : Moments) (base : List Row) (seat : Sitting) (worker : Worker) : Type 0 where
+pub record Leaves (plan : Plan) (moments : Moments) (base : List Row) (seat : Sitting)
+    (worker : Worker) : Type 0 where
   pub later : IsLater seat worker.seat
   pub follows : IsFollowing base plan worker.seat.seen worker.replica
   pub timely : AreTimely moments seat.worker (length seat.seen) worker.seat.seen
   pub worked : HasWorked plan moments seat worker.seat (opening base) worker.replica worker.replies
 
 -- so of each worker that had memory
-pub record AllLeave {E : Type 0} (plan : Plan) (moments : Moments) (base : List Row) (seats : List Sitting) (crew : List (Result Worker E)) : Type 0 where
+pub record AllLeave {E : Type 0} (plan : Plan) (moments : Moments) (base : List Row)
+    (seats : List Sitting) (crew : List (Result Worker E)) : Type 0 where
   pub many : length crew ≡ length seats
-  pub each : (k : ℕ) (d : Sitting) (e : Result Worker E) → k < length seats → IfOk (slice_index_or crew k e) (Leaves plan moments base (slice_index_or seats k d))
+  pub each : (k : ℕ) (d : Sitting) (e : Result Worker E) → k < length seats
+      → IfOk (slice_index_or crew k e) (Leaves plan moments base (slice_index_or seats k d))
 
 -- all had memory; and these are their seats, all of their replies, and the replica of one of them
-pub record ArePartsOf {E : Type 0} (crew : List (Result Worker E)) (their_seats : List Sitting) (all_replies : List Answered) (one : Taken) : Type 0 where
+pub record ArePartsOf {E : Type 0} (crew : List (Result Worker E)) (their_seats : List Sitting)
+    (all_replies : List Answered) (one : Taken) : Type 0 where
   pub workers : List Worker
   pub are : crew ≡ map Ok workers
   pub seats : their_seats ≡ map (λ worker. worker.seat) workers
@@ -48,7 +53,8 @@ pub record ArePartsOf {E : Type 0} (crew : List (Result Worker E)) (their_seats 
   pub replica : Any (λ worker. worker.replica ≡ one) workers
 
 -- the crew of a board of the plan, which is closed over the base: a worker for each seat
-pub record IsCrew {E : Type 0} (plan : Plan) (moments : Moments) (base : List Row) (z : Site) (crew : List (Result Worker E)) : Type 0 where
+pub record IsCrew {E : Type 0} (plan : Plan) (moments : Moments) (base : List Row) (z : Site)
+    (crew : List (Result Worker E)) : Type 0 where
   pub some : 0 < z.workers
   pub few : z.workers ≤ MAX_WORKERS
   pub schedule : z.schedule ≡ schedule_of plan

@@ -8,7 +8,7 @@ use Rattle.snb_schema.specs.declared.query.Query.{Query}
 use Rattle.snb_schema.specs.declared.row.Row.{Row}
 use Rattle.snb_history.specs.Rules.{IsComplete, IsLegal}
 use Rattle.snb_graph_model.specs.Soundness.{Sound}
-use Rattle.snb_plan.specs.Plans.{Ask, Operation, Plan, schedule_of}
+use Rattle.snb_plan.specs.Plans.{AskWork, Operation, Plan, schedule_of}
 use Rattle.snb_workers_replay.specs.Replay.{IsAfter, IsFinal}
 use Rattle.snb_workers_replay.specs.Waiting.{StaysBelow, WaitsForAll}
 use Rattle.snb_replica.specs.ReplyTexts.{IsReplied}
@@ -36,7 +36,8 @@ IsByClock moments (Halt worker) = Unit {0}
 abbrev pub AreByClock : Moments → List Event → Type 0
 AreByClock moments h = All (IsByClock moments) h
 
--- the clock can answer a moment once these bytes are there that is no later than this one, or is MAX_AT or later
+-- the clock can answer a moment once these bytes are there that is no later than this one, or is
+-- MAX_AT or later
 pub record ComesAfter (moments : Moments) (reply : List ℕ) (at : ℕ) : Type 0 where
   pub reading : ℕ
   pub tells : moments.tells_after reply reading ≡ true
@@ -44,11 +45,13 @@ pub record ComesAfter (moments : Moments) (reply : List ℕ) (at : ℕ) : Type 0
 
 -- the operation of this number asks the query
 abbrev pub Asks : Plan → ℕ → Query → Type 0
-Asks plan op query = (o : Operation) × (slice_get plan.operations op ≡ Some o) × (o.work ≡ Ask query)
+Asks plan op query =
+    (o : Operation) × (slice_get plan.operations op ≡ Some o) × (o.work ≡ AskWork query)
 
--- one of these events finishes a read with this front, no earlier than the clock could answer with the bytes of the reply there, and the reply is
--- that to its query on the graph of the base and of what had finished in that front of the history
-pub record IsAnswered (base : List Row) (plan : Plan) (moments : Moments) (finishes h : List Event) (a : Answered) : Type 0 where
+-- the reply to a read that one of these events finishes: it was there before, and is that to its
+-- query on the graph of the base and of what had finished in the front of the history
+pub record ReplyIsRight (base : List Row) (plan : Plan) (moments : Moments)
+    (finishes h : List Event) (a : Answered) : Type 0 where
   pub worker : ℕ
   pub at : ℕ
   pub finished : Contains finishes (Finish a.op worker at a.front)
@@ -59,19 +62,22 @@ pub record IsAnswered (base : List Row) (plan : Plan) (moments : Moments) (finis
   pub after : IsAfter base plan (take a.front h) graph
   pub replies : IsReplied graph query a.rows a.text
 
--- these are the replies to the reads that these events finish, one for each, by rising operation, answered on fronts of the history; the
--- events are those of the history, or those of one worker's part of it
-pub record AreReplies (base : List Row) (plan : Plan) (moments : Moments) (finishes h : List Event) (replies : List Answered) : Type 0 where
+-- these are the replies to the reads that these events finish, one for each, by rising operation,
+-- answered on fronts of the history; the events are those of the history, or those of one worker's
+-- part of it
+pub record AreReplies (base : List Row) (plan : Plan) (moments : Moments) (finishes h : List Event)
+    (replies : List Answered) : Type 0 where
   pub rise : AllPairs (λ one other. one.op < other.op) replies
-  pub each : All (IsAnswered base plan moments finishes h) replies
+  pub each : All (ReplyIsRight base plan moments finishes h) replies
   pub all :
-      (op worker at front : ℕ) (query : Query) → Contains finishes (Finish op worker at front) → Asks plan op query →
+      (op worker at front : ℕ) (query : Query) → Contains finishes (Finish op worker at front)
+      → Asks plan op query →
       (a : Answered) × Contains replies a × (a.op ≡ op)
 
--- a legal, complete history of the plan for so many workers, whose events are at moments that the clock can answer: no insert that waits starts in
--- it before every insert of a person or a forum has finished whose t is at most its t_d, and at no time does the completion time come to the t of
--- one that hasn't finished; the replies to its reads; and a sound graph that has the rows of the base and of each insert
-pub record HasRun (workers : ℕ) (plan : Plan) (moments : Moments) (base : List Row) (h : List Event) (replies : List Answered) (graph : List Row) : Type 0 where
+-- the history of a run of the plan by so many workers, the replies to its reads, and the graph that
+-- is left
+pub record HasRun (workers : ℕ) (plan : Plan) (moments : Moments) (base : List Row) (h : List Event)
+    (replies : List Answered) (graph : List Row) : Type 0 where
   pub legal : IsLegal (schedule_of plan) workers h
   pub complete : IsComplete (schedule_of plan) h
   pub waits : WaitsForAll plan h

@@ -16,8 +16,10 @@ use Rattle.snb_base.specs.Moments.{Moments}
 use Rattle.snb_replica.specs.Replicas.{StandsFor, Taken}
 use Rattle.snb_workers.specs.Runs.{AreReplies}
 
--- over this base, over which the plan is closed, the replica stands for a beginning of what was seen
-pub record IsFollowing (base : List Row) (plan : Plan) (seen : List Event) (r : Taken) : Type 0 where
+-- over this base, over which the plan is closed, the replica stands for a beginning of what was
+-- seen
+pub record IsFollowing (base : List Row) (plan : Plan) (seen : List Event) (r : Taken)
+    : Type 0 where
   pub closed : IsClosed (HoldsKey base) (updates_in plan)
   pub taken : List Event
   pub begins : IsPrefix taken seen
@@ -39,7 +41,8 @@ pub record IsLater (s t : Sitting) : Type 0 where
 abbrev pub added : Sitting → Sitting → List Event
 added s t = drop (length (mine s)) (mine t)
 
--- an event after others is at a moment that the clock can answer, or at the last before it where that is later, and at MAX_AT at most
+-- an event after others is at a moment that the clock can answer, or at the last before it where
+-- that is later, and at MAX_AT at most
 pub record IsTimely (moments : Moments) (g : List Event) (e : Event) : Type 0 where
   pub reading : ℕ
   pub tells : moments.tells reading ≡ true
@@ -48,18 +51,24 @@ pub record IsTimely (moments : Moments) (g : List Event) (e : Event) : Type 0 wh
 -- so is each Start and Finish of the worker after the first n events
 abbrev pub AreTimely : Moments → ℕ → ℕ → List Event → Type 0
 AreTimely moments worker n h =
-    (g rest : List Event) (e : Event) → g ++ e ∷ rest ≡ h → n ≤ length g → is_by worker e ≡ true → has_moment e ≡ true → IsTimely moments g e
+    (g rest : List Event) (e : Event) → g ++ e ∷ rest ≡ h → n ≤ length g → is_by worker e ≡ true
+    → has_moment e ≡ true → IsTimely moments g e
 
 -- every operation is started, or another worker has halted
 abbrev pub NothingIsLeft : Schedule → ℕ → List Event → Type 0
-NothingIsLeft s worker h = ((k : ℕ) → IsOperation s k → started h k ≡ true) ⊎ ((w : ℕ) × (w ≢ worker) × (halted h w ≡ true))
+NothingIsLeft s worker h =
+    ((k : ℕ) → IsOperation s k → started h k ≡ true)
+    ⊎ ((w : ℕ) × (w ≢ worker) × (halted h w ≡ true))
 
--- what a worker leaves that didn't want for memory: it has nothing in hand, and nothing is left to start. Over each base, its replies are those
--- to the reads that it has finished, each answered at the front of its Finish, up to which the replica has come
-pub record HasWorked (plan : Plan) (moments : Moments) (s t : Sitting) (old new : Taken) (replies : List Answered) : Type 0 where
+-- what a worker leaves that didn't want for memory: it has nothing in hand, and nothing is left to
+-- start. Over each base, its replies are those to the reads that it has finished, each answered at
+-- the front of its Finish, up to which the replica has come
+pub record HasWorked (plan : Plan) (moments : Moments) (s t : Sitting) (old new : Taken)
+    (replies : List Answered) : Type 0 where
   pub free : IsFree t
   pub over : NothingIsLeft t.site.schedule t.worker t.seen
-  pub answered : (base : List Row) → IsFollowing base plan s.seen old → AreReplies base plan moments (added s t) t.seen replies
+  pub answered : (base : List Row) → IsFollowing base plan s.seen old
+      → AreReplies base plan moments (added s t) t.seen replies
   pub fronts : All (λ a. a.front ≤ new.front) replies
 
 -- the worker's last event is its Halt

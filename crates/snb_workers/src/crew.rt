@@ -150,7 +150,9 @@ fn catch_up(
     replica: &mut Replica,
 ) -> Result<(), AllocError>
     requires behind { (base : List Row) × IsBehind plan.now book.now.history replica.old base }
-    ensures { OnOk result ((base : List Row) → IsBehind plan.now book.now.history replica.old base → StandsFor base plan.now book.now.history replica.new) }
+    ensures { OnOk result
+        ((base : List Row) → IsBehind plan.now book.now.history replica.old base
+        → StandsFor base plan.now book.now.history replica.new) }
 {
     let front = replica.front() as usize;
     replica.advance(alloc, plan, &book.events()[front..])

@@ -53,7 +53,8 @@ fn serve<A: Replies, C: Clock>(
     requires there { IsOperation (schedule_of plan.now) ticket.op }
     requires held { IsInHand seat.now.seen ticket }
     requires new { All (λ other. other.op ≢ ticket.op) replies.old }
-    ensures served { IfOk result (IsServed plan.now (C.moments clock.now) ticket.op replica.now replies.old replies.new) }
+    ensures served { IfOk result
+        (IsServed plan.now (C.moments clock.now) ticket.op replica.now replies.old replies.new) }
     ensures told { IfOk result (λ served. (C.moments clock.now).tells served.now ≡ true) }
     ensures rise { OnOk result (AllPairs (λ one other. one.op < other.op) replies.new) }
 {
@@ -136,10 +137,18 @@ impl<'a, R: Wait, A: Replies, C: Clock, G: Gate> Shared<'a, R, A, C, G> {
     ) -> Result<(), AllocError>
         requires ready { A.ready self.now.answers.now }
         requires board { seat.old.site ≡ self.now.board.now }
-        requires holding { (first : Sitting) × (old : Taken) × IsHolding self.now.plan.now (C.moments self.now.clock.now) first old seat.old replica.old replies.old ticket }
-        ensures ok { OnOk result ((first : Sitting) (old : Taken) → IsHolding self.now.plan.now (C.moments self.now.clock.now) first old seat.old replica.old replies.old ticket →
+        requires holding { (first : Sitting) × (old : Taken)
+            × IsHolding self.now.plan.now (C.moments self.now.clock.now) first old seat.old replica.old replies.old
+            ticket }
+        ensures ok { OnOk result
+            ((first : Sitting) (old : Taken)
+            → IsHolding self.now.plan.now (C.moments self.now.clock.now) first old seat.old replica.old replies.old
+            ticket →
             IsAtWork self.now.plan.now (C.moments self.now.clock.now) first old seat.new replica.new replies.new) }
-        ensures err { OnErr result ((first : Sitting) (old : Taken) → IsHolding self.now.plan.now (C.moments self.now.clock.now) first old seat.old replica.old replies.old ticket →
+        ensures err { OnErr result
+            ((first : Sitting) (old : Taken)
+            → IsHolding self.now.plan.now (C.moments self.now.clock.now) first old seat.old replica.old replies.old
+            ticket →
             HasCome self.now.plan.now (C.moments self.now.clock.now) first old seat.new replica.new) }
     {
         hand_is_own();
@@ -185,10 +194,15 @@ impl<'a, R: Wait, A: Replies, C: Clock, G: Gate> Shared<'a, R, A, C, G> {
     ) -> Result<Turn, AllocError>
         requires ready { A.ready self.now.answers.now }
         requires board { seat.old.site ≡ self.now.board.now }
-        requires at_work { (first : Sitting) × (old : Taken) × IsAtWork self.now.plan.now (C.moments self.now.clock.now) first old seat.old replica.old replies.old }
-        ensures ok { IfOk result (λ turn. (first : Sitting) (old : Taken) → IsAtWork self.now.plan.now (C.moments self.now.clock.now) first old seat.old replica.old replies.old →
+        requires at_work { (first : Sitting) × (old : Taken)
+            × IsAtWork self.now.plan.now (C.moments self.now.clock.now) first old seat.old replica.old replies.old }
+        ensures ok { IfOk result
+            (λ turn. (first : Sitting) (old : Taken)
+            → IsAtWork self.now.plan.now (C.moments self.now.clock.now) first old seat.old replica.old replies.old →
             TurnsOn self.now.plan.now (C.moments self.now.clock.now) first old seat.new replica.new replies.new turn) }
-        ensures err { OnErr result ((first : Sitting) (old : Taken) → IsAtWork self.now.plan.now (C.moments self.now.clock.now) first old seat.old replica.old replies.old →
+        ensures err { OnErr result
+            ((first : Sitting) (old : Taken)
+            → IsAtWork self.now.plan.now (C.moments self.now.clock.now) first old seat.old replica.old replies.old →
             HasCome self.now.plan.now (C.moments self.now.clock.now) first old seat.new replica.new) }
     {
         hand_is_own();
@@ -243,7 +257,8 @@ pub fn work_via<R: Wait, A: Replies, C: Clock, G: Gate>(
     requires free { IsFree seat.old }
     requires following { (base : List Row) × IsFollowing base plan.now seat.old.seen replica.old }
     ensures later { IsLater seat.old seat.new }
-    ensures follows { (base : List Row) → IsFollowing base plan.now seat.old.seen replica.old → IsFollowing base plan.now seat.new.seen replica.new }
+    ensures follows { (base : List Row) → IsFollowing base plan.now seat.old.seen replica.old
+        → IsFollowing base plan.now seat.new.seen replica.new }
     ensures timely { AreTimely (C.moments clock.now) seat.old.worker (length seat.old.seen) seat.new.seen }
     ensures ok { IfOk result (HasWorked plan.now (C.moments clock.now) seat.old seat.new replica.old replica.new) }
     ensures err { OnErr result (HasStopped seat.new) }

@@ -17,9 +17,10 @@ use Rattle.snb_schema.specs.Awaiting.{adds_awaited, is_awaited}
 use Rattle.snb_schema.specs.LineLanes.{LineLanes}
 use Rattle.snb_schema.specs.References.{added_node, ref}
 use Rattle.snb_schema.specs.StreamLines.{AreOfStream, AreOfStreams}
-use Rattle.snb_schema.specs.UpdateLines.{kind_of, person_inserts}
+use Rattle.snb_schema.specs.UpdateLines.{person_inserts}
+use Rattle.snb_schema.specs.InsertLines.{kind_of}
 use Rattle.snb_plan.specs.Closed.{is_in_lane}
-use Rattle.snb_plan.specs.Plans.{kinds_of, lane_of, numbered_lanes}
+use Rattle.snb_plan.specs.Merging.{kinds_of, lane_of, numbered_lanes}
 use Rattle.snb_base.proofs.Laws.{at_contains, contains_cases, none_in}
 
 -- ---- what an insert adds

@@ -16,9 +16,10 @@ use Rattle.snb_schema.specs.declared.row.Row.{Row}
 use Rattle.snb_schema.specs.Inserts.{rows_of}
 use Rattle.snb_schema.specs.StreamLines.{IsOfLine}
 use Rattle.snb_graph_model.specs.Graphs.{HasGained}
-use Rattle.snb_plan.specs.Plans.{Ask, Insert, IsLineOf, IsOfStreams, IsRead, IsUpdate, Operation, Placed, Plan, Work, first_t, lane_of, numbered_lanes}
+use Rattle.snb_plan.specs.Plans.{AskWork, InsertWork, IsOfStreams, IsRead, IsUpdate, Operation, Plan, Work, first_t}
+use Rattle.snb_plan.specs.Merging.{IsLineHere, PlacedLine, lane_of, numbered_lanes}
 use Rattle.snb_inserts.specs.Applying.{HasLine}
-use Rattle.snb_workers_replay.specs.Replay.{IsAfter, IsBefore, finished_insert, insert_at, insert_in, inserts_before, inserts_in, rows_before, rows_in}
+use Rattle.snb_workers_replay.specs.Replay.{IsAfter, IsGraphBefore, finished_insert, insert_at, insert_in, inserts_before, inserts_in, rows_before, rows_in}
 use Rattle.snb_workers_replay.proofs.Updates.{step_at, update_at}
 pub use Rattle.snb_workers_replay.proofs.Agreement.{same_gain}
 use Rattle.snb_base.proofs.Laws.{at_contains}
@@ -34,10 +35,10 @@ insert_has_line plan k op of inserts =
     subst HasLine found.2 (line.0, found.0.line.t, found.0.line.t_d, line.1)
 
 -- the line whose insert an operation of a plan does is some text's
-pub work_is_of_line : (plan : Plan) (k : ℕ) (o : Operation) (line : Line) → IsOfStreams plan → slice_get plan.operations k ≡ Some o → o.work ≡ Insert line → IsOfLine line
+pub work_is_of_line : (plan : Plan) (k : ℕ) (o : Operation) (line : Line) → IsOfStreams plan → slice_get plan.operations k ≡ Some o → o.work ≡ InsertWork line → IsOfLine line
 work_is_of_line plan k o line of here does = by ((of.is_plan.numbered.those o).0 (at_contains plan.operations k o here))
   where
-    at_place : (p : Placed) → IsLineOf of.lanes p → IsOfLine p.line
+    at_place : (p : PlacedLine) → IsLineHere of.lanes p → IsOfLine p.line
     at_place p stands =
         let lines : All (λ (lines : List Line). All IsOfLine lines) (numbered_lanes of.lanes) =
         All-append (λ (lines : List Line). All IsOfLine lines) of.lanes.persons of.lanes.forums (λ i d lt. (of.streams.persons i d lt).of_lines) (λ i d lt. (of.streams.forums i d lt).of_lines) in
@@ -45,7 +46,7 @@ work_is_of_line plan k o line of here does = by ((of.is_plan.numbered.those o).0
 
     by : IsUpdate of.lanes of.ratio (first_t plan.operations) of.is_plan.updates o ⊎ IsRead of.lanes of.lists of.ratio (first_t plan.operations) of.is_plan.updates of.is_plan.reads o → IsOfLine line
     by (inl (p, c, same)) =
-        let both : Insert p.line ≡ Insert line = sym (ap (λ (x : Operation). x.work) same) ∙ does in
+        let both : InsertWork p.line ≡ InsertWork line = sym (ap (λ (x : Operation). x.work) same) ∙ does in
         let line_same : p.line ≡ line = cc in
         subst IsOfLine line_same (at_place p ((of.is_plan.are_updates.those p).0 c))
     by (inr r) = absurd (let both = sym (ap (λ (x : Operation). x.work) r.is) ∙ does in cc)
@@ -110,22 +111,22 @@ rows_in_turn plan (suc k) =
     ∙ (sym (flat_map-append rows_of (inserts_before plan k) (cons_option (insert_at plan k) [])) ∙ ap (flat_map rows_of) (sym (taken_more plan.operations k))))
 
 -- after an operation that inserts nothing the graph is as it was before it
-pub before_none : (base : List Row) (plan : Plan) (k : ℕ) (graph : List Row) → IsBefore base plan k graph → insert_at plan k ≡ None → IsBefore base plan (k + 1) graph
+pub before_none : (base : List Row) (plan : Plan) (k : ℕ) (graph : List Row) → IsGraphBefore base plan k graph → insert_at plan k ≡ None → IsGraphBefore base plan (k + 1) graph
 before_none base plan k graph before none =
     let after : IsAfter base plan (in_turn k) graph = subst (λ (rows : List Row). HasGained base rows graph) (sym (rows_in_turn plan k)) before in
     rw add-one (subst (λ (rows : List Row). HasGained base rows graph) (rows_in_turn plan (suc k)) (after_none base plan (in_turn k) (Finish k 0 0 0) graph after none))
 
 -- after one that inserts it has gained the insert's rows
-pub before_some : (base : List Row) (plan : Plan) (k : ℕ) (op : Op) (graph new : List Row) → IsBefore base plan k graph → insert_at plan k ≡ Some op → HasGained graph (rows_of op) new
-    → IsBefore base plan (k + 1) new
+pub before_some : (base : List Row) (plan : Plan) (k : ℕ) (op : Op) (graph new : List Row) → IsGraphBefore base plan k graph → insert_at plan k ≡ Some op → HasGained graph (rows_of op) new
+    → IsGraphBefore base plan (k + 1) new
 before_some base plan k op graph new before some gained =
     let after : IsAfter base plan (in_turn k) graph = subst (λ (rows : List Row). HasGained base rows graph) (sym (rows_in_turn plan k)) before in
     rw add-one (subst (λ (rows : List Row). HasGained base rows new) (rows_in_turn plan (suc k)) (after_some base plan (in_turn k) (Finish k 0 0 0) op graph new after some gained))
 
 -- what an operation that does the insert of a line inserts
-pub work_inserts : (plan : Plan) (k : ℕ) (o : Operation) (line : Line) → slice_get plan.operations k ≡ Some o → o.work ≡ Insert line → insert_at plan k ≡ Some line.op
+pub work_inserts : (plan : Plan) (k : ℕ) (o : Operation) (line : Line) → slice_get plan.operations k ≡ Some o → o.work ≡ InsertWork line → insert_at plan k ≡ Some line.op
 work_inserts plan k o line here does = ap insert_in here ∙ ap (λ (w : Work). insert_in (Some (record { step = o.step; work = w; source = o.source }))) does
 
 -- and a read inserts nothing
-pub read_inserts : (plan : Plan) (k : ℕ) (o : Operation) (query : Query) → slice_get plan.operations k ≡ Some o → o.work ≡ Ask query → insert_at plan k ≡ None
+pub read_inserts : (plan : Plan) (k : ℕ) (o : Operation) (query : Query) → slice_get plan.operations k ≡ Some o → o.work ≡ AskWork query → insert_at plan k ≡ None
 read_inserts plan k o query here does = ap insert_in here ∙ ap (λ (w : Work). insert_in (Some (record { step = o.step; work = w; source = o.source }))) does

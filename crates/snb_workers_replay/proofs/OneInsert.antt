@@ -25,12 +25,14 @@ use Rattle.snb_history.specs.Rules.{Fits, IsComplete, IsLegal, Obeys, Rule, V1, 
 use Rattle.snb_history.specs.Schedule.{IsOperation}
 use Rattle.snb_schema.specs.StreamLines.{AreOfStream, IsOfLine}
 use Rattle.snb_schema.specs.TableRows.{IsFieldText, IsTableRow}
-use Rattle.snb_schema.specs.UpdateLines.{kind_of, person_inserts}
+use Rattle.snb_schema.specs.UpdateLines.{person_inserts}
+use Rattle.snb_schema.specs.InsertLines.{kind_of}
 use Rattle.snb_history.proofs.Laws.{IsLegal-nil, IsLegal-push}
 use Rattle.snb_graph_model.specs.Graphs.{HasKey, HoldsKey, IsGraph}
 use Rattle.snb_graph_model.specs.Soundness.{Sound}
 use Rattle.snb_plan.specs.Closed.{IsClosed, IsClosedAt, IsMet, Update}
-use Rattle.snb_plan.specs.Plans.{IsLineOf, IsPlan, IsRead, IsUpdate, Operation, Placed, file_of, lane_of, schedule_of, update_operation, updates_in}
+use Rattle.snb_plan.specs.Plans.{IsPlan, IsRead, IsUpdate, Operation, schedule_of, update_operation, updates_in}
+use Rattle.snb_plan.specs.Merging.{IsLineHere, PlacedLine, file_of, lane_of}
 use Rattle.snb_workers_replay.specs.Laws.{IsReplayed}
 use Rattle.snb_workers_replay.specs.Worked.{city, newcomer, one_insert, one_lane, one_turn, only}
 
@@ -98,8 +100,8 @@ lane_fits = record {
 -- ---- the plan
 
 -- one line stands in the lanes
-these : (lane place : ℕ) (line : Line) → lane < 1 → slice_get (lane_of one_lane lane) place ≡ Some line → ◌≡◌ {A = Placed} only (record { lane = lane; place = place; line = line })
-these zero zero line lt e = ap (λ (x : Line). let p : Placed = record { lane = 0; place = 0; line = x } in p) (same_Some newcomer line e)
+these : (lane place : ℕ) (line : Line) → lane < 1 → slice_get (lane_of one_lane lane) place ≡ Some line → ◌≡◌ {A = PlacedLine} only (record { lane = lane; place = place; line = line })
+these zero zero line lt e = ap (λ (x : Line). let p : PlacedLine = record { lane = 0; place = 0; line = x } in p) (same_Some newcomer line e)
 these zero (suc k) line lt e = absurd cc
 these (suc n) place line lt e = absurd (omega arith)
 
@@ -120,7 +122,7 @@ is_plan = record {
   are_updates = record {
     ordered = λ i j d below lt. absurd (omega arith);
     those = λ p. (
-      λ c. subst (IsLineOf one_lane) (in_one only p c) (record { in_lanes = omega arith; here = refl }),
+      λ c. subst (IsLineHere one_lane) (in_one only p c) (record { in_lanes = omega arith; here = refl }),
       λ is. subst (Contains (only ∷ [])) (these p.lane p.place p.line is.in_lanes is.here) (contains_here only []),
     );
   };

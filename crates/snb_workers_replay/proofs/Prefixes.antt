@@ -11,7 +11,7 @@ use Rattle.snb_history.specs.declared.event.Event.TheVariants.{Start, Finish, Ha
 use Rattle.snb_schema.specs.declared.op.Op.{Op}
 use Rattle.snb_schema.specs.declared.row.Row.{Row}
 use Rattle.snb_schema.specs.Inserts.{rows_of}
-use Rattle.snb_history.specs.Laws.{PrefixIsLegal}
+use Rattle.snb_history.specs.ScheduleLaws.{PrefixIsLegal}
 use Rattle.snb_schema.specs.RowKeys.{slot_of}
 use Rattle.snb_history.specs.Rules.{IsLegal}
 use Rattle.snb_graph_model.specs.Graphs.{HasSlot, IsGraph}

@@ -14,7 +14,8 @@ use Rattle.snb_schema.specs.QueryLists.{QueryLists}
 use Rattle.snb_history.specs.Schedule.{IsOperation, is_dependency, step_of}
 use Rattle.snb_plan.specs.declared.plan.Source.{Source}
 use Rattle.snb_plan.specs.Closed.{IsClosed, IsClosedAt, Update}
-use Rattle.snb_plan.specs.Plans.{Ask, Insert, IsPlan, IsLineOf, IsRead, IsUpdate, Operation, Placed, Plan, Work, file_of, first_t, lane_of, numbered_lanes, schedule_of, update_from, update_operation, updates_in}
+use Rattle.snb_plan.specs.Plans.{AskWork, InsertWork, IsPlan, IsRead, IsUpdate, Operation, Plan, Work, first_t, schedule_of, update_from, update_operation, updates_in}
+use Rattle.snb_plan.specs.Merging.{IsLineHere, PlacedLine, file_of, lane_of, numbered_lanes}
 use Rattle.snb_workers_replay.specs.Replay.{insert_at, insert_in}
 use Rattle.snb_workers_replay.proofs.Lists.{from_front, given_split, in_front}
 use Rattle.snb_plan.proofs.Laws.{step_here}
@@ -61,10 +62,10 @@ closed_at holds plan k u closed at =
 
 inserts_line : (step : Step) (work : Work) (source : Option Source) (u : Update) → update_from step work source ≡ Some u
     → insert_in (Some (record { step = step; work = work; source = source })) ≡ Some u.line.op
-inserts_line step (Insert line) (Some source) u e = ap (λ (v : Update). Some v.line.op) (same_Some _ u e)
-inserts_line step (Insert line) None u e = absurd cc
-inserts_line step (Ask query) (Some source) u e = absurd cc
-inserts_line step (Ask query) None u e = absurd cc
+inserts_line step (InsertWork line) (Some source) u e = ap (λ (v : Update). Some v.line.op) (same_Some _ u e)
+inserts_line step (InsertWork line) None u e = absurd cc
+inserts_line step (AskWork query) (Some source) u e = absurd cc
+inserts_line step (AskWork query) None u e = absurd cc
 
 pub inserts_at : (plan : Plan) (k : ℕ) (u : Update) → IsUpdateAt plan k u → insert_at plan k ≡ Some u.line.op
 inserts_at plan k u at = ap insert_in at.here ∙ inserts_line at.it.step at.it.work at.it.source u at.is
@@ -92,11 +93,11 @@ module _ {lanes : LineLanes} {lists : QueryLists} {frequencies : FrequencyTable}
   IsReadHere o = IsRead lanes lists ratio (first_t plan.operations) is_plan.updates is_plan.reads o
 
   -- the update of a line
-  abbrev of_line : Placed → Update
+  abbrev of_line : PlacedLine → Update
   of_line p = record { lane = p.lane; file = file_of lanes p.lane; line = p.line }
 
   -- and its operation
-  abbrev as_planned : Placed → Operation
+  abbrev as_planned : PlacedLine → Operation
   as_planned p = update_operation lanes ratio (first_t plan.operations) p
 
   -- what is inserted is an update
@@ -113,7 +114,7 @@ module _ {lanes : LineLanes} {lists : QueryLists} {frequencies : FrequencyTable}
       by (Some o) here q = by_kind o here q ((is_plan.numbered.those o).0 (at_contains plan.operations k o here))
 
   -- the step of a line that is planned
-  pub step_planned : (k : ℕ) (o : Operation) (p : Placed) → slice_get plan.operations k ≡ Some o → IsLineOf lanes p → o ≡ as_planned p → IsStepAt lanes plan k (of_line p)
+  pub step_planned : (k : ℕ) (o : Operation) (p : PlacedLine) → slice_get plan.operations k ≡ Some o → IsLineHere lanes p → o ≡ as_planned p → IsStepAt lanes plan k (of_line p)
   step_planned k o p here of same =
       let step : step_of (schedule_of plan) k ≡ (as_planned p).step = step_here plan k o here ∙ ap (λ (x : Operation). x.step) same in
       let within = slice_get_within plan.operations k o here in

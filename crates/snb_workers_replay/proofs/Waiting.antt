@@ -8,7 +8,7 @@ use Rattle.snb_history.specs.Completion.{completion}
 use Rattle.snb_history.specs.Laws.{CompletionWaits}
 use Rattle.snb_history.specs.Rules.{Fits, V5}
 use Rattle.snb_history.specs.Schedule.{is_dependency, step_of}
-use Rattle.snb_plan.specs.Plans.{Insert, IsOfStreams, IsRead, IsUpdate, Operation, Plan, first_t, schedule_of}
+use Rattle.snb_plan.specs.Plans.{InsertWork, IsOfStreams, IsRead, IsUpdate, Operation, Plan, first_t, schedule_of}
 use Rattle.snb_workers_replay.specs.Waiting.{IsInsertOf, RunsWait, StaysBelow, WaitsForAll}
 use Rattle.snb_workers_replay.proofs.Updates.{step_planned}
 use Rattle.snb_base.proofs.Laws.{at_contains}
@@ -25,7 +25,7 @@ is_seen plan k line of (o, here, does) = by ((of.is_plan.numbered.those o).0 (at
   where
     by : IsUpdate of.lanes of.ratio (first_t plan.operations) of.is_plan.updates o ⊎ IsRead of.lanes of.lists of.ratio (first_t plan.operations) of.is_plan.updates of.is_plan.reads o → IsSeen plan k line
     by (inl (p, c, same)) =
-        let both : Insert p.line ≡ Insert line = sym (ap (λ (x : Operation). x.work) same) ∙ does in
+        let both : InsertWork p.line ≡ InsertWork line = sym (ap (λ (x : Operation). x.work) same) ∙ does in
         let line_same : p.line ≡ line = cc in
         let step = step_planned of.is_plan k o p here ((of.is_plan.are_updates.those p).0 c) same in
         subst (IsSeen plan k) line_same (record { t = step.t; t_d = step.t_d; dependency = step.dependency; dependent = step.dependent })

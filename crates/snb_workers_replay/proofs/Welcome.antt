@@ -13,7 +13,7 @@ use Rattle.snb_schema.specs.declared.row.Row.{Row}
 use Rattle.snb_history.specs.declared.step.LaneKind.{LaneKind}
 use Rattle.snb_history.specs.History.{finished, finishes, hand}
 use Rattle.snb_schema.specs.Inserts.{keys_of}
-use Rattle.snb_history.specs.Laws.{PrefixIsLegal}
+use Rattle.snb_history.specs.ScheduleLaws.{PrefixIsLegal}
 use Rattle.snb_schema.specs.References.{added_node, refs_of}
 use Rattle.snb_schema.specs.RowKeys.{named_key, node_key}
 use Rattle.snb_history.specs.Rules.{Fits, IsLegal, V5, V7}
@@ -21,7 +21,8 @@ use Rattle.snb_history.specs.Schedule.{IsInForum, Schedule, step_of}
 use Rattle.snb_history.proofs.Laws.{forum_goes_in_turn, hand_has_start, keeps_legal}
 use Rattle.snb_graph_model.specs.Graphs.{HoldsKey}
 use Rattle.snb_plan.specs.Closed.{IsMet, Update}
-use Rattle.snb_plan.specs.Plans.{Plan, kinds_of, schedule_of, updates_in}
+use Rattle.snb_plan.specs.Plans.{Plan, schedule_of, updates_in}
+use Rattle.snb_plan.specs.Merging.{kinds_of}
 use Rattle.snb_inserts.specs.Applying.{IsThere, IsWelcome}
 use Rattle.snb_workers_replay.specs.Laws.{IsReplayed, WelcomeInTurn}
 use Rattle.snb_workers_replay.specs.Replay.{IsAfter, finished_insert}

@@ -1,4 +1,5 @@
--- What a graph is after a history of a plan: the inserts that are finished, in the order of their Finish events.
+-- What a graph is after a history of a plan: the inserts that are finished, in the order of their
+-- Finish events.
 use Rattle.std.specs.Prelude.{ℕ, List, Option, Some, None, filter_map, slice_get, take}
 use Rattle.std.specs.List.{flat_map}
 use Rattle.snb_history.specs.declared.event.Event.{Event}
@@ -7,7 +8,7 @@ use Rattle.snb_schema.specs.declared.op.Op.{Op}
 use Rattle.snb_schema.specs.declared.row.Row.{Row}
 use Rattle.snb_schema.specs.Inserts.{rows_of}
 use Rattle.snb_graph_model.specs.Graphs.{HasGained}
-use Rattle.snb_plan.specs.Plans.{Ask, Insert, Operation, Plan, Work}
+use Rattle.snb_plan.specs.Plans.{AskWork, InsertWork, Operation, Plan, Work}
 
 -- what an operation inserts, where there is one and it is an update
 abbrev pub insert_in : Option Operation → Option Op
@@ -15,8 +16,8 @@ insert_in None = None
 insert_in (Some o) = insert_of o.work
   where
     insert_of : Work → Option Op
-    insert_of (Insert line) = Some line.op
-    insert_of (Ask query) = None
+    insert_of (InsertWork line) = Some line.op
+    insert_of (AskWork query) = None
 
 -- what the operation of a number inserts
 abbrev pub insert_at : Plan → ℕ → Option Op
@@ -61,5 +62,5 @@ abbrev pub IsFinal : List Row → Plan → List Row → Type 0
 IsFinal base plan graph = HasGained base (all_rows plan) graph
 
 -- the graph has the rows of the base, and those of each insert of smaller number than this
-abbrev pub IsBefore : List Row → Plan → ℕ → List Row → Type 0
-IsBefore base plan k graph = HasGained base (rows_before plan k) graph
+abbrev pub IsGraphBefore : List Row → Plan → ℕ → List Row → Type 0
+IsGraphBefore base plan k graph = HasGained base (rows_before plan k) graph

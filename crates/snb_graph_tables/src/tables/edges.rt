@@ -23,7 +23,9 @@ impl Tables {
     /// The condition: the table is one of edges.
     pub fn edge(&self, table: Table, first: u64, second: u64) -> Option<u64>
         requires { IsOfEdges table }
-        ensures found { IfSome result (λ n. (row_key (edge_row (table, first, second, []) n) ≡ (table, first, second, [])) × Contains self.now.rows (edge_row (table, first, second, []) n)) }
+        ensures found { IfSome result
+            (λ n. (row_key (edge_row (table, first, second, []) n) ≡ (table, first, second, []))
+            × Contains self.now.rows (edge_row (table, first, second, []) n)) }
         ensures held { IsSome result ↔ HasKey self.now.rows (table, first, second, []) }
     {
         self.edges
@@ -113,7 +115,8 @@ impl Tables {
         requires held { HasKey self.old.rows (edge_name key) }
         requires free { ¬ HasKey self.old.frozen (edge_name key) }
         requires edge { IsOfEdges key.table }
-        ensures gone { (r : Row) → Contains self.old.rows r → row_key r ≡ edge_name key → HasGivenBack self.old.rows r self.new.rows }
+        ensures gone { (r : Row) → Contains self.old.rows r → row_key r ≡ edge_name key
+            → HasGivenBack self.old.rows r self.new.rows }
         ensures frozen { self.new.frozen ≡ self.old.frozen }
     {
         self.edges.take_back(&key);

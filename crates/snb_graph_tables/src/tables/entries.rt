@@ -112,7 +112,8 @@ impl Tables {
         requires fits { IsName name }
         requires held { HasKey self.old.rows (name_key name) }
         requires free { ¬ HasKey self.old.frozen (name_key name) }
-        ensures gone { (r : Row) → Contains self.old.rows r → row_key r ≡ name_key name → HasGivenBack self.old.rows r self.new.rows }
+        ensures gone { (r : Row) → Contains self.old.rows r → row_key r ≡ name_key name
+            → HasGivenBack self.old.rows r self.new.rows }
         ensures frozen { self.new.frozen ≡ self.old.frozen }
     {
         match name {

@@ -110,7 +110,8 @@ impl Tables {
     pub(super) fn take_node(&mut self, kind: Kind, id: u64)
         requires held { HasKey self.old.rows (node_key kind id) }
         requires free { ¬ HasKey self.old.frozen (node_key kind id) }
-        ensures gone { (r : Row) → Contains self.old.rows r → row_key r ≡ node_key kind id → HasGivenBack self.old.rows r self.new.rows }
+        ensures gone { (r : Row) → Contains self.old.rows r → row_key r ≡ node_key kind id
+            → HasGivenBack self.old.rows r self.new.rows }
         ensures frozen { self.new.frozen ≡ self.old.frozen }
     {
         match kind {

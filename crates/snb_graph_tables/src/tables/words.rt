@@ -32,7 +32,8 @@ impl Tables {
     pub(super) fn words_of(&self, table: Table, from: u64, end: u64) -> Walk<'_, WordKey, Mark>
         requires shape { shape table ≡ shapes.Word }
         requires rises { from ≤ end }
-        ensures rows { rows_by (entry_row word_name word_row) result ≡ filter (λ r. is_from from end (row_key r).1) (rows self.now.rows table) }
+        ensures rows { rows_by (entry_row word_name word_row) result
+            ≡ filter (λ r. is_from from end (row_key r).1) (rows self.now.rows table) }
         ensures few { length result < 2 ^ 63 }
     {
         let first = WordKey {
@@ -89,7 +90,8 @@ impl Tables {
         requires held { HasKey self.old.rows (word_name key) }
         requires free { ¬ HasKey self.old.frozen (word_name key) }
         requires word { part_of (shape key.table) ≡ 9 }
-        ensures gone { (r : Row) → Contains self.old.rows r → row_key r ≡ word_name key → HasGivenBack self.old.rows r self.new.rows }
+        ensures gone { (r : Row) → Contains self.old.rows r → row_key r ≡ word_name key
+            → HasGivenBack self.old.rows r self.new.rows }
         ensures frozen { self.new.frozen ≡ self.old.frozen }
     {
         self.words.take_back(&key);

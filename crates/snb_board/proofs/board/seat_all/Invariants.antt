@@ -1,7 +1,7 @@
 use Rattle.std.proofs.Common.{◌≡◌, ℕ, suc, ◌+◌, ◌<◌, [], ◌∷◌, length, Some}
 use Rattle.std.specs.Prelude.{slice_get}
 use Rattle.snb_board.specs.declared.view.Phase.TheVariants.{Idle}
-use Rattle.snb_board.specs.Views.{viewing, part}
+use Rattle.snb_board.specs.Parts.{viewing, part}
 use Rattle.snb_board.specs.Boards.{site, sitting, time_below}
 use Rattle.snb_board.proofs.board.seat_all.Given as goal
 

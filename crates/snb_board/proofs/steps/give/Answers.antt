@@ -1,6 +1,6 @@
 use Rattle.std.proofs.Common.{rules, refl, sym, subst, ◌∙◌}
 use Rattle.snb_board.specs.Steps.{IsSeated, Grew}
-use Rattle.snb_board.specs.Views.{seen_of, number_of}
+use Rattle.snb_board.specs.Parts.{seen_of, number_of}
 use Rattle.snb_board.proofs.Keeps.{passing}
 use Rattle.snb_board.proofs.Turns.{Told, told_raised, told_plain, told_slot, ready_filled, ready_single, ready_slot, ready_passed}
 use Rattle.snb_board.proofs.steps.give.Goals.{then-grew, else-grew}

@@ -3,7 +3,8 @@ use Rattle.atomic_table.specs.Table.{rest}
 use Rattle.snb_history.specs.declared.event.Event.{Event}
 use Rattle.snb_book.specs.Kept.{Kept}
 use Rattle.std.specs.Prelude.{Err, None}
-use Rattle.snb_board.specs.Views.{Sat, reached, seen_of}
+use Rattle.snb_board.specs.Views.{Sat}
+use Rattle.snb_board.specs.Parts.{reached, seen_of}
 use Rattle.snb_board.proofs.Keeps.{counting_as, raising}
 use Rattle.snb_board.proofs.Turns.{put_back_is, counted_is, counted_single, raised_is}
 use Rattle.snb_board.proofs.Events.{some_event}

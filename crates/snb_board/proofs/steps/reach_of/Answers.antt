@@ -1,7 +1,7 @@
 use Rattle.std.proofs.Common.{◌≡◌, ℕ, ◌+◌, ap, sym, subst, ◌∙◌, w64, FitsSigned, to_z, of_z, rules}
 use Rattle.std.specs.Prelude.{ℤ, pos, ◌+ℤ◌}
 use Rattle.std.proofs.lemmas.Int.{to_z-of_z}
-use Rattle.snb_board.specs.Views.{reached}
+use Rattle.snb_board.specs.Parts.{reached}
 use Rattle.snb_board.proofs.Events.{reached-small}
 use Rattle.snb_board.proofs.steps.reach_of.Goals as goal
 use Rattle.snb_book.proofs.Laws.{next_time, time_fits}

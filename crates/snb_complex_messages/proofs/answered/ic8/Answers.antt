@@ -4,8 +4,8 @@ use Rattle.std.proofs.lemmas.Result.{IfOk-weaker}
 use Rattle.std.specs.List.Sorted.{IsPermutation}
 use Rattle.snb_graph_links.specs.Pairs.{rest}
 use Rattle.snb_graph_model.specs.Around.{messages, replies}
-use Rattle.snb_read_model.specs.ComplexReads.{IsAnswered}
-use Rattle.snb_read_model.specs.Order.{Falling, First, Rising}
+use Rattle.snb_read_model.specs.MessageReads.{ShowsReply}
+use Rattle.snb_read_model.specs.Order.{Falling, FirstRows, Rising}
 use Rattle.snb_read_lookups.proofs.Laws.{answers_moved}
 use Rattle.snb_complex_messages.proofs.Moves.{joined_done, joined_next}
 use Rattle.snb_complex_messages.proofs.ReplyLemmas.{all_replied}
@@ -32,4 +32,4 @@ returns c =
     let g = c.args.graph.now in
     let moves = joined_done (λ (m : ℕ × ℕ). replies g m.0) (messages g c.args.person) _ _ _ c.in-None.ensures.steps.0
     (subst (λ w. IsPermutation (messages g c.args.person) (rest w)) (sym c.into_iter-message-iterator.ensures.into_iter_gives) c.messages-message-items.ensures.same) c.loop-message.invariant in
-    IfOk-weaker c.latest_replies.result _ _ (λ a is. answers_moved (IsAnswered g) (Falling 4 ∷ Rising 5 ∷ []) (First 20) _ _ a moves is) c.latest_replies.ensures
+    IfOk-weaker c.latest_replies.result _ _ (λ a is. answers_moved (ShowsReply g) (Falling 4 ∷ Rising 5 ∷ []) (FirstRows 20) _ _ a moves is) c.latest_replies.ensures

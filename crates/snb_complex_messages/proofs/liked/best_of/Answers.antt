@@ -1,6 +1,6 @@
 use Rattle.std.proofs.Common.{◌≡◌, ◌+◌, true, false, rules, arith, get_or, sym, subst}
 use Rattle.std.proofs.lemmas.List.{get_or_default}
-use Rattle.snb_read_model.specs.ComplexReads.{beats}
+use Rattle.snb_read_model.specs.MessageReads.{beats}
 use Rattle.snb_read_model.specs.declared.like.Like.{Like}
 use Rattle.snb_complex_messages.proofs.Heads.{IsChoosing, begins, first_item, next_kept, next_left}
 use Rattle.snb_complex_messages.proofs.liked.best_of.Goals as goal

@@ -5,8 +5,8 @@ use Rattle.std.specs.List.Sorted.{IsPermutation, IsSorted}
 use Rattle.snb_graph_links.specs.Pairs.{rest}
 use Rattle.snb_read_order.proofs.Laws.{compares}
 use Rattle.snb_graph_model.specs.Around.{likes, messages}
-use Rattle.snb_read_model.specs.ComplexReads.{IsLiked, best_likes, liked}
-use Rattle.snb_read_model.specs.Order.{Falling, First, Rising}
+use Rattle.snb_read_model.specs.MessageReads.{IsLiked, best_likes, liked}
+use Rattle.snb_read_model.specs.Order.{Falling, FirstRows, Rising}
 use Rattle.snb_read_lookups.proofs.Laws.{answers_moved}
 use Rattle.snb_complex_messages.proofs.Heads.{weigh_total}
 use Rattle.snb_complex_messages.proofs.LikeLemmas.{best_found, best_moved}
@@ -42,4 +42,4 @@ returns c =
     (subst (λ w. IsPermutation (messages g c.args.person) (rest w)) (sym c.into_iter-message-iterator.ensures.into_iter_gives) c.messages-message-items.ensures.same) c.loop-message.invariant in
     let ordered = ordered_moved weigh _ _ (c.in_order-ordered.ensures weigh weigh_total (compares _ _ weigh (λ a r q k. search rules))) in
     let best = best_moved (liked g c.args.person) _ _ (IsPermutation-trans _ _ _ moves ordered) (rw c.deref.ensures.value at c.in_ok-best.ensures) in
-    IfOk-weaker c.latest_likes.result _ _ (λ a is. answers_moved (IsLiked g c.args.person) (Falling 4 ∷ Rising 1 ∷ []) (First 20) _ _ a best is) c.latest_likes.ensures
+    IfOk-weaker c.latest_likes.result _ _ (λ a is. answers_moved (IsLiked g c.args.person) (Falling 4 ∷ Rising 1 ∷ []) (FirstRows 20) _ _ a best is) c.latest_likes.ensures

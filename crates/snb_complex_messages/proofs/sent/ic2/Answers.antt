@@ -4,8 +4,8 @@ use Rattle.std.proofs.lemmas.Result.{IfOk-weaker}
 use Rattle.std.specs.List.Sorted.{IsPermutation}
 use Rattle.snb_graph_links.specs.Pairs.{rest}
 use Rattle.snb_graph_model.specs.Around.{friends}
-use Rattle.snb_read_model.specs.ComplexReads.{IsSent, latest}
-use Rattle.snb_read_model.specs.Order.{First}
+use Rattle.snb_read_model.specs.MessageReads.{IsSent, newest_first}
+use Rattle.snb_read_model.specs.Order.{FirstRows}
 use Rattle.snb_read_lookups.proofs.Laws.{answers_moved, friends_found}
 use Rattle.snb_complex_messages.proofs.Moves.{joined_done, joined_next}
 use Rattle.snb_complex_messages.proofs.SentLemmas.{all_sent}
@@ -40,4 +40,4 @@ returns c =
     let same = joined_done (λ p. sent_by g (λ date. nat_le date c.args.max_date) p.0) (friends g c.args.person) _ _ _ c.in-None.ensures.steps.0
     (subst (λ w. IsPermutation (friends g c.args.person) (rest w)) (sym c.into_iter-friend-iterator.ensures.into_iter_gives) c.friends-friend-items.ensures.same) moves in
     let all = All-permutation (IsSentFound g) _ _ same (all_sent g c.known.ensures c.sound_graphs.ensures.numbers (λ date. nat_le date c.args.max_date) (friends g c.args.person) (friends_found g c.known.ensures c.sound_graphs.ensures.numbers c.requires.sound.held c.args.person)) in
-    IfOk-weaker c.latest_sent.result _ _ (λ a is. answers_moved (IsSent g) latest (First 20) _ _ a same (is found are all)) c.latest_sent.ensures
+    IfOk-weaker c.latest_sent.result _ _ (λ a is. answers_moved (IsSent g) newest_first (FirstRows 20) _ _ a same (is found are all)) c.latest_sent.ensures

@@ -1,8 +1,8 @@
 use Rattle.std.proofs.Common.{[], nat_lt, rules}
 use Rattle.std.proofs.lemmas.List.Sorted.{All-permutation, IsPermutation-refl}
 use Rattle.std.proofs.lemmas.Result.{IfOk-weaker}
-use Rattle.snb_read_model.specs.ComplexReads.{IsSent, latest}
-use Rattle.snb_read_model.specs.Order.{First}
+use Rattle.snb_read_model.specs.MessageReads.{IsSent, newest_first}
+use Rattle.snb_read_model.specs.Order.{FirstRows}
 use Rattle.snb_read_lookups.proofs.Laws.{answers_moved, near_found}
 use Rattle.snb_complex_messages.proofs.Moves.{joined_all, joined_more}
 use Rattle.snb_complex_messages.proofs.SentLemmas.{all_sent}
@@ -35,4 +35,4 @@ returns c =
     let (found, are, moves) = c.loop-one.invariant in
     let same = joined_all (λ p. sent_by g (λ date. nat_lt date c.args.max_date) p.0) c.in_ok-near.near _ c.loop-one.one-index found c.as_slice-one-items.ensures c.loop-one-test.false moves in
     let all = All-permutation (IsSentFound g) _ _ same (all_sent g c.known.ensures c.sound_graphs.ensures.numbers (λ date. nat_lt date c.args.max_date) c.in_ok-near.near (near_found g c.args.person 2 c.in_ok-near.near c.in_ok-near.ensures)) in
-    IfOk-weaker c.latest_sent.result _ _ (λ a is. record { near = c.in_ok-near.near; within = c.in_ok-near.ensures; answers = answers_moved (IsSent g) latest (First 20) _ _ a same (is found are all) }) c.latest_sent.ensures
+    IfOk-weaker c.latest_sent.result _ _ (λ a is. record { near = c.in_ok-near.near; within = c.in_ok-near.ensures; answers = answers_moved (IsSent g) newest_first (FirstRows 20) _ _ a same (is found are all) }) c.latest_sent.ensures

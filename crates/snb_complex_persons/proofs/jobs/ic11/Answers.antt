@@ -3,7 +3,7 @@ use Rattle.std.proofs.lemmas.List.Elements.{All-get_or, All-same}
 use Rattle.std.proofs.lemmas.Result.{IfOk-weaker}
 use Rattle.snb_read_model.specs.ComplexReads.{IsJob}
 use Rattle.snb_read_model.specs.Distance.{IsPerson}
-use Rattle.snb_read_model.specs.Order.{Answers, Falling, First, Rising}
+use Rattle.snb_read_model.specs.Order.{ReadAnswers, Falling, FirstRows, Rising}
 use Rattle.snb_read_lookups.proofs.Laws.{near_found}
 use Rattle.snb_complex_persons.proofs.JobLemmas.{jobs_all, jobs_more, jobs_none, none_seen}
 use Rattle.snb_complex_persons.specs.Jobs.{jobs_by}
@@ -37,5 +37,5 @@ returns c =
     IfOk-weaker c.first_jobs.result _ _ (λ a is. record {
       near = c.in_ok-near.near;
       within = c.in_ok-near.ensures;
-      answers = subst (λ l. Answers l (IsJob g) (Rising 5 ∷ Rising 1 ∷ Falling 4 ∷ []) (First 10) a) are.same is;
+      answers = subst (λ l. ReadAnswers l (IsJob g) (Rising 5 ∷ Rising 1 ∷ Falling 4 ∷ []) (FirstRows 10) a) are.same is;
     }) c.first_jobs.ensures

@@ -2,7 +2,7 @@ use Rattle.std.proofs.Common.{rules, refl}
 use Rattle.std.proofs.lemmas.List.Sorted.{IsPermutation-refl}
 use Rattle.std.proofs.lemmas.Result.{IfOk-weaker}
 use Rattle.snb_read_order.proofs.Laws.{compares, walked}
-use Rattle.snb_read_model.specs.Order.{First}
+use Rattle.snb_read_model.specs.Order.{FirstRows}
 use Rattle.snb_complex_persons.proofs.NamesakeLemmas.{namesake_answers, namesakes_first, namesakes_total}
 use Rattle.snb_complex_persons.specs.Namesakes.{IsNamesakeFound, namesake_of}
 use Rattle.snb_read_model.specs.ComplexReads.{IsNamesake}
@@ -12,7 +12,7 @@ use Rattle.snb_base.proofs.Laws.{each_at, each_made}
 pub list_of-requires : goal.list_of-requires
 list_of-requires c =
     let each = each_at (IsNamesakeFound c.args.graph.now) _
-    (walked (IsNamesakeFound c.args.graph.now) namesakes_first (First 20) _ _ _ _ _ c.requires.found (IsPermutation-refl _) refl
+    (walked (IsNamesakeFound c.args.graph.now) namesakes_first (FirstRows 20) _ _ _ _ _ c.requires.found (IsPermutation-refl _) refl
     (c.first_of-first.ensures namesakes_first namesakes_total (compares _ _ namesakes_first (λ a r q k. search rules))) c.as_slice.ensures.value) in
     search (rules, each)
 

@@ -4,7 +4,7 @@ use Rattle.std.proofs.lemmas.List.Elements.{All-same}
 use Rattle.std.proofs.lemmas.Result.{IfOk-weaker}
 use Rattle.std.specs.List.{filter}
 use Rattle.snb_read_model.specs.ComplexReads.{IsNamesake, is_named}
-use Rattle.snb_read_model.specs.Order.{Answers, First, Rising}
+use Rattle.snb_read_model.specs.Order.{ReadAnswers, FirstRows, Rising}
 use Rattle.snb_complex_persons.proofs.NamesakeLemmas.{near_is}
 use Rattle.snb_complex_persons.proofs.NearFirst.{near_first}
 use Rattle.snb_complex_persons.specs.Namesakes.{AreNamesakes, IsNearFound, namesake_of}
@@ -20,7 +20,7 @@ returns-then-count-len c =
     IfOk-weaker c.first_namesakes.result _ _ (λ a is. record {
       near = are.near;
       within = are.within;
-      answers = subst (λ l. Answers l (IsNamesake g) (Rising 3 ∷ Rising 2 ∷ Rising 1 ∷ []) (First 20) a) are.are.same is;
+      answers = subst (λ l. ReadAnswers l (IsNamesake g) (Rising 3 ∷ Rising 2 ∷ Rising 1 ∷ []) (FirstRows 20) a) are.are.same is;
     }) c.first_namesakes.ensures
 
 pub named-requires : goal.named-requires
@@ -39,7 +39,7 @@ returns-then-enough-len c =
     IfOk-weaker c.first_namesakes-then-enough-len.result _ _ (λ a is.
     near_first g c.known.ensures c.requires.sound c.sound_graphs.ensures.required c.first_is_some.ensures c.first_is_some-2.ensures c.first_is_some-3.ensures c.args.person c.args.first_name.now near a (c.in_ok-near.ensures g c.args.person 2 c.in_ok-met.ensures)
     (subst (λ l. 20 ≤ length l) are.same (omega (arith, c.if-enough-len.true, c.len.ensures, same, long)))
-    (subst (λ l. Answers l (IsNamesake g) (Rising 3 ∷ Rising 2 ∷ Rising 1 ∷ []) (First 20) a) are.same is)) c.first_namesakes-then-enough-len.ensures
+    (subst (λ l. ReadAnswers l (IsNamesake g) (Rising 3 ∷ Rising 2 ∷ Rising 1 ∷ []) (FirstRows 20) a) are.same is)) c.first_namesakes-then-enough-len.ensures
 
 pub returns : goal.returns
 returns c =
@@ -48,5 +48,5 @@ returns c =
     IfOk-weaker c.first_namesakes-2.result _ _ (λ a is. record {
       near = are.near;
       within = are.within;
-      answers = subst (λ l. Answers l (IsNamesake g) (Rising 3 ∷ Rising 2 ∷ Rising 1 ∷ []) (First 20) a) are.are.same is;
+      answers = subst (λ l. ReadAnswers l (IsNamesake g) (Rising 3 ∷ Rising 2 ∷ Rising 1 ∷ []) (FirstRows 20) a) are.are.same is;
     }) c.first_namesakes-2.ensures

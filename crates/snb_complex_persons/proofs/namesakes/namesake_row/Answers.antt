@@ -3,7 +3,7 @@ use Rattle.std.specs.Cmp.Lexicographic.{slice_cmp}
 use Rattle.std.specs.List.{All}
 use Rattle.std.specs.Ordering.{nat_cmp}
 use Rattle.snb_read_model.specs.ComplexReads.{AreStays}
-use Rattle.snb_read_model.specs.Order.{FirstOf, Whole}
+use Rattle.snb_read_model.specs.Order.{SortedAndCut, AllRows}
 use Rattle.snb_complex_persons.proofs.NamesakeLemmas.{city_place}
 use Rattle.snb_complex_persons.proofs.StayLemmas.{emails_are, languages_are, study_found, work_found}
 use Rattle.snb_complex_persons.specs.Stays.{IsStayFound}
@@ -34,9 +34,9 @@ returns c =
       place = c.place-home.result.now;
       there = c.place-home.ensures;
       emails = c.in_ok-emails.emails;
-      mails = subst (λ l. FirstOf (slice_cmp nat_cmp) Whole l c.in_ok-emails.emails) (c.words.ensures ∙ emails_are g c.known.ensures id) c.in_ok-emails.ensures;
+      mails = subst (λ l. SortedAndCut (slice_cmp nat_cmp) AllRows l c.in_ok-emails.emails) (c.words.ensures ∙ emails_are g c.known.ensures id) c.in_ok-emails.ensures;
       languages = c.in_ok-languages.languages;
-      speaks = subst (λ l. FirstOf (slice_cmp nat_cmp) Whole l c.in_ok-languages.languages) (c.words-2.ensures ∙ languages_are g c.known.ensures id) c.in_ok-languages.ensures;
+      speaks = subst (λ l. SortedAndCut (slice_cmp nat_cmp) AllRows l c.in_ok-languages.languages) (c.words-2.ensures ∙ languages_are g c.known.ensures id) c.in_ok-languages.ensures;
       universities = c.in_ok-universities.universities;
       studied = subst (λ l. AreStays g l c.in_ok-universities.universities) c.study.ensures c.in_ok-universities.ensures;
       companies = c.in_ok-companies.companies;

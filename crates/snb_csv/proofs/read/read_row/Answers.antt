@@ -1,7 +1,7 @@
 use Rattle.std.proofs.Common.{◌∙◌, List, ℕ, ap, length, refl, subst, sym}
 use Rattle.snb_schema.specs.declared.column.Column.{Column}
 use Rattle.snb_schema.specs.Layouts.{shape}
-use Rattle.snb_schema.specs.RowLines.{IsWide}
+use Rattle.snb_schema.specs.RowValues.{IsWide}
 use Rattle.snb_input_fields.specs.Reading.{Reading}
 use Rattle.snb_csv.specs.Make.{IsMadeOf}
 use Rattle.snb_csv.proofs.RowFacts.{answers_friends, spells_made}

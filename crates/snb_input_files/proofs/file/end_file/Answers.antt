@@ -5,7 +5,8 @@ use Rattle.snb_input_lines.specs.Language.{Fits}
 use Rattle.snb_input_lines.specs.Sinks.{Runs}
 use Rattle.snb_base.specs.FirstOf.{FirstOf}
 use Rattle.snb_input_files.specs.Format.{format_in}
-use Rattle.snb_input_files.specs.Places.{file_checks, opening}
+use Rattle.snb_input_files.specs.Places.{opening}
+use Rattle.snb_input_files.specs.PlaceChecks.{file_checks}
 use Rattle.snb_input_files.proofs.Going.{at_grammar, end_bad, end_err, end_ok, few_rows, on_bad_more}
 use Rattle.snb_input_files.proofs.file.end_file.Goals as goal
 

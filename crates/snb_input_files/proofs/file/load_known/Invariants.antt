@@ -1,5 +1,5 @@
 use Rattle.std.proofs.Common.{◌≡◌, ◌-◌, ◌≤◌, ◌<◌, length, None, false}
-use Rattle.snb_base.specs.Reads.{IsRead}
+use Rattle.snb_base.specs.Reads.{IsShelfRead}
 use Rattle.snb_input_files.specs.Format.{format_in}
 use Rattle.snb_input_files.proofs.Going.{Going, first}
 use Rattle.snb_input_files.proofs.file.load_known.Given as goal
@@ -16,7 +16,7 @@ invariant-pieces g l = record {
   goes_on : l.reader.over ≡ false;
   good : l.reader.fault ≡ None;
   room : 0 < length l.buffer.items;
-  read : IsRead false g.S.Shelf l.fn.shelf l.shelf;
+  read : IsShelfRead false g.S.Shelf l.fn.shelf l.shelf;
 }
 
 abbrev pub decreases-pieces : goal.decreases-pieces

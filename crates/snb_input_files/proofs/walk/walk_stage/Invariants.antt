@@ -1,5 +1,5 @@
 use Rattle.std.proofs.Common.{◌≤◌, [], drop, false}
-use Rattle.snb_base.specs.Reads.{IsRead}
+use Rattle.snb_base.specs.Reads.{IsShelfRead}
 use Rattle.snb_schema.specs.declared.limits.TheConstants.{MAX_BYTES}
 use Rattle.snb_input_lines.specs.Counts.{IsUnder}
 use Rattle.snb_input_files.specs.Format.{format_in}
@@ -15,5 +15,5 @@ invariant-loop-series g l = record {
       → Staged (format_in g.G.Grammar.language g.P.FileSink.stage l.fn.file_sink) (g.P.FileSink.stage.heard l.fn.file_sink) (g.S.Shelf.contents l.fn.shelf) l.folder l.stage (before l.fn.used) (drop l.series-index l.stage) l.so_far;
   bytes : l.so_far.used.bytes ≤ MAX_BYTES;
   rows : IsUnder g.P.FileSink.stage.limit l.so_far.used.rows;
-  read : IsRead false g.S.Shelf l.fn.shelf l.shelf;
+  read : IsShelfRead false g.S.Shelf l.fn.shelf l.shelf;
 }

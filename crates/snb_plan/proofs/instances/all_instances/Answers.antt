@@ -4,7 +4,7 @@ use Rattle.std.proofs.lemmas.List.{take_more}
 use Rattle.std.specs.List.{flat_map}
 use Rattle.snb_schema.specs.QueryPlaces.{complex_queries}
 use Rattle.snb_plan.specs.declared.instances.Instance.{Instance}
-use Rattle.snb_plan.specs.Positions.{instances_of}
+use Rattle.snb_plan.specs.Instances.{instances_of}
 use Rattle.snb_plan.proofs.instances.all_instances.Goals as goal
 
 pub loop-query-preserved : goal.loop-query-preserved

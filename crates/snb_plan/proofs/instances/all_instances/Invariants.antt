@@ -2,7 +2,7 @@
 use Rattle.std.proofs.Common.{◌≡◌, take}
 use Rattle.std.specs.List.{flat_map}
 use Rattle.snb_schema.specs.QueryPlaces.{complex_queries}
-use Rattle.snb_plan.specs.Positions.{instances_of}
+use Rattle.snb_plan.specs.Instances.{instances_of}
 use Rattle.snb_plan.proofs.instances.all_instances.Given as goal
 
 abbrev pub invariant-loop-query : goal.invariant-loop-query

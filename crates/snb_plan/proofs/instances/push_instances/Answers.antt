@@ -2,7 +2,7 @@ use Rattle.std.proofs.Common.{◌∙◌, ◌++◌, ◌∷◌, [], List, ap, sym,
 use Rattle.std.specs.List.{range_with_len}
 use Rattle.std.proofs.lemmas.List.FromFn.{map-range_with_len_more}
 use Rattle.snb_plan.specs.declared.instances.Instance.{Instance}
-use Rattle.snb_plan.specs.Positions.{instance_of}
+use Rattle.snb_plan.specs.Instances.{instance_of}
 use Rattle.snb_plan.proofs.instances.push_instances.Goals as goal
 
 pub loop-k-preserved : goal.loop-k-preserved

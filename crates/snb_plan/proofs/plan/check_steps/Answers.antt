@@ -5,7 +5,7 @@ use Rattle.std.proofs.lemmas.List.{take_all}
 use Rattle.snb_history.specs.declared.step.Step.{Step}
 use Rattle.snb_plan.specs.Added.{update_of}
 use Rattle.snb_plan.specs.Closed.{Update}
-use Rattle.snb_plan.specs.Positions.{updates_at}
+use Rattle.snb_plan.specs.Scheduled.{updates_at}
 use Rattle.snb_plan.proofs.ClosedLemmas.{Stands, stands_none}
 use Rattle.snb_plan.proofs.Walking.{Follows, closed_end, follows_at, more_read, more_update, stands_more, tried, updates_rise, wrong_next}
 use Rattle.snb_plan.proofs.plan.check_steps.Goals.{then-not-step+in_ok-check_update, else-not-step}

@@ -1,6 +1,6 @@
 -- The updates so far are closed, and what they add is kept.
 use Rattle.std.proofs.Common.{take}
-use Rattle.snb_plan.specs.Positions.{updates_at}
+use Rattle.snb_plan.specs.Scheduled.{updates_at}
 use Rattle.snb_plan.proofs.ClosedLemmas.{Stands}
 use Rattle.snb_plan.proofs.plan.check_steps.Given as goal
 

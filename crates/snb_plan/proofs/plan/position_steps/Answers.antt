@@ -4,7 +4,8 @@ use Rattle.std.proofs.lemmas.List.{map_more}
 use Rattle.std.proofs.lemmas.List.Elements.{All-push}
 use Rattle.snb_schema.specs.declared.limits.TheConstants.{MAX_AT}
 use Rattle.snb_history.specs.declared.step.Step.{Step}
-use Rattle.snb_plan.specs.Positions.{no_position, position_step, position_t}
+use Rattle.snb_plan.specs.Positions.{position_step, position_t}
+use Rattle.snb_plan.specs.Instances.{no_position}
 use Rattle.snb_plan.proofs.plan.position_steps.Goals as goal
 
 pub loop-position-preserved : goal.loop-position-preserved

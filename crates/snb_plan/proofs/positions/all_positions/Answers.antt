@@ -1,8 +1,8 @@
 use Rattle.std.proofs.Common.{◌∙◌, ◌++◌, List, ap, sym, arith, take}
 use Rattle.snb_schema.specs.declared.op.Line.{Line}
 use Rattle.snb_plan.specs.declared.positions.Position.{Position}
-use Rattle.snb_plan.specs.Plans.{numbered_lanes}
-use Rattle.snb_plan.specs.Positions.{all_positions, lane_positions}
+use Rattle.snb_plan.specs.Merging.{numbered_lanes}
+use Rattle.snb_plan.specs.Instances.{all_positions, lane_positions}
 use Rattle.snb_plan.proofs.Positioning.{lanes_next}
 use Rattle.snb_plan.proofs.positions.all_positions.Goals as goal
 

@@ -1,8 +1,9 @@
 use Rattle.std.proofs.Common.{◌≡◌, ◌↔◌, ◌⊎◌, ◌∙◌, ◌++◌, List, ℕ, ap, arith, length, length-append, subst, sym, Contains}
 use Rattle.std.proofs.lemmas.List.Sorted.{length_permutation}
 use Rattle.snb_plan.specs.declared.positions.Position.{Position}
-use Rattle.snb_plan.specs.Plans.{read_lane}
-use Rattle.snb_plan.specs.Positions.{read_positions, IsReadPosition, IsUpdatePosition}
+use Rattle.snb_plan.specs.Merging.{read_lane}
+use Rattle.snb_plan.specs.Positions.{IsReadPosition, IsUpdatePosition}
+use Rattle.snb_plan.specs.Instances.{read_positions}
 use Rattle.snb_plan.proofs.Ordered.{Distinct}
 use Rattle.snb_plan.proofs.Positioning.{both_distinct, both_those, reads_length, positions_sorted}
 use Rattle.snb_plan.proofs.positions.operation_positions.Goals as goal

@@ -1,7 +1,7 @@
 use Rattle.std.proofs.Common.{◌∙◌, ◌++◌, ◌∷◌, [], List, ap, sym, append_assoc, take}
 use Rattle.snb_schema.specs.declared.op.Line.{Line}
 use Rattle.snb_plan.specs.declared.positions.Position.{Position}
-use Rattle.snb_plan.specs.Positions.{lane_positions}
+use Rattle.snb_plan.specs.Instances.{lane_positions}
 use Rattle.snb_plan.proofs.Positioning.{lane_next, position}
 use Rattle.snb_plan.proofs.positions.push_lane.Goals as goal
 

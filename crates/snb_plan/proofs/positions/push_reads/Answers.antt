@@ -1,6 +1,6 @@
 use Rattle.std.proofs.Common.{◌∙◌, ◌-◌, ◌++◌, ◌∷◌, [], List, ℕ, ap, sym, append_assoc, arith, take, get_or}
 use Rattle.snb_plan.specs.declared.positions.Position.{Position}
-use Rattle.snb_plan.specs.Positions.{no_instance, read_positions}
+use Rattle.snb_plan.specs.Instances.{no_instance, read_positions}
 use Rattle.snb_plan.proofs.Positioning.{reads_next, position, with_t}
 use Rattle.snb_plan.proofs.positions.push_reads.Goals as goal
 

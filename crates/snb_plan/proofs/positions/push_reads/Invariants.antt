@@ -1,6 +1,6 @@
 -- The positions of the reads so far are appended.
 use Rattle.std.proofs.Common.{◌≡◌, ◌++◌, take}
-use Rattle.snb_plan.specs.Positions.{read_positions}
+use Rattle.snb_plan.specs.Instances.{read_positions}
 use Rattle.snb_plan.proofs.positions.push_reads.Given as goal
 
 abbrev pub invariant-loop-place : goal.invariant-loop-place

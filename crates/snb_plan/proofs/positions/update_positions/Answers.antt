@@ -1,7 +1,7 @@
 use Rattle.std.proofs.Common.{◌↔◌, ◌∙◌, List, ap, length, subst, sym, Contains}
 use Rattle.std.proofs.lemmas.List.Sorted.{length_permutation}
 use Rattle.snb_plan.specs.declared.positions.Position.{Position}
-use Rattle.snb_plan.specs.Plans.{numbered_lanes}
+use Rattle.snb_plan.specs.Merging.{numbered_lanes}
 use Rattle.snb_plan.specs.Positions.{IsUpdatePosition}
 use Rattle.snb_plan.proofs.Ordered.{Distinct}
 use Rattle.snb_plan.proofs.Positioning.{all_distinct, all_length, all_those, positions_sorted}

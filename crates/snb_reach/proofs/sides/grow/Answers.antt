@@ -2,7 +2,7 @@ use Rattle.std.proofs.Common.{◌≡◌, suc, ◌-◌, Some, arith, get_or, nat_
 use Rattle.std.proofs.lemmas.Bool.{MatchBool-at_false, MatchBool-at_true}
 use Rattle.std.proofs.lemmas.List.Elements.{All-get_or}
 use Rattle.std.specs.HashMap.{get}
-use Rattle.snb_read_model.specs.Distance.{Walk}
+use Rattle.snb_read_model.specs.Distance.{FriendPath}
 use Rattle.snb_reach.proofs.LookLemmas.{all_met, known_more}
 use Rattle.snb_reach.proofs.SideLemmas.{begins, ends_level}
 use Rattle.snb_reach.specs.Sides.{HasMetFriends, IsMeeting}
@@ -21,7 +21,7 @@ loop-person-init c =
 
 pub meet_friends-requires-clause-reached : goal.meet_friends-requires-clause-reached
 meet_friends-requires-clause-reached c =
-    All-get_or (λ q. Walk c.args.graph.now c.args.start q (c.args.level - 1)) c.args.last.now c.loop-person.person-index 0 c.loop-person-test.true c.requires.side.ends
+    All-get_or (λ q. FriendPath c.args.graph.now c.args.start q (c.args.level - 1)) c.args.last.now c.loop-person.person-index 0 c.loop-person-test.true c.requires.side.ends
 
 pub loop-person-preserved : goal.loop-person-preserved
 loop-person-preserved c =

@@ -1,7 +1,7 @@
 use Rattle.std.proofs.Common.{◌≡◌, suc, ◌-◌, Some, arith, nat_eq, sym, subst}
 use Rattle.std.specs.HashMap.{get}
 use Rattle.std.specs.List.Sorted.{IsPermutation}
-use Rattle.snb_read_model.specs.Distance.{Walk}
+use Rattle.snb_read_model.specs.Distance.{FriendPath}
 use Rattle.snb_graph_model.specs.Around.{friends}
 use Rattle.snb_graph_links.specs.Pairs.{rest}
 use Rattle.snb_reach.proofs.LookLemmas.{all_looked, looked, looks}
@@ -41,7 +41,7 @@ returns-then-branch-clause-met c =
     let (knows, known) = c.loop-friend.invariant.looking.friends c.in-Some.friend c.in-Some.field-0-1 (rw c.in-Some.ensures.steps (contains_here (c.in-Some.friend, c.in-Some.field-0-1) (rest c.next.new.self))) in
     record {
       person = c.in-Some.friend;
-      walk = rw up (Walk.step c.args.start c.args.person c.in-Some.friend (c.args.level - 1) c.requires.reached knows known);
+      walk = rw up (FriendPath.step c.args.start c.args.person c.in-Some.friend (c.args.level - 1) c.requires.reached knows known);
       other = (c.loop-friend.invariant.others c.in-Some.friend).0 (met_other c.in-Some.friend c.args.mark (get nat_eq c.loop-friend.met) (get nat_eq c.meet.new.met) c.loop-friend.next.items c.meet.new.next.items c.in_ok-meet.field-0 c.if-branch.true c.in_ok-meet.ensures.met);
     }
 

@@ -1,7 +1,7 @@
 use Rattle.std.proofs.Common.{◌≡◌, ℕ, zero, suc, ◌≤◌, true, refl, arith, inl}
 use Rattle.snb_read_model.proofs.WorkedFacts.{last_step, no_row_has, no_step, walk_end}
 use Rattle.snb_graph_model.specs.Around.{is_friend}
-use Rattle.snb_read_model.specs.Distance.{IsDistance, IsPerson, Walk}
+use Rattle.snb_read_model.specs.Distance.{IsDistance, IsPerson, FriendPath}
 use Rattle.snb_read_model.specs.Worked.{ring}
 use Rattle.snb_read_model.proofs.worked.distances_on_a_ring.Goals as goal
 
@@ -15,7 +15,7 @@ fourteen : IsPerson ring 14
 fourteen = record { it = _; held = (4, omega arith, refl); keyed = refl }
 
 -- 14 is neither 10 nor a friend of 10
-far : (m : ℕ) → Walk ring 10 14 m → 2 ≤ m
+far : (m : ℕ) → FriendPath ring 10 14 m → 2 ≤ m
 far zero w = let same : ◌≡◌ {A = ℕ} 10 14 = no_step ring 10 14 0 w refl in absurd (omega arith)
 far (suc zero) w =
     let (b, here, knows) = last_step ring 10 14 1 w 0 refl in
@@ -26,12 +26,12 @@ far (suc (suc m)) w = omega arith
 
 two : IsDistance ring 10 14 2
 two = record {
-  walk = Walk.step 10 13 14 1 (Walk.step 10 10 13 0 (Walk.stay 10 ten) refl thirteen) refl fourteen;
+  walk = FriendPath.step 10 13 14 1 (FriendPath.step 10 10 13 0 (FriendPath.stay 10 ten) refl thirteen) refl fourteen;
   least = far;
 }
 
 pub returns-clause-own : goal.returns-clause-own
-returns-clause-own c = record { walk = Walk.stay 10 ten; least = λ m w. omega arith }
+returns-clause-own c = record { walk = FriendPath.stay 10 ten; least = λ m w. omega arith }
 
 pub returns-clause-two : goal.returns-clause-two
 returns-clause-two c = two

@@ -1,11 +1,11 @@
 use Rattle.std.proofs.Common.{zero, suc, List, [], ◌∷◌, refl, arith}
 use Rattle.std.specs.List.Sorted.{IsSorted}
-use Rattle.snb_read_model.specs.Cells.{Cell}
+use Rattle.snb_read_model.specs.Cells.{ByteCell}
 use Rattle.snb_read_model.specs.Order.{Falling, Rising, by}
 use Rattle.snb_read_model.specs.Worked.{like_of_bob, like_of_cy, like_of_di}
 use Rattle.snb_read_model.proofs.worked.likes_of_two_posts.Goals as goal
 
-abbrev three : List (List Cell)
+abbrev three : List (List ByteCell)
 three = like_of_cy ∷ like_of_bob ∷ like_of_di ∷ []
 
 in_turn : IsSorted (by (Falling 4 ∷ Rising 1 ∷ [])) three

@@ -2,7 +2,7 @@ use Rattle.std.proofs.Common.{rules, refl}
 use Rattle.std.proofs.lemmas.List.Sorted.{IsPermutation-refl}
 use Rattle.std.proofs.lemmas.Result.{IfOk-weaker}
 use Rattle.snb_read_order.proofs.Laws.{compares, walked}
-use Rattle.snb_read_model.specs.Order.{Whole}
+use Rattle.snb_read_model.specs.Order.{AllRows}
 use Rattle.snb_short_reads.proofs.RowLemmas.{is7_answers, replies_first, replies_total}
 use Rattle.snb_short_reads.specs.Found.{IsReplyFound, without_author}
 use Rattle.snb_read_model.specs.ShortReads.{IsReplyTo}
@@ -12,7 +12,7 @@ use Rattle.snb_base.proofs.Laws.{each_at, each_made}
 pub list_of-requires : goal.list_of-requires
 list_of-requires c =
     let each = each_at (IsReplyFound c.args.graph.now c.args.message) _
-    (walked (IsReplyFound c.args.graph.now c.args.message) replies_first Whole _ _ _ _ _ c.in_ok-found.ensures.each (IsPermutation-refl _) refl
+    (walked (IsReplyFound c.args.graph.now c.args.message) replies_first AllRows _ _ _ _ _ c.in_ok-found.ensures.each (IsPermutation-refl _) refl
     (c.in_order-ordered.ensures replies_first replies_total (compares _ _ replies_first (λ a r q k. search rules))) c.as_slice.ensures.value) in
     search (rules, each)
 

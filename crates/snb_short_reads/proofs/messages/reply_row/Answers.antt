@@ -1,6 +1,7 @@
 use Rattle.std.proofs.Common.{◌≡◌, ◌∷◌, [], rules, subst}
 use Rattle.snb_graph_model.proofs.Laws.{comment_alone}
-use Rattle.snb_graph_model.specs.Around.{comment_shown, comments}
+use Rattle.snb_graph_model.specs.Around.{comments}
+use Rattle.snb_graph_model.specs.RowParts.{comment_shown}
 use Rattle.snb_short_reads.proofs.messages.reply_row.Goals as goal
 
 pub returns : goal.returns

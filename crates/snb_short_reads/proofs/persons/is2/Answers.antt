@@ -5,7 +5,7 @@ use Rattle.std.specs.List.{All, Contains}
 use Rattle.snb_read_order.proofs.Laws.{compares, walked}
 use Rattle.snb_graph_model.proofs.Laws.{sent_there}
 use Rattle.snb_graph_model.specs.Around.{messages}
-use Rattle.snb_read_model.specs.Order.{First}
+use Rattle.snb_read_model.specs.Order.{FirstRows}
 use Rattle.snb_read_lookups.proofs.Laws.{message_found}
 use Rattle.snb_short_reads.proofs.RowLemmas.{is2_answers, latest_first, latest_total}
 use Rattle.snb_read_lookups.specs.Found.{IsMessageFound}
@@ -19,7 +19,7 @@ list_of-requires c =
     let all : All (IsMessageFound g) (messages g c.args.person) = All-weaker (Contains (messages g c.args.person)) (IsMessageFound g)
     (λ m d. message_found g c.known.ensures c.sound_graphs.ensures.numbers c.args.person m.0 m.1 (sent_there g c.args.person m.0 m.1 d)) (messages g c.args.person) (All-contains_itself (messages g c.args.person)) in
     let each = each_at (IsMessageFound g) _
-    (walked (IsMessageFound g) latest_first (First 10) _ _ _ _ _ all c.messages.ensures.same c.in_ok-found.ensures
+    (walked (IsMessageFound g) latest_first (FirstRows 10) _ _ _ _ _ all c.messages.ensures.same c.in_ok-found.ensures
     (c.first_of-latest.ensures latest_first latest_total (compares _ _ latest_first (λ a r q k. search rules))) c.as_slice.ensures.value) in
     search (rules, each)
 

@@ -1,6 +1,6 @@
 use Rattle.std.proofs.Common.{None, inl, inr, refl, ap}
 use Rattle.snb_tool_outcome.specs.Endings.{asked_by}
-use Rattle.snb_tool_outcome.specs.Outcome.{IsAnswer, IsCommandAnswer}
+use Rattle.snb_tool_outcome.specs.Outcome.{IsCallAnswer, IsCommandAnswer}
 use Rattle.snb_tool_outcome.specs.Output.{on_screen}
 use Rattle.snb_tool_outcome.specs.Outside.{GivenUp}
 use Rattle.snb_tool_words.specs.Commands.{IsOtherLine}
@@ -23,7 +23,7 @@ obey_waiting-answer-requires-clause-allowed g c = λ κs lives.
 pub returns-in-Ok-Some-clause-ends : goal.returns-in-Ok-Some-clause-ends
 returns-in-Ok-Some-clause-ends g c = λ given.
     let asked = asked_anyhow (texts_of c.args.words.now) c.requires.waiting given c.in-Ok-Some.command (rw c.in-Ok-Some.field-0-is at c.in-Ok-Some.ensures.is_line) in
-    ends_weaker (IsCommandAnswer given c.in-Ok-Some.command) (IsAnswer (asked_by c.args.words.now given)) _ _ _
+    ends_weaker (IsCommandAnswer given c.in-Ok-Some.command) (IsCallAnswer (asked_by c.args.words.now given)) _ _ _
     (λ s texts b. inr (c.in-Ok-Some.command, asked, b))
     (finished_ends g.O.Outbox c.args.out.now c.finish.new.out _ _ _ _ _ _ _ given c.in-Ok-Some.command c.obey_waiting-answer.result c.finish.result (c.obey_waiting-answer.ensures.answer given) c.obey_waiting-answer.ensures.read.told c.finish.ensures.finished)
 
@@ -41,7 +41,7 @@ returns-in-Ok-Some-clause-reads_calm g c = finished_calm g.O.Outbox c.args.out.n
 pub returns-in-Ok-None-clause-ends : goal.returns-in-Ok-None-clause-ends
 returns-in-Ok-None-clause-ends g c = λ given.
     let none : IsOtherLine (texts_of c.args.words.now) = rw c.in-Ok-None.field-0-is at c.in-Ok-None.ensures.is_line in
-    delivers_ends g.O.Outbox c.args.out.now c.show_as.new.out _ _ _ _ _ _ _ (IsAnswer (asked_by c.args.words.now given)) 2 (on_screen c.as_bytes.result.now) _
+    delivers_ends g.O.Outbox c.args.out.now c.show_as.new.out _ _ _ _ _ _ _ (IsCallAnswer (asked_by c.args.words.now given)) 2 (on_screen c.as_bytes.result.now) _
     (inl (refl, (λ command a. none command a.line), ap on_screen c.as_bytes.ensures.value)) c.show_as.ensures.shown
 
 pub returns-in-Err-clause-ends : goal.returns-in-Err-clause-ends

@@ -1,4 +1,4 @@
-use Rattle.snb_tool_outcome.specs.Endings.{IsReplyAnswer}
+use Rattle.snb_tool_outcome.specs.DatasetEndings.{IsReplyAnswer}
 use Rattle.snb_tool_dataset.proofs.DatasetLemmas.{read_no_dataset, replied}
 use Rattle.snb_tool_outcome.proofs.Laws.{passed}
 use Rattle.snb_tool_dataset.proofs.read.read_line.Goals as goal

@@ -1,6 +1,6 @@
 use Rattle.snb_input_files.specs.Loading.{load_for_plan}
 use Rattle.snb_tool_outcome.proofs.InputLemmas.{many_made, open_made, passed}
-use Rattle.snb_tool_outcome.specs.Endings.{IsMadeAnswer}
+use Rattle.snb_tool_outcome.specs.PlanEndings.{IsMadeAnswer}
 use Rattle.snb_tool_outcome.proofs.input.input_of.Goals as goal
 
 pub returns-in_err-plan : goal.returns-in_err-plan

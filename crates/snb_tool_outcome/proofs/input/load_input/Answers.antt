@@ -3,7 +3,7 @@ use Rattle.snb_base.specs.Shelf.{Files}
 use Rattle.snb_base.proofs.Laws.{read_after, read_well}
 use Rattle.snb_loader.specs.Lanes.{IsLanesAnswer}
 use Rattle.snb_loader.specs.Params.{IsParamsAnswer}
-use Rattle.snb_tool_outcome.specs.Endings.{IsInputAnswer}
+use Rattle.snb_tool_outcome.specs.PlanEndings.{IsInputAnswer}
 use Rattle.snb_tool_outcome.proofs.InputLemmas.{AreOne, input_made, input_no_dataset, input_no_lanes, input_no_params, made_closed, made_sound, made_well, passed}
 use Rattle.snb_input_files.specs.Names.{IsNameIn}
 use Rattle.snb_input_files.proofs.Laws.{of_back, of_front, still_allows}

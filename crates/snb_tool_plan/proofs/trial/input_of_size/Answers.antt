@@ -1,6 +1,7 @@
 use Rattle.std.proofs.Common.{◌≡◌, ◌*◌, ◌≤◌, ◌∙◌, List, ap, subst, sym, arith}
 use Rattle.snb_plan.specs.Closed.{IsClosed}
-use Rattle.snb_plan.specs.Plans.{read_count, updates_in}
+use Rattle.snb_plan.specs.Plans.{updates_in}
+use Rattle.snb_plan.specs.Merging.{read_count}
 use Rattle.snb_schema.specs.declared.limits.TheConstants.{MAX_READS}
 use Rattle.snb_schema.specs.declared.row.Row.{Row}
 use Rattle.snb_schema.specs.Frequencies.{FrequencyTable}

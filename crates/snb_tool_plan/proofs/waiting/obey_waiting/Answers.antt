@@ -2,7 +2,7 @@ use Rattle.std.proofs.Common.{subst}
 use Rattle.snb_input_files.specs.Names.{Allows}
 use Rattle.snb_tool_words.specs.declared.command.Command.{Command}
 use Rattle.snb_tool_outcome.specs.Names.{IsNameOf}
-use Rattle.snb_tool_words.specs.Commands.{IsRunnable}
+use Rattle.snb_tool_words.specs.CommandFacts.{IsRunnable}
 use Rattle.snb_tool_plan.proofs.waiting.obey_waiting.Goals as goal
 
 pub run-requires-clause-workers : goal.run-requires-clause-workers

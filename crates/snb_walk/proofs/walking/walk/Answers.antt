@@ -1,5 +1,5 @@
 use Rattle.std.proofs.Common.{◌≡◌, ◌-◌, rules, length}
-use Rattle.snb_walk.specs.Targets.{Step, targets_of}
+use Rattle.snb_walk.specs.Targets.{WalkStep, targets_of}
 use Rattle.snb_walk.proofs.Going.{falls_on, few_on, is_step, leads_on, leads_out}
 use Rattle.snb_walk.proofs.walking.walk.Goals as goal
 
@@ -16,7 +16,7 @@ walking-preserved g c =
     let d = c.down-down.ensures.value in
     let f : c.saturating_sub-left.result ≡ c.walking.left - c.down-down.result = search rules in
     let fall : c.saturating_sub-left.result ≡ c.walking.left - c.args.chance.down = cc in
-    let step : Step = (c.index-target.result.now, c.in_ok-reply.reply) in
+    let step : WalkStep = (c.index-target.result.now, c.in_ok-reply.reply) in
     let is = is_step c.args.graph.now c.args.policy.now.pick c.args.chance c.args.words.now
     c.walking.step c.walking.left (length c.deref.result.now) c.index-at.result c.walking.targets.items c.in_ok-reply.next.items step
     c.walking.invariant.left (let v = c.deref.ensures.value in cc) c.in-None.ensures

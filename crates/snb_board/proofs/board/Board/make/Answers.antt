@@ -1,7 +1,7 @@
 use Rattle.std.proofs.Common.{◌≡◌, ◌∙◌, [], ◌∷◌, ◌++◌, ap}
 use Rattle.snb_book.specs.Kept.{Kept}
 use Rattle.std.specs.Prelude.{Ok}
-use Rattle.snb_board.specs.Views.{kept, reached}
+use Rattle.snb_board.specs.Parts.{kept, reached}
 use Rattle.snb_board.proofs.Closing.{empty_yet}
 use Rattle.snb_board.proofs.Joins.{starts_as}
 use Rattle.snb_board.proofs.board.Board.make.Goals as goal

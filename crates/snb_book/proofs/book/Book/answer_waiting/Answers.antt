@@ -1,6 +1,6 @@
 use Rattle.std.proofs.Common.{ap, get_or, ◌∙◌, ◌≤◌, subst, w64, FitsSigned, rules, Option, ℕ}
 use Rattle.std.proofs.lemmas.Int.{to_z-of_z}
-use Rattle.snb_history.specs.Rules.{IsNotBusy}
+use Rattle.snb_history.specs.Rules.{LaneIsFinished}
 use Rattle.snb_history.specs.Schedule.{Schedule, no_step, step_of}
 use Rattle.snb_book.specs.Claims.{IsPlanHead}
 use Rattle.snb_book.specs.Heads.{IsLate, TellsFirst}
@@ -11,7 +11,7 @@ pub returns-in-Some : goal.returns-in-Some
 returns-in-Some c =
     let fits : FitsSigned w64 c.completion.result = search rules in
     blocked c.args.self.now.schedule c.args.self.now.history c.args.worker c.args.at c.in-Some.op _ _ c.requires.idle c.requires.none
-    (subst (λ (o : Option ℕ). TellsFirst c.args.self.now.schedule (λ j. IsPlanHead c.args.self.now.schedule c.args.self.now.history j × IsNotBusy c.args.self.now.schedule c.args.self.now.history j) o) c.in-Some.ensures.0 c.requires.free)
+    (subst (λ (o : Option ℕ). TellsFirst c.args.self.now.schedule (λ j. IsPlanHead c.args.self.now.schedule c.args.self.now.history j × LaneIsFinished c.args.self.now.schedule c.args.self.now.history j) o) c.in-Some.ensures.0 c.requires.free)
     (subst (λ (s : Schedule). (step_of s c.in-Some.op).due ≤ c.args.at) c.schedule.ensures c.in-Some.ensures.1)
     (ap (λ l. (get_or l c.in-Some.op no_step).t_d) (c.steps.ensures.value ∙ ap (λ (s : Schedule). s.steps) c.schedule-in-Some.ensures))
     (to_z-of_z w64 c.completion.result fits ∙ c.completion.ensures.value)

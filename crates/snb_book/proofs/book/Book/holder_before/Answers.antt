@@ -1,7 +1,7 @@
 use Rattle.std.proofs.Common.{◌≡◌, ℕ, ◌<◌, List, Bool, length, get_or, ap, sym, subst, ◌∙◌, arith, Option, Some, None}
 use Rattle.snb_history.specs.Schedule.{Schedule}
 use Rattle.snb_history.specs.History.{hand}
-use Rattle.snb_history.specs.Rules.{IsLegal, IsNotBusy}
+use Rattle.snb_history.specs.Rules.{IsLegal, LaneIsFinished}
 use Rattle.snb_completion.specs.Progress.{Progress}
 use Rattle.snb_book.specs.Kept.{Kept}
 use Rattle.snb_book.specs.Book.{IsSoundBook, IsTold}
@@ -13,13 +13,13 @@ use Rattle.snb_book.proofs.book.Book.holder_before.Goals as goal
 -- some hand has it, by the hands that are kept
 kept_before : (now inside : Kept) (capacity : ℕ) (times : Progress) (heads : List ℕ) (held hands : List (Option ℕ)) (latest : ℕ) (stopped : Bool) (s : Schedule) (op p : ℕ)
     → inside ≡ now → IsSoundBook inside capacity → IsTold inside times heads held latest stopped → hands ≡ held → s ≡ now.schedule
-    → IsPlanHead now.schedule now.history op → ¬ IsNotBusy now.schedule now.history op → IsPredecessor s op p
+    → IsPlanHead now.schedule now.history op → ¬ LaneIsFinished now.schedule now.history op → IsPredecessor s op p
     → (w : ℕ) × (w < length hands) × (get_or hands w None ≡ Some p)
 kept_before now inside capacity times heads held hands latest stopped s op p same kept told of_hands of_plan head busy is =
     let w =
     held_before inside.schedule inside.workers inside.history kept.legal op p
     (subst (λ (b : Kept). IsPlanHead b.schedule b.history op) (sym same) head)
-    (subst (λ (b : Kept). ¬ IsNotBusy b.schedule b.history op) (sym same) busy)
+    (subst (λ (b : Kept). ¬ LaneIsFinished b.schedule b.history op) (sym same) busy)
     (subst (λ (b : Kept). IsPredecessor b.schedule op p) (sym same) (subst (λ (x : Schedule). IsPredecessor x op p) of_plan is)) in
     (w.0, (let l = w.1 in let e = told.a_hand_each in rw of_hands (omega arith)), rw of_hands (told.hands w.0 w.1 ∙ w.2))
 
@@ -30,7 +30,7 @@ holder_of-requires-clause-held c =
 -- and whoever has it by these hands holds it
 kept_holds : (now inside : Kept) (capacity : ℕ) (times : Progress) (heads : List ℕ) (held hands : List (Option ℕ)) (latest : ℕ) (stopped : Bool) (s : Schedule) (op p w : ℕ)
     → inside ≡ now → IsSoundBook inside capacity → IsTold inside times heads held latest stopped → hands ≡ held → s ≡ now.schedule
-    → IsPlanHead now.schedule now.history op → ¬ IsNotBusy now.schedule now.history op → IsPredecessor s op p
+    → IsPlanHead now.schedule now.history op → ¬ LaneIsFinished now.schedule now.history op → IsPredecessor s op p
     → w < length hands → get_or hands w None ≡ Some p → HoldsBefore now.schedule now.history op w
 kept_holds now inside capacity times heads held hands latest stopped s op p w same kept told of_hands of_plan head busy is within has =
     let known : w < inside.workers = (let e = told.a_hand_each in let l = ap length of_hands in omega arith) in

@@ -4,7 +4,7 @@ use Rattle.snb_schema.specs.declared.fault.Fault.{Fault}
 use Rattle.snb_history.specs.declared.step.Step.{Step}
 use Rattle.snb_schema.specs.Faults.{OnBad}
 use Rattle.snb_plan.specs.Closed.{Update, IsClosed, IsFirstWrong}
-use Rattle.snb_plan.specs.Positions.{updates_at}
+use Rattle.snb_plan.specs.Scheduled.{updates_at}
 use Rattle.snb_plan.proofs.Viewing.{updates_seen}
 use Rattle.snb_plan.proofs.plan.Plan.closed.Goals as goal
 

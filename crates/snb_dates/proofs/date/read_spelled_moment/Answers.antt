@@ -1,6 +1,6 @@
 use Rattle.std.proofs.Common.{arith}
-use Rattle.snb_clock.proofs.TextFacts.{moment_parts}
-use Rattle.snb_clock.proofs.date.read_spelled_moment.Goals as goal
+use Rattle.snb_dates.proofs.TextFacts.{moment_parts}
+use Rattle.snb_dates.proofs.date.read_spelled_moment.Goals as goal
 
 pub returns-in_err-midnight-clause-spelled : goal.returns-in_err-midnight-clause-spelled
 returns-in_err-midnight-clause-spelled c =

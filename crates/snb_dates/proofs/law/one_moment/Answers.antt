@@ -1,8 +1,8 @@
 use Rattle.std.proofs.Common.{inr}
 use Rattle.snb_base.specs.Calendar.{SpellsDay, SpellsMoment}
 use Rattle.snb_base.specs.Spellings.{last_time}
-use Rattle.snb_clock.proofs.MomentFacts.{day_dash, moment_dash, moment_digits, one_day, one_moment, one_spelled}
-use Rattle.snb_clock.proofs.law.one_moment.Goals as goal
+use Rattle.snb_dates.proofs.MomentFacts.{day_dash, moment_dash, moment_digits, one_day, one_moment, one_spelled}
+use Rattle.snb_dates.proofs.law.one_moment.Goals as goal
 
 pub returns-clause-date : goal.returns-clause-date
 returns-clause-date c = λ x m n s t. one_spelled SpellsMoment moment_dash one_moment x m n last_time s.1 t.1

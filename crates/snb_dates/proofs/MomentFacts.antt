@@ -5,8 +5,8 @@ use Rattle.std.specs.Fmt.{decimal}
 use Rattle.snb_base.proofs.Laws.{number_spelled}
 use Rattle.snb_base.specs.Calendar.{SpellsDay, SpellsMoment, SpellsTime}
 use Rattle.snb_base.specs.Spellings.{Num, last_time}
-use Rattle.snb_clock.proofs.SpellingFacts.{no_number}
-use Rattle.snb_clock.proofs.TextFacts.{day_parts, moment_parts, time_parts}
+use Rattle.snb_dates.proofs.SpellingFacts.{no_number}
+use Rattle.snb_dates.proofs.TextFacts.{day_parts, moment_parts, time_parts}
 
 -- one day in words
 pub one_day : (x : List ℕ) (m n : ℕ) → SpellsDay x m → SpellsDay x n → m ≡ n

@@ -1,7 +1,7 @@
 use Rattle.std.proofs.Common.{arith}
 use Rattle.snb_base.specs.Calendar.{SpellsDay}
-use Rattle.snb_clock.proofs.SpellingFacts.{in_words}
-use Rattle.snb_clock.proofs.date.read_day.Goals as goal
+use Rattle.snb_dates.proofs.SpellingFacts.{in_words}
+use Rattle.snb_dates.proofs.date.read_day.Goals as goal
 
 pub returns-then-text-eq45 : goal.returns-then-text-eq45
 returns-then-text-eq45 c =

@@ -1,7 +1,7 @@
 use Rattle.std.proofs.Common.{arith}
 use Rattle.snb_base.specs.Calendar.{SpellsMoment}
-use Rattle.snb_clock.proofs.SpellingFacts.{in_words}
-use Rattle.snb_clock.proofs.date.read_date.Goals as goal
+use Rattle.snb_dates.proofs.SpellingFacts.{in_words}
+use Rattle.snb_dates.proofs.date.read_date.Goals as goal
 
 pub returns-then-text-eq45 : goal.returns-then-text-eq45
 returns-then-text-eq45 c =

@@ -1,8 +1,8 @@
 use Rattle.std.proofs.Common.{◌≡◌, ◌∙◌, refl, pos, arith, rules, w32, FitsSigned}
 use Rattle.std.proofs.lemmas.Int.{ints, to_z-of_z}
 use Rattle.snb_base.specs.Calendar.{IsRealDay, day_number}
-use Rattle.snb_clock.proofs.DayFacts.{epoch_day-is}
-use Rattle.snb_clock.proofs.date.civil_day.Goals as goal
+use Rattle.snb_dates.proofs.DayFacts.{epoch_day-is}
+use Rattle.snb_dates.proofs.date.civil_day.Goals as goal
 
 -- the day is real, and the calendar's number of it is the one that `jiff` gives
 numbered : (c : goal.After-to_unix_epoch_day)

@@ -1,7 +1,7 @@
 use Rattle.std.proofs.Common.{◌≡◌, ◌+◌, ◌*◌, arith}
 use Rattle.snb_base.specs.Calendar.{day_number}
-use Rattle.snb_clock.proofs.TextFacts.{DayParts, day_spelled, two_at, year_at}
-use Rattle.snb_clock.proofs.date.read_spelled_day.Goals as goal
+use Rattle.snb_dates.proofs.TextFacts.{DayParts, day_spelled, two_at, year_at}
+use Rattle.snb_dates.proofs.date.read_spelled_day.Goals as goal
 
 pub returns-clause-spelled : goal.returns-clause-spelled
 returns-clause-spelled c =

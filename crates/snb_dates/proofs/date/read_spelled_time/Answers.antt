@@ -1,6 +1,6 @@
 use Rattle.std.proofs.Common.{◌≡◌, ◌+◌, ◌*◌, arith}
-use Rattle.snb_clock.proofs.TextFacts.{TimeParts, millis_at, time_at, time_spelled, two_at}
-use Rattle.snb_clock.proofs.date.read_spelled_time.Goals as goal
+use Rattle.snb_dates.proofs.TextFacts.{TimeParts, millis_at, time_at, time_spelled, two_at}
+use Rattle.snb_dates.proofs.date.read_spelled_time.Goals as goal
 
 pub returns-clause-spelled : goal.returns-clause-spelled
 returns-clause-spelled c =
