@@ -14,7 +14,7 @@ use Rattle.snb_input_files.specs.PlaceChecks.{FailsOwn, HasBadColumn, IsBare, Ha
 use Rattle.snb_input_files.proofs.Laws.{says_knows}
 use Rattle.snb_runlog.specs.Lines.{log_file, log_language}
 use Rattle.snb_auditor_log.specs.Laws.{SaidLogIsClean}
-use Rattle.snb_auditor_log.specs.LogFiles.{log_checks, log_format}
+use Rattle.snb_audit_model.specs.LogFiles.{log_checks, log_format}
 
 -- after lines either the header is known or it isn't
 known_apart : (ls : List (List ℕ)) (k : Header) → HasKnown None log_language.heads ls None → HasKnown None log_language.heads ls (Some k) → ⊥

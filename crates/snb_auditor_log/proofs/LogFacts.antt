@@ -27,9 +27,9 @@ use Rattle.snb_runlog.specs.Columns.{AreWithin, CanBeHeader, event_columns, coun
 use Rattle.snb_runlog.specs.Laws.{EventOrColumn, HeaderOrColumn, LogIsExact}
 use Rattle.snb_runlog.specs.WriteLaws.{WhereCountsAre}
 use Rattle.snb_runlog.specs.Lines.{IsHeader, IsLogged, log_file, log_language}
-use Rattle.snb_auditor_log.specs.declared.log.Log.{Log}
+use Rattle.snb_audit_model.specs.declared.log.Log.{Log}
 use Rattle.snb_auditor_log.specs.Laws.{LogSaysOne, OneLogRefusal, RefusedOrNot}
-use Rattle.snb_auditor_log.specs.LogFiles.{HasHeard, IsAuditable, IsLogAnswer, IsLogOf, RefusesEvent, TakesEvent, log_checks, log_format}
+use Rattle.snb_audit_model.specs.LogFiles.{HasHeard, IsAuditable, IsLogAnswer, IsLogOf, RefusesEvent, TakesEvent, log_checks, log_format}
 use Rattle.snb_runlog.proofs.Laws.{numbers_within}
 
 -- ---- the file_sink of a log

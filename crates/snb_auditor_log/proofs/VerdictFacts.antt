@@ -25,13 +25,13 @@ use Rattle.snb_plan.specs.Plans.{Plan, schedule_of}
 use Rattle.snb_workers_replay.specs.Laws.{IsReplayed}
 use Rattle.snb_replica.specs.Counts.{IsCount}
 use Rattle.snb_miscount.specs.Laws.{OneCount}
-use Rattle.snb_miscount.specs.declared.miscount.Miscount.{Miscount}
-use Rattle.snb_miscount.specs.Miscounts.{IsFirstMiscount, IsMiscount, events_of}
-use Rattle.snb_auditor_log.specs.declared.verdict.AuditVerdict.{AuditVerdict}
-use Rattle.snb_auditor_log.specs.declared.verdict.AuditVerdict.TheVariants.{Judged, Miscounted, Mismatched}
-use Rattle.snb_auditor_log.specs.AuditVerdicts.{IsAuditVerdict, IsInOrder, IsMatched, IsMismatched, IsViolated, IsWhole, is_whole}
+use Rattle.snb_audit_model.specs.declared.miscount.Miscount.{Miscount}
+use Rattle.snb_audit_model.specs.Miscounts.{IsFirstMiscount, IsMiscount, events_of}
+use Rattle.snb_audit_model.specs.declared.verdict.AuditVerdict.{AuditVerdict}
+use Rattle.snb_audit_model.specs.declared.verdict.AuditVerdict.TheVariants.{Judged, Miscounted, Mismatched}
+use Rattle.snb_audit_model.specs.AuditVerdicts.{IsAuditVerdict, IsInOrder, IsMatched, IsMismatched, IsViolated, IsWhole, is_whole}
 use Rattle.snb_auditor_log.specs.Laws.{AcceptedInOrder, AuditVerdictIsOne, WholeExactly}
-use Rattle.snb_auditor_log.specs.VerdictTexts.{audit_status, verdict_status}
+use Rattle.snb_audit_model.specs.VerdictTexts.{audit_status, verdict_status}
 
 -- ---- the events, one by one
 

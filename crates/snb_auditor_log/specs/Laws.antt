@@ -10,10 +10,10 @@ use Rattle.snb_graph_model.specs.Graphs.{IsGraph}
 use Rattle.snb_graph_model.specs.Soundness.{Sound}
 use Rattle.snb_plan.specs.Plans.{Plan}
 use Rattle.snb_workers_replay.specs.Laws.{IsReplayed}
-use Rattle.snb_auditor_log.specs.declared.verdict.AuditVerdict.{AuditVerdict}
-use Rattle.snb_auditor_log.specs.AuditVerdicts.{IsAuditVerdict, IsInOrder, IsWhole, is_whole}
-use Rattle.snb_auditor_log.specs.LogFiles.{IsLogOf, log_checks}
-use Rattle.snb_auditor_log.specs.VerdictTexts.{audit_status}
+use Rattle.snb_audit_model.specs.declared.verdict.AuditVerdict.{AuditVerdict}
+use Rattle.snb_audit_model.specs.AuditVerdicts.{IsAuditVerdict, IsInOrder, IsWhole, is_whole}
+use Rattle.snb_audit_model.specs.LogFiles.{IsLogOf, log_checks}
+use Rattle.snb_audit_model.specs.VerdictTexts.{audit_status}
 
 -- a log is refused for one thing at most
 abbrev pub OneLogRefusal : Type 0

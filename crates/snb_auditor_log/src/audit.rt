@@ -10,13 +10,12 @@ ghost use Rattle.snb_plan.specs.Closed.{IsClosed};
 ghost use Rattle.snb_plan.specs.Plans.{schedule_of, updates_in};
 ghost use Rattle.snb_graph_model.specs.Graphs.{HoldsKey};
 ghost use Rattle.snb_graph_model.specs.Soundness.{Sound};
-ghost use Rattle.snb_miscount.specs.Miscounts.{events_of};
-ghost use Rattle.snb_auditor_log.specs.Audited.{IsAuditAnswer};
-ghost use Rattle.snb_auditor_log.specs.AuditVerdicts.{IsAuditVerdict, IsMatched};
-ghost use Rattle.snb_auditor_log.specs.LogFiles.{IsAuditable};
+ghost use Rattle.snb_audit_model.specs.Miscounts.{events_of};
+ghost use Rattle.snb_audit_model.specs.Audited.{IsAuditAnswer};
+ghost use Rattle.snb_audit_model.specs.AuditVerdicts.{IsAuditVerdict, IsMatched};
+ghost use Rattle.snb_audit_model.specs.LogFiles.{IsAuditable};
 
-use crate::log::{Log, load_log};
-use crate::verdict::AuditVerdict;
+use crate::log::load_log;
 use snb_auditor::Verdict;
 use snb_auditor::auditor::Auditor;
 use snb_base::Shelf;
@@ -26,20 +25,8 @@ use snb_input_files::Load;
 use snb_miscount::first_miscount_via;
 use snb_plan::Plan;
 use snb_replies::Replies;
+use snb_audit_model::{AuditVerdict, Audited, Log};
 use std::alloc::{AllocError, Global};
-
-/// A log, and the verdict on it.
-pub struct Audited {
-    /// What the log says.
-    pub log: Log,
-    pub verdict: AuditVerdict,
-}
-
-impl Drop for Audited {
-    fn drop(self) {
-        let Audited { log: _, verdict: _ } = self;
-    }
-}
 
 // The verdict on the history of what is logged.
 fn judge(

@@ -2,7 +2,7 @@
 
 ghost use Rattle.std.specs.Prelude.{◌≡◌, []};
 ghost use Rattle.snb_input_files.specs.Format.{Lawful};
-ghost use Rattle.snb_auditor_log.specs.LogFiles.{IsLogFileSink, log_format};
+ghost use Rattle.snb_audit_model.specs.LogFiles.{IsLogFileSink, log_format};
 
 use snb_history::Logged;
 use snb_input_files::FileSink;
@@ -69,7 +69,7 @@ pub(crate) fn log_is_lawful()
 
 impl Sink<Logged> for LogFileSink {
     ghost use Rattle.std.specs.Prelude.{refl};
-    ghost use Rattle.snb_auditor_log.specs.LogFiles.{log_sink};
+    ghost use Rattle.snb_audit_model.specs.LogFiles.{log_sink};
 
     ghost meaning = { log_sink };
 
@@ -92,7 +92,7 @@ impl Sink<Logged> for LogFileSink {
 
 impl FileSink<LogLines> for LogFileSink {
     ghost use Rattle.snb_input_files.specs.Format.{stage_by};
-    ghost use Rattle.snb_auditor_log.specs.LogFiles.{HasHeard, log_rules};
+    ghost use Rattle.snb_audit_model.specs.LogFiles.{HasHeard, log_rules};
 
     ghost stage = { stage_by (λ file. record {}) log_rules HasHeard };
 

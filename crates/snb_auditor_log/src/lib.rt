@@ -5,9 +5,7 @@ pub mod audit;
 mod file_sink;
 pub mod law;
 pub mod log;
-pub mod verdict;
 pub mod verdict_text;
 
-pub use audit::{Audited, audit_log};
-pub use log::Log;
-pub use verdict::AuditVerdict;
+pub use audit::audit_log;
+pub use snb_audit_model::{AuditVerdict, Audited, Log};

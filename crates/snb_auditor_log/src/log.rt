@@ -3,34 +3,17 @@
 ghost use Rattle.std.specs.Prelude.{◌≡◌, IfOk, true};
 ghost use Rattle.snb_base.specs.Reads.{IsShelfRead};
 ghost use Rattle.snb_input_files.specs.Loading.{is_read_fault};
-ghost use Rattle.snb_auditor_log.specs.LogFiles.{IsAuditable, IsLogAnswer};
+ghost use Rattle.snb_audit_model.specs.LogFiles.{IsAuditable, IsLogAnswer};
 
 use crate::file_sink::{LogFileSink, log_is_lawful};
 use snb_base::Shelf;
-use snb_history::{Header, Logged};
 use snb_input_files::{Found, Load, Used, load_known};
 use snb_input_lines::LineReader;
 use snb_runlog::LogLines;
 use snb_runlog::law::counts_are_in_version_2;
 use snb_schema::{FileId, FileKind, Refusal};
+use snb_audit_model::Log;
 use std::alloc::Global;
-
-/// What a log says.
-pub struct Log {
-    /// Its version, how many workers there were, and, in version 2, how many operations its plan has.
-    pub header: Header,
-    /// What happened, with the counts of rows in version 2.
-    pub logged: Vec<Logged>,
-}
-
-impl Drop for Log {
-    fn drop(self) {
-        let Log {
-            header: _,
-            logged: _,
-        } = self;
-    }
-}
 
 /// Reads the log of this path, of version 1 or 2. It is read in pieces, and of what was read the header and
 /// the events with their counts are kept alone. A log has 268,435,456 bytes at most, from one to

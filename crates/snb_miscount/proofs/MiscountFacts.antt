@@ -25,11 +25,11 @@ use Rattle.snb_plan.specs.Plans.{AskWork, InsertWork, Operation, Plan, Work, sch
 use Rattle.snb_read_laws.specs.Laws.{OneAnswer, OneReply, SomeReply}
 use Rattle.snb_workers_replay.specs.Laws.{IsReplayed, PrefixesAreSound}
 use Rattle.snb_workers_replay.specs.Replay.{IsAfter}
-use Rattle.snb_miscount.specs.declared.miscount.Miscount.{Miscount}
+use Rattle.snb_audit_model.specs.declared.miscount.Miscount.{Miscount}
 use Rattle.snb_miscount.specs.declared.tally.Tally.{Tally}
 use Rattle.snb_replica.specs.Counts.{IsCount, IsCountOf, first_rows}
 use Rattle.snb_miscount.specs.Laws.{OneCount}
-use Rattle.snb_miscount.specs.Miscounts.{IsFirstMiscount, IsMiscount, events_of}
+use Rattle.snb_audit_model.specs.Miscounts.{IsFirstMiscount, IsMiscount, events_of}
 use Rattle.snb_replica.specs.Replicas.{HasTaken, IfFinish, IsCountable, MayTake, StandsFor, Taken}
 use Rattle.snb_miscount.specs.Tallies.{CountsRows, HasRows, HasTallies, HasTally, IsAlong, IsEarlier, IsInsert, IsLeastAmong, IsTally, IsWeighed, miscount_of}
 use Rattle.snb_workers_replay.proofs.Laws.{same_gain}

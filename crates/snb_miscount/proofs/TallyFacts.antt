@@ -15,7 +15,7 @@ use Rattle.snb_history.specs.declared.logged.Logged.{Logged}
 use Rattle.snb_history.specs.Rules.{IsLegal, V1}
 use Rattle.snb_plan.specs.Plans.{Operation, Plan, schedule_of}
 use Rattle.snb_miscount.specs.declared.tally.Tally.{Tally}
-use Rattle.snb_miscount.specs.Miscounts.{events_of}
+use Rattle.snb_audit_model.specs.Miscounts.{events_of}
 use Rattle.snb_replica.specs.Replicas.{IfFinish}
 use Rattle.snb_miscount.specs.Tallies.{HasTallies, HasTally, IsFine, IsTally, IsTallyOf}
 use Rattle.snb_replica.proofs.Laws.{front_within}

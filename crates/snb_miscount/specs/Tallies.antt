@@ -12,10 +12,10 @@ use Rattle.snb_plan.specs.Closed.{IsClosed}
 use Rattle.snb_plan.specs.Plans.{AskWork, InsertWork, Operation, Plan, Work, schedule_of, updates_in}
 use Rattle.snb_read_model.specs.Cells.{ByteCell}
 use Rattle.snb_read_model.specs.Replies.{IsReply}
-use Rattle.snb_miscount.specs.declared.miscount.Miscount.{Miscount}
+use Rattle.snb_audit_model.specs.declared.miscount.Miscount.{Miscount}
 use Rattle.snb_miscount.specs.declared.tally.Tally.{Tally}
 use Rattle.snb_replica.specs.Counts.{first_rows}
-use Rattle.snb_miscount.specs.Miscounts.{IsMiscount}
+use Rattle.snb_audit_model.specs.Miscounts.{IsMiscount}
 use Rattle.snb_replica.specs.Replicas.{IfFinish, IsCountable, StandsFor, Taken}
 
 -- ---- the counts to look at

@@ -5,4 +5,5 @@ pub mod law;
 pub mod miscount;
 mod tally;
 
-pub use miscount::{Miscount, first_miscount_via};
+pub use miscount::first_miscount_via;
+pub use snb_audit_model::Miscount;

@@ -8,7 +8,7 @@ ghost use Rattle.snb_graph_model.specs.Graphs.{HoldsKey};
 ghost use Rattle.snb_graph_model.specs.Soundness.{Sound};
 ghost use Rattle.snb_plan.specs.Closed.{IsClosed};
 ghost use Rattle.snb_plan.specs.Plans.{schedule_of, updates_in};
-ghost use Rattle.snb_miscount.specs.Miscounts.{IsFirstMiscount, events_of};
+ghost use Rattle.snb_audit_model.specs.Miscounts.{IsFirstMiscount, events_of};
 ghost use Rattle.snb_replica.specs.Replicas.{IsCountable};
 ghost use Rattle.snb_miscount.specs.Tallies.{CountsRows, HasGone, IsAlong, IsEarlier, IsLeastAmong, IsTally, IsWeighed};
 
@@ -22,19 +22,9 @@ use snb_read_laws::law::{one_reply, some_reply};
 use snb_replica::Replica;
 use snb_replica::replica::count_rows;
 use snb_replies::Replies;
+use snb_audit_model::Miscount;
 use snb_workers_replay::law::replay_is_welcome;
 use std::alloc::{AllocError, Global};
-
-/// A Finish whose count of rows is wrong.
-#[derive(Clone, Copy)]
-pub struct Miscount {
-    /// The number of the event, from 0.
-    pub event: u32,
-    /// How many rows the first answer of its read has; 0 where it finishes an insert.
-    pub needs: u32,
-    /// How many the log has.
-    pub found: u32,
-}
 
 // How many rows the first answer of a read has on the graph, and 0 for an insert. The operation is in the
 // plan.

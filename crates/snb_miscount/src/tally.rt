@@ -4,7 +4,7 @@ ghost use Rattle.std.specs.Prelude.{◌≡◌, ℕ, ◌<◌, ◌≤◌, All, IfO
 ghost use Rattle.std.specs.List.Sorted.{IsNonDecreasingBy};
 ghost use Rattle.snb_history.specs.Rules.{IsLegal};
 ghost use Rattle.snb_plan.specs.Plans.{schedule_of};
-ghost use Rattle.snb_miscount.specs.Miscounts.{events_of};
+ghost use Rattle.snb_audit_model.specs.Miscounts.{events_of};
 ghost use Rattle.snb_replica.specs.Replicas.{IfFinish};
 ghost use Rattle.snb_miscount.specs.Tallies.{HasTallies, IsFine, IsInsert, IsTally, IsTallyOf};
 

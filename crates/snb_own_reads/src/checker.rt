@@ -5,8 +5,8 @@ ghost use Rattle.snb_base.specs.Reads.{IsShelfRead};
 ghost use Rattle.snb_schema.specs.declared.refusal.Missing.{Missing as MissingNode};
 ghost use Rattle.snb_input_files.specs.Loading.{is_read_fault};
 ghost use Rattle.snb_graph_model.specs.Soundness.{Sound};
-ghost use Rattle.snb_validation_check.specs.CasesFile.{IsCasesAnswer};
-ghost use Rattle.snb_validation_check.specs.Steps.{Checked, HasText, CaseRepeats, IsUnmet, Steps};
+ghost use Rattle.snb_validation_model.specs.CasesFile.{IsCasesAnswer};
+ghost use Rattle.snb_validation_model.specs.Steps.{Checked, HasText, CaseRepeats, IsUnmet, Steps};
 
 use snb_base::Shelf;
 use snb_graph::Graph;

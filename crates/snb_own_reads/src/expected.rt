@@ -5,7 +5,7 @@ ghost use Rattle.snb_graph_model.specs.Graphs.{HoldsKey};
 ghost use Rattle.snb_graph_model.specs.Soundness.{Sound};
 ghost use Rattle.snb_plan.specs.Closed.{IsClosed};
 ghost use Rattle.snb_plan.specs.Plans.{updates_in};
-ghost use Rattle.snb_validation_expect.specs.Expected.{HasExpected};
+ghost use Rattle.snb_validation_model.specs.Expected.{HasExpected};
 
 use snb_graph::Graph;
 use snb_plan::Plan;

@@ -6,7 +6,7 @@ ghost use Rattle.snb_graph_model.specs.Graphs.{HoldsKey};
 ghost use Rattle.snb_graph_model.specs.Soundness.{Sound};
 ghost use Rattle.snb_plan.specs.Closed.{IsClosed};
 ghost use Rattle.snb_plan.specs.Plans.{schedule_of, updates_in};
-ghost use Rattle.snb_miscount.specs.Miscounts.{IsFirstMiscount, events_of};
+ghost use Rattle.snb_audit_model.specs.Miscounts.{IsFirstMiscount, events_of};
 
 use snb_graph::Graph;
 use snb_history::Logged;

@@ -7,7 +7,7 @@ ghost use Rattle.snb_graph_model.specs.Graphs.{HoldsKey};
 ghost use Rattle.snb_graph_model.specs.Soundness.{Sound};
 ghost use Rattle.snb_plan.specs.Closed.{IsClosed};
 ghost use Rattle.snb_plan.specs.Plans.{schedule_of, updates_in};
-ghost use Rattle.snb_workers.specs.Runs.{HasRun};
+ghost use Rattle.snb_replica.specs.Runs.{HasRun};
 ghost use Rattle.snb_workers.specs.Works.{AreTimely, HasStopped, HasWorked, IsFollowing, IsFree, IsLater};
 
 use snb_answered::Done;

@@ -1,3 +1,4 @@
 pub mod Counts
 pub mod Replicas
 pub mod ReplyTexts
+pub mod Runs

@@ -1,6 +1,9 @@
-//! A replica of the graph, which follows the history of a run, and what is kept of the replies that it gives.
+//! A replica of the graph, which follows the history of a run, what is kept of the replies that it gives, and what a run
+//! leaves.
 #![tactic(auto)]
 
+pub mod outcome;
 pub mod replica;
 
+pub use outcome::{Events, Outcome};
 pub use replica::{Replica, ReplyText};

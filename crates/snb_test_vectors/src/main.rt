@@ -3,6 +3,8 @@
 //! these files.
 #![tactic(auto)]
 
+mod calls;
+
 use snb_test_script::{Files, Flaw, Player, Step, Stop};
 use std::alloc::Global;
 use std::env::Env;
@@ -49,14 +51,10 @@ impl Every {
         word: &str,
         rest: &str,
     ) -> Result<Option<String>, Flaw> {
-        if let Some(answer) = snb_test_whole::answer::answer(
-            rt,
-            alloc,
-            &mut self.whole,
-            files,
-            word,
-            rest,
-        )? {
+        if let Some(answer) = calls::answer(rt, alloc, &mut self.whole, files, word, rest)? {
+            return Ok(Some(answer));
+        }
+        if let Some(answer) = snb_test_whole::answer::answer(alloc, &mut self.whole, word, rest)? {
             return Ok(Some(answer));
         }
         if let Some(answer) = snb_test_data::answer::answer(

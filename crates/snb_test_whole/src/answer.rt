@@ -1,13 +1,10 @@
-//! The calls of this crate by their words.
+//! What a case says of its calls and asks of what came, by its words.
 
-use crate::calls::{call_alone, call_audit, call_words};
 use crate::state::{State, channel_of};
 use snb_base::Channel;
 use snb_test_script::escape::shown_lines;
-use snb_test_script::{Files, Flaw, Lines, List};
+use snb_test_script::{Flaw, Lines, List};
 use std::alloc::Global;
-use std::sync::Wait;
-use std::thread::Threads;
 
 // The first line of the answers.
 fn answers_head(alloc: Global, state: &mut State) -> Result<String, Flaw> {
@@ -45,22 +42,13 @@ fn sections(alloc: Global, state: &mut State) -> Result<String, Flaw> {
     Ok(named.told())
 }
 
-/// Makes the call of this word, over the files as they are, and tells what it answers; None where there is
-/// no such call.
-pub fn answer<R: AllocGlobal + Threads + Wait + Sync>(
-    rt: &R,
+/// Keeps what the line says of calls, or tells what it asks of the last one; None where it does neither.
+pub fn answer(
     alloc: Global,
     state: &mut State,
-    files: &Files,
     word: &str,
     rest: &str,
 ) -> Result<Option<String>, Flaw> {
-    if word == "snb" {
-        return Ok(Some(call_words(rt, alloc, state, files, rest)?));
-    }
-    if word == "snb_alone" {
-        return Ok(Some(call_alone(rt, alloc, state, files, rest)?));
-    }
     if state.set(word, rest)? {
         return Ok(Some(String::new(alloc)));
     }
@@ -83,7 +71,6 @@ pub fn answer<R: AllocGlobal + Threads + Wait + Sync>(
             let picked = state.picked;
             Ok(Some(format!(in alloc; "{picked}")?))
         }
-        "audit" => Ok(Some(call_audit(rt, alloc, state, files)?)),
         _ => Ok(None),
     }
 }

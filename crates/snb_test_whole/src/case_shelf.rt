@@ -90,7 +90,7 @@ impl Drop for CaseShelf {
 
 impl CaseShelf {
     /// A shelf with the files of this one, which wasn't read yet.
-    pub(crate) fn new(
+    pub fn new(
         shelf: MemoryShelf,
         steady: bool,
         fading: bool,
@@ -112,7 +112,7 @@ impl CaseShelf {
     }
 
     /// How often it was read.
-    pub(crate) fn reads(&self) -> u64 {
+    pub fn reads(&self) -> u64 {
         self.reads
     }
 }

@@ -1,9 +1,8 @@
-//! Calls of the whole program: its words, over a shelf and an outbox in memory and a clock that shows given
-//! moments, and what came of them.
+//! What calls of the whole program are made over: its words, a shelf and an outbox in memory and a clock that shows
+//! given moments; and what came of them.
 #![tactic(auto)]
 
 pub mod answer;
-mod calls;
-mod case_shelf;
+pub mod case_shelf;
 pub mod state;
-mod words;
+pub mod words;

@@ -59,15 +59,15 @@ pub(crate) fn channel_of(name: &str) -> Option<Channel> {
 pub struct State {
     alloc: Global,
     /// The shelf is one that never fails.
-    pub(crate) steady: bool,
+    pub steady: bool,
     /// The shelf has each file at its first read alone.
-    pub(crate) fading: bool,
+    pub fading: bool,
     /// The file that goes on with a line, again and again.
     long: Option<LongFile>,
     /// In how many folders more the files stand than their names say, each of the name `d`.
-    pub(crate) depth: usize,
+    pub depth: usize,
     /// The moments that the clock shows.
-    pub(crate) moments: Vec<u64>,
+    pub moments: Vec<u64>,
     /// The calls of `read` and of `write` that fail, numbered from 0.
     failing_reads: Vec<u64>,
     failing_writes: Vec<u64>,
@@ -76,15 +76,15 @@ pub struct State {
     /// The kinds of reads that have a handler; None where all have.
     kinds: Option<Vec<ReadKind>>,
     /// The words of the last call.
-    pub(crate) words: Vec<String>,
+    pub words: Vec<String>,
     /// How often a handler was asked in it.
-    pub(crate) asked: u64,
+    pub asked: u64,
     /// How often the policy was.
-    pub(crate) picked: u64,
+    pub picked: u64,
     /// The policy picks the last target, and not by the word.
-    pub(crate) last: bool,
+    pub last: bool,
     came: Option<MemoryOutbox>,
-    pub(crate) story: String,
+    pub story: String,
     /// The channels whose bytes came and aren't asked for yet.
     untold: Vec<Channel>,
 }
@@ -172,7 +172,7 @@ impl State {
     }
 
     /// The long file, if there is one, and how much of it is kept.
-    pub(crate) fn long(&self, files: &Files) -> Result<Option<Long>, Flaw> {
+    pub fn long(&self, files: &Files) -> Result<Option<Long>, Flaw> {
         let Some(long) = &self.long else {
             return Ok(None);
         };
@@ -195,7 +195,7 @@ impl State {
     }
 
     /// Whether a kind of read has a handler.
-    pub(crate) fn has_handler(&self, kind: ReadKind) -> bool {
+    pub fn has_handler(&self, kind: ReadKind) -> bool {
         match &self.kinds {
             Some(kinds) => kinds.iter().any(|one| one.word() == kind.word()),
             None => true,
@@ -225,7 +225,7 @@ impl State {
     }
 
     /// A shelf with the files, on which the listed calls of `read` fail, numbered from here on.
-    pub(crate) fn shelf(&self, files: &Files) -> Result<MemoryShelf, Flaw> {
+    pub fn shelf(&self, files: &Files) -> Result<MemoryShelf, Flaw> {
         let mut shelf = files.on_shelf(self.alloc, deeper(self.alloc, self.depth, "")?.as_str())?;
         let made = files.count() as u64;
         for call in &self.failing_reads {
@@ -248,7 +248,7 @@ impl State {
     }
 
     /// An empty outbox with the rooms, on which the listed calls of `write` fail.
-    pub(crate) fn outbox(&self) -> Result<MemoryOutbox, Flaw> {
+    pub fn outbox(&self) -> Result<MemoryOutbox, Flaw> {
         let mut out = MemoryOutbox::new(self.alloc, MOST_ROOM)?;
         out.limit(Channel::Log, self.room(Channel::Log));
         out.limit(Channel::Answers, self.room(Channel::Answers));
@@ -263,7 +263,7 @@ impl State {
 
     /// Keeps what came. Tells the status and which channels have bytes, or the status and the line that came,
     /// where that is all and on the screen.
-    pub(crate) fn keep(&mut self, status: u8, out: MemoryOutbox) -> Result<String, Flaw> {
+    pub fn keep(&mut self, status: u8, out: MemoryOutbox) -> Result<String, Flaw> {
         let mut text = format!(in self.alloc; "{status}")?;
         for (channel, name) in channels() {
             if !out.bytes(channel).is_empty() {
@@ -283,7 +283,7 @@ impl State {
     }
 
     /// The bytes on the channel, for which the case asks.
-    pub(crate) fn bytes(&mut self, channel: Channel) -> Result<&[u8], Flaw> {
+    pub fn bytes(&mut self, channel: Channel) -> Result<&[u8], Flaw> {
         self.untold.retain(|other| *other != channel);
         match &self.came {
             Some(out) => Ok(out.bytes(channel)),
@@ -292,7 +292,7 @@ impl State {
     }
 
     /// The lines on the channel.
-    pub(crate) fn lines(&mut self, channel: Channel) -> Result<String, Flaw> {
+    pub fn lines(&mut self, channel: Channel) -> Result<String, Flaw> {
         let alloc = self.alloc;
         Ok(shown_lines(alloc, self.bytes(channel)?)?)
     }

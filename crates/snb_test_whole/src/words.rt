@@ -5,7 +5,7 @@ use snb_test_script::escape::put_plain;
 use std::alloc::{AllocError, Global};
 
 /// The path of the log that a call left, for the audit of it.
-pub(crate) const LOG_PATH: &str = "log-that-came";
+pub const LOG_PATH: &str = "log-that-came";
 
 // The word that is spelled like this.
 fn plain_word(alloc: Global, spelled: &str) -> Result<String, Flaw> {
@@ -18,7 +18,7 @@ fn plain_word(alloc: Global, spelled: &str) -> Result<String, Flaw> {
 }
 
 /// The path below so many folders of the name `d`.
-pub(crate) fn deeper(alloc: Global, depth: usize, path: &str) -> Result<String, AllocError> {
+pub fn deeper(alloc: Global, depth: usize, path: &str) -> Result<String, AllocError> {
     let mut deep = String::new(alloc);
     for at in 0..depth {
         deep.push_str(if at == 0 { "d" } else { "/d" })?;
@@ -31,7 +31,7 @@ pub(crate) fn deeper(alloc: Global, depth: usize, path: &str) -> Result<String, 
 }
 
 /// The words of a call whose second one is a path below so many folders.
-pub(crate) fn deeper_words(
+pub fn deeper_words(
     alloc: Global,
     depth: usize,
     words: Vec<String>,
@@ -44,7 +44,7 @@ pub(crate) fn deeper_words(
 }
 
 /// The words that the text has, with one space between two.
-pub(crate) fn words_of(alloc: Global, text: &str) -> Result<Vec<String>, Flaw> {
+pub fn words_of(alloc: Global, text: &str) -> Result<Vec<String>, Flaw> {
     let mut words = Vec::new(alloc);
     if text.is_empty() {
         return Ok(words);
@@ -57,7 +57,7 @@ pub(crate) fn words_of(alloc: Global, text: &str) -> Result<Vec<String>, Flaw> {
 
 /// The words of an audit of the log that came, where these were those of a run: the folder, the log, and the
 /// options but the number of workers.
-pub(crate) fn audit_words(alloc: Global, words: &[String]) -> Result<Vec<String>, AllocError> {
+pub fn audit_words(alloc: Global, words: &[String]) -> Result<Vec<String>, AllocError> {
     let mut audit = Vec::new(alloc);
     audit.push(String::from_str(alloc, "audit")?)?;
     if let Some(folder) = words.get(1) {

@@ -2,7 +2,7 @@
 
 ghost use Rattle.std.specs.Prelude.{◌≡◌, IfOk};
 ghost use Rattle.snb_graph_model.specs.Soundness.{Sound};
-ghost use Rattle.snb_miscount.specs.Miscounts.{events_of};
+ghost use Rattle.snb_audit_model.specs.Miscounts.{events_of};
 ghost use Rattle.snb_test_workers.specs.Wholes.{IsWhole};
 
 use snb_base::{Clock, Gate, MemoryShelf};

@@ -15,24 +15,24 @@ use Rattle.snb_tool_words.specs.declared.options.Via.{Via}
 use Rattle.snb_tool_words.specs.Laws.{WordsAreOne}
 use Rattle.snb_tool_outcome.specs.Inputs.{at_first, IsSurelyFine, IsSurelyRefused}
 use Rattle.snb_tool_outcome.specs.Found.{Found, Given, IsFoundTold}
-use Rattle.snb_auditor_log.specs.LogFiles.{IsLogOf}
+use Rattle.snb_audit_model.specs.LogFiles.{IsLogOf}
 use Rattle.snb_validation_cases.specs.declared.case.CaseAt.{CaseAt}
-use Rattle.snb_validation_check.specs.declared.difference.Difference.{Difference}
-use Rattle.snb_validation_check.specs.CasesFile.{IsTally}
-use Rattle.snb_validation_check.specs.Checks.{AreRight, Finds}
-use Rattle.snb_validation_check.specs.CheckTexts.{outcome_status, tally_status}
+use Rattle.snb_validation_model.specs.declared.difference.Difference.{Difference}
+use Rattle.snb_validation_model.specs.CasesFile.{IsTally}
+use Rattle.snb_validation_model.specs.Checks.{AreRight, Finds}
+use Rattle.snb_validation_model.specs.CheckTexts.{outcome_status, tally_status}
 use Rattle.snb_validation_check.specs.Laws.{FindingIsOne}
 use Rattle.snb_loader.specs.Dataset.{IsDataset}
-use Rattle.snb_auditor_log.specs.declared.verdict.AuditVerdict.{AuditVerdict}
-use Rattle.snb_auditor_log.specs.declared.verdict.AuditVerdict.TheVariants.{Judged, Miscounted, Mismatched}
-use Rattle.snb_auditor_log.specs.AuditVerdicts.{IsInOrder, is_whole}
+use Rattle.snb_audit_model.specs.declared.verdict.AuditVerdict.{AuditVerdict}
+use Rattle.snb_audit_model.specs.declared.verdict.AuditVerdict.TheVariants.{Judged, Miscounted, Mismatched}
+use Rattle.snb_audit_model.specs.AuditVerdicts.{IsInOrder, is_whole}
 use Rattle.snb_auditor_log.specs.Laws.{AcceptedInOrder, WholeExactly}
-use Rattle.snb_auditor_log.specs.VerdictTexts.{audit_status, audit_text, verdict_status}
+use Rattle.snb_audit_model.specs.VerdictTexts.{audit_status, audit_text, verdict_status}
 use Rattle.snb_auditor.specs.declared.verdict.Verdict.{Verdict}
 use Rattle.snb_auditor.specs.declared.verdict.Verdict.TheVariants.{Violated, Halted, Incomplete, TooLate, Accepted}
 use Rattle.snb_replica.specs.Counts.{logged_of}
 use Rattle.snb_workers.specs.Laws.{CountsOfARun}
-use Rattle.snb_miscount.specs.Miscounts.{events_of}
+use Rattle.snb_audit_model.specs.Miscounts.{events_of}
 use Rattle.snb_schema.specs.declared.row.Row.{Row}
 use Rattle.snb_tool.specs.Laws.{AnswersHaveStatus, RefusalIsOne, RefusedOrNot}
 use Rattle.snb_tool.specs.CaseLaws.{IsValidateInShort, ValidateInShort}

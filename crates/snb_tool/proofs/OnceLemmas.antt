@@ -15,8 +15,8 @@ use Rattle.snb_schema.specs.Frequencies.{FrequencyTable}
 use Rattle.snb_graph_model.specs.Graphs.{HoldsKey}
 use Rattle.snb_tool_words.specs.declared.command.Command.{Command}
 use Rattle.snb_tool_words.specs.declared.command.Command.TheVariants.{Audit, Check, Expect, Latency, Run, Read, Trial, Validate, Walk}
-use Rattle.snb_auditor_log.specs.LogFiles.{log_checks}
-use Rattle.snb_validation_check.specs.CasesFile.{cases_checks}
+use Rattle.snb_audit_model.specs.LogFiles.{log_checks}
+use Rattle.snb_validation_model.specs.CasesFile.{cases_checks}
 use Rattle.snb_validation_check.specs.Laws.{CasesRefuseOnce}
 use Rattle.snb_tool_outcome.specs.Inputs.{AreBadCases, AreTooMany, IsNotClosed, IsUnregistered, after_dataset, after_streams, at_first, checks_of, plan_checks, read_checks, table_checks}
 use Rattle.snb_tool_outcome.specs.Found.{Found}

@@ -12,10 +12,10 @@ use Rattle.snb_input_files.specs.Walk.{Held}
 use Rattle.snb_input_files.proofs.Laws.{none_append}
 use Rattle.snb_loader.specs.Dataset.{IsDataset, dataset_checks}
 use Rattle.snb_loader.specs.Laws.{DatasetIsOne}
-use Rattle.snb_validation_check.specs.CasesFile.{IsTally}
-use Rattle.snb_validation_check.specs.CheckTexts.{tally_status}
+use Rattle.snb_validation_model.specs.CasesFile.{IsTally}
+use Rattle.snb_validation_model.specs.CheckTexts.{tally_status}
 use Rattle.snb_validation_check.specs.Laws.{CasesRefusedOrNot, TallyIsOne}
-use Rattle.snb_validation_expect.specs.CaseTexts.{cases_text}
+use Rattle.snb_validation_model.specs.CaseTexts.{cases_text}
 use Rattle.snb_validation_expect.specs.Laws.{ExpectedAreRight}
 use Rattle.snb_plan.specs.Plans.{queries_in}
 use Rattle.snb_tool_words.specs.declared.command.Command.{Command}

@@ -20,9 +20,9 @@ use Rattle.snb_tool_words.specs.declared.command.Command.TheVariants.{Validate}
 use Rattle.snb_tool_words.specs.declared.options.Via.TheVariants.{Graph, Table}
 use Rattle.snb_tool_words.specs.Commands.{IsLineOf}
 use Rattle.snb_tool_words.specs.Laws.{WordsAreOne}
-use Rattle.snb_validation_check.specs.declared.text.Tally.{Tally}
-use Rattle.snb_validation_check.specs.CasesFile.{IsTally}
-use Rattle.snb_validation_check.specs.CheckTexts.{tally_status, tally_text}
+use Rattle.snb_validation_model.specs.declared.tally.Tally.{Tally}
+use Rattle.snb_validation_model.specs.CasesFile.{IsTally}
+use Rattle.snb_validation_model.specs.CheckTexts.{tally_status, tally_text}
 use Rattle.snb_validation_check.specs.Laws.{TallyIsOne}
 use Rattle.snb_walk.specs.declared.target.Pick.TheVariants.{Modulo}
 use Rattle.snb_tool_outcome.specs.Inputs.{AreBadCases, IsUnregistered, at_first}

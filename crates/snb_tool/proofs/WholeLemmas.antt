@@ -1,10 +1,10 @@
 -- What `run` wrote is a whole run.
 use Rattle.std.proofs.Common.{◌≡◌, ◌≤◌, ◌∙◌, ℕ, true, ◌++◌, List, length, Option, Some, refl, inl, inr, sym, ap, subst, arith}
-use Rattle.snb_auditor_log.specs.declared.verdict.AuditVerdict.{AuditVerdict}
-use Rattle.snb_auditor_log.specs.AuditVerdicts.{IsWhole, is_whole}
+use Rattle.snb_audit_model.specs.declared.verdict.AuditVerdict.{AuditVerdict}
+use Rattle.snb_audit_model.specs.AuditVerdicts.{IsWhole, is_whole}
 use Rattle.snb_auditor_log.specs.Laws.{LogSaysOne, SaidLogIsClean, WholeExactly}
-use Rattle.snb_auditor_log.specs.LogFiles.{IsLogOf, log_checks}
-use Rattle.snb_auditor_log.specs.VerdictTexts.{audit_status, audit_text}
+use Rattle.snb_audit_model.specs.LogFiles.{IsLogOf, log_checks}
+use Rattle.snb_audit_model.specs.VerdictTexts.{audit_status, audit_text}
 use Rattle.snb_base.specs.Moments.{Moments}
 use Rattle.snb_base.specs.FirstOf.{NoneOf}
 use Rattle.snb_base.specs.Outbox.{Written}
@@ -27,7 +27,7 @@ use Rattle.snb_tool_words.specs.Commands.{IsLineOf}
 use Rattle.snb_tool_words.specs.Laws.{WordsAreOne}
 use Rattle.snb_replica.specs.Counts.{logged_of}
 use Rattle.snb_workers.specs.Laws.{CountsOfARun}
-use Rattle.snb_miscount.specs.Miscounts.{events_of}
+use Rattle.snb_audit_model.specs.Miscounts.{events_of}
 use Rattle.snb_tool_outcome.specs.Inputs.{IsSurelyFine, IsInput, checks_of, plan_checks}
 use Rattle.snb_tool_outcome.specs.Found.{Found, Given, IsFoundTold}
 use Rattle.snb_tool.specs.Laws.{RefusedOrNot}

@@ -6,12 +6,12 @@ use Rattle.snb_base.specs.Outbox.{Written}
 use Rattle.snb_handlers.specs.Table.{HasAll}
 use Rattle.snb_validation_cases.specs.declared.case.Case.{Case}
 use Rattle.snb_validation_cases.specs.declared.case.CaseAt.{CaseAt}
-use Rattle.snb_validation_check.specs.declared.text.Tally.{Tally}
-use Rattle.snb_validation_check.specs.CasesFile.{AreCases, IsTally}
-use Rattle.snb_validation_check.specs.CheckTexts.{tally_text}
-use Rattle.snb_validation_check.specs.Checks.{AreRight}
-use Rattle.snb_validation_expect.specs.CaseTexts.{cases_text, case_count_text}
-use Rattle.snb_validation_expect.specs.Expected.{AreExpected, AreReadBack}
+use Rattle.snb_validation_model.specs.declared.tally.Tally.{Tally}
+use Rattle.snb_validation_model.specs.CasesFile.{AreCases, IsTally}
+use Rattle.snb_validation_model.specs.CheckTexts.{tally_text}
+use Rattle.snb_validation_model.specs.Checks.{AreRight}
+use Rattle.snb_validation_model.specs.CaseTexts.{cases_text, case_count_text}
+use Rattle.snb_validation_model.specs.Expected.{AreExpected, AreReadBack}
 use Rattle.snb_loader.specs.Dataset.{IsDataset}
 use Rattle.snb_base.specs.Shelf.{Files}
 use Rattle.snb_input_files.specs.Files.{held_in}

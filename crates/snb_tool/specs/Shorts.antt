@@ -1,10 +1,10 @@
 -- What a run, an audit and latencies say that are done, in short.
 use Rattle.std.specs.Prelude.{◌≡◌, ℕ, ◌⊎◌, ◌↔◌, ◌++◌, List, length, Some}
 use Rattle.snb_base.specs.Moments.{Moments}
-use Rattle.snb_auditor_log.specs.LogFiles.{IsLogOf}
-use Rattle.snb_auditor_log.specs.declared.verdict.AuditVerdict.{AuditVerdict}
-use Rattle.snb_auditor_log.specs.AuditVerdicts.{IsAuditVerdict, IsInOrder, IsWhole}
-use Rattle.snb_auditor_log.specs.VerdictTexts.{audit_text}
+use Rattle.snb_audit_model.specs.LogFiles.{IsLogOf}
+use Rattle.snb_audit_model.specs.declared.verdict.AuditVerdict.{AuditVerdict}
+use Rattle.snb_audit_model.specs.AuditVerdicts.{IsAuditVerdict, IsInOrder, IsWhole}
+use Rattle.snb_audit_model.specs.VerdictTexts.{audit_text}
 use Rattle.snb_base.specs.Outbox.{Written}
 use Rattle.snb_base.specs.Shelf.{Files}
 use Rattle.snb_input_files.specs.Files.{held_in}
@@ -28,9 +28,9 @@ use Rattle.snb_tool_texts.specs.Answers.{answers_text}
 use Rattle.snb_tool_words.specs.declared.command.Command.TheVariants.{Audit, Latency, Run}
 use Rattle.snb_tool_words.specs.Commands.{IsLineOf}
 use Rattle.snb_replica.specs.Counts.{TellsCounts}
-use Rattle.snb_miscount.specs.Miscounts.{events_of}
+use Rattle.snb_audit_model.specs.Miscounts.{events_of}
 use Rattle.snb_answered.specs.declared.done.Answered.{Answered}
-use Rattle.snb_workers.specs.Runs.{AreByClock, AreReplies}
+use Rattle.snb_replica.specs.Runs.{AreByClock, AreReplies}
 use Rattle.snb_tool_outcome.specs.Inputs.{IsInput}
 use Rattle.snb_tool_outcome.specs.Outcome.{Asked, IsCallAnswer}
 use Rattle.snb_tool_outcome.specs.Output.{HasWritten}

@@ -1,9 +1,9 @@
 -- What a run wrote is whole for an audit and for latencies.
 use Rattle.std.specs.Prelude.{◌≡◌, ℕ, true, List, Some}
 use Rattle.snb_base.specs.Moments.{Moments}
-use Rattle.snb_auditor_log.specs.declared.verdict.AuditVerdict.{AuditVerdict}
-use Rattle.snb_auditor_log.specs.AuditVerdicts.{is_whole}
-use Rattle.snb_auditor_log.specs.VerdictTexts.{audit_status, audit_text}
+use Rattle.snb_audit_model.specs.declared.verdict.AuditVerdict.{AuditVerdict}
+use Rattle.snb_audit_model.specs.AuditVerdicts.{is_whole}
+use Rattle.snb_audit_model.specs.VerdictTexts.{audit_status, audit_text}
 use Rattle.snb_base.specs.Outbox.{Written}
 use Rattle.snb_base.specs.Shelf.{Files}
 use Rattle.snb_input_files.specs.Files.{held_in}

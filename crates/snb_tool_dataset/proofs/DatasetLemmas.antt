@@ -19,7 +19,7 @@ use Rattle.snb_ratio.specs.Chances.{ChanceFall}
 use Rattle.snb_walk.specs.declared.target.Pick.TheVariants.{Modulo}
 use Rattle.snb_tool_outcome.specs.declared.deliver.Finished.{Finished}
 use Rattle.snb_tool_outcome.specs.declared.input.Input.{Input}
-use Rattle.snb_validation_check.specs.declared.text.Tally.{Tally}
+use Rattle.snb_validation_model.specs.declared.tally.Tally.{Tally}
 use Rattle.snb_tool_outcome.specs.Endings.{IsDoneWith, IsFinished}
 use Rattle.snb_tool_outcome.specs.PlanEndings.{IsInputAnswer}
 use Rattle.snb_tool_outcome.specs.DatasetEndings.{IsReplyAnswer, IsTallyAnswer, IsWalkAnswer, TellsTally, IsReplyLine}
@@ -31,7 +31,7 @@ use Rattle.snb_base.specs.FirstOf.{FirstOf, NoneOf}
 use Rattle.snb_input_files.proofs.Laws.{first_anyway, first_later, none_append}
 use Rattle.snb_loader.specs.Dataset.{IsDataset, IsDatasetAnswer, dataset_checks}
 use Rattle.snb_loader.specs.Laws.{DatasetIsOne}
-use Rattle.snb_validation_check.specs.CasesFile.{IsCasesAnswer, cases_checks}
+use Rattle.snb_validation_model.specs.CasesFile.{IsCasesAnswer, cases_checks}
 use Rattle.snb_validation_check.specs.Laws.{CasesRefusedOrNot}
 use Rattle.snb_tool_outcome.proofs.Laws.{any_told, beside_told, nothing_used}
 

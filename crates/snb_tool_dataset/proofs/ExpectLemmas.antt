@@ -21,8 +21,8 @@ use Rattle.snb_input_files.specs.Walk.{Before, Held}
 use Rattle.snb_loader.specs.Params.{AreParams}
 use Rattle.snb_plan.specs.Plans.{IsOfStreams, IsRead, IsUpdate, Operation, Plan, first_t, queries_in, query_from}
 use Rattle.snb_tool_words.specs.declared.command.Command.TheVariants.{Expect}
-use Rattle.snb_validation_expect.specs.CaseTexts.{case_count_text}
-use Rattle.snb_validation_expect.specs.Expected.{HasExpected, HasWords, HaveWords}
+use Rattle.snb_validation_model.specs.CaseTexts.{case_count_text}
+use Rattle.snb_validation_model.specs.Expected.{HasExpected, HasWords, HaveWords}
 use Rattle.snb_tool_outcome.specs.declared.input.Input.{Input}
 use Rattle.snb_tool_outcome.specs.Endings.{IsDoneWith}
 use Rattle.snb_tool_outcome.specs.PlanEndings.{IsInputAnswer}

@@ -19,10 +19,10 @@ use Rattle.snb_plan.specs.Plans.{IsOfStreams, queries_in}
 use Rattle.snb_tool_outcome.specs.declared.deliver.Finished.{Finished}
 use Rattle.snb_tool_outcome.specs.declared.input.Input.{Input}
 use Rattle.snb_validation_cases.specs.declared.case.Case.{Case}
-use Rattle.snb_validation_check.specs.declared.text.Tally.{Tally}
-use Rattle.snb_validation_expect.specs.Expected.{AreExpected, AreReadBack, HaveWords}
-use Rattle.snb_validation_check.specs.CasesFile.{IsTally}
-use Rattle.snb_validation_check.specs.CheckTexts.{tally_status, tally_text}
+use Rattle.snb_validation_model.specs.declared.tally.Tally.{Tally}
+use Rattle.snb_validation_model.specs.Expected.{AreExpected, AreReadBack, HaveWords}
+use Rattle.snb_validation_model.specs.CasesFile.{IsTally}
+use Rattle.snb_validation_model.specs.CheckTexts.{tally_status, tally_text}
 use Rattle.snb_trial.specs.Trial.{dataset}
 use Rattle.snb_tool_outcome.specs.Inputs.{AreBadCases, at_first}
 use Rattle.snb_tool_outcome.specs.Done.{expected_texts}

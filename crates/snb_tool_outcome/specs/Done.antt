@@ -3,13 +3,13 @@ use Rattle.std.specs.Prelude.{◌≡◌, ℕ, List, [], length, Option}
 use Rattle.snb_base.specs.Moments.{Moments}
 use Rattle.snb_base.specs.Outbox.{Written}
 use Rattle.snb_validation_cases.specs.declared.case.Case.{Case}
-use Rattle.snb_validation_check.specs.declared.text.Tally.{Tally}
-use Rattle.snb_validation_check.specs.CasesFile.{IsTally}
-use Rattle.snb_validation_check.specs.CheckTexts.{tally_status, tally_text}
+use Rattle.snb_validation_model.specs.declared.tally.Tally.{Tally}
+use Rattle.snb_validation_model.specs.CasesFile.{IsTally}
+use Rattle.snb_validation_model.specs.CheckTexts.{tally_status, tally_text}
 use Rattle.snb_input_files.specs.Walk.{Held}
 use Rattle.snb_loader.specs.Dataset.{IsDataset}
-use Rattle.snb_validation_expect.specs.CaseTexts.{cases_text, case_count_text}
-use Rattle.snb_validation_expect.specs.Expected.{AreExpected, AreReadBack}
+use Rattle.snb_validation_model.specs.CaseTexts.{cases_text, case_count_text}
+use Rattle.snb_validation_model.specs.Expected.{AreExpected, AreReadBack}
 use Rattle.snb_plan.specs.Plans.{IsOfStreams, Plan, queries_in, updates_in}
 use Rattle.snb_read_model.specs.Cells.{ByteCell}
 use Rattle.snb_read_model.specs.Replies.{IsReply}

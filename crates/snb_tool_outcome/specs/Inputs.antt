@@ -1,8 +1,8 @@
 -- What each command tries of its files, in order.
 use Rattle.std.specs.Prelude.{◌≡◌, ℕ, ◌<◌, Bool, true, false, List, [], ◌∷◌, ◌++◌, Option, None, Some}
 use Rattle.snb_base.specs.Shelf.{Files}
-use Rattle.snb_auditor_log.specs.LogFiles.{log_checks}
-use Rattle.snb_validation_check.specs.CasesFile.{cases_checks}
+use Rattle.snb_audit_model.specs.LogFiles.{log_checks}
+use Rattle.snb_validation_model.specs.CasesFile.{cases_checks}
 use Rattle.snb_base.specs.FirstOf.{FirstOf, NoneOf}
 use Rattle.snb_input_files.specs.Walk.{Before, Held}
 use Rattle.snb_loader.specs.Dataset.{IsDataset, after_tables, dataset_checks}

@@ -1,9 +1,9 @@
 -- What an audit and latencies tell of a log.
 use Rattle.std.specs.Prelude.{◌≡◌, ℕ, List, Option, MatchBool}
-use Rattle.snb_auditor_log.specs.LogFiles.{IsLogOf}
-use Rattle.snb_auditor_log.specs.declared.verdict.AuditVerdict.{AuditVerdict}
-use Rattle.snb_auditor_log.specs.AuditVerdicts.{IsAuditVerdict, is_whole}
-use Rattle.snb_auditor_log.specs.VerdictTexts.{audit_status, audit_text}
+use Rattle.snb_audit_model.specs.LogFiles.{IsLogOf}
+use Rattle.snb_audit_model.specs.declared.verdict.AuditVerdict.{AuditVerdict}
+use Rattle.snb_audit_model.specs.AuditVerdicts.{IsAuditVerdict, is_whole}
+use Rattle.snb_audit_model.specs.VerdictTexts.{audit_status, audit_text}
 use Rattle.snb_base.specs.Outbox.{Written}
 use Rattle.snb_input_files.specs.Walk.{Held}
 use Rattle.snb_plan.specs.Plans.{Plan}
@@ -16,7 +16,7 @@ use Rattle.snb_summary.specs.declared.summary.Measure.{Measure}
 use Rattle.snb_summary.specs.Summaries.{IsSummary}
 use Rattle.snb_summary.specs.SummaryTexts.{measures_text}
 use Rattle.snb_summary.specs.Works.{run_of}
-use Rattle.snb_miscount.specs.Miscounts.{events_of}
+use Rattle.snb_audit_model.specs.Miscounts.{events_of}
 use Rattle.snb_tool_outcome.specs.Inputs.{IsInput}
 use Rattle.snb_tool_outcome.specs.Output.{on_screen}
 

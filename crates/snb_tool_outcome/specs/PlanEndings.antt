@@ -1,7 +1,7 @@
 -- What commands that run or audit a plan answer before they write. Cited by contracts of functions
 -- of the tool alone.
 use Rattle.std.specs.Prelude.{◌≡◌, ℕ, ◌<◌, ◌≤◌, ◌⊎◌, List, [], ◌++◌, length, Option, Result, Ok, Err}
-use Rattle.snb_auditor_log.specs.LogFiles.{log_checks}
+use Rattle.snb_audit_model.specs.LogFiles.{log_checks}
 use Rattle.snb_base.specs.Outbox.{Written}
 use Rattle.snb_base.specs.Shelf.{Files}
 use Rattle.snb_base.specs.FirstOf.{FirstOf, NoneOf}
@@ -26,7 +26,7 @@ use Rattle.snb_plan.specs.Closed.{IsClosed, IsFirstWrong}
 use Rattle.snb_plan.specs.Plans.{IsPlan, Plan, queries_in, updates_in}
 use Rattle.snb_plan.specs.Merging.{read_count}
 use Rattle.snb_replica.specs.Counts.{logged_of}
-use Rattle.snb_workers.specs.declared.run.Outcome.{Outcome as RunOutcome}
+use Rattle.snb_replica.specs.declared.outcome.Outcome.{Outcome as RunOutcome}
 use Rattle.snb_tool_outcome.specs.declared.judged.Judged.{Judged}
 use Rattle.snb_tool_outcome.specs.declared.input.Input.{Input}
 use Rattle.snb_graph_model.specs.Soundness.{Sound}

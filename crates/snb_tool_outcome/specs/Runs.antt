@@ -16,9 +16,9 @@ use Rattle.snb_graph_model.specs.FinalText.{final_text}
 use Rattle.snb_tool_texts.specs.Answers.{answers_text}
 use Rattle.snb_trial.specs.Trial.{dataset, lanes, least_ratio, lists, read_frequencies}
 use Rattle.snb_replica.specs.Counts.{logged_of}
-use Rattle.snb_miscount.specs.Miscounts.{IsFirstMiscount}
+use Rattle.snb_audit_model.specs.Miscounts.{IsFirstMiscount}
 use Rattle.snb_answered.specs.declared.done.Answered.{Answered}
-use Rattle.snb_workers.specs.Runs.{HasRun}
+use Rattle.snb_replica.specs.Runs.{HasRun}
 use Rattle.snb_tool_outcome.specs.Inputs.{IsInput}
 
 -- the summary of a run of a plan over a dataset: how many operations, updates and reads there were,

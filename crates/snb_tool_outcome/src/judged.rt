@@ -1,6 +1,6 @@
 //! A log that is judged.
 
-use snb_auditor_log::Audited;
+use snb_audit_model::Audited;
 use snb_plan::Plan;
 
 /// The plan of the files of a folder, and a log with the verdict on it.

@@ -29,7 +29,7 @@ use Rattle.snb_replica.specs.Counts.{HasRightCount, IsCount, TellsCounts, logged
 use Rattle.snb_answered.specs.declared.done.Answered.{Answered}
 use Rattle.snb_miscount.specs.Laws.{OneCount}
 use Rattle.snb_workers.specs.Laws.{FinishesAreOfOperations}
-use Rattle.snb_miscount.specs.Miscounts.{IsFirstMiscount}
+use Rattle.snb_audit_model.specs.Miscounts.{IsFirstMiscount}
 use Rattle.snb_workers_replay.specs.Laws.{IsReplayed}
 use Rattle.snb_graph_model.specs.Graphs.{IsGraph}
 use Rattle.snb_graph_model.specs.Soundness.{Sound}

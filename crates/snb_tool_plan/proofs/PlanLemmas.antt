@@ -24,14 +24,14 @@ use Rattle.snb_tool_outcome.specs.Inputs.{plan_checks}
 use Rattle.snb_tool_outcome.specs.Found.{Given}
 use Rattle.snb_walk.specs.declared.target.Pick.TheVariants.{Modulo}
 use Rattle.snb_replica.specs.Counts.{logged_of}
-use Rattle.snb_workers.specs.declared.run.Outcome.{Outcome}
-use Rattle.snb_miscount.specs.Miscounts.{IsFirstMiscount, events_of}
-use Rattle.snb_workers.specs.Runs.{HasRun}
+use Rattle.snb_replica.specs.declared.outcome.Outcome.{Outcome}
+use Rattle.snb_audit_model.specs.Miscounts.{IsFirstMiscount, events_of}
+use Rattle.snb_replica.specs.Runs.{HasRun}
 use Rattle.snb_tool_outcome.specs.declared.judged.Judged.{Judged}
 use Rattle.snb_tool_outcome.specs.declared.input.Input.{Input}
-use Rattle.snb_auditor_log.specs.AuditVerdicts.{is_whole}
+use Rattle.snb_audit_model.specs.AuditVerdicts.{is_whole}
 use Rattle.snb_auditor_log.specs.Laws.{WholeExactly}
-use Rattle.snb_auditor_log.specs.VerdictTexts.{audit_status, audit_text}
+use Rattle.snb_audit_model.specs.VerdictTexts.{audit_status, audit_text}
 use Rattle.snb_tool_outcome.specs.Endings.{IsDoneWith, IsFinished}
 use Rattle.snb_tool_outcome.specs.PlanEndings.{AreTexts, IsInputAnswer, IsJudgedAnswer, IsTrialInput}
 use Rattle.snb_tool_outcome.specs.LogsDone.{ShowsSummary, IsJudgedLog}
@@ -39,9 +39,9 @@ use Rattle.snb_tool_outcome.specs.Runs.{LeavesTexts}
 use Rattle.snb_tool_outcome.specs.Output.{on_screen}
 use Rattle.snb_input_files.specs.declared.load.Load.TheVariants.{Refused, ReadFault, Memory}
 use Rattle.snb_input_files.proofs.Laws.{first_anyway, first_later, none_append}
-use Rattle.snb_auditor_log.specs.declared.audit.Audited.{Audited}
-use Rattle.snb_auditor_log.specs.Audited.{IsAuditAnswer}
-use Rattle.snb_auditor_log.specs.LogFiles.{log_checks}
+use Rattle.snb_audit_model.specs.declared.audited.Audited.{Audited}
+use Rattle.snb_audit_model.specs.Audited.{IsAuditAnswer}
+use Rattle.snb_audit_model.specs.LogFiles.{log_checks}
 use Rattle.snb_tool_outcome.proofs.Laws.{any_told, beside_told}
 
 -- ---- `run` and `trial`

@@ -8,7 +8,7 @@ ghost use Rattle.snb_input_files.specs.Loading.{is_read_fault};
 ghost use Rattle.snb_input_files.specs.Names.{Allows};
 ghost use Rattle.snb_plan.specs.Plans.{schedule_of};
 ghost use Rattle.snb_tool_words.specs.declared.command.Command.TheVariants.{Latency};
-ghost use Rattle.snb_miscount.specs.Miscounts.{events_of};
+ghost use Rattle.snb_audit_model.specs.Miscounts.{events_of};
 ghost use Rattle.snb_tool_outcome.specs.Endings.{IsFinished};
 ghost use Rattle.snb_tool_outcome.specs.Found.{Given};
 ghost use Rattle.snb_tool_outcome.specs.Names.{IsNameOf};

@@ -13,7 +13,7 @@ use Rattle.snb_input_files.specs.Loading.{IsAnswer}
 use Rattle.snb_input_files.specs.Places.{FilesSay, ReadFile}
 use Rattle.snb_schema.specs.declared.refusal.Refusal.TheVariants as refusals
 use Rattle.snb_validation_cases.specs.declared.case.CaseAt.{CaseAt}
-use Rattle.snb_validation_check.specs.CasesFile.{IsCasesAnswer, case_format, cases_file}
+use Rattle.snb_validation_model.specs.CasesFile.{IsCasesAnswer, case_format, cases_file}
 use Rattle.snb_validation_check.specs.CaseTakers.{Counted, HasTaken, IsHeard}
 use Rattle.snb_validation_check.proofs.Telling.{taken_none}
 

@@ -11,9 +11,9 @@ use Rattle.snb_read_model.specs.Replies.{IsReply}
 use Rattle.snb_read_laws.specs.Laws.{OneReply}
 use Rattle.snb_validation_cases.specs.declared.case.Case.TheVariants.{Insert, Ask}
 use Rattle.snb_validation_cases.specs.declared.case.CaseAt.{CaseAt}
-use Rattle.snb_validation_check.specs.declared.difference.Difference.{Difference}
-use Rattle.snb_validation_check.specs.Checks.{AreRight, Finds, IsAfterCases, IsFirstDifference, ask_at}
-use Rattle.snb_validation_check.specs.Steps.{HasCompared, IsKept}
+use Rattle.snb_validation_model.specs.declared.difference.Difference.{Difference}
+use Rattle.snb_validation_model.specs.Checks.{AreRight, Finds, IsAfterCases, IsFirstDifference, ask_at}
+use Rattle.snb_validation_model.specs.Steps.{HasCompared, IsKept}
 use Rattle.snb_validation_check.proofs.Inserting.{one_after}
 
 -- a reply is a list of answers

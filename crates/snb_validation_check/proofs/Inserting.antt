@@ -7,7 +7,7 @@ use Rattle.snb_schema.specs.declared.row.Row.{Row}
 use Rattle.snb_graph_model.specs.Graphs.{HasGained}
 use Rattle.snb_graph_model.specs.Laws.{GraphsAreTheirRows}
 use Rattle.snb_validation_cases.specs.declared.case.CaseAt.{CaseAt}
-use Rattle.snb_validation_check.specs.Checks.{IsAfterCases, inserted, rows_of_case}
+use Rattle.snb_validation_model.specs.Checks.{IsAfterCases, inserted, rows_of_case}
 
 -- the rows of one case more
 inserted_push : (cases : List CaseAt) (x : CaseAt) → inserted (cases ++ x ∷ []) ≡ inserted cases ++ rows_of_case x.case

@@ -8,9 +8,9 @@ use Rattle.snb_base.specs.FirstOf.{FirstOf}
 use Rattle.snb_input_files.specs.Places.{opening}
 use Rattle.snb_input_files.proofs.Laws.{file_one, first_some, says_one}
 use Rattle.snb_validation_cases.specs.declared.case.CaseAt.{CaseAt}
-use Rattle.snb_validation_check.specs.CasesFile.{AreCases, case_format, cases_checks, cases_file}
+use Rattle.snb_validation_model.specs.CasesFile.{AreCases, case_format, cases_checks, cases_file}
 use Rattle.snb_validation_check.specs.CaseTakers.{CasesAreLawful}
-use Rattle.snb_validation_check.specs.Checks.{Finds, count_reads}
+use Rattle.snb_validation_model.specs.Checks.{Finds, count_reads}
 use Rattle.snb_validation_check.specs.Laws.{CasesRefuseOnce, CasesRefusedOrNot, FindingIsOne, TallyIsOne}
 
 -- a file that isn't held is refused for that

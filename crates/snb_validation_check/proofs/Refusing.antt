@@ -14,9 +14,9 @@ use Rattle.snb_inserts.specs.Applying.{IsFirstMissing, IsThere}
 use Rattle.snb_validation_cases.specs.declared.case.Case.{Case}
 use Rattle.snb_validation_cases.specs.declared.case.Case.TheVariants.{Insert, Ask}
 use Rattle.snb_validation_cases.specs.declared.case.CaseAt.{CaseAt}
-use Rattle.snb_validation_check.specs.CasesFile.{IsCaseRefused, IsRefusedAfter}
-use Rattle.snb_validation_check.specs.Checks.{IsAfterCases}
-use Rattle.snb_validation_check.specs.Steps.{CaseRepeats, IsUnmet}
+use Rattle.snb_validation_model.specs.CasesFile.{IsCaseRefused, IsRefusedAfter}
+use Rattle.snb_validation_model.specs.Checks.{IsAfterCases}
+use Rattle.snb_validation_model.specs.Steps.{CaseRepeats, IsUnmet}
 use Rattle.snb_validation_check.proofs.Inserting.{one_after}
 use Rattle.snb_inserts.proofs.Laws.{one_first}
 

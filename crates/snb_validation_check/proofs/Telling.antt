@@ -19,10 +19,10 @@ use Rattle.snb_validation_cases.specs.declared.case.CaseAt.{CaseAt}
 use Rattle.snb_validation_cases.specs.CaseFile.{case_language}
 use Rattle.snb_validation_cases.specs.Cases.{IsCase}
 use Rattle.snb_validation_cases.specs.Laws.{OneCaseColumn, OneCaseLine, OneHeaderColumn}
-use Rattle.snb_validation_check.specs.CasesFile.{IsCaseAmiss, said_cases}
+use Rattle.snb_validation_model.specs.CasesFile.{IsCaseAmiss, said_cases}
 use Rattle.snb_validation_check.specs.CaseTakers.{AreCaseTakers, CasesAreLawful, Counted, HasTaken, IsHeard, RefusesCase, TakesCase}
-use Rattle.snb_validation_check.specs.Checks.{Finds, IsAfterCases, count_reads, is_read}
-use Rattle.snb_validation_check.specs.Steps.{HasText, Steps}
+use Rattle.snb_validation_model.specs.Checks.{Finds, IsAfterCases, count_reads, is_read}
+use Rattle.snb_validation_model.specs.Steps.{HasText, Steps}
 use Rattle.snb_validation_check.proofs.CasesFacts.{finds_insert, finds_read, right_none}
 use Rattle.snb_validation_check.proofs.Inserting.{after_more, after_same}
 use Rattle.snb_validation_check.proofs.Refusing.{own_one, refused_on}

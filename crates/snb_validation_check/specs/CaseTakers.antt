@@ -9,9 +9,9 @@ use Rattle.snb_input_lines.specs.Sinks.{Refuses, SinkMeaning}
 use Rattle.snb_input_files.specs.Format.{AreTakers, Lawful, Stage}
 use Rattle.snb_validation_cases.specs.declared.case.CaseAt.{CaseAt}
 use Rattle.snb_validation_cases.specs.CaseFile.{case_language}
-use Rattle.snb_validation_check.specs.CasesFile.{IsCaseAmiss, IsCaseRefused, case_format, said_cases}
-use Rattle.snb_validation_check.specs.Checks.{Finds, IsAfterCases, count_reads}
-use Rattle.snb_validation_check.specs.Steps.{Checked, HasText, Steps}
+use Rattle.snb_validation_model.specs.CasesFile.{IsCaseAmiss, IsCaseRefused, case_format, said_cases}
+use Rattle.snb_validation_model.specs.Checks.{Finds, IsAfterCases, count_reads}
+use Rattle.snb_validation_model.specs.Steps.{Checked, HasText, Steps}
 
 -- a checker, and how many reads it took
 pub record Counted : Type 0 where

@@ -7,10 +7,10 @@ use Rattle.snb_read_model.specs.Cells.{ByteCell}
 use Rattle.snb_read_model.specs.Replies.{IsReply}
 use Rattle.snb_base.specs.FirstOf.{FirstOf, NoneOf}
 use Rattle.snb_validation_cases.specs.declared.case.CaseAt.{CaseAt}
-use Rattle.snb_validation_check.specs.declared.difference.Difference.{Difference}
-use Rattle.snb_validation_check.specs.declared.text.Tally.{Tally}
-use Rattle.snb_validation_check.specs.CasesFile.{IsTally, cases_checks}
-use Rattle.snb_validation_check.specs.Checks.{AreRight, Finds, IsAfterCases, ask_at}
+use Rattle.snb_validation_model.specs.declared.difference.Difference.{Difference}
+use Rattle.snb_validation_model.specs.declared.tally.Tally.{Tally}
+use Rattle.snb_validation_model.specs.CasesFile.{IsTally, cases_checks}
+use Rattle.snb_validation_model.specs.Checks.{AreRight, Finds, IsAfterCases, ask_at}
 
 -- over one base a file of cases is refused for one thing at most
 abbrev pub CasesRefuseOnce : Type 0

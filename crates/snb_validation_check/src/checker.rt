@@ -8,9 +8,8 @@ ghost use Rattle.snb_schema.specs.References.{refs_of};
 ghost use Rattle.snb_graph_model.specs.Graphs.{HasGained};
 ghost use Rattle.snb_graph_model.specs.Soundness.{Sound};
 ghost use Rattle.snb_inserts.specs.Applying.{HasLine, IsDuplicate, IsFirstMissing};
-ghost use Rattle.snb_validation_check.specs.Steps.{HasCompared, HasText, CaseRepeats, IsUnmet, Steps};
+ghost use Rattle.snb_validation_model.specs.Steps.{HasCompared, HasText, CaseRepeats, IsUnmet, Steps};
 
-use crate::difference::Difference;
 use snb_base::Text;
 use snb_graph::Graph;
 use snb_inserts::Applied;
@@ -20,6 +19,7 @@ use snb_read_same::same_reply;
 use snb_replies::Replies;
 use snb_schema::{Missing, Op, Query};
 use snb_validation_cases::Case;
+use snb_validation_model::Difference;
 use std::alloc::{AllocError, Global};
 use std::marker::Model;
 
@@ -54,7 +54,7 @@ impl Drop for Checker {
 
 impl Model for Checker {
     ghost use Rattle.snb_graph_model.specs.Soundness.{Sound};
-    ghost use Rattle.snb_validation_check.specs.Steps.{Checked};
+    ghost use Rattle.snb_validation_model.specs.Steps.{Checked};
 
     ghost Value = { Checked };
 

@@ -5,11 +5,10 @@ ghost use Rattle.snb_base.specs.Reads.{IsShelfRead};
 ghost use Rattle.snb_input_files.specs.Loading.{is_read_fault};
 ghost use Rattle.snb_graph_model.specs.Soundness.{Sound};
 ghost use Rattle.snb_validation_check.specs.CaseTakers.{AreCaseTakers, CasesAreLawful};
-ghost use Rattle.snb_validation_check.specs.CasesFile.{IsCasesAnswer};
-ghost use Rattle.snb_validation_check.specs.Checks.{count_reads};
+ghost use Rattle.snb_validation_model.specs.CasesFile.{IsCasesAnswer};
+ghost use Rattle.snb_validation_model.specs.Checks.{count_reads};
 
 use crate::checker::{Checker, StepFault};
-use crate::text::Tally;
 use snb_base::Shelf;
 use snb_graph::Graph;
 use snb_graph_model::law::graphs_are_their_rows;
@@ -19,6 +18,7 @@ use snb_replies::Replies;
 use snb_schema::{Fault, FileId, FileKind, Refusal};
 use snb_validation_cases::law::one_case_line;
 use snb_validation_cases::{Case, CaseAt, CaseLines};
+use snb_validation_model::Tally;
 use std::alloc::{AllocError, Global};
 use std::marker::Model;
 

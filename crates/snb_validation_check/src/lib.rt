@@ -3,10 +3,9 @@
 #![tactic(auto)]
 
 pub mod checker;
-pub mod difference;
 pub mod file;
 pub mod law;
 pub mod text;
 
 pub use file::check_cases_via;
-pub use text::Tally;
+pub use snb_validation_model::{Difference, Tally};

@@ -1,26 +1,12 @@
 //! What is told of checked cases.
 
 ghost use Rattle.std.specs.Prelude.{◌≡◌, ◌++◌, IfOk, OnOk};
-ghost use Rattle.snb_validation_check.specs.CheckTexts.{difference_text, tally_status, tally_text};
+ghost use Rattle.snb_validation_model.specs.CheckTexts.{difference_text, tally_status, tally_text};
 
-use crate::difference::Difference;
 use snb_read_model::lend_reply;
 use snb_validation::reply_text;
+use snb_validation_model::{Difference, Tally};
 use std::alloc::{AllocError, Global};
-
-/// What was found over cases.
-pub struct Tally {
-    /// How many of the cases are reads.
-    pub reads: u64,
-    /// The first case whose reply differs from the graph's, if there is one.
-    pub first: Option<Difference>,
-}
-
-impl Drop for Tally {
-    fn drop(self) {
-        let Tally { reads: _, first: _ } = self;
-    }
-}
 
 // The lines of a difference.
 fn difference_lines(alloc: Global, one: &Difference) -> Result<Vec<u8>, AllocError>

@@ -13,7 +13,7 @@ use Rattle.snb_input_files.specs.PlaceChecks.{FailsOwn, HasBadColumn, IsBare, Ha
 use Rattle.snb_input_files.proofs.Laws.{says_knows}
 use Rattle.snb_validation_cases.specs.declared.case.CaseAt.{CaseAt}
 use Rattle.snb_validation_cases.specs.CaseFile.{case_language}
-use Rattle.snb_validation_check.specs.CasesFile.{IsRefusedAfter, case_format, cases_checks, cases_file, said_cases}
+use Rattle.snb_validation_model.specs.CasesFile.{IsRefusedAfter, case_format, cases_checks, cases_file, said_cases}
 
 -- after lines either the header is known or it isn't
 known_apart : (ls : List (List ℕ)) (k : Unit {0}) → HasKnown None case_language.heads ls None → HasKnown None case_language.heads ls (Some k) → ⊥

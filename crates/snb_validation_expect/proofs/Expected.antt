@@ -5,8 +5,8 @@ use Rattle.snb_input_lines.specs.Reading.{Says}
 use Rattle.snb_workers_replay.specs.Laws.{WelcomeInOrder}
 use Rattle.snb_validation_cases.specs.CaseFile.{case_language}
 use Rattle.snb_validation_cases.specs.Laws.{OneCaseLine}
-use Rattle.snb_validation_check.specs.CasesFile.{cases_file}
-use Rattle.snb_validation_expect.specs.CaseTexts.{cases_text}
+use Rattle.snb_validation_model.specs.CasesFile.{cases_file}
+use Rattle.snb_validation_model.specs.CaseTexts.{cases_text}
 use Rattle.snb_validation_expect.specs.Laws.{ExpectedAreRight}
 use Rattle.snb_validation_expect.proofs.Clean.{clean}
 use Rattle.snb_validation_expect.proofs.InTurn.{as_many_reads}

@@ -14,8 +14,8 @@ use Rattle.snb_workers_replay.specs.Replay.{insert_in, rows_before}
 use Rattle.snb_validation_cases.specs.declared.case.Case.{Case}
 use Rattle.snb_validation_cases.specs.declared.case.Case.TheVariants.{Ask}
 use Rattle.snb_validation_cases.specs.declared.case.CaseAt.{CaseAt}
-use Rattle.snb_validation_check.specs.Checks.{count_reads, inserted, rows_of_case}
-use Rattle.snb_validation_expect.specs.Expected.{AreExpected, IsCaseOf, insert_case}
+use Rattle.snb_validation_model.specs.Checks.{count_reads, inserted, rows_of_case}
+use Rattle.snb_validation_model.specs.Expected.{AreExpected, IsCaseOf, insert_case}
 use Rattle.snb_validation_expect.proofs.OwnLines.{placed}
 use Rattle.snb_base.proofs.Laws.{not_empty}
 

@@ -12,7 +12,7 @@ use Rattle.snb_validation_cases.specs.declared.case.Case.TheVariants.{Insert, As
 use Rattle.snb_validation_cases.specs.declared.case.CaseAt.{CaseAt}
 use Rattle.snb_validation_cases.specs.CaseFile.{case_language}
 use Rattle.snb_validation_cases.specs.Cases.{SpellsCase}
-use Rattle.snb_validation_expect.specs.CaseTexts.{case_data, case_line, case_text, cases_text}
+use Rattle.snb_validation_model.specs.CaseTexts.{case_data, case_line, case_text, cases_text}
 use Rattle.snb_validation_expect.proofs.Header.{header, header_one_line, header_read, header_utf8}
 use Rattle.snb_validation_expect.proofs.OneLine.{text_one_line}
 

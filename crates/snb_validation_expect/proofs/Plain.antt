@@ -12,7 +12,7 @@ use Rattle.snb_read_model.specs.Cells.{ByteCell}
 use Rattle.snb_validation.specs.ReplyData.{array_of}
 use Rattle.snb_validation.proofs.Laws.{reply_low, reply_plain}
 use Rattle.snb_validation_cases.specs.declared.case.Case.TheVariants.{Ask}
-use Rattle.snb_validation_expect.specs.CaseTexts.{case_data, parameter_data}
+use Rattle.snb_validation_model.specs.CaseTexts.{case_data, parameter_data}
 
 parameter_plain : (v : Value) → has_float (parameter_data v) ≡ false
 parameter_plain (value.Digits n) = refl

@@ -32,8 +32,8 @@ use Rattle.snb_validation_cases.specs.declared.case.Case.TheVariants.{Ask}
 use Rattle.snb_validation_cases.specs.Parameters.{IsParameter}
 use Rattle.snb_validation_cases.specs.Replies.{IsAnswerTo, IsCellIn, IsCellValue, IsReplyData, IsRow, IsStayData}
 use Rattle.snb_validation_cases.specs.Values.{AreAlong, IsString}
-use Rattle.snb_validation_expect.specs.CaseTexts.{case_data, case_line, case_text, parameter_data}
-use Rattle.snb_validation_expect.specs.Expected.{HasWords, insert_case}
+use Rattle.snb_validation_model.specs.CaseTexts.{case_data, case_line, case_text, parameter_data}
+use Rattle.snb_validation_model.specs.Expected.{HasWords, insert_case}
 use Rattle.snb_validation_expect.specs.Writing.{HasPutAsk, IsJsonText}
 
 -- ---- parameters

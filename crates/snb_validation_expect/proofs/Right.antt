@@ -19,9 +19,9 @@ use Rattle.snb_workers_replay.specs.Replay.{IsGraphBefore, insert_in}
 use Rattle.snb_validation_cases.specs.declared.case.Case.{Case}
 use Rattle.snb_validation_cases.specs.declared.case.Case.TheVariants.{Ask}
 use Rattle.snb_validation_cases.specs.declared.case.CaseAt.{CaseAt}
-use Rattle.snb_validation_check.specs.CasesFile.{IsCaseRefused, IsRefusedAfter}
-use Rattle.snb_validation_check.specs.Checks.{AreRight, IsAfterCases, ask_at}
-use Rattle.snb_validation_expect.specs.Expected.{AreExpected, IsCaseOf, IsExpectedAt}
+use Rattle.snb_validation_model.specs.CasesFile.{IsCaseRefused, IsRefusedAfter}
+use Rattle.snb_validation_model.specs.Checks.{AreRight, IsAfterCases, ask_at}
+use Rattle.snb_validation_model.specs.Expected.{AreExpected, IsCaseOf, IsExpectedAt}
 use Rattle.snb_validation_expect.proofs.InTurn.{IsOfWork, case_at, inserted_before, of_work, operation}
 use Rattle.snb_validation_expect.proofs.OwnLines.{placed}
 use Rattle.snb_inserts.proofs.Laws.{none_first}

@@ -24,8 +24,8 @@ use Rattle.snb_workers_replay.proofs.Laws.{before_none, before_some, read_insert
 use Rattle.snb_validation_cases.specs.Cases.{SpellsCase}
 use Rattle.snb_validation_cases.specs.declared.case.Case.{Case}
 use Rattle.snb_validation_cases.specs.declared.case.Case.TheVariants as cases
-use Rattle.snb_validation_expect.specs.CaseTexts.{case_line, case_text}
-use Rattle.snb_validation_expect.specs.Expected.{HasExpected, HasWords, HaveWords, IsExpectedAt, insert_case}
+use Rattle.snb_validation_model.specs.CaseTexts.{case_line, case_text}
+use Rattle.snb_validation_model.specs.Expected.{HasExpected, HasWords, HaveWords, IsExpectedAt, insert_case}
 use Rattle.snb_validation_expect.specs.Writing.{HasPut, HasPutAsk, HasPutInsert, HavePut, IsAt}
 use Rattle.snb_base.proofs.Laws.{gives}
 

@@ -5,9 +5,9 @@ use Rattle.snb_schema.specs.declared.row.Row.{Row}
 use Rattle.snb_plan.specs.Plans.{Plan, queries_in}
 use Rattle.snb_workers_replay.specs.Laws.{IsReplayed}
 use Rattle.snb_validation_cases.specs.declared.case.Case.{Case}
-use Rattle.snb_validation_check.specs.CasesFile.{IsTally}
-use Rattle.snb_validation_expect.specs.CaseTexts.{cases_text}
-use Rattle.snb_validation_expect.specs.Expected.{AreExpected, AreReadBack}
+use Rattle.snb_validation_model.specs.CasesFile.{IsTally}
+use Rattle.snb_validation_model.specs.CaseTexts.{cases_text}
+use Rattle.snb_validation_model.specs.Expected.{AreExpected, AreReadBack}
 
 -- over a base over which the plan's updates are closed, nothing is wrong with the file of the
 -- plan's cases, each of which is read from its line, and no reply in it differs

@@ -1,4 +1,2 @@
-pub mod CaseTexts
-pub mod Expected
 pub mod Writing
 pub mod Laws

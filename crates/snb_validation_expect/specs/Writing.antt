@@ -15,8 +15,8 @@ use Rattle.snb_workers_replay.specs.Replay.{IsGraphBefore}
 use Rattle.snb_validation_cases.specs.Cases.{SpellsCase}
 use Rattle.snb_validation_cases.specs.declared.case.Case.{Case}
 use Rattle.snb_validation_cases.specs.declared.case.Case.TheVariants.{Ask}
-use Rattle.snb_validation_expect.specs.CaseTexts.{case_line, case_text}
-use Rattle.snb_validation_expect.specs.Expected.{AreReadBack, HasWords, HaveWords, IsExpectedAt, insert_case}
+use Rattle.snb_validation_model.specs.CaseTexts.{case_line, case_text}
+use Rattle.snb_validation_model.specs.Expected.{AreReadBack, HasWords, HaveWords, IsExpectedAt, insert_case}
 
 -- the text is UTF-8, and `serde_json` reads this value from it
 pub record IsJsonText (text : List ℕ) (d : Data) : Type 0 where

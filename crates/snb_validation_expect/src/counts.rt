@@ -1,7 +1,7 @@
 //! What is shown of cases that were written.
 
 ghost use Rattle.std.specs.Prelude.{◌≡◌, IfOk};
-ghost use Rattle.snb_validation_expect.specs.CaseTexts.{case_count_text};
+ghost use Rattle.snb_validation_model.specs.CaseTexts.{case_count_text};
 
 use std::alloc::{AllocError, Global};
 

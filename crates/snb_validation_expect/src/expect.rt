@@ -10,7 +10,7 @@ ghost use Rattle.snb_inserts.specs.Applying.{IsWelcome};
 ghost use Rattle.snb_plan.specs.Closed.{IsClosed};
 ghost use Rattle.snb_plan.specs.Plans.{updates_in};
 ghost use Rattle.snb_plan.specs.Tasks.{IsTask};
-ghost use Rattle.snb_validation_expect.specs.Expected.{HasExpected};
+ghost use Rattle.snb_validation_model.specs.Expected.{HasExpected};
 ghost use Rattle.snb_validation_expect.specs.Writing.{HasPut, HasPutAsk, HasPutInsert, HavePut, IsAt};
 
 use crate::lines::{put_ask, put_insert};

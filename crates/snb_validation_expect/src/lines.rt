@@ -12,8 +12,8 @@ ghost use Rattle.snb_validation.specs.Laws.{AreOfTypes};
 ghost use Rattle.snb_validation.specs.ReplyData.{array_of, reply_data};
 ghost use Rattle.snb_validation_cases.specs.Cases.{SpellsCase};
 ghost use Rattle.snb_validation_cases.specs.declared.case.Case.TheVariants.{Ask};
-ghost use Rattle.snb_validation_expect.specs.CaseTexts.{case_data, case_line, case_text, parameter_data};
-ghost use Rattle.snb_validation_expect.specs.Expected.{insert_case};
+ghost use Rattle.snb_validation_model.specs.CaseTexts.{case_data, case_line, case_text, parameter_data};
+ghost use Rattle.snb_validation_model.specs.Expected.{insert_case};
 ghost use Rattle.snb_validation_expect.specs.Writing.{IsJsonText};
 
 use crate::params::params_value;

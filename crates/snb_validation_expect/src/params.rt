@@ -5,7 +5,7 @@ ghost use Rattle.serde_json.specs.View.{view};
 ghost use Rattle.snb_schema.specs.declared.column.Value.TheVariants.{Digits, Letters, SmallDigits};
 ghost use Rattle.snb_schema.specs.ReadKinds.{parameter_values};
 ghost use Rattle.snb_validation.specs.ReplyData.{array_of};
-ghost use Rattle.snb_validation_expect.specs.CaseTexts.{parameter_data};
+ghost use Rattle.snb_validation_model.specs.CaseTexts.{parameter_data};
 
 use serde_json::Value;
 use snb_schema::Query;

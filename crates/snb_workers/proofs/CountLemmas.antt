@@ -25,7 +25,7 @@ use Rattle.snb_workers_replay.specs.Replay.{IsAfter}
 use Rattle.snb_answered.specs.declared.done.Answered.{Answered}
 use Rattle.snb_replica.specs.Counts.{HasRightCount, IsCountOf, TellsCounts, first_rows, logged_by, logged_of, rows_by}
 use Rattle.snb_workers.specs.Laws.{CountsOfARun, FinishesAreOfOperations, OneEntry}
-use Rattle.snb_workers.specs.Runs.{AreReplies, Asks, ReplyIsRight}
+use Rattle.snb_replica.specs.Runs.{AreReplies, Asks, ReplyIsRight}
 
 -- ---- what passes once
 

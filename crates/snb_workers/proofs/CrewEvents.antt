@@ -18,7 +18,7 @@ use Rattle.snb_history.proofs.Laws.{last-push}
 use Rattle.snb_book.specs.Kept.{moment_after}
 use Rattle.snb_board.specs.Boards.{events_of}
 use Rattle.snb_workers.specs.Laws.{OneMoment}
-use Rattle.snb_workers.specs.Runs.{AreByClock, IsAt, IsByClock, IsOfClock}
+use Rattle.snb_replica.specs.Runs.{AreByClock, IsAt, IsByClock, IsOfClock}
 use Rattle.snb_workers.specs.Works.{IsTimely}
 use Rattle.snb_workers.proofs.WorkEvents.{split_cases}
 

@@ -32,7 +32,7 @@ use Rattle.snb_workers.specs.declared.crew.Worker.{Worker}
 use Rattle.snb_answered.specs.declared.done.Answered.{Answered}
 use Rattle.snb_workers.specs.Crews.{AllLeave, AreReady, IsCrew, IsReady, Leaves, opening}
 use Rattle.snb_replica.specs.Replicas.{StandsFor, Taken}
-use Rattle.snb_workers.specs.Runs.{AreByClock, AreReplies, HasRun, ReplyIsRight}
+use Rattle.snb_replica.specs.Runs.{AreByClock, AreReplies, HasRun, ReplyIsRight}
 use Rattle.snb_workers.specs.Turns.{IsBehind}
 use Rattle.snb_workers.specs.Works.{AreTimely, HasWorked, IsFollowing, IsFree}
 use Rattle.snb_workers.proofs.CrewEvents.{all_by_clock, any_prefix, none_of, seen_there}

@@ -22,7 +22,7 @@ use Rattle.snb_answered.specs.Replies.{HasAdded}
 use Rattle.snb_answered.proofs.Laws.{added_there, still_there}
 use Rattle.snb_replica.specs.Replicas.{StandsFor, Taken}
 use Rattle.snb_replica.specs.ReplyTexts.{IsReplied}
-use Rattle.snb_workers.specs.Runs.{AreReplies, Asks, ReplyIsRight}
+use Rattle.snb_replica.specs.Runs.{AreReplies, Asks, ReplyIsRight}
 use Rattle.snb_workers.specs.declared.work.Served.{Served}
 use Rattle.snb_workers.specs.Turns.{IsDone, IsReplyNow, IsServed}
 use Rattle.snb_workers.proofs.PlanSteps.{ask_is_query, insert_is_no_query}

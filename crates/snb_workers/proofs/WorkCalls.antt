@@ -15,7 +15,7 @@ use Rattle.snb_board.specs.Boards.{HasCalled, Site, Sitting, events_of, mine}
 use Rattle.snb_plan.specs.Plans.{Plan}
 use Rattle.snb_answered.specs.declared.done.Answered.{Answered}
 use Rattle.snb_replica.specs.Replicas.{Taken}
-use Rattle.snb_workers.specs.Runs.{AreReplies}
+use Rattle.snb_replica.specs.Runs.{AreReplies}
 use Rattle.snb_workers.specs.Works.{AreTimely, IsFollowing, IsLater, IsTimely, added}
 use Rattle.snb_workers.specs.WorkTurns.{HasCome, HasReplied}
 use Rattle.snb_workers.proofs.TurnReplies.{AreWithin, answered_more}

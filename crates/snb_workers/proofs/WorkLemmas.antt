@@ -24,7 +24,7 @@ use Rattle.snb_board.specs.Boards.{HasCalled, HasClaimed, HasFinished, HasHalted
 use Rattle.snb_plan.specs.Plans.{IsOfStreams, Plan, schedule_of}
 use Rattle.snb_answered.specs.declared.done.Answered.{Answered}
 use Rattle.snb_replica.specs.Replicas.{StandsFor, Taken}
-use Rattle.snb_workers.specs.Runs.{AreReplies, Asks}
+use Rattle.snb_replica.specs.Runs.{AreReplies, Asks}
 use Rattle.snb_workers.specs.declared.work.Served.{Served}
 use Rattle.snb_workers.specs.Turns.{IsServed}
 use Rattle.snb_workers.specs.Works.{AreTimely, HasStopped, HasWorked, IsFollowing, IsLater, NothingIsLeft, added}

@@ -17,7 +17,7 @@ use Rattle.snb_replica.specs.Counts.{TellsCounts, first_rows, logged_of}
 use Rattle.snb_answered.specs.declared.done.Answered.{Answered}
 use Rattle.snb_replica.specs.Replicas.{IfFinish}
 use Rattle.snb_replica.specs.ReplyTexts.{IsReplied}
-use Rattle.snb_workers.specs.Runs.{AreByClock, HasRun, IsAt}
+use Rattle.snb_replica.specs.Runs.{AreByClock, HasRun, IsAt}
 
 -- in a legal history of a plan, the operation of each Finish is one of the plan
 abbrev pub FinishesAreOfOperations : Type 0

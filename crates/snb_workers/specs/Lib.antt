@@ -1,5 +1,4 @@
 pub mod Laws
-pub mod Runs
 pub mod Turns
 pub mod Works
 pub mod WorkTurns

@@ -14,7 +14,7 @@ use Rattle.snb_answered.specs.declared.done.Answered.{Answered}
 use Rattle.snb_workers.specs.declared.work.Turn.{Turn}
 use Rattle.snb_workers.specs.declared.work.Turn.TheVariants.{More, Over}
 use Rattle.snb_replica.specs.Replicas.{StandsFor, Taken}
-use Rattle.snb_workers.specs.Runs.{AreReplies, Asks}
+use Rattle.snb_replica.specs.Runs.{AreReplies, Asks}
 use Rattle.snb_workers.specs.Works.{AreTimely, IsFollowing, IsLater, NothingIsLeft, added}
 
 -- from the first sitting, where it had the old replica, the worker has come to this sitting and

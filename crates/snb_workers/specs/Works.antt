@@ -14,7 +14,7 @@ use Rattle.snb_plan.specs.Plans.{Plan, updates_in}
 use Rattle.snb_answered.specs.declared.done.Answered.{Answered}
 use Rattle.snb_base.specs.Moments.{Moments}
 use Rattle.snb_replica.specs.Replicas.{StandsFor, Taken}
-use Rattle.snb_workers.specs.Runs.{AreReplies}
+use Rattle.snb_replica.specs.Runs.{AreReplies}
 
 -- over this base, over which the plan is closed, the replica stands for a beginning of what was
 -- seen

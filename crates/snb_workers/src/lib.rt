@@ -10,5 +10,6 @@ pub mod threads;
 pub mod work;
 
 pub use counts::Counts;
-pub use run::{Events, Outcome, run_alone_via};
+pub use run::run_alone_via;
+pub use snb_replica::{Events, Outcome};
 pub use threads::run_workers_via;

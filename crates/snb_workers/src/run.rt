@@ -5,54 +5,17 @@ ghost use Rattle.snb_graph_model.specs.Graphs.{HoldsKey};
 ghost use Rattle.snb_graph_model.specs.Soundness.{Sound};
 ghost use Rattle.snb_plan.specs.Closed.{IsClosed};
 ghost use Rattle.snb_plan.specs.Plans.{updates_in};
-ghost use Rattle.snb_workers.specs.Runs.{HasRun};
+ghost use Rattle.snb_replica.specs.Runs.{HasRun};
 
 use crate::crew::{Worker, outcome_of};
-use snb_answered::Done;
-use snb_base::{Clock, Gate, OwnedList};
+use snb_base::{Clock, Gate};
 use snb_board::Board;
 use snb_graph::Graph;
-use snb_history::Event;
 use snb_plan::Plan;
+use snb_replica::Outcome;
 use snb_replies::Replies;
 use std::alloc::{AllocError, Global};
 use std::sync::Wait;
-
-/// Events, in the order in which they happened.
-pub type Events = OwnedList<Event>;
-
-/// What a run leaves: its events, the replies to its reads, and its final graph.
-pub struct Outcome {
-    pub events: Events,
-    pub replies: Done,
-    pub graph: Graph,
-}
-
-impl Drop for Outcome {
-    fn drop(self) {
-        let Outcome {
-            events: _,
-            replies: _,
-            graph: _,
-        } = self;
-    }
-}
-
-impl Outcome {
-    /// Its events, the replies to its reads, and its final graph, each for itself. Takes no memory.
-    pub fn into_parts(self) -> (Events, Done, Graph)
-        ensures events { result.0 ≡ self.events }
-        ensures replies { result.1 ≡ self.replies }
-        ensures graph { result.2 ≡ self.graph }
-    {
-        let Outcome {
-            events,
-            replies,
-            graph,
-        } = self;
-        (events, replies, graph)
-    }
-}
 
 /// Runs the plan on this thread, by one worker: each operation is claimed, done and finished. An insert is
 /// in the graph from its Finish on. A read is answered from the graph of all that has finished.

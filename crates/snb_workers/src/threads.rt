@@ -7,14 +7,14 @@ ghost use Rattle.snb_graph_model.specs.Soundness.{Sound};
 ghost use Rattle.snb_plan.specs.Closed.{IsClosed};
 ghost use Rattle.snb_plan.specs.Plans.{schedule_of, updates_in};
 ghost use Rattle.snb_workers.specs.Crews.{AllLeave, AreReady};
-ghost use Rattle.snb_workers.specs.Runs.{HasRun};
+ghost use Rattle.snb_replica.specs.Runs.{HasRun};
 
 use crate::crew::{Worker, outcome_of};
-use crate::run::Outcome;
 use snb_base::{Clock, Gate};
 use snb_board::{Board, Seat};
 use snb_graph::Graph;
 use snb_plan::Plan;
+use snb_replica::Outcome;
 use snb_replies::Replies;
 use std::alloc::{AllocError, Global};
 use std::sync::Wait;

@@ -1,8 +1,8 @@
 use Rattle.std.proofs.Common.{List, None, Option, Some, subst}
 use Rattle.snb_history.specs.declared.logged.Logged.{Logged}
 use Rattle.snb_auditor.proofs.Laws.{verdict_is_one}
-use Rattle.snb_miscount.specs.declared.miscount.Miscount.{Miscount}
-use Rattle.snb_miscount.specs.Miscounts.{IsFirstMiscount}
+use Rattle.snb_audit_model.specs.declared.miscount.Miscount.{Miscount}
+use Rattle.snb_audit_model.specs.Miscounts.{IsFirstMiscount}
 use Rattle.snb_auditor_log.proofs.VerdictFacts.{counted, miscounted}
 use Rattle.snb_auditor_log.proofs.audit.after_judging.Goals as goal
 

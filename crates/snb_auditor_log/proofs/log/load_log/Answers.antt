@@ -3,7 +3,7 @@ use Rattle.snb_history.specs.declared.logged.Logged.{Logged}
 use Rattle.snb_input_files.specs.declared.found.Found.{Found}
 use Rattle.snb_input_files.specs.Loading.{IsKnownAnswer}
 use Rattle.snb_runlog.specs.Lines.{log_file}
-use Rattle.snb_auditor_log.specs.LogFiles.{HasHeard, log_format}
+use Rattle.snb_audit_model.specs.LogFiles.{HasHeard, log_format}
 use Rattle.snb_auditor_log.proofs.LogFacts.{answer_auditable, log_absent, log_err, log_ok, nothing, some_known}
 use Rattle.snb_auditor_log.proofs.log.load_log.Goals as goal
 

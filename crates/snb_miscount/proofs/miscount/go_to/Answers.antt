@@ -1,7 +1,7 @@
 use Rattle.std.proofs.Common.{ℕ, ◌≤◌, List, length, take, arith}
 use Rattle.std.proofs.lemmas.List.{length-map}
 use Rattle.snb_history.specs.declared.logged.Logged.{Logged}
-use Rattle.snb_miscount.specs.Miscounts.{events_of}
+use Rattle.snb_audit_model.specs.Miscounts.{events_of}
 use Rattle.snb_miscount.proofs.MiscountFacts.{has_gone, may_go, pieces}
 use Rattle.snb_miscount.proofs.miscount.go_to.Goals as goal
 

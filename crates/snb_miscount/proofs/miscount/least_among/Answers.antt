@@ -2,7 +2,7 @@ use Rattle.std.proofs.Common.{◌≡◌, ℕ, List, take, get_or, sym, ap, subst
 use Rattle.std.proofs.lemmas.List.{take_all, take_more}
 use Rattle.snb_schema.specs.declared.row.Row.{Row}
 use Rattle.snb_miscount.specs.declared.tally.Tally.{Tally}
-use Rattle.snb_miscount.specs.Miscounts.{events_of}
+use Rattle.snb_audit_model.specs.Miscounts.{events_of}
 use Rattle.snb_miscount.specs.Tallies.{CountsRows, IsLeastAmong}
 use Rattle.snb_miscount.proofs.TallyFacts.{tally_front, tally_op}
 use Rattle.snb_miscount.proofs.MiscountFacts.{ahead_more, along_start, has_laws, least_more, tally_counts}

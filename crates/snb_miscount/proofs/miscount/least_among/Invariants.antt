@@ -1,6 +1,6 @@
 use Rattle.std.proofs.Common.{ℕ, ◌<◌, ◌≤◌, length, take, get_or}
 use Rattle.snb_miscount.specs.declared.tally.Tally.{Tally}
-use Rattle.snb_miscount.specs.Miscounts.{events_of}
+use Rattle.snb_audit_model.specs.Miscounts.{events_of}
 use Rattle.snb_miscount.specs.Tallies.{IsAlong, IsLeastAmong}
 use Rattle.snb_miscount.proofs.miscount.least_among.Given as goal
 

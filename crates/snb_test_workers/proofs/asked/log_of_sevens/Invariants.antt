@@ -1,5 +1,5 @@
 use Rattle.std.proofs.Common.{◌≡◌, take}
-use Rattle.snb_miscount.specs.Miscounts.{events_of}
+use Rattle.snb_audit_model.specs.Miscounts.{events_of}
 use Rattle.snb_test_workers.proofs.asked.log_of_sevens.Given as goal
 
 -- the events so far

@@ -2,7 +2,7 @@ use Rattle.std.proofs.Common.{◌∙◌, List, ap, subst, sym, arith}
 use Rattle.snb_history.specs.declared.event.Event.{Event}
 use Rattle.snb_history.specs.Rules.{IsLegal}
 use Rattle.snb_plan.specs.Plans.{schedule_of}
-use Rattle.snb_miscount.specs.Miscounts.{events_of}
+use Rattle.snb_audit_model.specs.Miscounts.{events_of}
 use Rattle.snb_test_workers.proofs.asked.miscount_of_sevens.Goals as goal
 
 pub first_miscount-requires-clause-legal : goal.first_miscount-requires-clause-legal

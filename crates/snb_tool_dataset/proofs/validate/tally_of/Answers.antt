@@ -1,6 +1,6 @@
 use Rattle.std.proofs.Common.{Option, subst}
 use Rattle.snb_base.specs.Shelf.{Files}
-use Rattle.snb_validation_check.specs.CasesFile.{IsCasesAnswer}
+use Rattle.snb_validation_model.specs.CasesFile.{IsCasesAnswer}
 use Rattle.snb_tool_outcome.specs.DatasetEndings.{IsTallyAnswer}
 use Rattle.snb_tool_dataset.proofs.DatasetLemmas.{tallied, tally_no_dataset}
 use Rattle.snb_tool_outcome.proofs.Laws.{passed}

@@ -1,6 +1,6 @@
 use Rattle.std.proofs.Common.{Err, Ok, Option, refl, subst}
 use Rattle.snb_base.specs.Shelf.{Files}
-use Rattle.snb_auditor_log.specs.Audited.{IsAuditAnswer}
+use Rattle.snb_audit_model.specs.Audited.{IsAuditAnswer}
 use Rattle.snb_tool_outcome.specs.PlanEndings.{IsJudgedAnswer}
 use Rattle.snb_tool_plan.proofs.PlanLemmas.{judged_by_log, judged_no_input, judged_no_log}
 use Rattle.snb_tool_outcome.proofs.Laws.{passed}

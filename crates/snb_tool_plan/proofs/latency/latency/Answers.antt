@@ -4,7 +4,7 @@ use Rattle.snb_history.specs.Rules.{IsComplete, IsLegal}
 use Rattle.snb_history.specs.declared.logged.Logged.{Logged}
 use Rattle.snb_plan.specs.Plans.{schedule_of}
 use Rattle.snb_tool_words.specs.declared.command.Command.TheVariants.{Latency}
-use Rattle.snb_miscount.specs.Miscounts.{events_of}
+use Rattle.snb_audit_model.specs.Miscounts.{events_of}
 use Rattle.snb_tool_outcome.specs.Endings.{IsFinished}
 use Rattle.snb_tool_outcome.specs.Output.{on_screen}
 use Rattle.snb_tool_outcome.proofs.Laws.{passed}

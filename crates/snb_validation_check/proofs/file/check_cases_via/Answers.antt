@@ -1,9 +1,9 @@
 use Rattle.std.proofs.Common.{[], Err, Ok, subst, sym}
 use Rattle.snb_input_files.specs.declared.found.Found.{Found}
 use Rattle.snb_input_files.specs.Loading.{IsAnswer}
-use Rattle.snb_validation_check.specs.CasesFile.{IsCasesAnswer, case_format, cases_file}
+use Rattle.snb_validation_model.specs.CasesFile.{IsCasesAnswer, case_format, cases_file}
 use Rattle.snb_validation_check.specs.CaseTakers.{Counted, IsHeard}
-use Rattle.snb_validation_check.specs.declared.text.Tally.{Tally}
+use Rattle.snb_validation_model.specs.declared.tally.Tally.{Tally}
 use Rattle.snb_validation_check.proofs.Answering.{absent_answer, err_answer, first_answer, none_used, whole_answer}
 use Rattle.snb_validation_check.proofs.file.check_cases_via.Goals as goal
 

@@ -1,5 +1,5 @@
 use Rattle.snb_validation_expect.proofs.Steps.{more_front, none_put, one_more}
-use Rattle.snb_validation_expect.specs.CaseTexts.{case_line}
+use Rattle.snb_validation_model.specs.CaseTexts.{case_line}
 use Rattle.snb_validation_expect.proofs.expect.expect_all.Goals as goal
 use Rattle.std.specs.List.{flat_map}
 use Rattle.snb_base.proofs.Laws.{on_any_err}

@@ -4,8 +4,8 @@ use Rattle.serde_json.specs.Data.{Data, member, no_members, object, string}
 use Rattle.serde_json.specs.View.{view}
 use Rattle.serde_json.specs.Written.{compact_text}
 use Rattle.snb_schema.specs.UpdateLines.{canonical_line}
-use Rattle.snb_validation_expect.specs.CaseTexts.{case_data}
-use Rattle.snb_validation_expect.specs.Expected.{insert_case}
+use Rattle.snb_validation_model.specs.CaseTexts.{case_data}
+use Rattle.snb_validation_model.specs.Expected.{insert_case}
 use Rattle.snb_validation_expect.specs.Writing.{IsJsonText}
 use Rattle.snb_validation_expect.proofs.ReadBack.{insert_back}
 use Rattle.snb_validation_expect.proofs.lines.put_insert.Goals as goal

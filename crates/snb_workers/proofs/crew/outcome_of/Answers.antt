@@ -2,7 +2,7 @@ use Rattle.std.proofs.Common.{◌∙◌, ℕ, List, [], subst, sym}
 use Rattle.snb_history.specs.declared.event.Event.{Event}
 use Rattle.snb_history.specs.Rules.{IsLegal}
 use Rattle.snb_history.specs.Schedule.{Schedule}
-use Rattle.snb_workers.specs.Runs.{HasRun}
+use Rattle.snb_replica.specs.Runs.{HasRun}
 use Rattle.snb_workers.proofs.CrewRuns.{are_all, behind, crew_has_run}
 use Rattle.snb_workers.proofs.crew.outcome_of.Goals as goal
 

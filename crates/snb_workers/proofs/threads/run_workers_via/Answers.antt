@@ -1,6 +1,6 @@
 use Rattle.std.proofs.Common.{◌∙◌, ℕ, subst}
 use Rattle.std.proofs.lemmas.Result.{IfOk-weaker}
-use Rattle.snb_workers.specs.Runs.{HasRun}
+use Rattle.snb_replica.specs.Runs.{HasRun}
 use Rattle.snb_workers.proofs.CrewRuns.{all_ready, crew_is}
 use Rattle.snb_workers.proofs.threads.run_workers_via.Goals as goal
 

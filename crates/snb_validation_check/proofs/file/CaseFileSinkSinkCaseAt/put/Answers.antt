@@ -1,6 +1,6 @@
 use Rattle.std.proofs.Common.{◌∙◌, Err, refl, ap, subst, inl}
 use Rattle.snb_validation_check.specs.CaseTakers.{Counted}
-use Rattle.snb_validation_check.specs.Steps.{IsUnmet}
+use Rattle.snb_validation_model.specs.Steps.{IsUnmet}
 use Rattle.snb_validation_check.proofs.file.CaseFileSinkSinkCaseAt.put.Goals as goal
 
 pub returns-in-Err-Missing-clause-bad : goal.returns-in-Err-Missing-clause-bad

@@ -10,10 +10,10 @@ use Rattle.snb_auditor.specs.declared.verdict.Verdict.TheVariants.{Violated, Too
 use Rattle.snb_auditor.specs.declared.verdict.Violation.{Violation}
 use Rattle.snb_auditor.specs.Verdicts.{IsTimelyRun, IsVerdict}
 use Rattle.snb_plan.specs.Plans.{Plan, schedule_of}
-use Rattle.snb_miscount.specs.declared.miscount.Miscount.{Miscount}
-use Rattle.snb_miscount.specs.Miscounts.{IsFirstMiscount, events_of}
-use Rattle.snb_auditor_log.specs.declared.verdict.AuditVerdict.{AuditVerdict}
-use Rattle.snb_auditor_log.specs.declared.verdict.AuditVerdict.TheVariants.{Judged, Miscounted, Mismatched}
+use Rattle.snb_audit_model.specs.declared.miscount.Miscount.{Miscount}
+use Rattle.snb_audit_model.specs.Miscounts.{IsFirstMiscount, events_of}
+use Rattle.snb_audit_model.specs.declared.verdict.AuditVerdict.{AuditVerdict}
+use Rattle.snb_audit_model.specs.declared.verdict.AuditVerdict.TheVariants.{Judged, Miscounted, Mismatched}
 
 -- the header states a number of operations, and the plan has another
 pub record IsMismatched (plan : Plan) (header : Header) (verdict : AuditVerdict) : Type 0 where

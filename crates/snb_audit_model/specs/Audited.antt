@@ -7,9 +7,9 @@ use Rattle.snb_input_files.specs.declared.load.Load.TheVariants.{Refused, ReadFa
 use Rattle.snb_base.specs.FirstOf.{FirstOf, NoneOf}
 use Rattle.snb_input_files.specs.Loading.{IsTold}
 use Rattle.snb_plan.specs.Plans.{Plan}
-use Rattle.snb_auditor_log.specs.declared.audit.Audited.{Audited}
-use Rattle.snb_auditor_log.specs.AuditVerdicts.{IsAuditVerdict}
-use Rattle.snb_auditor_log.specs.LogFiles.{IsLogOf, log_checks}
+use Rattle.snb_audit_model.specs.declared.audited.Audited.{Audited}
+use Rattle.snb_audit_model.specs.AuditVerdicts.{IsAuditVerdict}
+use Rattle.snb_audit_model.specs.LogFiles.{IsLogOf, log_checks}
 
 -- nothing is wrong with a log, which says this, and this is the verdict on it by a plan over a
 -- dataset

@@ -18,7 +18,7 @@ use Rattle.snb_input_files.specs.Places.{LinesSay, opening}
 use Rattle.snb_input_files.specs.PlaceChecks.{file_checks}
 use Rattle.snb_runlog.specs.Columns.{HasCount, HasOperations}
 use Rattle.snb_runlog.specs.Lines.{log_file, log_language}
-use Rattle.snb_auditor_log.specs.declared.log.Log.{Log}
+use Rattle.snb_audit_model.specs.declared.log.Log.{Log}
 
 -- events are refused for nothing but their lines: there may be any number of them, and none
 abbrev pub log_rules : Rules Logged

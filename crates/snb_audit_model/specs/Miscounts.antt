@@ -4,7 +4,7 @@ use Rattle.snb_history.specs.declared.event.Event.{Event}
 use Rattle.snb_history.specs.declared.logged.Logged.{Logged}
 use Rattle.snb_schema.specs.declared.row.Row.{Row}
 use Rattle.snb_plan.specs.Plans.{Plan}
-use Rattle.snb_miscount.specs.declared.miscount.Miscount.{Miscount}
+use Rattle.snb_audit_model.specs.declared.miscount.Miscount.{Miscount}
 use Rattle.snb_replica.specs.Counts.{IsCount}
 
 -- the events that are logged

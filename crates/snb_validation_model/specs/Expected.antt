@@ -13,7 +13,7 @@ use Rattle.snb_workers_replay.specs.Replay.{IsGraphBefore}
 use Rattle.snb_validation_cases.specs.Cases.{SpellsCase}
 use Rattle.snb_validation_cases.specs.declared.case.Case.{Case}
 use Rattle.snb_validation_cases.specs.declared.case.Case.TheVariants.{Insert, Ask}
-use Rattle.snb_validation_expect.specs.CaseTexts.{case_text, cases_text}
+use Rattle.snb_validation_model.specs.CaseTexts.{case_text, cases_text}
 
 -- the insert of a line, which is line 1 of its own text
 abbrev pub insert_case : Line → Case

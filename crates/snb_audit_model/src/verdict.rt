@@ -1,10 +1,10 @@
 //! What the audit of a log finds.
 
 ghost use Rattle.std.specs.Prelude.{◌≡◌};
-ghost use Rattle.snb_auditor_log.specs.AuditVerdicts.{is_whole};
+ghost use Rattle.snb_audit_model.specs.AuditVerdicts.{is_whole};
 
+use crate::miscount::Miscount;
 use snb_auditor::Verdict;
-use snb_miscount::Miscount;
 
 /// The verdict on a log: the first of these that applies. But a history that breaks a rule is judged
 /// before its counts are looked at.

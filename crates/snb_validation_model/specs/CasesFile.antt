@@ -17,9 +17,9 @@ use Rattle.snb_input_files.specs.Places.{FileSays, opening}
 use Rattle.snb_input_files.specs.PlaceChecks.{file_checks}
 use Rattle.snb_validation_cases.specs.declared.case.CaseAt.{CaseAt}
 use Rattle.snb_validation_cases.specs.CaseFile.{case_language}
-use Rattle.snb_validation_check.specs.declared.text.Tally.{Tally}
-use Rattle.snb_validation_check.specs.Checks.{Finds, IsAfterCases, count_reads}
-use Rattle.snb_validation_check.specs.Steps.{CaseRepeats, IsUnmet}
+use Rattle.snb_validation_model.specs.declared.tally.Tally.{Tally}
+use Rattle.snb_validation_model.specs.Checks.{Finds, IsAfterCases, count_reads}
+use Rattle.snb_validation_model.specs.Steps.{CaseRepeats, IsUnmet}
 
 -- the file of cases
 abbrev pub cases_file : FileId

@@ -6,9 +6,6 @@ ghost use Rattle.snb_read_model.specs.Replies.{IsAnswer};
 ghost use Rattle.snb_walk.specs.declared.target.Pick.TheVariants as picks;
 ghost use Rattle.snb_walk.specs.Picks.{index_of};
 
-use crate::case_shelf::{CaseShelf, Long};
-use crate::state::State;
-use crate::words::{LOG_PATH, audit_words, deeper_words, words_of};
 use snb_base::{Channel, MemoryOutbox, MemoryShelf, Text};
 use snb_graph::Graph;
 use snb_handlers::{Call, Handler, Handlers, KINDS};
@@ -17,6 +14,9 @@ use snb_read_replies::reply::own_answer;
 use snb_schema::Query;
 use snb_test_script::files::add_file;
 use snb_test_script::{Files, Flaw, Given};
+use snb_test_whole::case_shelf::{CaseShelf, Long};
+use snb_test_whole::state::State;
+use snb_test_whole::words::{LOG_PATH, audit_words, deeper_words, words_of};
 use snb_tool::{snb, snb_with};
 use snb_walk::{Call as PickCall, Pick, Policy, Target};
 use std::alloc::{AllocError, Global};
@@ -94,8 +94,8 @@ fn call<R: AllocGlobal + Threads + Wait + Sync>(
     state.keep(status, out)
 }
 
-/// `snb_alone WORD WORD ..`: calls the program without handlers, over the files as they are.
-pub(crate) fn call_alone<R: AllocGlobal + Threads + Wait + Sync>(
+// `snb_alone WORD WORD ..`: calls the program without handlers, over the files as they are.
+fn call_alone<R: AllocGlobal + Threads + Wait + Sync>(
     rt: &R,
     alloc: Global,
     state: &mut State,
@@ -114,8 +114,8 @@ pub(crate) fn call_alone<R: AllocGlobal + Threads + Wait + Sync>(
     state.keep(status, out)
 }
 
-/// `snb WORD WORD ..`
-pub(crate) fn call_words<R: AllocGlobal + Threads + Wait + Sync>(
+// `snb WORD WORD ..`
+fn call_words<R: AllocGlobal + Threads + Wait + Sync>(
     rt: &R,
     alloc: Global,
     state: &mut State,
@@ -132,8 +132,8 @@ pub(crate) fn call_words<R: AllocGlobal + Threads + Wait + Sync>(
     Ok(answer)
 }
 
-/// `audit`: an audit of the log that came, over the same files with it beside them, where nothing fails.
-pub(crate) fn call_audit<R: AllocGlobal + Threads + Wait + Sync>(
+// `audit`: an audit of the log that came, over the same files with it beside them, where nothing fails.
+fn call_audit<R: AllocGlobal + Threads + Wait + Sync>(
     rt: &R,
     alloc: Global,
     state: &mut State,
@@ -145,4 +145,22 @@ pub(crate) fn call_audit<R: AllocGlobal + Threads + Wait + Sync>(
     state.end()?;
     let words = audit_words(alloc, &state.words)?;
     call(rt, alloc, state, &words, shelf, None, calm.outbox()?)
+}
+
+/// Makes the call of this word, over the files as they are, and tells what it answers; None where there is no such
+/// call.
+pub(crate) fn answer<R: AllocGlobal + Threads + Wait + Sync>(
+    rt: &R,
+    alloc: Global,
+    state: &mut State,
+    files: &Files,
+    word: &str,
+    rest: &str,
+) -> Result<Option<String>, Flaw> {
+    match word {
+        "snb" => Ok(Some(call_words(rt, alloc, state, files, rest)?)),
+        "snb_alone" => Ok(Some(call_alone(rt, alloc, state, files, rest)?)),
+        "audit" if rest.is_empty() => Ok(Some(call_audit(rt, alloc, state, files)?)),
+        _ => Ok(None),
+    }
 }

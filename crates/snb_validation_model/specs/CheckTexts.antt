@@ -3,8 +3,8 @@ use Rattle.std.specs.Prelude.{ℕ, List, ◌++◌, codes, Option, Some, None}
 use Rattle.std.specs.Fmt.{decimal}
 use Rattle.serde_json.specs.Written.{compact_text}
 use Rattle.snb_validation.specs.ReplyData.{reply_data}
-use Rattle.snb_validation_check.specs.declared.difference.Difference.{Difference}
-use Rattle.snb_validation_check.specs.declared.text.Tally.{Tally}
+use Rattle.snb_validation_model.specs.declared.difference.Difference.{Difference}
+use Rattle.snb_validation_model.specs.declared.tally.Tally.{Tally}
 
 -- the line of the first difference, the reply that is due, and the one that the graph gives, each
 -- on a line

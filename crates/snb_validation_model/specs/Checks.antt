@@ -11,7 +11,7 @@ use Rattle.snb_read_model.specs.Replies.{IsReply}
 use Rattle.snb_validation_cases.specs.declared.case.Case.{Case}
 use Rattle.snb_validation_cases.specs.declared.case.Case.TheVariants.{Insert, Ask}
 use Rattle.snb_validation_cases.specs.declared.case.CaseAt.{CaseAt}
-use Rattle.snb_validation_check.specs.declared.difference.Difference.{Difference}
+use Rattle.snb_validation_model.specs.declared.difference.Difference.{Difference}
 
 -- the rows that a case inserts
 abbrev pub rows_of_case : Case → List Row

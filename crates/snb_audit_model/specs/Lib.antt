@@ -1,0 +1,5 @@
+pub mod AuditVerdicts
+pub mod Audited
+pub mod LogFiles
+pub mod Miscounts
+pub mod VerdictTexts

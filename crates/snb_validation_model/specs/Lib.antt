@@ -1,0 +1,6 @@
+pub mod CaseTexts
+pub mod CasesFile
+pub mod CheckTexts
+pub mod Checks
+pub mod Expected
+pub mod Steps
