@@ -57,7 +57,12 @@ impl Model for Auditor {
 
     ghost use Rattle.snb_auditor.specs.Judging.{AreBegun, AreStopped};
 
-    ghost view = { λ a. record { schedule = a.book.schedule; workers = a.book.workers; fitted = a.book.history; kept = a.kept } };
+    ghost view = { λ a. record {
+      schedule = a.book.schedule;
+      workers = a.book.workers;
+      fitted = a.book.history;
+      kept = a.kept;
+    } };
 
     ghost invariant = { λ a. AreStopped a.book a.stopped.items × AreBegun a.book a.begun.items };
 }

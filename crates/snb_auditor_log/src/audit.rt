@@ -16,6 +16,7 @@ ghost use Rattle.snb_audit_model.specs.AuditVerdicts.{IsAuditVerdict, IsMatched}
 ghost use Rattle.snb_audit_model.specs.LogFiles.{IsAuditable};
 
 use crate::log::load_log;
+use snb_audit_model::{AuditVerdict, Audited, Log};
 use snb_auditor::Verdict;
 use snb_auditor::auditor::Auditor;
 use snb_base::Shelf;
@@ -25,7 +26,6 @@ use snb_input_files::Load;
 use snb_miscount::first_miscount_via;
 use snb_plan::Plan;
 use snb_replies::Replies;
-use snb_audit_model::{AuditVerdict, Audited, Log};
 use std::alloc::{AllocError, Global};
 
 // The verdict on the history of what is logged.
@@ -108,8 +108,8 @@ fn verdict_on<A: Replies>(
 /// What the log of this path says, of version 1 or 2, and the verdict on it by a plan that is closed over a sound
 /// dataset. The whole log is read before any verdict: with a log that is refused there is none. A log of version 2 is
 /// judged by its counts too: that of operations comes before anything else, and those of rows are looked at
-/// where the history is legal, by what answers reads, which is ready. The errors are those of `load_log`. The shelf may be
-/// asked for the path (`allowed`).
+/// where the history is legal, by what answers reads, which is ready. The errors are those of `load_log`. The shelf
+/// may be asked for the path (`allowed`).
 pub fn audit_log<S: Shelf, A: Replies>(
     alloc: Global,
     answers: &A,

@@ -6,13 +6,13 @@ ghost use Rattle.snb_input_files.specs.Loading.{is_read_fault};
 ghost use Rattle.snb_audit_model.specs.LogFiles.{IsAuditable, IsLogAnswer};
 
 use crate::file_sink::{LogFileSink, log_is_lawful};
+use snb_audit_model::Log;
 use snb_base::Shelf;
 use snb_input_files::{Found, Load, Used, load_known};
 use snb_input_lines::LineReader;
 use snb_runlog::LogLines;
 use snb_runlog::law::counts_are_in_version_2;
 use snb_schema::{FileId, FileKind, Refusal};
-use snb_audit_model::Log;
 use std::alloc::Global;
 
 /// Reads the log of this path, of version 1 or 2. It is read in pieces, and of what was read the header and

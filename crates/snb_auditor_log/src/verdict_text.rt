@@ -4,8 +4,8 @@ ghost use Rattle.std.specs.Prelude.{◌≡◌, IfOk, string_bytes};
 ghost use Rattle.std.specs.Fmt.{signed_decimal};
 ghost use Rattle.snb_audit_model.specs.VerdictTexts.{audit_status, audit_text, verdict_status, verdict_text};
 
-use snb_auditor::Verdict;
 use snb_audit_model::AuditVerdict;
+use snb_auditor::Verdict;
 use std::alloc::{AllocError, Global};
 
 // The decimal digits of a number, with a sign where it is below zero.

@@ -225,7 +225,8 @@ impl Outbox for MemoryOutbox {
 
         // It fails at the listed calls and at a full channel alone, and else writes all that it can.
         ensures listed { self.old.calls < 2 ^ 64 - 1 →
-            ((result ≡ Put.Failed) ↔ (IsTrue (is_listed self.old.failing self.old.calls) ⊎ (room_left self.old channel ≡ 0))) }
+            ((result ≡ Put.Failed)
+            ↔ (IsTrue (is_listed self.old.failing self.old.calls) ⊎ (room_left self.old channel ≡ 0))) }
         ensures full { result ≡ answer_of self.old channel (length piece.now) }
         ensures after { self.new ≡ after_write self.old channel piece.now }
     {

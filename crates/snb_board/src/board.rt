@@ -54,9 +54,11 @@ impl Model for Board {
     ghost use Rattle.snb_board.specs.Boards.{site};
     ghost use Rattle.snb_board.specs.Steps.{IsSized};
 
-    ghost view = { λ b. site b.table.shared.table_id b.table.shared.key.value.schedule b.table.shared.key.value.workers };
+    ghost view = { λ b.
+        site b.table.shared.table_id b.table.shared.key.value.schedule b.table.shared.key.value.workers };
 
-    ghost invariant = { λ b. IsSized b.table.shared.table_id × (b.workers ≡ b.table.shared.key.value.workers) × (1 ≤ b.workers) × (b.workers ≤ MAX_WORKERS) };
+    ghost invariant = { λ b. IsSized b.table.shared.table_id × (b.workers ≡ b.table.shared.key.value.workers)
+        × (1 ≤ b.workers) × (b.workers ≤ MAX_WORKERS) };
 }
 
 // Whether a claim added an event.

@@ -27,7 +27,8 @@ impl Model for Seat {
 
     ghost view = { λ s. sitting_of s.place };
 
-    ghost invariant = { λ s. IsResting s.place × (s.worker ≡ number_of s.place.me.0.parts) × (s.worker < s.place.me.0.workers) };
+    ghost invariant = { λ s. IsResting s.place × (s.worker ≡ number_of s.place.me.0.parts)
+        × (s.worker < s.place.me.0.workers) };
 }
 
 impl Seat {

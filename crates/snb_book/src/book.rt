@@ -65,7 +65,8 @@ impl Model for Book {
     ghost view = { λ b. record { schedule = b.times.schedule; workers = b.workers; history = b.events.items } };
 
     ghost invariant = { λ b.
-        IsSoundBook (record { schedule = b.times.schedule; workers = b.workers; history = b.events.items }) (vec_capacity b.events)
+        IsSoundBook (record { schedule = b.times.schedule; workers = b.workers; history = b.events.items })
+        (vec_capacity b.events)
         × IsTold (record { schedule = b.times.schedule; workers = b.workers; history = b.events.items })
         b.times b.heads.items b.held.items b.last b.halted };
 }
@@ -414,7 +415,8 @@ impl Book {
         requires none { (j : ℕ) → IsDueHead self.now.schedule self.now.history at j
             → ¬ IsAdmitted self.now.schedule self.now.history j }
         requires free { TellsFirst self.now.schedule
-            (λ j. IsPlanHead self.now.schedule self.now.history j × LaneIsFinished self.now.schedule self.now.history j) free }
+            (λ j. IsPlanHead self.now.schedule self.now.history j × LaneIsFinished self.now.schedule self.now.history j)
+            free }
         ensures { IsClaim self.now.schedule self.now.history worker at result }
     {
         match due_by(self.schedule(), free, at) {

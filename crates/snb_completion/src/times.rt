@@ -62,7 +62,8 @@ impl Model for Times {
     ghost view = { λ t. record { schedule = t.schedule; started = t.started.items; finished = t.finished.items } };
 
     ghost invariant = { λ t.
-        AreTimesOf (record { schedule = t.schedule; started = t.started.items; finished = t.finished.items }) t.unfinished t.lanes.items };
+        AreTimesOf (record { schedule = t.schedule; started = t.started.items; finished = t.finished.items })
+        t.unfinished t.lanes.items };
 }
 
 ghost use Rattle.snb_completion.specs.Waiting.{has, HasThose, IsLaneOf};

@@ -56,8 +56,9 @@ fn put_linked(
     Ok(())
 }
 
-/// Adds a row with its links; it is frozen only if it goes into that half. `Duplicate` says that a row of its slot is held, and `Memory` that memory
-/// doesn't suffice. After either the rows are as they were. It doesn't look at references.
+/// Adds a row with its links; it is frozen only if it goes into that half. `Duplicate` says that a row of its slot is
+/// held, and `Memory` that memory doesn't suffice. After either the rows are as they were. It doesn't look at
+/// references.
 /// The condition: the row is one that its table can have.
 pub(crate) fn insert(
     tables: &mut Tables,

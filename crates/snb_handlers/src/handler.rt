@@ -25,7 +25,8 @@ pub struct Handler {
     call: Call,
     ghost callable: { (g : _) (q : _) → Sound g.now → read_kind_of q.now ≡ kind → pre call g q },
     // A fact that is kept beside a box has one proof at most. It is an answer's all the same, since there is one.
-    ghost answers: { (g : _) (q : _) (r : _) → Sound g.now → read_kind_of q.now ≡ kind → post call g q r → ForOk r (λ a. ∥ IsAnswer g.now q.now a ∥₁) },
+    ghost answers: { (g : _) (q : _) (r : _) → Sound g.now → read_kind_of q.now ≡ kind → post call g q r
+        → ForOk r (λ a. ∥ IsAnswer g.now q.now a ∥₁) },
 }
 
 impl Drop for Handler {

@@ -47,11 +47,13 @@ fn end_file<G: Grammar + Drop, P: FileSink<G> + Drop>(
     requires good { reader.old.fault ≡ None }
     ensures end { (begun : P) (past : List ReadFile) (start : Row P) (text : List ℕ)
         → Opened (format_in G.language P.stage begun) (P.stage.heard begun) used.rows past start
-        → IsFed (format_in G.language P.stage begun) P.meaning.takes file (P.stage.grammar_of file) start text reader.old sink
+        → IsFed (format_in G.language P.stage begun) P.meaning.takes file (P.stage.grammar_of file) start text
+        reader.old sink
         → IsEnd (format_in G.language P.stage begun) (P.stage.heard begun) file used past text reader.new.known result }
     ensures within { (begun : P) (start : Row P) (text : List ℕ) → start.most ≡ P.stage.limit
         → IsUnder P.stage.limit start.rows
-        → IsFed (format_in G.language P.stage begun) P.meaning.takes file (P.stage.grammar_of file) start text reader.old sink
+        → IsFed (format_in G.language P.stage begun) P.meaning.takes file (P.stage.grammar_of file) start text
+        reader.old sink
         → IfOk result (IsWithin P.stage.limit) }
     ensures fault { is_read_fault result ≡ false }
 {
@@ -101,7 +103,8 @@ pub fn load_file<S: Shelf, G: Grammar + Drop, P: FileSink<G> + Drop>(
     requires allowed { S.may shelf.old path.now ≡ true }
     ensures answer { (begun : P) (past : List ReadFile) (done : List (List G.Item))
         → FilesSay (format_in G.language P.stage begun) past done → P.stage.heard begun file_sink done []
-        → IsAnswer (format_in G.language P.stage begun) (P.stage.heard begun) (S.contents shelf.old) path.now file used past file_sink result }
+        → IsAnswer (format_in G.language P.stage begun) (P.stage.heard begun) (S.contents shelf.old) path.now file used
+        past file_sink result }
     ensures within { IfOk result (IsWithin P.stage.limit) }
     ensures read { IsShelfRead (is_read_fault result) S.Shelf shelf.old shelf.new }
 {
@@ -129,7 +132,8 @@ pub fn load_known<S: Shelf, G: Grammar + Drop, P: FileSink<G> + Drop>(
     requires allowed { S.may shelf.old path.now ≡ true }
     ensures answer { (begun : P) (past : List ReadFile) (done : List (List G.Item))
         → FilesSay (format_in G.language P.stage begun) past done → P.stage.heard begun file_sink done []
-        → IsKnownAnswer (format_in G.language P.stage begun) (P.stage.heard begun) (S.contents shelf.old) path.now file used past file_sink reader.new.known result }
+        → IsKnownAnswer (format_in G.language P.stage begun) (P.stage.heard begun) (S.contents shelf.old) path.now file
+        used past file_sink reader.new.known result }
     ensures within { IfOk result (IsWithin P.stage.limit) }
     ensures read { IsShelfRead (is_read_fault result) S.Shelf shelf.old shelf.new }
 {

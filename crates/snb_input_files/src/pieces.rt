@@ -53,7 +53,8 @@ fn feed_piece<G: Grammar + Drop, P: FileSink<G> + Drop>(
     ensures of_file { reader.new.file ≡ file }
     ensures by_grammar { reader.new.grammar ≡ P.stage.grammar_of file }
     ensures refused { (begun : P) → OnRefused result
-        (IsBadPiece (format_in G.language P.stage begun) (P.stage.heard begun) P.meaning.takes file (P.stage.grammar_of file) most reader.old sink.old piece.now) }
+        (IsBadPiece (format_in G.language P.stage begun) (P.stage.heard begun) P.meaning.takes file
+        (P.stage.grammar_of file) most reader.old sink.old piece.now) }
     ensures fault { is_read_fault result ≡ false }
 {
     let kept = piece.len().min((most - reader.fed()) as usize);
@@ -74,9 +75,10 @@ fn feed_piece<G: Grammar + Drop, P: FileSink<G> + Drop>(
 /// bytes of it, its end, or that it isn't held. A file that is gone after its first piece ends there.
 /// The error is the first line that is refused, a read that failed, or want of memory.
 ///
-/// The sink is one of the format (`right`). The reader is of the file, by its grammar (`of_file`, `by_grammar`). No more than the most bytes of an input may be read
-/// (`most`), and no more than these were (`few`); the reader has neither ended (`goes_on`) nor stopped
-/// (`good`). The buffer has room for a byte (`room`), and the shelf may be asked for the name (`allowed`).
+/// The sink is one of the format (`right`). The reader is of the file, by its grammar (`of_file`, `by_grammar`). No
+/// more than the most bytes of an input may be read (`most`), and no more than these were (`few`); the reader has
+/// neither ended (`goes_on`) nor stopped (`good`). The buffer has room for a byte (`room`), and the shelf may be
+/// asked for the name (`allowed`).
 pub fn read_piece<S: Shelf, G: Grammar + Drop, P: FileSink<G> + Drop>(
     shelf: &mut S,
     name: &str,

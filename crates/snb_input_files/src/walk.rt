@@ -72,7 +72,8 @@ fn look<S: Shelf, G: Grammar + Drop, P: FileSink<G> + Drop>(
     requires allowed { S.may shelf.old (folder.now ++ 47 ∷ name_of file) ≡ true }
     ensures answer { (begun : P) (start : Before) (looked : List Look)
         → Walked (format_in G.language P.stage begun) (P.stage.heard begun) start looked walk
-        → IsLook (format_in G.language P.stage begun) (P.stage.heard begun) (S.contents shelf.old) folder.now file needed start looked walk.used result }
+        → IsLook (format_in G.language P.stage begun) (P.stage.heard begun) (S.contents shelf.old) folder.now file
+        needed start looked walk.used result }
     ensures within { IfOk result (IsWithin P.stage.limit) }
     ensures read { IsShelfRead (is_read_fault result) S.Shelf shelf.old shelf.new }
 {
@@ -115,7 +116,8 @@ fn walk_series<S: Shelf, G: Grammar + Drop, P: FileSink<G> + Drop>(
     requires allowed { Allows (S.may shelf.old) (IsNameIn (series ∷ []) folder.now) }
     ensures answer { (begun : P) (start : Before) (looked : List Look)
         → Walked (format_in G.language P.stage begun) (P.stage.heard begun) start looked walk
-        → IsSeries (format_in G.language P.stage begun) (P.stage.heard begun) (S.contents shelf.old) folder.now series start looked result }
+        → IsSeries (format_in G.language P.stage begun) (P.stage.heard begun) (S.contents shelf.old) folder.now series
+        start looked result }
     ensures within { IfOk result (IsWalkWithin P.stage.limit) }
     ensures read { IsShelfRead (is_read_fault result) S.Shelf shelf.old shelf.new }
 {
@@ -179,7 +181,8 @@ pub fn walk_stage<S: Shelf, G: Grammar + Drop, P: FileSink<G> + Drop>(
     requires rising { AreRising 0 stage.now }
     requires allowed { Allows (S.may shelf.old) (IsNameIn stage.now folder.now) }
     ensures answer { P.stage.heard file_sink file_sink [] []
-        → IsStage (format_in G.language P.stage file_sink) (P.stage.heard file_sink) (S.contents shelf.old) folder.now stage.now (before used) result }
+        → IsStage (format_in G.language P.stage file_sink) (P.stage.heard file_sink) (S.contents shelf.old) folder.now
+        stage.now (before used) result }
     ensures within { IfOk result (IsWalkWithin P.stage.limit) }
     ensures read { IsShelfRead (is_read_fault result) S.Shelf shelf.old shelf.new }
 {

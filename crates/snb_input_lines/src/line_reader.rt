@@ -98,12 +98,15 @@ impl<G: Grammar> LineReader<G> {
         ensures kept { KeepsFault result self.old sink.old self.new sink.new }
         ensures was_good { OnOk result (self.old.fault ≡ None) }
         ensures ok { OnOk result
-            (HasRead (G.language self.old.grammar) S.meaning.takes (new_lines self.old piece.now) self.old sink.old self.new sink.new) }
+            (HasRead (G.language self.old.grammar) S.meaning.takes (new_lines self.old piece.now) self.old sink.old
+            self.new sink.new) }
         ensures after { OnOk result (self.new ≡ fed_more self.old piece.now self.new.known) }
         ensures bad { self.old.fault ≡ None → OnBad result
-            (HasStopped (G.language self.old.grammar) S.meaning.takes S.meaning.refuses S.meaning.same (new_lines self.old piece.now) self.old sink.old self.new sink.new) }
+            (HasStopped (G.language self.old.grammar) S.meaning.takes S.meaning.refuses S.meaning.same
+            (new_lines self.old piece.now) self.old sink.old self.new sink.new) }
         ensures memory { self.old.fault ≡ None → OnMemory result
-            (HasRunOut (G.language self.old.grammar) S.meaning.takes S.meaning.same (new_lines self.old piece.now) self.old sink.old self.new sink.new) }
+            (HasRunOut (G.language self.old.grammar) S.meaning.takes S.meaning.same (new_lines self.old piece.now)
+            self.old sink.old self.new sink.new) }
         ensures same { OnErr result (IsSameFile self.old self.new) }
     {
         if let Some(fault) = self.fault {
@@ -128,14 +131,17 @@ impl<G: Grammar> LineReader<G> {
         ensures kept { KeepsFault result self.old sink.old self.new sink.new }
         ensures was_good { OnOk result (self.old.fault ≡ None) }
         ensures ok { OnOk result
-            (HasRead (G.language self.old.grammar) S.meaning.takes (left_lines self.old) self.old sink.old self.new sink.new) }
+            (HasRead (G.language self.old.grammar) S.meaning.takes (left_lines self.old) self.old sink.old self.new
+            sink.new) }
         ensures ends { OnOk result
             (end_fault self.old.file self.new.known (S.meaning.ends sink.new self.old.file) ≡ None) }
         ensures after { OnOk result (self.new ≡ at_file_end self.old self.new.known) }
         ensures bad { self.old.fault ≡ None → OnBad result
-            (HasStoppedAtEnd (G.language self.old.grammar) S.meaning.takes S.meaning.refuses S.meaning.same S.meaning.ends (left_lines self.old) self.old sink.old self.new sink.new) }
+            (HasStoppedAtEnd (G.language self.old.grammar) S.meaning.takes S.meaning.refuses S.meaning.same
+            S.meaning.ends (left_lines self.old) self.old sink.old self.new sink.new) }
         ensures memory { self.old.fault ≡ None → OnMemory result
-            (HasRunOut (G.language self.old.grammar) S.meaning.takes S.meaning.same (left_lines self.old) self.old sink.old self.new sink.new) }
+            (HasRunOut (G.language self.old.grammar) S.meaning.takes S.meaning.same (left_lines self.old) self.old
+            sink.old self.new sink.new) }
         ensures same { OnErr result (IsSameFile self.old self.new) }
     {
         if let Some(fault) = self.fault {

@@ -51,12 +51,15 @@ impl<G: Grammar> LineReader<G> {
         ensures kept { KeepsFault result self.old into.old self.new into.new }
         ensures was_good { OnOk result (self.old.fault ≡ None) }
         ensures ok { OnOk result
-            (HasAppended (G.language self.old.grammar) (new_lines self.old piece.now) self.old into.old.items self.new into.new.items) }
+            (HasAppended (G.language self.old.grammar) (new_lines self.old piece.now) self.old into.old.items self.new
+            into.new.items) }
         ensures after { OnOk result (self.new ≡ fed_more self.old piece.now self.new.known) }
         ensures bad { self.old.fault ≡ None → OnBad result
-            (HasStoppedAfter (G.language self.old.grammar) (new_lines self.old piece.now) self.old into.old.items self.new into.new.items) }
+            (HasStoppedAfter (G.language self.old.grammar) (new_lines self.old piece.now) self.old into.old.items
+            self.new into.new.items) }
         ensures memory { self.old.fault ≡ None → OnMemory result
-            (HasAppendedSome (G.language self.old.grammar) (new_lines self.old piece.now) self.old into.old.items self.new into.new.items) }
+            (HasAppendedSome (G.language self.old.grammar) (new_lines self.old piece.now) self.old into.old.items
+            self.new into.new.items) }
         ensures same { OnErr result (IsSameFile self.old self.new) }
     {
         self.feed_to(piece, into)
@@ -72,13 +75,16 @@ impl<G: Grammar> LineReader<G> {
         ensures kept { KeepsFault result self.old into.old self.new into.new }
         ensures was_good { OnOk result (self.old.fault ≡ None) }
         ensures ok { OnOk result
-            (HasAppended (G.language self.old.grammar) (left_lines self.old) self.old into.old.items self.new into.new.items) }
+            (HasAppended (G.language self.old.grammar) (left_lines self.old) self.old into.old.items self.new
+            into.new.items) }
         ensures headed { OnOk result (IsSome self.new.known) }
         ensures after { OnOk result (self.new ≡ at_file_end self.old self.new.known) }
         ensures bad { self.old.fault ≡ None → OnBad result
-            (HasStoppedAfterAll (G.language self.old.grammar) (left_lines self.old) self.old into.old.items self.new into.new.items) }
+            (HasStoppedAfterAll (G.language self.old.grammar) (left_lines self.old) self.old into.old.items self.new
+            into.new.items) }
         ensures memory { self.old.fault ≡ None → OnMemory result
-            (HasAppendedSome (G.language self.old.grammar) (left_lines self.old) self.old into.old.items self.new into.new.items) }
+            (HasAppendedSome (G.language self.old.grammar) (left_lines self.old) self.old into.old.items self.new
+            into.new.items) }
         ensures same { OnErr result (IsSameFile self.old self.new) }
     {
         self.end_to(into)

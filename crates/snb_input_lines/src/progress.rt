@@ -236,11 +236,14 @@ pub fn take_piece<G: Grammar, S: Sink<G::Item>>(
     requires room { at.old.ended + length at.old.begun.items + length piece.now ≤ MAX_BYTES }
     requires fits { Fits (G.language of.now.grammar) S.meaning.fits }
     ensures ok { OnOk result
-        (LinesTaken (G.language of.now.grammar) S.meaning.takes of.now.file (whole_lines (at.old.begun.items ++ piece.now)) at.old sink.old at.new sink.new) }
+        (LinesTaken (G.language of.now.grammar) S.meaning.takes of.now.file
+        (whole_lines (at.old.begun.items ++ piece.now)) at.old sink.old at.new sink.new) }
     ensures bad { OnBad result
-        (LinesStopped (G.language of.now.grammar) S.meaning.takes S.meaning.refuses S.meaning.same of.now.file (whole_lines (at.old.begun.items ++ piece.now)) at.old sink.old sink.new) }
+        (LinesStopped (G.language of.now.grammar) S.meaning.takes S.meaning.refuses S.meaning.same of.now.file
+        (whole_lines (at.old.begun.items ++ piece.now)) at.old sink.old sink.new) }
     ensures memory { OnMemory result
-        (LinesRunOut (G.language of.now.grammar) S.meaning.takes S.meaning.same of.now.file (whole_lines (at.old.begun.items ++ piece.now)) at.old sink.old sink.new) }
+        (LinesRunOut (G.language of.now.grammar) S.meaning.takes S.meaning.same of.now.file
+        (whole_lines (at.old.begun.items ++ piece.now)) at.old sink.old sink.new) }
     ensures ended { OnOk result (at.new.ended ≡ at.old.ended + length (whole_lines (at.old.begun.items ++ piece.now))) }
     ensures begun { OnOk result (at.new.begun.items ≡ rest_of (at.old.begun.items ++ piece.now)) }
 {
@@ -263,12 +266,15 @@ pub fn finish<G: Grammar, S: Sink<G::Item>>(
     requires room { at.old.ended + length at.old.begun.items ≤ MAX_BYTES }
     requires fits { Fits (G.language of.now.grammar) S.meaning.fits }
     ensures ok { OnOk result
-        (LinesTaken (G.language of.now.grammar) S.meaning.takes of.now.file (last_lines at.old.begun.items) at.old sink.old at.new sink.new) }
+        (LinesTaken (G.language of.now.grammar) S.meaning.takes of.now.file (last_lines at.old.begun.items) at.old
+        sink.old at.new sink.new) }
     ensures ends { OnOk result (end_fault of.now.file at.new.known (S.meaning.ends sink.new of.now.file) ≡ None) }
     ensures bad { OnBad result
-        (FileStopped (G.language of.now.grammar) S.meaning.takes S.meaning.refuses S.meaning.same S.meaning.ends of.now.file (last_lines at.old.begun.items) at.old sink.old sink.new) }
+        (FileStopped (G.language of.now.grammar) S.meaning.takes S.meaning.refuses S.meaning.same S.meaning.ends
+        of.now.file (last_lines at.old.begun.items) at.old sink.old sink.new) }
     ensures memory { OnMemory result
-        (LinesRunOut (G.language of.now.grammar) S.meaning.takes S.meaning.same of.now.file (last_lines at.old.begun.items) at.old sink.old sink.new) }
+        (LinesRunOut (G.language of.now.grammar) S.meaning.takes S.meaning.same of.now.file
+        (last_lines at.old.begun.items) at.old sink.old sink.new) }
     ensures ended { OnOk result (at.new.ended ≡ at.old.ended + length (last_lines at.old.begun.items)) }
     ensures begun { OnOk result (at.new.begun.items ≡ []) }
 {

@@ -129,8 +129,10 @@ fn put_person(
     ensures { OnOk result
         (rows.new.items ≡ rows.old.items
         ++ (row.Link table.PersonIsLocatedInPlace id city ∷ map (row.Word table.PersonEmailEmailAddress id) emails.now
-        ++ map (row.Word table.PersonSpeaksLanguage id) languages.now ++ map (row.Link table.PersonHasInterestTag id) tags.now
-        ++ map (λ s. row.Yeared table.PersonStudyAtOrganisation id s.0 s.1) study.now ++ map (λ s. row.Yeared table.PersonWorkAtOrganisation id s.0 s.1) work.now)) }
+        ++ map (row.Word table.PersonSpeaksLanguage id) languages.now
+        ++ map (row.Link table.PersonHasInterestTag id) tags.now
+        ++ map (λ s. row.Yeared table.PersonStudyAtOrganisation id s.0 s.1) study.now
+        ++ map (λ s. row.Yeared table.PersonWorkAtOrganisation id s.0 s.1) work.now)) }
 {
     put_link(rows, Table::PersonIsLocatedInPlace, id, city)?;
     put_words(rows, Table::PersonEmailEmailAddress, id, emails)?;
@@ -269,7 +271,8 @@ fn put_comment(
     tags: &[u64],
 ) -> Result<(), AllocError>
     ensures { OnOk result (rows.new.items ≡ rows.old.items ++ row.Link table.CommentHasCreatorPerson id author
-        ∷ row.Link table.CommentIsLocatedInPlace id country ∷ parent_row id parent ∷ map (row.Link table.CommentHasTagTag id) tags.now) }
+        ∷ row.Link table.CommentIsLocatedInPlace id country ∷ parent_row id parent
+        ∷ map (row.Link table.CommentHasTagTag id) tags.now) }
 {
     put_link(rows, Table::CommentHasCreatorPerson, id, author)?;
     put_link(rows, Table::CommentIsLocatedInPlace, id, country)?;

@@ -13,6 +13,7 @@ ghost use Rattle.snb_replica.specs.Replicas.{IsCountable};
 ghost use Rattle.snb_miscount.specs.Tallies.{CountsRows, HasGone, IsAlong, IsEarlier, IsLeastAmong, IsTally, IsWeighed};
 
 use crate::tally::{Tally, tallies_by_front};
+use snb_audit_model::Miscount;
 use snb_graph::Graph;
 use snb_graph_model::law::graphs_are_their_rows;
 use snb_history::law::prefix_is_legal;
@@ -22,7 +23,6 @@ use snb_read_laws::law::{one_reply, some_reply};
 use snb_replica::Replica;
 use snb_replica::replica::count_rows;
 use snb_replies::Replies;
-use snb_audit_model::Miscount;
 use snb_workers_replay::law::replay_is_welcome;
 use std::alloc::{AllocError, Global};
 
@@ -150,9 +150,9 @@ fn least_among<A: Replies>(
 /// events that are logged are a legal history of the plan by some number of workers.
 ///
 /// One replica of the base takes the history once, and each read with a count is answered once, without the
-/// reads that follow it, in the order of the fronts. There is no replica where no count has to be looked at: those of a log without counts, and
-/// the 0 of each insert. An answer of more rows than the greatest u32 is want of memory too, and so is a log of
-/// more events.
+/// reads that follow it, in the order of the fronts. There is no replica where no count has to be looked at: those of
+/// a log without counts, and the 0 of each insert. An answer of more rows than the greatest u32 is want of memory
+/// too, and so is a log of more events.
 pub fn first_miscount_via<A: Replies>(
     alloc: Global,
     answers: &A,

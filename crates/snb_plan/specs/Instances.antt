@@ -1,4 +1,5 @@
--- The positions of the lines and of the reads of a plan, before they are merged.
+-- The positions of the lines and of the reads of a plan, before they are merged. Cited by contracts
+-- of private functions alone.
 use Rattle.std.specs.Prelude.{ℕ, ◌+◌, ◌-◌, ◌*◌, ◌++◌, ◌∷◌, [], List, map, slice_index_or}
 use Rattle.std.specs.List.{flat_map, range_with_len}
 use Rattle.snb_schema.specs.declared.op.Line.{Line}

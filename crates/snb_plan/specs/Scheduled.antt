@@ -1,4 +1,5 @@
--- Which positions are those of the steps of a schedule.
+-- Which positions are those of the steps of a schedule. Cited by contracts of private functions
+-- alone.
 use Rattle.std.specs.Prelude.{◌≡◌, ℕ, ◌<◌, ◌≤◌, ◌⊎◌, List, AllPairs, Option, Some, None, filter_map, if◌then◌else◌, length, map, slice_index_or, true, false}
 use Rattle.snb_history.specs.declared.step.Step.{Step}
 use Rattle.snb_schema.specs.Frequencies.{FrequencyTable}

@@ -112,7 +112,8 @@ fn wrong_with<H: Held>(
     line: &Line,
 ) -> Option<Refusal>
     ensures { MatchOption result (IsFine (H.holds held.now) added.now (update_of lane file line.now))
-        (IsWrongBy (IsTakenBy (H.holds held.now) added.now) (IsMetBy (H.holds held.now) added.now) (update_of lane file line.now)) }
+        (IsWrongBy (IsTakenBy (H.holds held.now) added.now) (IsMetBy (H.holds held.now) added.now)
+        (update_of lane file line.now)) }
 {
     if is_late(lane, file, line) {
         return Some(Refusal::LateDependency {

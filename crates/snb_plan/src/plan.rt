@@ -227,10 +227,16 @@ impl Model for Plan {
 
     ghost Value = { AnyPlan };
 
-    ghost view = { λ p. record { kinds = p.schedule.kinds; operations = map (operation_of p.lanes p.lists p.reads.items) p.schedule.steps } };
+    ghost view = { λ p. record {
+      kinds = p.schedule.kinds;
+      operations = map (operation_of p.lanes p.lists p.reads.items) p.schedule.steps;
+    } };
 
     ghost invariant = { λ p. AreKept p.lanes p.lists p.reads.items p.schedule.steps
-        × IsOfStreams (record { kinds = p.schedule.kinds; operations = map (operation_of p.lanes p.lists p.reads.items) p.schedule.steps }) };
+        × IsOfStreams (record {
+          kinds = p.schedule.kinds;
+          operations = map (operation_of p.lanes p.lists p.reads.items) p.schedule.steps;
+        }) };
 }
 
 impl Plan {

@@ -1,5 +1,5 @@
-//! A replica of the graph, which follows the history of a run, what is kept of the replies that it gives, and what a run
-//! leaves.
+//! A replica of the graph, which follows the history of a run, what is kept of the replies that it gives, and what a
+//! run leaves.
 #![tactic(auto)]
 
 pub mod outcome;

@@ -71,9 +71,11 @@ impl LogReader {
             (HasAppended log_language (new_lines self.old piece.now) self.old into.old.items self.new into.new.items) }
         ensures after { OnOk result (self.new ≡ fed_more self.old piece.now self.new.known) }
         ensures bad { self.old.fault ≡ None → OnBad result
-            (HasStoppedAfter log_language (new_lines self.old piece.now) self.old into.old.items self.new into.new.items) }
+            (HasStoppedAfter log_language (new_lines self.old piece.now) self.old into.old.items self.new
+            into.new.items) }
         ensures memory { self.old.fault ≡ None → OnMemory result
-            (HasAppendedSome log_language (new_lines self.old piece.now) self.old into.old.items self.new into.new.items) }
+            (HasAppendedSome log_language (new_lines self.old piece.now) self.old into.old.items self.new
+            into.new.items) }
         ensures same { OnErr result (IsSameFile self.old self.new) }
     {
         self.lines.feed(piece, into)

@@ -102,8 +102,7 @@ reply_to_post =
 -- the rows that it adds: the comment, its author, its place and its parent
 abbrev pub rows_of_reply_to_post : List Row
 rows_of_reply_to_post =
-    row.Comment
-    (record {
+    row.Comment (record {
       id = 41;
       creation_date = 68000;
       location_ip = codes "1.1.1.3";
@@ -125,8 +124,7 @@ reply_to_comment =
 -- the rows that it adds: the same with a comment as the parent, and a tag
 abbrev pub rows_of_reply_to_comment : List Row
 rows_of_reply_to_comment =
-    row.Comment
-    (record {
+    row.Comment (record {
       id = 41;
       creation_date = 68000;
       location_ip = codes "1.1.1.3";

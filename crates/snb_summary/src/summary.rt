@@ -108,8 +108,10 @@ fn put_entry(
     requires each { length kinds.now ≡ length schedule.now.steps }
     requires times { AreTimes schedule.now times.now }
     ensures { OnOk result ((entries : List Entry) →
-        AreMeasures (record { kinds = kinds.now; schedule = schedule.now; moments = moments_in times.now.heard }) entries to.old →
-        AreMeasures (record { kinds = kinds.now; schedule = schedule.now; moments = moments_in times.now.heard }) (entries ++ record { kind = kind; what = what } ∷ []) to.new) }
+        AreMeasures (record { kinds = kinds.now; schedule = schedule.now; moments = moments_in times.now.heard })
+        entries to.old →
+        AreMeasures (record { kinds = kinds.now; schedule = schedule.now; moments = moments_in times.now.heard })
+        (entries ++ record { kind = kind; what = what } ∷ []) to.new) }
 {
     let values = times.values(alloc, schedule, kinds, kind, what)?;
     if has_some(&values) {
@@ -130,8 +132,10 @@ fn put_kind(
     requires each { length kinds.now ≡ length schedule.now.steps }
     requires times { AreTimes schedule.now times.now }
     ensures { OnOk result ((entries : List Entry) →
-        AreMeasures (record { kinds = kinds.now; schedule = schedule.now; moments = moments_in times.now.heard }) entries to.old →
-        AreMeasures (record { kinds = kinds.now; schedule = schedule.now; moments = moments_in times.now.heard }) (entries ++ entries_of kind) to.new) }
+        AreMeasures (record { kinds = kinds.now; schedule = schedule.now; moments = moments_in times.now.heard })
+        entries to.old →
+        AreMeasures (record { kinds = kinds.now; schedule = schedule.now; moments = moments_in times.now.heard })
+        (entries ++ entries_of kind) to.new) }
 {
     put_entry(alloc, schedule, kinds, times, kind, What::Latency, to)?;
     put_entry(alloc, schedule, kinds, times, kind, What::Lateness, to)?;
@@ -148,7 +152,8 @@ pub(crate) fn measures_of(
     requires each { length kinds.now ≡ length schedule.now.steps }
     requires times { AreTimes schedule.now times.now }
     ensures { IfOk result (λ measures.
-        AreMeasures (record { kinds = kinds.now; schedule = schedule.now; moments = moments_in times.now.heard }) all_entries measures) }
+        AreMeasures (record { kinds = kinds.now; schedule = schedule.now; moments = moments_in times.now.heard })
+        all_entries measures) }
 {
     let mut measures = Summary::new(alloc);
     for kind in &KINDS {

@@ -11,8 +11,8 @@ use snb_test_script::{Flaw, Lines};
 use snb_validation::reply_text;
 use snb_validation_cases::case::CaseFault;
 use snb_validation_cases::read::read_case;
-use snb_validation_check::checker::{Checker, StepFault};
 use snb_validation_check::Difference;
+use snb_validation_check::checker::{Checker, StepFault};
 use std::alloc::{AllocError, Global};
 
 // A node that an insert refers to and that isn't held.

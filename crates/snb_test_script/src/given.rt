@@ -26,8 +26,8 @@ impl Notes {
 
 /// A clock that shows the given moments one after another, the last of them from then on, and a gate that
 /// lets everybody pass. What is done to them is noted: `now MOMENT`, `after MOMENT REPLY`, `rest UNTIL`, `held
-/// WORKER OP` and `done WORKER OP`, a line each. A note for which there is no memory is missing, and so is that of a thread
-/// while another one notes; to that thread the clock shows the last moment.
+/// WORKER OP` and `done WORKER OP`, a line each. A note for which there is no memory is missing, and so is that of a
+/// thread while another one notes; to that thread the clock shows the last moment.
 pub struct Given<'a> {
     moments: &'a [u64],
     notes: Mutex<Notes>,

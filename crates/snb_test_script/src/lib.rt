@@ -1,5 +1,6 @@
 //! The script of a program of cases: how it is read, the files that it makes in memory, what can be
-//! wrong with it, how answers are told, and a clock and a gate for calls. The calls themselves stand in crates above this one.
+//! wrong with it, how answers are told, and a clock and a gate for calls. The calls themselves stand in crates above
+//! this one.
 #![tactic(auto)]
 
 mod answer;

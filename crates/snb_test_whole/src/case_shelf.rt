@@ -90,12 +90,7 @@ impl Drop for CaseShelf {
 
 impl CaseShelf {
     /// A shelf with the files of this one, which wasn't read yet.
-    pub fn new(
-        shelf: MemoryShelf,
-        steady: bool,
-        fading: bool,
-        long: Option<Long>,
-    ) -> CaseShelf {
+    pub fn new(shelf: MemoryShelf, steady: bool, fading: bool, long: Option<Long>) -> CaseShelf {
         let kept = if steady {
             Kept::Steady {
                 shelf: SteadyShelf::new(shelf),

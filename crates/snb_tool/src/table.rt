@@ -23,9 +23,9 @@ use snb_tool_outcome::Finished;
 use snb_walk::{Chance, Policy};
 use std::alloc::Global;
 
-/// Does what `validate` of `snb_tool_dataset` does, and asks the handlers for the replies to reads. Where a kind of read
-/// has none, the first such kind is what is wrong, and nothing is read. The shelf may be asked for the tables and for
-/// the cases (`allowed`).
+/// Does what `validate` of `snb_tool_dataset` does, and asks the handlers for the replies to reads. Where a kind of
+/// read has none, the first such kind is what is wrong, and nothing is read. The shelf may be asked for the tables
+/// and for the cases (`allowed`).
 pub fn validate_via<S: Shelf>(
     alloc: Global,
     handlers: &Handlers,
@@ -48,8 +48,9 @@ pub fn validate_via<S: Shelf>(
     }
 }
 
-/// Does what `walk` of `snb_tool_dataset` does, and asks the handlers for the answers to reads. Where a kind of read has
-/// none, the first such kind is what is wrong, and nothing is read. The shelf may be asked for the tables (`allowed`).
+/// Does what `walk` of `snb_tool_dataset` does, and asks the handlers for the answers to reads. Where a kind of read
+/// has none, the first such kind is what is wrong, and nothing is read. The shelf may be asked for the tables
+/// (`allowed`).
 pub fn walk_via<S: Shelf>(
     alloc: Global,
     handlers: &Handlers,

@@ -1,5 +1,5 @@
-//! The commands that run a plan or judge a log by it: `run`, `trial`, `audit` and `latency`. What answers their reads is
-//! handed in.
+//! The commands that run a plan or judge a log by it: `run`, `trial`, `audit` and `latency`. What answers their reads
+//! is handed in.
 #![tactic(auto)]
 
 pub mod audit;

@@ -101,7 +101,8 @@ fn screen_of(alloc: Global, plan: &Plan, rows: u64) -> Result<Vec<u8>, AllocErro
 // The text of the final graph, which is let go, and the summary.
 fn graph_texts(alloc: Global, plan: &Plan, graph: Graph) -> Result<(Vec<u8>, Vec<u8>), AllocError>
     ensures { IfOk result (λ texts. (texts.0.items ≡ final_text graph)
-        × (texts.1.items ≡ summary_text (length plan.now.operations) (length (updates_in plan.now)) (length (queries_in plan.now)) (length graph))) }
+        × (texts.1.items ≡ summary_text (length plan.now.operations) (length (updates_in plan.now))
+        (length (queries_in plan.now)) (length graph))) }
 {
     let finals = final_lines(alloc, &graph)?;
     let screen = screen_of(alloc, plan, graph.rows())?;

@@ -52,7 +52,8 @@ pub fn asked_parts(value: &Value) -> Option<(&Value, &Value, &Value)>
         ((params word held : Data) → as_object (view value.now)
         ≢ Some (member (codes "params") params (member (codes "read") word (member (codes "reply") held no_members))))
         (λ parts. as_object (view value.now)
-        ≡ Some (member (codes "params") (view parts.0.now) (member (codes "read") (view parts.1.now) (member (codes "reply") (view parts.2.now) no_members)))) }
+        ≡ Some (member (codes "params") (view parts.0.now)
+        (member (codes "read") (view parts.1.now) (member (codes "reply") (view parts.2.now) no_members)))) }
 {
     let members = value.as_object()?;
     three(members)
@@ -64,7 +65,8 @@ fn three(members: &Map<String, Value>) -> Option<(&Value, &Value, &Value)>
         ((params word held : Data) → members_view members.now.entries
         ≢ member (codes "params") params (member (codes "read") word (member (codes "reply") held no_members)))
         (λ parts. members_view members.now.entries
-        ≡ member (codes "params") (view parts.0.now) (member (codes "read") (view parts.1.now) (member (codes "reply") (view parts.2.now) no_members))) }
+        ≡ member (codes "params") (view parts.0.now)
+        (member (codes "read") (view parts.1.now) (member (codes "reply") (view parts.2.now) no_members))) }
 {
     let mut members = members.iter();
     let params = take_named(&mut members, "params")?;

@@ -99,7 +99,8 @@ fn ask_of(
     held: &Value,
 ) -> Result<Option<(Query, Reply<Text>)>, AllocError>
     ensures { IfOk result (λ found. MatchOption found
-        ((query : AnyQuery) (reply : List (List (List AnyCell))) → ¬ IsAskOf (view params.now) (view word.now) (view held.now) query reply)
+        ((query : AnyQuery) (reply : List (List (List AnyCell))) → ¬ IsAskOf (view params.now) (view word.now)
+        (view held.now) query reply)
         (λ ask. IsAskOf (view params.now) (view word.now) (view held.now) ask.0 ask.1)) }
 {
     let Some(kind) = kind_in(word) else {

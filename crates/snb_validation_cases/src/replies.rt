@@ -140,7 +140,8 @@ fn tail_in(
 ) -> Result<Option<Vec<Answer<Text>>>, AllocError>
     requires { HaveColumns query.now own.now }
     ensures { IfOk result (λ found. MatchOption found
-        ((answers : List (List (List AnyCell))) → ¬ AreAlong IsAnswerTo (tail_reads query.now own.now) (map view items.now) answers)
+        ((answers : List (List (List AnyCell))) → ¬ AreAlong IsAnswerTo (tail_reads query.now own.now)
+        (map view items.now) answers)
         (λ answers. AreAlong IsAnswerTo (tail_reads query.now own.now) (map view items.now) answers.items)) }
 {
     let queries = tail_of(query, &lend_answer(own)?).queries(alloc)?;

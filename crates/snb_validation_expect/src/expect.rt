@@ -107,10 +107,10 @@ fn expect_all<A: Replies>(
     Ok(())
 }
 
-/// Appends the text of the cases of a plan over a graph, by what answers reads: a header, and for each operation, in the order of
-/// their numbers, a line with its insert, or with its query and the reply to it on the graph with the
-/// inserts of smaller number. Each line is read as its case, by `read_case` of `snb_validation_cases`. Want of
-/// memory leaves the bytes as they were.
+/// Appends the text of the cases of a plan over a graph, by what answers reads: a header, and for each operation, in
+/// the order of their numbers, a line with its insert, or with its query and the reply to it on the graph with the
+/// inserts of smaller number. Each line is read as its case, by `read_case` of `snb_validation_cases`. Want of memory
+/// leaves the bytes as they were.
 ///
 /// The conditions: what answers reads is ready, the graph is sound, and the plan's updates are closed over it.
 pub fn expect_via<A: Replies>(

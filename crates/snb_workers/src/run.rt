@@ -20,8 +20,8 @@ use std::sync::Wait;
 /// Runs the plan on this thread, by one worker: each operation is claimed, done and finished. An insert is
 /// in the graph from its Finish on. A read is answered from the graph of all that has finished.
 ///
-/// The conditions: `ready`, what answers reads is ready; `sound`, the base is sound; `closed`, the plan is closed over it. The history is one of
-/// one worker, and so of any number of them.
+/// The conditions: `ready`, what answers reads is ready; `sound`, the base is sound; `closed`, the plan is closed
+/// over it. The history is one of one worker, and so of any number of them.
 pub fn run_alone_via<R: Wait, A: Replies, C: Clock, G: Gate>(
     rt: &R,
     alloc: Global,

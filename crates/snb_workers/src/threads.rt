@@ -59,8 +59,9 @@ fn work_all<R: Threads + Wait + Sync, A: Replies + Sync, C: Clock + Sync, G: Gat
 /// Runs the plan by so many workers, 1 to 8, each in a thread of its own where one can be made, else one
 /// after another: they share a board, and each brings a replica of its own forward when it answers a read.
 ///
-/// The conditions: `ready`, what answers reads is ready; `some` and `few`, the number of workers; `sound`, the base is sound; `closed`, the plan
-/// is closed over it. Where a worker has no memory it halts, and the answer is Err once all have returned.
+/// The conditions: `ready`, what answers reads is ready; `some` and `few`, the number of workers; `sound`, the base
+/// is sound; `closed`, the plan is closed over it. Where a worker has no memory it halts, and the answer is Err once
+/// all have returned.
 pub fn run_workers_via<
     R: Threads + Wait + Sync,
     A: Replies + Sync,

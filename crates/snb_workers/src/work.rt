@@ -237,9 +237,9 @@ impl<'a, R: Wait, A: Replies, C: Clock, G: Gate> Shared<'a, R, A, C, G> {
 /// hand. Where there is no memory, the worker halts, what it has in hand stays
 /// unfinished, and the answer is Err.
 ///
-/// The conditions: `ready`, what answers reads is ready; `board`, the board is one of the plan's schedule; `seat`, the seat is one of the board's;
-/// `free`, its worker has nothing in hand and hasn't halted; `following`, the replica stands for a
-/// beginning of what the seat has seen, over a base over which the plan is closed.
+/// The conditions: `ready`, what answers reads is ready; `board`, the board is one of the plan's schedule; `seat`,
+/// the seat is one of the board's; `free`, its worker has nothing in hand and hasn't halted; `following`, the replica
+/// stands for a beginning of what the seat has seen, over a base over which the plan is closed.
 pub fn work_via<R: Wait, A: Replies, C: Clock, G: Gate>(
     rt: &R,
     alloc: Global,
