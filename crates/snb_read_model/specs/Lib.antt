@@ -1,4 +1,6 @@
 pub mod Cells
+pub mod ReadLayouts
+pub mod CodeLayouts
 pub mod Columns
 pub mod ComplexReads
 pub mod MessageReads

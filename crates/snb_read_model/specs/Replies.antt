@@ -1,12 +1,15 @@
 -- A query's own answer, and the answers that follow it.
-use Rattle.std.specs.Prelude.{◌≡◌, ℕ, ℤ, pos, negsuc, List, [], ◌∷◌, ◌++◌}
-use Rattle.std.specs.List.{AllZip}
+use Rattle.std.specs.Prelude.{◌≡◌, ℕ, ℤ, pos, negsuc, List, [], ◌∷◌, cond}
+use Rattle.std.specs.List.{AllZip, flat_map}
 use Rattle.snb_schema.specs.declared.query.Query.{Query}
 use Rattle.snb_schema.specs.declared.query.Query.TheVariants as query
 use Rattle.snb_schema.specs.declared.row.Row.{Row}
 use Rattle.snb_read_model.specs.ComplexReads.{Ic1Answer, Ic11Answer, Ic13Answer}
 use Rattle.snb_read_model.specs.MessageReads.{Ic2Answer, Ic7Answer, Ic8Answer, Ic9Answer}
 use Rattle.snb_read_model.specs.Cells.{ByteCell, column, number_in}
+use Rattle.snb_read_model.specs.declared.layout.TargetColumn.{TargetColumn}
+use Rattle.snb_read_model.specs.declared.layout.TargetColumn.TheVariants.{PersonAt, MessageAt}
+use Rattle.snb_read_model.specs.ReadLayouts.{layout_of}
 use Rattle.snb_read_model.specs.ShortReads.{Is1Answer, Is2Answer, Is3Answer, Is4Answer, Is5Answer, Is6Answer, Is7Answer}
 
 -- the id that a number is; below 0 it is 0
@@ -26,18 +29,16 @@ person_reads p = query.Is1 p ∷ query.Is2 p ∷ query.Is3 p ∷ []
 abbrev pub message_reads : ℕ → List Query
 message_reads m = query.Is4 m ∷ query.Is5 m ∷ query.Is6 m ∷ query.Is7 m ∷ []
 
--- the short reads that follow an answer with a first row: of the person in column 1, and of the
--- message in column 4 or 5
+-- the short reads about the target in a column of a row
+abbrev pub reads_at : List ByteCell → TargetColumn → List Query
+reads_at row (PersonAt n) = person_reads (id_at n row)
+reads_at row (MessageAt n) = message_reads (id_at n row)
+
+-- the short reads that follow an answer with a first row: those of its targets, where the kind is
+-- followed
 abbrev pub followers : Query → List ByteCell → List Query
-followers (query.Ic1 person first_name) row = person_reads (id_at 1 row)
-followers (query.Ic11 person country year) row = person_reads (id_at 1 row)
-followers (query.Ic2 person max_date) row =
-    person_reads (id_at 1 row) ++ message_reads (id_at 4 row)
-followers (query.Ic9 person max_date) row =
-    person_reads (id_at 1 row) ++ message_reads (id_at 4 row)
-followers (query.Ic7 person) row = person_reads (id_at 1 row) ++ message_reads (id_at 5 row)
-followers (query.Ic8 person) row = person_reads (id_at 1 row) ++ message_reads (id_at 5 row)
-followers _ row = []
+followers q row =
+    cond (layout_of q).is_followed (flat_map (reads_at row) (layout_of q).targets) []
 
 -- the reads that follow an answer: those of its first row, and none where it has no rows
 abbrev pub tail_reads : Query → List (List ByteCell) → List Query

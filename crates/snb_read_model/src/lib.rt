@@ -5,6 +5,7 @@
 pub mod answer;
 pub mod cell;
 pub mod cow_text;
+pub mod layout;
 pub mod like;
 pub mod sent;
 pub mod tail;
@@ -16,6 +17,7 @@ pub use answer::{
 };
 pub use cell::{Cell, CellTexts, Stays};
 pub use cow_text::CowText;
+pub use layout::{CellKind, ReadLayout, TargetColumn, layout_of_query, read_layout_of};
 pub use like::Like;
 pub use sent::Sent;
 pub use tail::Tail;

@@ -64,27 +64,6 @@ along_long R (c ∷ cs) [] (x ∷ xs) h = absurd h
 along_long R (c ∷ cs) (v ∷ vs) [] h = absurd h
 along_long R (c ∷ cs) (v ∷ vs) (x ∷ xs) h = ap suc (along_long R cs vs xs h.1)
 
--- columns by another name
-pub along_named : {C K X : Type 0} (R : C → Data → X → Type 0) (f : K → C) (ks : List K) (ds : List Data) (xs : List X) → AreAlong (λ k. R (f k)) ks ds xs → AreAlong R (map f ks) ds xs
-along_named R f [] [] [] h = tt
-along_named R f [] [] (x ∷ xs) h = absurd h
-along_named R f [] (d ∷ ds) [] h = absurd h
-along_named R f [] (d ∷ ds) (x ∷ xs) h = absurd h
-along_named R f (k ∷ ks) [] [] h = absurd h
-along_named R f (k ∷ ks) [] (x ∷ xs) h = absurd h
-along_named R f (k ∷ ks) (d ∷ ds) [] h = absurd h
-along_named R f (k ∷ ks) (d ∷ ds) (x ∷ xs) h = (h.0, along_named R f ks ds xs h.1)
-
-pub named_along : {C K X : Type 0} (R : C → Data → X → Type 0) (f : K → C) (ks : List K) (ds : List Data) (xs : List X) → AreAlong R (map f ks) ds xs → AreAlong (λ k. R (f k)) ks ds xs
-named_along R f [] [] [] h = tt
-named_along R f [] [] (x ∷ xs) h = absurd h
-named_along R f [] (d ∷ ds) [] h = absurd h
-named_along R f [] (d ∷ ds) (x ∷ xs) h = absurd h
-named_along R f (k ∷ ks) [] [] h = absurd h
-named_along R f (k ∷ ks) [] (x ∷ xs) h = absurd h
-named_along R f (k ∷ ks) (d ∷ ds) [] h = absurd h
-named_along R f (k ∷ ks) (d ∷ ds) (x ∷ xs) h = (h.0, named_along R f ks ds xs h.1)
-
 -- ---- arrays
 
 pub items_same : (xs ys : List Data) → items_of xs ≡ items_of ys → xs ≡ ys
@@ -109,9 +88,3 @@ array_all R d ds x e (es, is, all) = subst (λ (ys : List Data). R ys x) (one_li
 pub array_found : {X : Type 0} (R : List Data → X → Type 0) (d : Data) (ds : List Data) → as_array d ≡ Some (items_of ds) → (found : Option X) → MatchOption found ((x : X) → ¬ R ds x) (R ds) → MatchOption found ((x : X) → ¬ IsArray R d x) (IsArray R d)
 array_found R d ds e None none = λ x h. none x (array_all R d ds x e h)
 array_found R d ds e (Some x) h = (ds, e, h)
-
--- what values are found to be along columns, they are along these columns by another name
-pub named_found : {C : Type 0} {K : Type 0} {X : Type 0} (R : C → Data → X → Type 0) (f : K → C) (ks : List K) (cs : List C) (ds : List Data) → map f ks ≡ cs → (found : Option (List X)) → MatchOption found ((xs : List X) → ¬ AreAlong (λ k. R (f k)) ks ds xs) (AreAlong (λ k. R (f k)) ks ds)
-    → MatchOption found ((xs : List X) → ¬ AreAlong R cs ds xs) (AreAlong R cs ds)
-named_found {C} R f ks cs ds e None none = λ xs h. none xs (named_along R f ks ds xs (subst (λ (bs : List C). AreAlong R bs ds xs) (sym e) h))
-named_found {C} R f ks cs ds e (Some xs) h = subst (λ (bs : List C). AreAlong R bs ds xs) e (along_named R f ks ds xs h)

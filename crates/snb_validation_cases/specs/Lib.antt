@@ -1,7 +1,6 @@
 pub mod Values
 pub mod Parameters
 pub mod Replies
-pub mod CellColumns
 pub mod Cases
 pub mod CaseFile
 pub mod Laws

@@ -4,155 +4,16 @@ ghost use Rattle.std.specs.Prelude.{◌≡◌, ℕ, List, IfOk, MatchOption, map
 ghost use Rattle.std.specs.List.{AllZip};
 ghost use Rattle.serde_json.specs.View.{view};
 ghost use Rattle.snb_read_model.specs.Cells.{ByteCell as AnyCell};
-ghost use Rattle.snb_read_model.specs.Columns.{Number, Flag, Words as WordsColumn, Texts as TextsColumn, Stays as StaysColumn, columns_of as read_columns};
-ghost use Rattle.snb_validation_cases.specs.CellColumns.{IsCellOf, column_of};
+ghost use Rattle.snb_read_model.specs.declared.layout.CellKind.TheVariants.{Number, Flag, Words as WordsColumn, Texts as TextsColumn, Stays as StaysColumn};
 ghost use Rattle.snb_validation_cases.specs.Replies.{AreStay, IsCellIn, IsStayData, IsStayOf};
 ghost use Rattle.snb_validation_cases.specs.Values.{IsArray};
 
 use crate::values::{items_in, number_in, text_in, texts_in};
 use serde_json::Value;
 use snb_base::Text;
-use snb_read_model::{Cell, Stays};
-use snb_schema::Query;
+use snb_read_model::{Cell, CellKind, Stays};
 use snb_schema::limits::MAX_YEAR;
 use std::alloc::{AllocError, Global};
-
-/// What stands in a column of a read's rows.
-#[derive(Clone, Copy)]
-pub enum CellColumn {
-    Number,
-    Flag,
-    Words,
-    Texts,
-    Stays,
-}
-
-const PROFILE: [CellColumn; 8] = [
-    CellColumn::Words,
-    CellColumn::Words,
-    CellColumn::Number,
-    CellColumn::Words,
-    CellColumn::Words,
-    CellColumn::Number,
-    CellColumn::Words,
-    CellColumn::Number,
-];
-
-const RECENT: [CellColumn; 7] = [
-    CellColumn::Number,
-    CellColumn::Words,
-    CellColumn::Number,
-    CellColumn::Number,
-    CellColumn::Number,
-    CellColumn::Words,
-    CellColumn::Words,
-];
-
-const FRIEND: [CellColumn; 4] = [
-    CellColumn::Number,
-    CellColumn::Words,
-    CellColumn::Words,
-    CellColumn::Number,
-];
-
-const CONTENT: [CellColumn; 2] = [CellColumn::Number, CellColumn::Words];
-
-const CREATOR: [CellColumn; 3] = [CellColumn::Number, CellColumn::Words, CellColumn::Words];
-
-const FORUM: [CellColumn; 5] = [
-    CellColumn::Number,
-    CellColumn::Words,
-    CellColumn::Number,
-    CellColumn::Words,
-    CellColumn::Words,
-];
-
-const ANSWERED: [CellColumn; 7] = [
-    CellColumn::Number,
-    CellColumn::Words,
-    CellColumn::Number,
-    CellColumn::Number,
-    CellColumn::Words,
-    CellColumn::Words,
-    CellColumn::Flag,
-];
-
-const NAMESAKE: [CellColumn; 13] = [
-    CellColumn::Number,
-    CellColumn::Words,
-    CellColumn::Number,
-    CellColumn::Number,
-    CellColumn::Number,
-    CellColumn::Words,
-    CellColumn::Words,
-    CellColumn::Words,
-    CellColumn::Texts,
-    CellColumn::Texts,
-    CellColumn::Words,
-    CellColumn::Stays,
-    CellColumn::Stays,
-];
-
-const SENT: [CellColumn; 6] = [
-    CellColumn::Number,
-    CellColumn::Words,
-    CellColumn::Words,
-    CellColumn::Number,
-    CellColumn::Words,
-    CellColumn::Number,
-];
-
-const LIKED: [CellColumn; 8] = [
-    CellColumn::Number,
-    CellColumn::Words,
-    CellColumn::Words,
-    CellColumn::Number,
-    CellColumn::Number,
-    CellColumn::Words,
-    CellColumn::Number,
-    CellColumn::Flag,
-];
-
-const REPLIED: [CellColumn; 6] = [
-    CellColumn::Number,
-    CellColumn::Words,
-    CellColumn::Words,
-    CellColumn::Number,
-    CellColumn::Number,
-    CellColumn::Words,
-];
-
-const JOB: [CellColumn; 5] = [
-    CellColumn::Number,
-    CellColumn::Words,
-    CellColumn::Words,
-    CellColumn::Words,
-    CellColumn::Number,
-];
-
-const LENGTH: [CellColumn; 1] = [CellColumn::Number];
-
-/// The columns of the rows of a read.
-pub fn columns_of(query: &Query) -> &'static [CellColumn]
-    ensures { map column_of result.now ≡ read_columns query.now }
-{
-    match query {
-        Query::Is1 { .. } => &PROFILE,
-        Query::Is2 { .. } => &RECENT,
-        Query::Is3 { .. } => &FRIEND,
-        Query::Is4 { .. } => &CONTENT,
-        Query::Is5 { .. } => &CREATOR,
-        Query::Is6 { .. } => &FORUM,
-        Query::Is7 { .. } => &ANSWERED,
-        Query::Ic1 { .. } => &NAMESAKE,
-        Query::Ic2 { .. } => &SENT,
-        Query::Ic7 { .. } => &LIKED,
-        Query::Ic8 { .. } => &REPLIED,
-        Query::Ic9 { .. } => &SENT,
-        Query::Ic11 { .. } => &JOB,
-        Query::Ic13 { .. } => &LENGTH,
-    }
-}
 
 // The number that a value is.
 fn integer_in(value: &Value) -> Option<Cell<Text>>
@@ -290,18 +151,18 @@ fn stays_in(alloc: Global, value: &Value) -> Result<Option<Cell<Text>>, AllocErr
 /// The cell of a column that a value is.
 pub fn cell_in(
     alloc: Global,
-    column: CellColumn,
+    column: CellKind,
     value: &Value,
 ) -> Result<Option<Cell<Text>>, AllocError>
     ensures { IfOk result (λ found. MatchOption found
-        ((cell : AnyCell) → ¬ IsCellOf column (view value.now) cell)
-        (IsCellOf column (view value.now))) }
+        ((cell : AnyCell) → ¬ IsCellIn column (view value.now) cell)
+        (IsCellIn column (view value.now))) }
 {
     match column {
-        CellColumn::Number => Ok(integer_in(value)),
-        CellColumn::Flag => Ok(flag_in(value)),
-        CellColumn::Words => words_in(alloc, value),
-        CellColumn::Texts => list_in(alloc, value),
-        CellColumn::Stays => stays_in(alloc, value),
+        CellKind::Number => Ok(integer_in(value)),
+        CellKind::Flag => Ok(flag_in(value)),
+        CellKind::Words => words_in(alloc, value),
+        CellKind::Texts => list_in(alloc, value),
+        CellKind::Stays => stays_in(alloc, value),
     }
 }

@@ -6,28 +6,29 @@ ghost use Rattle.serde_json.specs.View.{view};
 ghost use Rattle.snb_read_model.specs.Cells.{ByteCell as AnyCell};
 ghost use Rattle.snb_read_model.specs.Replies.{tail_reads};
 ghost use Rattle.snb_read_model.specs.Columns.{HaveColumns, columns_of as read_columns};
-ghost use Rattle.snb_validation_cases.specs.CellColumns.{IsCellOf};
 ghost use Rattle.snb_validation_cases.specs.Replies.{AreReply, IsAnswerTo, IsCellIn, IsReplyData, IsRow};
 ghost use Rattle.snb_validation_cases.specs.Values.{AreAlong};
 
-use crate::cells::{CellColumn, cell_in, columns_of};
+use crate::cells::cell_in;
 use crate::values::items_in;
 use serde_json::Value;
 use snb_base::Text;
 use snb_read_model::tail::tail_of;
-use snb_read_model::{Answer, AnswerRow, Reply, lend_answer, reply_with_tail};
+use snb_read_model::{
+    Answer, AnswerRow, CellKind, Reply, layout_of_query, lend_answer, reply_with_tail,
+};
 use snb_schema::Query;
 use std::alloc::{AllocError, Global};
 
 // The cells of these columns that values are.
 fn cells_of(
     alloc: Global,
-    columns: &[CellColumn],
+    columns: &[CellKind],
     items: &[Value],
 ) -> Result<Option<AnswerRow<Text>>, AllocError>
     ensures { IfOk result (λ found. MatchOption found
-        ((cells : List AnyCell) → ¬ AreAlong IsCellOf columns.now (map view items.now) cells)
-        (AreAlong IsCellOf columns.now (map view items.now))) }
+        ((cells : List AnyCell) → ¬ AreAlong IsCellIn columns.now (map view items.now) cells)
+        (AreAlong IsCellIn columns.now (map view items.now))) }
 {
     if columns.len() != items.len() {
         return Ok(None);
@@ -52,7 +53,7 @@ fn row_of(
         ((row : List AnyCell) → ¬ AreAlong IsCellIn (read_columns query.now) (map view items.now) row)
         (AreAlong IsCellIn (read_columns query.now) (map view items.now))) }
 {
-    cells_of(alloc, columns_of(query), items)
+    cells_of(alloc, layout_of_query(query).cells, items)
 }
 
 // The row of a read that a value is.

@@ -22,8 +22,8 @@ use Rattle.snb_graph_model.specs.Graphs.{IsGraph}
 use Rattle.snb_read_model.specs.Cells.{ByteCell}
 use Rattle.snb_read_model.specs.declared.cell.Cell.TheVariants as cell
 use Rattle.snb_read_model.specs.Replies.{IsAnswer, IsReply, tail_reads}
-use Rattle.snb_read_model.specs.Columns.{HaveColumns, IsOfColumn, columns_of}
-use Rattle.snb_read_model.specs.Columns as shown
+use Rattle.snb_read_model.specs.declared.layout.CellKind.{CellKind}
+use Rattle.snb_read_model.specs.Columns.{HasColumns, HaveColumns, IsOfColumn, columns_of}
 use Rattle.snb_read_laws.specs.Laws.{AnswersHaveColumns, AnswersHaveYears, HasYears}
 use Rattle.snb_validation.specs.Laws.{AreOfTypes, IsOfType}
 use Rattle.snb_validation.specs.ReplyData.{array_of, cell_data, reply_data, stay_data}
@@ -101,7 +101,7 @@ value_back (cell.Words text) type years = refl
 value_back (cell.List texts) type years = (map string texts, refl, texts_back texts)
 value_back (cell.Stays stays) type years = (map stay_data stays, refl, stays_back stays years)
 
-row_back : (cs : List shown.CellKind) (row : List ByteCell) → AllZip IsOfColumn cs row → AllByRecursion IsOfType row → AllByRecursion HasYears row → AreAlong IsCellIn cs (map cell_data row) row
+row_back : (cs : List CellKind) (row : List ByteCell) → AllZip IsOfColumn cs row → AllByRecursion IsOfType row → AllByRecursion HasYears row → AreAlong IsCellIn cs (map cell_data row) row
 row_back [] [] of types years = tt
 row_back [] (x ∷ xs) of types years = absurd of
 row_back (c ∷ cs) [] of types years = absurd of
@@ -111,7 +111,7 @@ rows_back : (q : Query) (rows : List (List ByteCell)) → HaveColumns q rows →
     → AllZip (IsRow q) (map (array_of cell_data) rows) rows
 rows_back q [] of types years = tt
 rows_back q (row ∷ rows) of types years =
-    ((map cell_data row, refl, row_back (columns_of q) row (All-head (shown.HasColumns q) row rows of) types.0 years.0), rows_back q rows (All-tail (shown.HasColumns q) row rows of) types.1 years.1)
+    ((map cell_data row, refl, row_back (columns_of q) row (All-head (HasColumns q) row rows of) types.0 years.0), rows_back q rows (All-tail (HasColumns q) row rows of) types.1 years.1)
 
 module _ (columns : AnswersHaveColumns) (bounded : AnswersHaveYears) (g : List Row) (graph : IsGraph g) where
   answers_back : (qs : List Query) (answers : List (List (List ByteCell))) → AllZip (IsAnswer g) qs answers → AreOfTypes answers

@@ -1,29 +1,22 @@
 //! The targets of answers.
 
-ghost use Rattle.std.specs.Prelude.{◌≡◌, ◌∷◌, ◌++◌, ◌≤◌, [], length, OnOk};
-ghost use Rattle.snb_read_model.specs.Cells.{column};
-ghost use Rattle.snb_read_model.specs.Columns.{HasColumns, HaveColumns, IsOfColumn, Number};
-ghost use Rattle.snb_read_model.specs.Replies.{id_at, id_of};
-ghost use Rattle.snb_walk.specs.Targets.{row_targets, targets_of};
+ghost use Rattle.std.specs.Prelude.{◌≡◌, ◌∷◌, ◌++◌, [], map, OnOk};
+ghost use Rattle.std.specs.List.{AllByRecursion};
+ghost use Rattle.snb_read_model.specs.Columns.{HasColumns, HaveColumns};
+ghost use Rattle.snb_read_model.specs.Replies.{id_at};
+ghost use Rattle.snb_read_model.specs.Tails.{IsNumberAt, IsTargetOf};
+ghost use Rattle.snb_walk.specs.Targets.{row_targets, target_at, targets_of};
 
 use crate::target::Target;
 use snb_base::Text;
-use snb_read_model::{Answer, AnswerRow, Cell};
+use snb_read_model::tail::id_of;
+use snb_read_model::{Answer, AnswerRow, Cell, TargetColumn, layout_of_query};
 use snb_schema::Query;
 use std::alloc::AllocError;
 
-// The id that a number is, 0 where it is below zero.
-fn id_of(value: i64) -> u64
-    ensures { result ≡ id_of value }
-{
-    if value < 0 { 0 } else { value as u64 }
-}
-
 // The id in a column of a row, counted from 1. A number below zero is no id, and stands for 0.
 fn id_at(row: &AnswerRow<Text>, at: usize) -> u64
-    requires first { 1 ≤ at }
-    requires last { at ≤ length row.now }
-    requires number { IsOfColumn Number (column at row.now) }
+    requires { IsNumberAt row.now at }
     ensures { result ≡ id_at at row.now }
 {
     match &row.as_slice()[at - 1] {
@@ -32,33 +25,35 @@ fn id_at(row: &AnswerRow<Text>, at: usize) -> u64
     }
 }
 
-// Adds the person in a column.
-fn push_person(
+// Adds the target in a column.
+fn push_target(
     targets: &mut Vec<Target>,
     row: &AnswerRow<Text>,
-    at: usize,
+    column: TargetColumn,
 ) -> Result<(), AllocError>
-    requires first { 1 ≤ at }
-    requires last { at ≤ length row.now }
-    requires number { IsOfColumn Number (column at row.now) }
-    ensures { OnOk result (targets.new.items ≡ targets.old.items ++ Target.Person (id_at at row.now) ∷ []) }
+    requires { IsTargetOf row.now column }
+    ensures { OnOk result (targets.new.items ≡ targets.old.items ++ target_at row.now column ∷ []) }
 {
-    targets.push(Target::Person { id: id_at(row, at) })?;
+    let target = match column {
+        TargetColumn::PersonAt { at } => Target::Person { id: id_at(row, at) },
+        TargetColumn::MessageAt { at } => Target::Message { id: id_at(row, at) },
+    };
+    targets.push(target)?;
     Ok(())
 }
 
-// Adds the message in a column.
-fn push_message(
+// Adds the targets in columns.
+fn push_columns(
     targets: &mut Vec<Target>,
     row: &AnswerRow<Text>,
-    at: usize,
+    columns: &[TargetColumn],
 ) -> Result<(), AllocError>
-    requires first { 1 ≤ at }
-    requires last { at ≤ length row.now }
-    requires number { IsOfColumn Number (column at row.now) }
-    ensures { OnOk result (targets.new.items ≡ targets.old.items ++ Target.Message (id_at at row.now) ∷ []) }
+    requires { AllByRecursion (IsTargetOf row.now) columns.now }
+    ensures { OnOk result (targets.new.items ≡ targets.old.items ++ map (target_at row.now) columns.now) }
 {
-    targets.push(Target::Message { id: id_at(row, at) })?;
+    for column in columns {
+        push_target(targets, row, *column)?;
+    }
     Ok(())
 }
 
@@ -72,39 +67,7 @@ fn push_row(
     requires columns { HasColumns query.now row.now }
     ensures { OnOk result (targets.new.items ≡ targets.old.items ++ row_targets query.now row.now) }
 {
-    match query {
-        Query::Is2 { .. } => {
-            push_message(targets, row, 1)?;
-            push_message(targets, row, 4)?;
-            push_person(targets, row, 5)
-        }
-        Query::Is3 { .. } => push_person(targets, row, 1),
-        Query::Is5 { .. } => push_person(targets, row, 1),
-        Query::Is6 { .. } => push_person(targets, row, 3),
-        Query::Is7 { .. } => {
-            push_message(targets, row, 1)?;
-            push_person(targets, row, 4)
-        }
-        Query::Ic1 { .. } => push_person(targets, row, 1),
-        Query::Ic2 { .. } => {
-            push_person(targets, row, 1)?;
-            push_message(targets, row, 4)
-        }
-        Query::Ic7 { .. } => {
-            push_person(targets, row, 1)?;
-            push_message(targets, row, 5)
-        }
-        Query::Ic8 { .. } => {
-            push_person(targets, row, 1)?;
-            push_message(targets, row, 5)
-        }
-        Query::Ic9 { .. } => {
-            push_person(targets, row, 1)?;
-            push_message(targets, row, 4)
-        }
-        Query::Ic11 { .. } => push_person(targets, row, 1),
-        _ => Ok(()),
-    }
+    push_columns(targets, row, layout_of_query(query).targets)
 }
 
 // Adds the targets of an answer, row by row, and of each row by rising column. An error says that memory doesn't
