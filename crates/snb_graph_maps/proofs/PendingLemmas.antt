@@ -1,23 +1,26 @@
 -- Entries that came in any order, put in order, and walks over them.
-use Rattle.std.proofs.Common.{◌≡◌, List, [], ◌∷◌, Option, Some, None, Bool, true, false, cond, not, ◌&&◌, length, filter, refl, sym, ◌∙◌, ap, subst, inl, inr, arith, is_some, unwrap_or, IsSome, IfSome, Contains}
+use Rattle.std.proofs.Common.{◌≡◌, ◌++◌, List, [], ◌∷◌, Option, Some, None, Bool, true, false, cond, not, ◌&&◌, length, map, drop, get_or, filter, refl, sym, ◌∙◌, ap, subst, inl, inr, arith, is_some, unwrap_or, IsSome, IfSome, Contains}
 use mathlib.Core.Bool.{false≢true}
 use Rattle.std.specs.declared.cmp.Ordering.{Ordering}
 use Rattle.std.specs.declared.cmp.Ordering.TheVariants.{Less, Equal, Greater}
 use Rattle.std.specs.Ordering.{eq_by_cmp, is_eq, is_le, is_lt}
 use Rattle.std.specs.Cmp.{IsTotalOrder, eq_by_cmp_equiv, tied_itself}
 use Rattle.std.specs.BTreeMap.{insert_entry, is_at}
-use Rattle.std.specs.List.{AllByRecursion, IsDistinct, dedup, dedup_from}
+use Rattle.std.specs.List.{AllByRecursion, IsDistinct, dedup, dedup_from, zip}
 use Rattle.std.specs.List.Sorted.{IsSorted, IsStrictlySortedBy}
-use Rattle.std.specs.Map.{keys_of, lookup, remove_entry}
+use Rattle.std.specs.Map.{keys_of, lookup, remove_entry, values_of}
 use Rattle.std.specs.Option.{option_or}
+use Rattle.std.proofs.lemmas.List.{length-map, map-append}
 use Rattle.std.proofs.lemmas.List.Kept.{IsStrictlySortedBy-dedup}
-use Rattle.snb_graph_maps.specs.Ahead.{IsLeast, IsWithin, ahead, before, is_above, is_from}
+use Rattle.std.proofs.lemmas.Map.Made.{keys_of-zip}
+use Rattle.snb_graph_maps.specs.Ahead.{AreAt, IsLeast, IsWithin, ahead, before, is_above, is_from}
 use Rattle.snb_graph_maps.specs.Merged.{Rises, merged, value_at}
 use Rattle.snb_graph_maps.proofs.ListLemmas.{entry_at}
 use Rattle.snb_graph_maps.proofs.LeastLemmas.{all_after, cut}
 use Rattle.snb_graph_maps.proofs.MergedLemmas.{length-insert, merged-nil, rises-insert, rises-merged, same_rows, value_at-insert, value_at-merged, value_below}
 use Rattle.snb_graph_maps.proofs.PartLemmas.{filter_all, rises-remove, value_at-gone}
-use Rattle.snb_graph_maps.proofs.Facts.{contains_cases, contains_here, contains_there, equal_from}
+use Rattle.snb_graph_maps.proofs.Facts.{contains_cases, contains_here, contains_there, equal_from, none_of}
+use Rattle.snb_graph_maps.proofs.ZipLemmas.{zip-sides}
 
 or_none : {X : Type 0} (p : Option X) → option_or p None ≡ p
 or_none None = refl
@@ -57,9 +60,22 @@ key_there (f ∷ es) e c = elim (contains_cases f es e c) [
 pub distinct_alike : {K : Type 0} (R : K → K → Ordering) (eq : K → K → Bool) → ((x y : K) → eq x y ≡ is_eq (R x y)) → (ks : List K) → IsDistinct eq ks → IsDistinct (eq_by_cmp R) ks
 distinct_alike R eq ties ks d = subst (λ e. IsDistinct e ks) (λ i x y. ties x y i) d
 
+-- one value more
+pub at_more : {K X : Type 0} (R : K → K → Ordering) (es : List (K × X)) (ks : List K) (vs : List X) (k : K) (v : X) → AreAt R es ks vs → Some v ≡ value_at R es k → AreAt R es (ks ++ k ∷ []) (vs ++ v ∷ [])
+at_more R es ks vs k v at is = map-append Some vs (v ∷ []) ∙ ap (λ xs. xs ++ Some v ∷ []) at ∙ ap (λ w. map (value_at R es) ks ++ w ∷ []) is ∙ sym (map-append (value_at R es) ks (k ∷ []))
+
+-- as many values as keys
+pub at_length : {K X : Type 0} (R : K → K → Ordering) (es : List (K × X)) (ks : List K) (vs : List X) → AreAt R es ks vs → length vs ≡ length ks
+at_length R es ks vs at = sym (length-map vs Some) ∙ ap length at ∙ length-map ks (value_at R es)
+
 no_end : {K : Type 0} (R : K → K → Ordering) (next : Option K) → before R next None ≡ next
 no_end R None = refl
 no_end R (Some k) = refl
+
+module _ {K : Type 0} (R : K → K → Ordering) (o : IsTotalOrder R) where
+  -- keys that differ and don't fall rise
+  pub strict_from : (ks : List K) → IsSorted R ks → IsDistinct (eq_by_cmp R) ks → IsStrictlySortedBy R ks
+  strict_from ks sorted d = subst (IsStrictlySortedBy R) (still_distinct (eq_by_cmp R) (eq_by_cmp_equiv o).symm ks d) (IsStrictlySortedBy-dedup o (λ x y. refl) ks sorted)
 
 module _ {K X : Type 0} (R : K → K → Ordering) (o : IsTotalOrder R) (exact : (x y : K) → R x y ≡ Equal → x ≡ y) where
   -- what is kept under a key is what came with it
@@ -70,20 +86,12 @@ module _ {K X : Type 0} (R : K → K → Ordering) (o : IsTotalOrder R) (exact :
   unfolding IsStrictlySortedBy
   rises_pending es = rises-merged R o [] es tt
 
-  -- entries that answer alike are the same in order
-  pub same_pending : (es fs : List (K × X)) → ((q : K) → value_at R fs q ≡ value_at R es q) → merged R [] fs ≡ merged R [] es
-  same_pending es fs same = same_rows R o exact _ _ (rises_pending fs) (rises_pending es) (λ q. value_pending fs q ∙ same q ∙ sym (value_pending es q))
-
   -- a change of what a map tells by `==` is one of what it tells by order
   pub told_alike : (eq : K → K → Bool) → ((x y : K) → eq x y ≡ is_eq (R x y)) → (es : List (K × X)) (q : K) → lookup (eq q) es ≡ value_at R es q
   told_alike eq ties es q = lookup_alike (eq q) (is_at (R q)) (ties q) es
 
   pub puts_alike : (eq : K → K → Bool) → ((x y : K) → eq x y ≡ is_eq (R x y)) → (es fs : List (K × X)) (k : K) (w : Option X) → ((q : K) → lookup (eq q) fs ≡ cond (eq k q) w (lookup (eq q) es)) → (q : K) → value_at R fs q ≡ cond (eq_by_cmp R k q) w (value_at R es q)
   puts_alike eq ties es fs k w h q = sym (told_alike eq ties fs q) ∙ h q ∙ ap (λ b. cond b w (lookup (eq q) es)) (ties k q) ∙ ap (cond (eq_by_cmp R k q) w) (told_alike eq ties es q)
-
-  -- in order once more
-  pub pending_again : (es : List (K × X)) → merged R [] (merged R [] es) ≡ merged R [] es
-  pending_again es = merged-nil R o exact (merged R [] es) (rises_pending es)
 
   -- where nothing is frozen, what isn't is all
   pub all_added : (es fs gs : List (K × X)) → es ≡ [] → Rises R fs → gs ≡ fs → gs ≡ merged R es fs
@@ -101,6 +109,10 @@ module _ {K X : Type 0} (R : K → K → Ordering) (o : IsTotalOrder R) (exact :
       value_pending fs q ∙ takes q
       ∙ sym (value_at-gone R o exact (merged R [] es) k q (rises_pending es) ∙ ap (cond (is_eq (R k q)) None) (value_pending es q)))
 
+  -- a key that is taken out leaves those above it
+  pub left_alone : (eq : K → K → Bool) → ((x y : K) → eq x y ≡ is_eq (R x y)) → (es fs : List (K × X)) (k : K) → ((q : K) → lookup (eq q) fs ≡ cond (eq k q) None (lookup (eq q) es)) → (q : K) → R k q ≡ Less → value_at R fs q ≡ value_at R es q
+  left_alone eq ties es fs k h q less = puts_alike eq ties es fs k None h q ∙ ap (λ r. cond (is_eq r) None (value_at R es q)) less
+
   -- as many as there are
   none_later : (k : K) (es : List (K × X)) → AllByRecursion (λ y. eq_by_cmp R k y ≡ false) (keys_of es) → value_at R es k ≡ None
   none_later k [] h = refl
@@ -114,14 +126,9 @@ module _ {K X : Type 0} (R : K → K → Ordering) (o : IsTotalOrder R) (exact :
       let rest = length_pending es d.1 in
       omega arith
 
-  -- entries whose keys differ and don't fall are in order
-  pub sorted_pending : (es : List (K × X)) → IsSorted R (keys_of es) → IsDistinct (eq_by_cmp R) (keys_of es) → Rises R es
-  sorted_pending es sorted d = subst (IsStrictlySortedBy R) (still_distinct (eq_by_cmp R) (eq_by_cmp_equiv o).symm (keys_of es) d) (IsStrictlySortedBy-dedup o (λ x y. refl) (keys_of es) sorted)
-
-  pub settled : (es fs : List (K × X)) → ((q : K) → value_at R fs q ≡ value_at R es q) → IsSorted R (keys_of fs) → IsDistinct (eq_by_cmp R) (keys_of fs) → fs ≡ merged R [] es
-  settled es fs same sorted d = sym (merged-nil R o exact fs (sorted_pending fs sorted d)) ∙ same_pending es fs same
-
-  -- ---- walks
+  -- entries with such keys are in order
+  pub settled : (es : List (K × X)) → IsSorted R (keys_of es) → IsDistinct (eq_by_cmp R) (keys_of es) → zip (keys_of es) (values_of es) ≡ merged R [] es
+  settled es sorted d = zip-sides es ∙ sym (merged-nil R o exact es (strict_from R o (keys_of es) sorted d))
 
   -- a key that has an entry is among the keys
   pub held_key : (es : List (K × X)) (k : K) → IsSome (value_at R es k) → Contains (keys_of es) k
@@ -143,6 +150,29 @@ module _ {K X : Type 0} (R : K → K → Ordering) (o : IsTotalOrder R) (exact :
       by : (b : Bool) → IsSome (value_at R es k) → IsSome (cond b (Some e.1) (value_at R es k))
       by true h = refl
       by false h = h
+
+  -- the values under keys that are all there are, beside these
+  gathered : (es : List (K × X)) (ks : List K) (vs : List X) → AreAt R es ks vs → (q : K) → (IsSome (value_at R es q) → Contains ks q) → value_at R (zip ks vs) q ≡ value_at R es q
+  gathered es [] [] at q all = sym (none_of (value_at R es q) (λ v is. let c = all (ap is_some is) in omega (arith, c.1)))
+  gathered es [] (v ∷ vs) at q all = absurd cc
+  gathered es (k ∷ ks) [] at q all = absurd cc
+  gathered es (k ∷ ks) (v ∷ vs) at q all = by (λ t. gathered es ks vs (ap (drop 1) at) q (other t)) (is_eq (R q k)) refl
+    where
+      other : is_eq (R q k) ≡ false → IsSome (value_at R es q) → Contains ks q
+      other t h = elim (contains_cases k ks q (all h)) [
+        | inl same ↦ absurd (false≢true (sym t ∙ ap is_eq (ap (R q) same ∙ tied_itself o q)))
+        | inr rest ↦ rest
+      ]
+
+      by : (is_eq (R q k) ≡ false → value_at R (zip ks vs) q ≡ value_at R es q) → (b : Bool) → is_eq (R q k) ≡ b → cond (is_eq (R q k)) (Some v) (value_at R (zip ks vs) q) ≡ value_at R es q
+      by rest true t = ap (λ b. cond b (Some v) (value_at R (zip ks vs) q)) t ∙ ap (λ xs. get_or xs 0 None) at ∙ ap (value_at R es) (sym (exact q k (equal_from (R q k) t)))
+      by rest false t = ap (λ b. cond b (Some v) (value_at R (zip ks vs) q)) t ∙ rest t
+
+  -- are the entries in order, where the keys are
+  pub in_order : (es : List (K × X)) (ks : List K) (vs : List X) → AreAt R es ks vs → IsStrictlySortedBy R ks → ((q : K) → Contains (keys_of es) q → Contains ks q) → length vs ≡ length ks → zip ks vs ≡ merged R [] es
+  in_order es ks vs at rise all same =
+      same_rows R o exact (zip ks vs) (merged R [] es) (subst (IsStrictlySortedBy R) (sym (keys_of-zip ks vs same)) rise) (rises_pending es)
+      (λ q. gathered es ks vs at q (λ h. all q (held_key es q h)) ∙ sym (value_pending es q))
 
   -- ---- what is ahead
 

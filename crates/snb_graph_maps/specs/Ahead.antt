@@ -1,5 +1,5 @@
 -- Entries that wait to be put in order, and what a walk has still to give of them.
-use Rattle.std.specs.Prelude.{◌≡◌, Bool, false, true, List, Option, Some, None, Contains, IfSome, IsSome, filter, not, cond, ◌&&◌, []}
+use Rattle.std.specs.Prelude.{◌≡◌, Bool, false, true, List, Option, Some, None, Contains, IfSome, IsSome, filter, map, not, cond, ◌&&◌, []}
 use Rattle.std.specs.declared.cmp.Ordering.{Ordering}
 use Rattle.std.specs.Ordering.{is_le, is_lt}
 use Rattle.snb_graph_maps.specs.Merged.{merged, value_at}
@@ -25,6 +25,10 @@ module _ {K : Type 0} (R : K → K → Ordering) where
   pub record IsLeast (test : K → Bool) (ks : List K) (least : Option K) : Type 0 where
     pub held : IfSome least (λ k. Contains ks k)
     pub from : (k : K) → Contains ks k → is_from least k ≡ test k
+
+  -- values are what is kept under keys, one by one
+  abbrev pub AreAt : {X : Type 0} → List (K × X) → List K → List X → Type 0
+  AreAt es ks vs = map Some vs ≡ map (value_at R es) ks
 
   -- the entries from one key on and before another, in order
   abbrev pub ahead : {X : Type 0} → List (K × X) → Option K → Option K → List (K × X)

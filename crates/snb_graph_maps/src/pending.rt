@@ -1,18 +1,19 @@
-//! Entries that wait to be put in order, in the order in which they came and found by a hash of their keys.
+//! Entries that wait to be put in order, found by a hash of their keys.
 
-ghost use Rattle.std.specs.Prelude.{◌≡◌, ◌&&◌, ◌<◌, ◌≤◌, ◌++◌, ◌∷◌, [], Contains, cond, length, None, Some, IfOk, IfSome, IsSome, IsSorted, not, OnOk, OnErr, true, vec_capacity, vec_len};
+ghost use Rattle.std.specs.Prelude.{◌≡◌, ◌+◌, ◌&&◌, ◌<◌, ◌≤◌, ◌++◌, ◌∷◌, [], Contains, cond, length, None, Some, IfOk, IfSome, IsSome, IsSorted, not, OnOk, OnErr, true, vec_capacity, vec_len};
 ghost use Rattle.std.specs.Option.{option_copied};
 ghost use Rattle.std.specs.Ordering.{is_le};
 ghost use Rattle.std.specs.BTreeMap.{insert_entry, is_at};
 ghost use Rattle.std.specs.Map.{keys_of, remove_entry, values_of};
 ghost use Rattle.std.specs.Map.Iter.{TakesFirst, deref_pair};
+ghost use Rattle.std.specs.List.Sorted.{IsStrictlySortedBy};
 ghost use Rattle.snb_graph_maps.specs.Merged.{Rises, entries_within, is_before_end, is_up_to_end, merged, value_at};
-ghost use Rattle.snb_graph_maps.specs.Ahead.{IsLeast, ahead, before, is_above, is_from};
+ghost use Rattle.snb_graph_maps.specs.Ahead.{AreAt, IsLeast, ahead, before, is_above, is_from};
 
 use crate::kept::Apart;
 use crate::sorted::Sorted;
-use indexmap::IndexMap;
 use std::alloc::{AllocError, Global};
+use std::collections::HashMap;
 use std::marker::Model;
 use std::mem;
 
@@ -50,26 +51,19 @@ fn lesser<'a, K: Apart>(low: Option<&K>, key: &'a K, least: Option<&'a K>) -> Op
 }
 
 // The least of the keys above one, or of all of them.
-fn least_above<'a, K: Apart>(keys: &'a [K], low: Option<&K>) -> Option<&'a K>
-    ensures { IsLeast K.cmp (is_above K.cmp (option_copied low.entry)) keys.now (option_copied result) }
+fn least_in<'a, K: Apart, V>(map: &'a HashMap<K, V>, low: Option<&K>) -> Option<&'a K>
+    ensures { IsLeast K.cmp (is_above K.cmp (option_copied low.entry)) (keys_of map.now.entries)
+        (option_copied result) }
 {
     let mut least: Option<&'a K> = None;
-    for key in keys {
+    for key in map.keys() {
         least = lesser(low, key, least);
     }
     least
 }
 
-// The least key above one.
-fn least_in<'a, K: Apart, V>(map: &'a IndexMap<K, V>, low: Option<&K>) -> Option<&'a K>
-    ensures { IsLeast K.cmp (is_above K.cmp (option_copied low.entry)) (keys_of map.now.entries)
-        (option_copied result) }
-{
-    least_above(map.keys().as_slice(), low)
-}
-
 // What is kept under a key that is there.
-fn held<'a, K: Apart, V>(map: &'a IndexMap<K, V>, key: &K) -> &'a V
+fn held<'a, K: Apart, V>(map: &'a HashMap<K, V>, key: &K) -> &'a V
     requires { IsSome (value_at K.cmp map.now.entries key.now) }
     ensures { value_at K.cmp map.now.entries key.now ≡ Some result.now }
 {
@@ -80,7 +74,7 @@ fn held<'a, K: Apart, V>(map: &'a IndexMap<K, V>, key: &K) -> &'a V
 }
 
 // The least key.
-fn least<'a, K: Apart, V>(map: &'a IndexMap<K, V>) -> Option<&'a K>
+fn least<'a, K: Apart, V>(map: &'a HashMap<K, V>) -> Option<&'a K>
     ensures { IsLeast K.cmp (λ k. true) (keys_of map.now.entries) (option_copied result) }
 {
     let none: Option<&'a K> = None;
@@ -88,7 +82,7 @@ fn least<'a, K: Apart, V>(map: &'a IndexMap<K, V>) -> Option<&'a K>
 }
 
 // The least key that isn't below one.
-fn since<'a, K: Apart, V>(map: &'a IndexMap<K, V>, from: &K) -> Option<&'a K>
+fn since<'a, K: Apart, V>(map: &'a HashMap<K, V>, from: &K) -> Option<&'a K>
     ensures { IsLeast K.cmp (λ k. is_le (K.cmp from.now k)) (keys_of map.now.entries) (option_copied result) }
 {
     match map.get_key_value(from) {
@@ -109,21 +103,22 @@ fn is_sorted<K: Apart>(keys: &[K]) -> bool
     true
 }
 
-// Puts entries in order. Want of memory leaves them as they were.
-fn sort<K: Apart, V>(map: &mut IndexMap<K, V>) -> Result<(), AllocError>
-    ensures ok { OnOk result (map.new.entries ≡ merged K.cmp [] map.old.entries) }
-    ensures err { OnErr result (map.new.entries ≡ map.old.entries) }
+// Clones of the keys.
+fn cloned_keys<K: Apart, V>(alloc: Global, map: &HashMap<K, V>) -> Result<Vec<K>, AllocError>
+    ensures { IfOk result (λ keys. keys.items ≡ keys_of map.now.entries) }
 {
-    if is_sorted(map.keys().as_slice()) {
-        return Ok(());
+    let mut keys = Vec::with_capacity(alloc, map.len())?;
+    for key in map.keys() {
+        keys.push(key.clone()?)?;
     }
-    map.sort_keys()
+    Ok(keys)
 }
 
 // Adds an item to a list that has room for it.
 fn put<T: Drop>(list: &mut Vec<T>, item: T)
     requires { vec_len list.old < vec_capacity list.old }
     ensures items { list.new.items ≡ list.old.items ++ item ∷ [] }
+    ensures len { vec_len list.new ≡ vec_len list.old + 1 }
     ensures room { vec_capacity list.old ≤ vec_capacity list.new }
 {
     if list.push(item).is_err() {
@@ -131,25 +126,58 @@ fn put<T: Drop>(list: &mut Vec<T>, item: T)
     }
 }
 
-// Moves the keys and the values of a map into lists that have room for them.
-fn move_all<K: Apart, V: Drop>(map: IndexMap<K, V>, keys: &mut Vec<K>, values: &mut Vec<V>)
-    requires no_keys { keys.old.items ≡ [] }
-    requires no_values { values.old.items ≡ [] }
-    requires key_room { length map.entries ≤ vec_capacity keys.old }
-    requires value_room { length map.entries ≤ vec_capacity values.old }
-    ensures keys { keys.new.items ≡ keys_of map.entries }
-    ensures values { values.new.items ≡ values_of map.entries }
+// Moves the values of a map into a list that has room for them.
+fn move_all<K: Apart, V: Drop>(map: HashMap<K, V>, values: &mut Vec<V>)
+    requires none { values.old.items ≡ [] }
+    requires room { length map.entries ≤ vec_capacity values.old }
+    ensures { values.new.items ≡ values_of map.entries }
 {
-    for (key, value) in map {
-        put(keys, key);
+    for (_, value) in map {
         put(values, value);
     }
 }
 
-/// Entries in the order in which they came. A contract sees them in the order of their keys.
+// Moves the values of a map into a list that has room for them, in the order of some of its keys.
+fn move_by<K: Apart, V: Drop>(mut map: HashMap<K, V>, keys: &[K], values: &mut Vec<V>)
+    requires rises { IsStrictlySortedBy K.cmp keys.now }
+    requires held { (k : K) → Contains keys.now k → IsSome (value_at K.cmp map.entries k) }
+    requires none { values.old.items ≡ [] }
+    requires room { length keys.now ≤ vec_capacity values.old }
+    ensures { AreAt K.cmp map.entries keys.now values.new.items }
+{
+    for key in keys {
+        match map.remove(key) {
+            Some(value) => put(values, value),
+            None => unreachable!(),
+        }
+    }
+}
+
+// The entries of a map in order; its keys, and a list that has room for its values.
+fn in_order<K: Apart, V: Drop>(
+    map: HashMap<K, V>,
+    mut keys: Vec<K>,
+    mut values: Vec<V>,
+) -> Sorted<K, V>
+    requires keys { keys.items ≡ keys_of map.entries }
+    requires none { values.items ≡ [] }
+    requires room { length map.entries ≤ vec_capacity values }
+    ensures { result ≡ merged K.cmp [] map.entries }
+{
+    let _ = map.len();
+    if is_sorted(keys.as_slice()) {
+        move_all(map, &mut values);
+        return Sorted::of(keys, values);
+    }
+    keys.sort_unstable();
+    move_by(map, keys.as_slice(), &mut values);
+    Sorted::of(keys, values)
+}
+
+/// Entries in no order. A contract sees them in the order of their keys.
 pub(crate) struct Pending<K: Apart, V: Drop> {
     alloc: Global,
-    map: IndexMap<K, V>,
+    map: HashMap<K, V>,
 }
 
 impl<K: Apart, V: Drop> Drop for Pending<K, V> {
@@ -174,7 +202,7 @@ impl<K: Apart, V: Drop> Pending<K, V> {
     {
         Pending {
             alloc,
-            map: IndexMap::new(alloc),
+            map: HashMap::new(alloc),
         }
     }
 
@@ -213,7 +241,7 @@ impl<K: Apart, V: Drop> Pending<K, V> {
     pub(crate) fn remove(&mut self, key: &K)
         ensures { self.new ≡ remove_entry (is_at (K.cmp key.now)) self.old }
     {
-        let _ = self.map.swap_remove(key);
+        let _ = self.map.remove(key);
     }
 
     // Takes all entries out, in order. Where memory doesn't suffice, they stay.
@@ -222,13 +250,10 @@ impl<K: Apart, V: Drop> Pending<K, V> {
         ensures none { OnOk result (self.new ≡ []) }
         ensures err { OnErr result (self.new ≡ self.old) }
     {
-        sort(&mut self.map)?;
-        let room = self.map.len();
-        let mut keys = Vec::with_capacity(self.alloc, room)?;
-        let mut values = Vec::with_capacity(self.alloc, room)?;
-        let map = mem::replace(&mut self.map, IndexMap::new(self.alloc));
-        move_all(map, &mut keys, &mut values);
-        Ok(Sorted::of(keys, values))
+        let keys = cloned_keys(self.alloc, &self.map)?;
+        let values = Vec::with_capacity(self.alloc, self.map.len())?;
+        let map = mem::replace(&mut self.map, HashMap::new(self.alloc));
+        Ok(in_order(map, keys, values))
     }
 
     // All entries, in order.
@@ -275,7 +300,7 @@ impl<K: Apart, V: Drop> Pending<K, V> {
 // A walk over entries that aren't in order: it looks for each next one among all.
 #[derive(Drop)]
 pub(crate) struct Scan<'a, K: Apart, V> {
-    map: &'a IndexMap<K, V>,
+    map: &'a HashMap<K, V>,
     next: Option<&'a K>,
     end: Option<&'a K>,
 }
@@ -304,7 +329,7 @@ fn before<'a, K: Apart>(next: Option<&'a K>, end: Option<&K>) -> Option<&'a K>
 
 impl<'a, K: Apart, V> Scan<'a, K, V> {
     // From one key on and before another.
-    fn over(map: &'a IndexMap<K, V>, next: Option<&'a K>, end: Option<&'a K>) -> Self
+    fn over(map: &'a HashMap<K, V>, next: Option<&'a K>, end: Option<&'a K>) -> Self
         requires { IfSome (option_copied next) (λ k. Contains (keys_of map.now.entries) k) }
         ensures { result ≡ ahead K.cmp map.now.entries (option_copied next.entry) (option_copied end.entry) }
     {
