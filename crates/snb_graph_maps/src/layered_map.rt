@@ -1,6 +1,6 @@
 //! An ordered map in two parts.
 
-ghost use Rattle.std.specs.Prelude.{◌<◌, ◌^◌, ◌≡◌, ◌≤◌, ◌++◌, ◌∷◌, [], None, length, IfOk, OnOk, OnErr, false};
+ghost use Rattle.std.specs.Prelude.{◌<◌, ◌^◌, ◌≡◌, ◌≤◌, ◌++◌, ◌∷◌, [], None, Some, length, IfOk, IfSome, OnOk, OnErr, false};
 ghost use Rattle.std.specs.Option.{option_copied, is_some};
 ghost use Rattle.std.specs.BTreeMap.{insert_entry, is_at};
 ghost use Rattle.std.specs.Map.{remove_entry};
@@ -113,14 +113,28 @@ impl<K: Apart, V: Clone + Drop> LayeredMap<K, V> {
         }
     }
 
+    // What is frozen under a key, if the hints lead to it.
+    fn hinted(&self, key: &K) -> Option<&V>
+        ensures { IfSome result (λ v. value_at K.cmp self.now.0 key.now ≡ Some v.now) }
+    {
+        let _ = &self.added;
+        match &self.frozen {
+            Some(frozen) => frozen.hinted(key),
+            None => None,
+        }
+    }
+
     /// What is kept under a key. Takes no memory.
     pub fn get(&self, key: &K) -> Option<&V>
         ensures { option_copied result ≡ value_at K.cmp (all_of K.cmp self.now) key.now }
     {
         let _ = &self.alloc;
-        match self.frozen().find(key) {
+        if let Some(value) = self.hinted(key) {
+            return Some(value);
+        }
+        match self.added.get(key) {
             Some(value) => Some(value),
-            None => self.added.get(key),
+            None => self.frozen().find(key),
         }
     }
 
@@ -257,6 +271,7 @@ impl<K: Apart, V: Clone + Drop> LayeredMap<K, V> {
             return Err(AllocError);
         };
         *all = self.whole()?;
+        all.hint();
         self.frozen = Some(shared);
         self.added = Added::empty(self.alloc);
         Ok(())

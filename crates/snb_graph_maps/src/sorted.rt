@@ -1,6 +1,6 @@
 //! Entries in the order of their keys, the keys in an array of their own: a search reads no values.
 
-ghost use Rattle.std.specs.Prelude.{◌≡◌, ◌++◌, ◌∷◌, [], ℕ, ◌↔◌, IsTrue, IfOk, OnOk, OnErr, filter, length, map, not, true};
+ghost use Rattle.std.specs.Prelude.{◌≡◌, ◌++◌, ◌∷◌, [], ℕ, ◌↔◌, IsTrue, IfOk, IfSome, Some, OnOk, OnErr, filter, length, map, not, true};
 ghost use Rattle.std.specs.Option.{option_copied};
 ghost use Rattle.std.specs.Ordering.{is_le, is_lt};
 ghost use Rattle.std.specs.Map.{keys_of};
@@ -9,6 +9,7 @@ ghost use Rattle.std.specs.List.{zip};
 ghost use Rattle.std.specs.BTreeMap.{insert_entry};
 ghost use Rattle.snb_graph_maps.specs.Merged.{Rises, first_key, value_at};
 
+use crate::hints::{hinted, hints};
 use crate::kept::Apart;
 use std::alloc::{AllocError, Global};
 use std::marker::Model;
@@ -123,15 +124,22 @@ impl<'a, K: Apart, V> Span<'a, K, V> {
     }
 }
 
-/// Entries, the keys and the values in an array each.
+/// Entries, the keys and the values in an array each, and hints where a key is.
 pub(crate) struct Sorted<K: Apart, V: Drop> {
+    alloc: Global,
     keys: Vec<K>,
     values: Vec<V>,
+    slots: Vec<u32>,
 }
 
 impl<K: Apart, V: Drop> Drop for Sorted<K, V> {
     fn drop(self) {
-        let Sorted { keys: _, values: _ } = self;
+        let Sorted {
+            alloc: _,
+            keys: _,
+            values: _,
+            slots: _,
+        } = self;
     }
 }
 
@@ -148,11 +156,16 @@ impl<K: Apart, V: Drop> Model for Sorted<K, V> {
 
 impl<K: Apart, V: Drop> Sorted<K, V> {
     // The entries of as many keys as values.
-    pub(crate) fn of(keys: Vec<K>, values: Vec<V>) -> Self
+    pub(crate) fn of(alloc: Global, keys: Vec<K>, values: Vec<V>) -> Self
         requires { length values.items ≡ length keys.items }
         ensures { result ≡ zip keys.items values.items }
     {
-        Sorted { keys, values }
+        Sorted {
+            alloc,
+            keys,
+            values,
+            slots: Vec::new(alloc),
+        }
     }
 
     // No entries, and memory for some.
@@ -161,7 +174,7 @@ impl<K: Apart, V: Drop> Sorted<K, V> {
     {
         let keys = Vec::with_capacity(alloc, room)?;
         let values = Vec::with_capacity(alloc, room)?;
-        Ok(Sorted { keys, values })
+        Ok(Sorted::of(alloc, keys, values))
     }
 
     // The keys.
@@ -178,6 +191,26 @@ impl<K: Apart, V: Drop> Sorted<K, V> {
     {
         let _ = &self.keys;
         self.values.as_slice()
+    }
+
+    // Makes the hints.
+    pub(crate) fn hint(&mut self)
+        ensures { self.new ≡ self.old }
+    {
+        let _ = &self.values;
+        self.slots = hints(self.alloc, self.keys.as_slice());
+    }
+
+    // What is kept under a key, if the hints lead to it.
+    pub(crate) fn hinted(&self, key: &K) -> Option<&V>
+        requires { Rises K.cmp self.now }
+        ensures { IfSome result (λ v. value_at K.cmp self.now key.now ≡ Some v.now) }
+    {
+        let values = self.values.as_slice();
+        match hinted(self.keys.as_slice(), self.slots.as_slice(), key) {
+            Some(at) => Some(&values[at]),
+            None => None,
+        }
     }
 
     // Adds an entry after all others. Want of memory leaves them as they were.
