@@ -1,7 +1,9 @@
-//! Hints where a key is: a table of places, found by the number of a key. A hint is believed only where the key is
-//! seen at its place, so nothing depends on a table but time.
+//! Hints where a key is, or where a range begins: a table of places, found by the number of a key or of its group. A
+//! hint is believed only where the keys at its place bear it out, so nothing depends on a table but time.
 
-ghost use Rattle.std.specs.Prelude.{◌≡◌, ◌<◌, IfSome, get_or, length};
+ghost use Rattle.std.specs.Prelude.{◌≡◌, ◌<◌, IfSome, get_or, length, true};
+ghost use Rattle.std.specs.Ordering.{is_lt};
+ghost use Rattle.snb_graph_maps.specs.Parted.{Begins};
 ghost use Rattle.std.specs.declared.cmp.Ordering.TheVariants.{Equal};
 
 use crate::kept::Apart;
@@ -44,6 +46,35 @@ pub(crate) fn hinted<K: Apart>(keys: &[K], slots: &[u32], key: &K) -> Option<usi
     None
 }
 
+// Whether the keys that aren't below one begin at a place.
+fn begins<K: Apart>(keys: &[K], at: usize, key: &K) -> bool
+    ensures { result ≡ true → Begins (λ k. is_lt (K.cmp k key.now)) keys.now at }
+{
+    if at >= keys.len() || keys[at].cmp(key).is_lt() {
+        return false;
+    }
+    at == 0 || keys[at - 1].cmp(key).is_lt()
+}
+
+// Where the keys begin that aren't below one, if the hints lead there.
+pub(crate) fn hinted_start<K: Apart>(keys: &[K], groups: &[u32], key: &K) -> Option<usize>
+    ensures { IfSome result (λ at. Begins (λ k. is_lt (K.cmp k key.now)) keys.now at) }
+{
+    let first = first_slot(key.group(), groups.len());
+    for i in 0..REACH {
+        match groups.get(first.wrapping_add(i)) {
+            Some(slot) if *slot > 0 => {
+                let at = (*slot - 1) as usize;
+                if begins(keys, at, key) {
+                    return Some(at);
+                }
+            }
+            _ => return None,
+        }
+    }
+    None
+}
+
 // Puts a hint into the first free one of some slots.
 fn leave(slots: &mut [u32], first: usize, hint: u32) {
     for i in 0..REACH {
@@ -70,6 +101,35 @@ pub(crate) fn hints<K: Apart>(alloc: Global, keys: &[K]) -> Vec<u32> {
     for i in 0..keys.len() {
         let first = first_slot(keys[i].number(), room);
         leave(slots.as_mut_slice(), first, (i + 1) as u32);
+    }
+    slots
+}
+
+// Whether a key is the first of its group.
+fn leads<K: Apart>(keys: &[K], at: usize) -> bool {
+    at < keys.len() && (at == 0 || keys[at].group() != keys[at - 1].group())
+}
+
+// Hints for the groups of some keys: none for few keys, or where memory doesn't suffice.
+pub(crate) fn group_hints<K: Apart>(alloc: Global, keys: &[K]) -> Vec<u32> {
+    if keys.len() < FEW || keys.len() > MANY {
+        return Vec::new(alloc);
+    }
+    let mut count = 0usize;
+    for i in 0..keys.len() {
+        if leads(keys, i) {
+            count = count.saturating_add(1);
+        }
+    }
+    let Ok(mut slots) = Vec::from_elem(alloc, 0u32, count.saturating_mul(2)) else {
+        return Vec::new(alloc);
+    };
+    let room = slots.len();
+    for i in 0..keys.len() {
+        if leads(keys, i) {
+            let first = first_slot(keys[i].group(), room);
+            leave(slots.as_mut_slice(), first, (i + 1) as u32);
+        }
     }
     slots
 }

@@ -1,10 +1,10 @@
 //! An ordered map in two parts.
 
-ghost use Rattle.std.specs.Prelude.{◌<◌, ◌^◌, ◌≡◌, ◌≤◌, ◌++◌, ◌∷◌, [], None, Some, length, IfOk, IfSome, OnOk, OnErr, false};
+ghost use Rattle.std.specs.Prelude.{◌<◌, ◌^◌, ◌≡◌, ◌≤◌, ◌++◌, ◌∷◌, [], None, Some, filter, length, IfOk, IfSome, OnOk, OnErr, false};
 ghost use Rattle.std.specs.Option.{option_copied, is_some};
 ghost use Rattle.std.specs.BTreeMap.{insert_entry, is_at};
 ghost use Rattle.std.specs.Map.{remove_entry};
-ghost use Rattle.std.specs.Ordering.{is_gt};
+ghost use Rattle.std.specs.Ordering.{is_gt, is_le};
 ghost use Rattle.std.specs.Arc.{arc_value};
 ghost use Rattle.snb_graph_maps.specs.Merged.{value_at, all_of, entries_of, entries_within, is_before_end, is_up_to_end, most_entries, AreStored, HasAllOf, Rises};
 ghost use Rattle.snb_graph_maps.specs.declared.layer.Layer.TheVariants as Layer;
@@ -109,6 +109,17 @@ impl<K: Apart, V: Clone + Drop> LayeredMap<K, V> {
         let _ = &self.added;
         match &self.frozen {
             Some(frozen) => Span::over(frozen.keys(), frozen.values()),
+            None => Span::over(&[], &[]),
+        }
+    }
+
+    // The frozen entries whose keys aren't below one.
+    fn since(&self, key: &K) -> Span<'_, K, V>
+        ensures { result ≡ filter (λ e. is_le (K.cmp key.now e.0)) self.now.0 }
+    {
+        let _ = &self.added;
+        match &self.frozen {
+            Some(frozen) => frozen.since(key),
             None => Span::over(&[], &[]),
         }
     }
@@ -224,7 +235,7 @@ impl<K: Apart, V: Clone + Drop> LayeredMap<K, V> {
         ensures few { length result < 2 ^ 63 }
     {
         let _ = &self.alloc;
-        let frozen = self.frozen().since(&from).before(&end);
+        let frozen = self.since(&from).before(&end);
         let added = self.added.range(from, end);
         Walk::over(frozen, added)
     }
@@ -236,7 +247,7 @@ impl<K: Apart, V: Clone + Drop> LayeredMap<K, V> {
         ensures few { length result < 2 ^ 63 }
     {
         let _ = &self.alloc;
-        let frozen = self.frozen().since(&from).through(&last);
+        let frozen = self.since(&from).through(&last);
         let added = self.added.through(from, last);
         Walk::over(frozen, added)
     }

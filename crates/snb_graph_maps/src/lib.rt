@@ -7,6 +7,7 @@ pub mod kept;
 pub mod layer;
 pub mod layered_map;
 mod pending;
+mod search;
 mod sorted;
 pub mod walk;
 

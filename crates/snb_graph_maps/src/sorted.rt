@@ -9,8 +9,9 @@ ghost use Rattle.std.specs.List.{zip};
 ghost use Rattle.std.specs.BTreeMap.{insert_entry};
 ghost use Rattle.snb_graph_maps.specs.Merged.{Rises, first_key, value_at};
 
-use crate::hints::{hinted, hints};
+use crate::hints::{group_hints, hinted, hints};
 use crate::kept::Apart;
+use crate::search::{end, start};
 use std::alloc::{AllocError, Global};
 use std::marker::Model;
 
@@ -87,24 +88,12 @@ impl<'a, K: Apart, V> Span<'a, K, V> {
         }
     }
 
-    // The entries whose keys aren't below one.
-    pub(crate) fn since(self, key: &K) -> Self
-        requires { Rises K.cmp self }
-        ensures { result ≡ filter (λ e. is_le (K.cmp key.now e.0)) self.entry }
-    {
-        let at = self.keys.partition_point(|kept| kept.cmp(key).is_lt());
-        Span {
-            keys: &self.keys[at..],
-            values: &self.values[at..],
-        }
-    }
-
     // The entries whose keys are below one.
     pub(crate) fn before(self, key: &K) -> Self
         requires { Rises K.cmp self }
         ensures { result ≡ filter (λ e. not (is_le (K.cmp key.now e.0))) self.entry }
     {
-        let at = self.keys.partition_point(|kept| kept.cmp(key).is_lt());
+        let at = end(self.keys, key, false);
         Span {
             keys: &self.keys[..at],
             values: &self.values[..at],
@@ -116,7 +105,7 @@ impl<'a, K: Apart, V> Span<'a, K, V> {
         requires { Rises K.cmp self }
         ensures { result ≡ filter (λ e. not (is_lt (K.cmp key.now e.0))) self.entry }
     {
-        let at = self.keys.partition_point(|kept| kept.cmp(key).is_le());
+        let at = end(self.keys, key, true);
         Span {
             keys: &self.keys[..at],
             values: &self.values[..at],
@@ -130,6 +119,7 @@ pub(crate) struct Sorted<K: Apart, V: Drop> {
     keys: Vec<K>,
     values: Vec<V>,
     slots: Vec<u32>,
+    groups: Vec<u32>,
 }
 
 impl<K: Apart, V: Drop> Drop for Sorted<K, V> {
@@ -139,6 +129,7 @@ impl<K: Apart, V: Drop> Drop for Sorted<K, V> {
             keys: _,
             values: _,
             slots: _,
+            groups: _,
         } = self;
     }
 }
@@ -165,6 +156,7 @@ impl<K: Apart, V: Drop> Sorted<K, V> {
             keys,
             values,
             slots: Vec::new(alloc),
+            groups: Vec::new(alloc),
         }
     }
 
@@ -199,6 +191,7 @@ impl<K: Apart, V: Drop> Sorted<K, V> {
     {
         let _ = &self.values;
         self.slots = hints(self.alloc, self.keys.as_slice());
+        self.groups = group_hints(self.alloc, self.keys.as_slice());
     }
 
     // What is kept under a key, if the hints lead to it.
@@ -211,6 +204,17 @@ impl<K: Apart, V: Drop> Sorted<K, V> {
             Some(at) => Some(&values[at]),
             None => None,
         }
+    }
+
+    // The entries whose keys aren't below one.
+    pub(crate) fn since(&self, key: &K) -> Span<'_, K, V>
+        requires { Rises K.cmp self.now }
+        ensures { result ≡ filter (λ e. is_le (K.cmp key.now e.0)) self.now }
+    {
+        let keys = self.keys.as_slice();
+        let values = self.values.as_slice();
+        let at = start(keys, self.groups.as_slice(), key);
+        Span::over(&keys[at..], &values[at..])
     }
 
     // Adds an entry after all others. Want of memory leaves them as they were.
