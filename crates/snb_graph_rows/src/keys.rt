@@ -93,6 +93,12 @@ impl Apart for EdgeKey {
             .wrapping_add(self.second)
             .wrapping_add(self.table as u64)
     }
+
+    fn group(&self) -> u64 {
+        self.first
+            .wrapping_mul(SPREAD)
+            .wrapping_add(self.table as u64)
+    }
 }
 
 impl Key for EdgeKey {
@@ -114,6 +120,10 @@ impl Apart for WordKey {
         self.person
             .wrapping_mul(SPREAD)
             .wrapping_add(self.table as u64)
+    }
+
+    fn group(&self) -> u64 {
+        self.number()
     }
 }
 
