@@ -12,17 +12,17 @@ use std::alloc::Global;
 // Odd, and its bits are in no order: 2 to the 64 by the golden ratio.
 const SPREAD: u64 = 11400714819323198485;
 
-// How many slots are looked at.
-const REACH: usize = 8;
+/// So many slots are looked at, from the first one of a number on.
+pub const REACH: usize = 8;
 
-// So few keys need no hints.
+// So few hints are of no use.
 const FEW: usize = 8;
 
-// For more keys there are no hints: a place and one is a u32.
+// A slot tells no place beyond.
 const MANY: usize = 2147483647;
 
-// The first slot of a number, in a table of some length.
-fn first_slot(number: u64, slots: usize) -> usize {
+/// The first slot of a number, in a table of some length.
+pub fn first_slot(number: u64, slots: usize) -> usize {
     ((number.wrapping_mul(SPREAD) >> 32).wrapping_mul(slots as u64) >> 32) as usize
 }
 
@@ -75,32 +75,37 @@ pub(crate) fn hinted_start<K: Apart>(keys: &[K], groups: &[u32], key: &K) -> Opt
     None
 }
 
-// Puts a hint into the first free one of some slots.
-fn leave(slots: &mut [u32], first: usize, hint: u32) {
+/// Free slots for some hints: none for few or too many of them, or where memory doesn't suffice.
+pub fn slots_for(alloc: Global, count: usize) -> Vec<u32> {
+    if count < FEW || count > MANY {
+        return Vec::new(alloc);
+    }
+    match Vec::from_elem(alloc, 0u32, count * 2) {
+        Ok(slots) => slots,
+        Err(_) => Vec::new(alloc),
+    }
+}
+
+/// Leaves a hint, that what has a number is at a place, in the first slot that is free: one more than the place.
+pub fn leave(slots: &mut [u32], number: u64, place: usize) {
+    let first = first_slot(number, slots.len());
     for i in 0..REACH {
         let at = first.wrapping_add(i);
-        if at >= slots.len() {
+        if at >= slots.len() || place >= MANY {
             return;
         }
         if slots[at] == 0 {
-            slots[at] = hint;
+            slots[at] = (place + 1) as u32;
             return;
         }
     }
 }
 
-// Hints for some keys: none for few of them, or where memory doesn't suffice.
+// Hints for some keys.
 pub(crate) fn hints<K: Apart>(alloc: Global, keys: &[K]) -> Vec<u32> {
-    if keys.len() < FEW || keys.len() > MANY {
-        return Vec::new(alloc);
-    }
-    let Ok(mut slots) = Vec::from_elem(alloc, 0u32, keys.len() * 2) else {
-        return Vec::new(alloc);
-    };
-    let room = slots.len();
+    let mut slots = slots_for(alloc, keys.len());
     for i in 0..keys.len() {
-        let first = first_slot(keys[i].number(), room);
-        leave(slots.as_mut_slice(), first, (i + 1) as u32);
+        leave(slots.as_mut_slice(), keys[i].number(), i);
     }
     slots
 }
@@ -110,25 +115,18 @@ fn leads<K: Apart>(keys: &[K], at: usize) -> bool {
     at < keys.len() && (at == 0 || keys[at].group() != keys[at - 1].group())
 }
 
-// Hints for the groups of some keys: none for few keys, or where memory doesn't suffice.
+// Hints for the groups of some keys.
 pub(crate) fn group_hints<K: Apart>(alloc: Global, keys: &[K]) -> Vec<u32> {
-    if keys.len() < FEW || keys.len() > MANY {
-        return Vec::new(alloc);
-    }
     let mut count = 0usize;
     for i in 0..keys.len() {
         if leads(keys, i) {
             count = count.saturating_add(1);
         }
     }
-    let Ok(mut slots) = Vec::from_elem(alloc, 0u32, count.saturating_mul(2)) else {
-        return Vec::new(alloc);
-    };
-    let room = slots.len();
+    let mut slots = slots_for(alloc, count);
     for i in 0..keys.len() {
         if leads(keys, i) {
-            let first = first_slot(keys[i].group(), room);
-            leave(slots.as_mut_slice(), first, (i + 1) as u32);
+            leave(slots.as_mut_slice(), keys[i].group(), i);
         }
     }
     slots

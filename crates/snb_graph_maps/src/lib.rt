@@ -2,7 +2,7 @@
 #![tactic(auto)]
 
 mod added;
-mod hints;
+pub mod hints;
 pub mod kept;
 pub mod layer;
 pub mod layered_map;
