@@ -11,15 +11,20 @@ use std::alloc::{AllocError, Global};
 use std::collections::BTreeMap;
 use std::marker::Model;
 
-/// Numbers in order, each with the places of its pairs in one list.
+/// Numbers in order, each with the places of its pairs in one list, and hints where a number is.
 pub(crate) struct Runs {
     heads: Vec<(u64, (usize, usize))>,
     pairs: Vec<(u64, u64)>,
+    slots: Vec<u32>,
 }
 
 impl Drop for Runs {
     fn drop(self) {
-        let Runs { heads: _, pairs: _ } = self;
+        let Runs {
+            heads: _,
+            pairs: _,
+            slots: _,
+        } = self;
     }
 }
 
@@ -71,7 +76,7 @@ impl Runs {
     pub(crate) fn at(&self, of: u64) -> &[(u64, u64)]
         ensures { result.now ≡ pairs_at self.now of }
     {
-        match search::find(self.heads.as_slice(), &of) {
+        match search::span_of(self.heads.as_slice(), self.slots.as_slice(), of) {
             Some(span) => cut(self.pairs.as_slice(), *span),
             None => &[],
         }
@@ -91,7 +96,12 @@ impl Runs {
             pairs.extend_from_slice(list.as_slice())?;
             heads.push((*of, (begin, pairs.len())))?;
         }
-        Ok(Runs { heads, pairs })
+        let slots = search::hints(alloc, heads.as_slice());
+        Ok(Runs {
+            heads,
+            pairs,
+            slots,
+        })
     }
 
     /// The pairs of links that are in order.
@@ -106,7 +116,12 @@ impl Runs {
             pairs.push(*pair)?;
             grow(&mut heads, *of, begin, pairs.len())?;
         }
-        Ok(Runs { heads, pairs })
+        let slots = search::hints(alloc, heads.as_slice());
+        Ok(Runs {
+            heads,
+            pairs,
+            slots,
+        })
     }
 
     /// The numbers in order, each with the places of its pairs.

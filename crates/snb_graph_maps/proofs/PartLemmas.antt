@@ -182,9 +182,8 @@ module _ {K X : Type 0} (R : K → K → Ordering) (o : IsTotalOrder R) (exact :
   pub found_frozen_first : (es fs : List (K × X)) (q : K) (v : X) → AreParts R es fs → value_at R es q ≡ Some v → value_at R (merged R es fs) q ≡ Some v
   found_frozen_first es fs q v parts e = value_at-merged R o es fs q ∙ ap (λ w. option_or w (value_at R es q)) (parts.apart q (ap is_some e)) ∙ e
 
-  pub found_added_else : (es fs : List (K × X)) (q : K) → value_at R es q ≡ None → value_at R (merged R es fs) q ≡ value_at R fs q
-  found_added_else es fs q none = value_at-merged R o es fs q ∙ ap (option_or (value_at R fs q)) none ∙ or_none (value_at R fs q)
-    where
-      or_none : (v : Option X) → option_or v None ≡ v
-      or_none None = refl
-      or_none (Some x) = refl
+  pub found_added_first : (es fs : List (K × X)) (q : K) (v : X) → value_at R fs q ≡ Some v → value_at R (merged R es fs) q ≡ Some v
+  found_added_first es fs q v e = value_at-merged R o es fs q ∙ ap (λ w. option_or w (value_at R es q)) e
+
+  pub found_frozen_else : (es fs : List (K × X)) (q : K) → value_at R fs q ≡ None → value_at R (merged R es fs) q ≡ value_at R es q
+  found_frozen_else es fs q none = value_at-merged R o es fs q ∙ ap (λ w. option_or w (value_at R es q)) none

@@ -1,5 +1,5 @@
 -- Binary searches in lists in the order of their keys.
-use Rattle.std.proofs.Common.{◌≡◌, ℕ, zero, suc, ◌+◌, ◌<◌, ◌≤◌, ◌⊎◌, inl, inr, List, [], ◌∷◌, Some, None, Bool, true, false, not, length, get_or, take, drop, filter, refl, sym, ◌∙◌, ap, subst, arith, slice_get}
+use Rattle.std.proofs.Common.{◌≡◌, ℕ, zero, suc, ◌+◌, ◌-◌, ◌<◌, ◌≤◌, ◌⊎◌, inl, inr, List, [], ◌∷◌, Some, None, Bool, true, false, not, length, get_or, take, drop, filter, refl, sym, ◌∙◌, ap, subst, arith, slice_get}
 use mathlib.Core.Bool.{false≢true}
 use Rattle.std.specs.declared.cmp.Ordering.{Ordering}
 use Rattle.std.specs.declared.cmp.Ordering.TheVariants.{Less, Equal, Greater}
@@ -13,6 +13,7 @@ use Rattle.std.proofs.lemmas.Map.Keys.{IsDistinct-from_sorted, Less-from_sorted}
 use Rattle.std.proofs.lemmas.Map.Entries.{length-keys_of, lookup_at_gap, lookup_from_place}
 use Rattle.std.proofs.Math.ListN.{get_or-map}
 use Rattle.snb_graph_maps.specs.Merged.{Rises, value_at}
+use Rattle.snb_graph_maps.specs.Parted.{Begins, PartsAt}
 
 -- ---- where a test parts a list in two
 
@@ -38,6 +39,20 @@ drop_is p (x ∷ xs) (suc i) lo hi le =
 
 pub same_filter : {X : Type 0} (p q : X → Bool) → ((x : X) → p x ≡ q x) → (xs : List X) → filter p xs ≡ filter q xs
 same_filter p q same xs = ap (λ f. filter f xs) (λ i x. same x i)
+
+-- a place after some that pass the test, where it fails
+pub parts_from : {K : Type 0} (p : K → Bool) (ks : List K) → IsPartitionedBy p ks → (i : ℕ) → i ≤ length ks → AllWithin (λ k. p k ≡ true) ks 0 i → ((d : K) → i < length ks → p (get_or ks i d) ≡ false) → PartsAt p ks i
+parts_from p ks parted i le low here = record { bound = le; low = low; high = λ j d l h. by j d l h (p (get_or ks j d)) refl }
+  where
+    by : (j : ℕ) (d : _) → i ≤ j → j < length ks → (b : Bool) → p (get_or ks j d) ≡ b → p (get_or ks j d) ≡ false
+    by j d l h true t = absurd (false≢true (sym (here d (omega arith)) ∙ parted i j d l h t))
+    by j d l h false t = t
+
+-- a place where it fails for the first time
+pub parts_begin : {K : Type 0} (p : K → Bool) (ks : List K) → IsPartitionedBy p ks → (i : ℕ) → Begins p ks i → PartsAt p ks i
+parts_begin p ks parted i b =
+    let bound = b.bound in
+    parts_from p ks parted i (omega arith) (λ j d l h. parted j (i - 1) d (omega arith) (omega arith) (b.before d (omega arith))) (λ d l. b.here d)
 
 -- ---- an element by its place
 

@@ -1,10 +1,10 @@
 //! An ordered map in two parts.
 
-ghost use Rattle.std.specs.Prelude.{◌<◌, ◌^◌, ◌≡◌, ◌≤◌, ◌++◌, ◌∷◌, [], None, length, IfOk, OnOk, OnErr, false};
+ghost use Rattle.std.specs.Prelude.{◌<◌, ◌^◌, ◌≡◌, ◌≤◌, ◌++◌, ◌∷◌, [], None, Some, filter, length, IfOk, IfSome, OnOk, OnErr, false};
 ghost use Rattle.std.specs.Option.{option_copied, is_some};
 ghost use Rattle.std.specs.BTreeMap.{insert_entry, is_at};
 ghost use Rattle.std.specs.Map.{remove_entry};
-ghost use Rattle.std.specs.Ordering.{is_gt};
+ghost use Rattle.std.specs.Ordering.{is_gt, is_le};
 ghost use Rattle.std.specs.Arc.{arc_value};
 ghost use Rattle.snb_graph_maps.specs.Merged.{value_at, all_of, entries_of, entries_within, is_before_end, is_up_to_end, most_entries, AreStored, HasAllOf, Rises};
 ghost use Rattle.snb_graph_maps.specs.declared.layer.Layer.TheVariants as Layer;
@@ -113,14 +113,39 @@ impl<K: Apart, V: Clone + Drop> LayeredMap<K, V> {
         }
     }
 
+    // The frozen entries whose keys aren't below one.
+    fn since(&self, key: &K) -> Span<'_, K, V>
+        ensures { result ≡ filter (λ e. is_le (K.cmp key.now e.0)) self.now.0 }
+    {
+        let _ = &self.added;
+        match &self.frozen {
+            Some(frozen) => frozen.since(key),
+            None => Span::over(&[], &[]),
+        }
+    }
+
+    // What is frozen under a key, if the hints lead to it.
+    fn hinted(&self, key: &K) -> Option<&V>
+        ensures { IfSome result (λ v. value_at K.cmp self.now.0 key.now ≡ Some v.now) }
+    {
+        let _ = &self.added;
+        match &self.frozen {
+            Some(frozen) => frozen.hinted(key),
+            None => None,
+        }
+    }
+
     /// What is kept under a key. Takes no memory.
     pub fn get(&self, key: &K) -> Option<&V>
         ensures { option_copied result ≡ value_at K.cmp (all_of K.cmp self.now) key.now }
     {
         let _ = &self.alloc;
-        match self.frozen().find(key) {
+        if let Some(value) = self.hinted(key) {
+            return Some(value);
+        }
+        match self.added.get(key) {
             Some(value) => Some(value),
-            None => self.added.get(key),
+            None => self.frozen().find(key),
         }
     }
 
@@ -210,7 +235,7 @@ impl<K: Apart, V: Clone + Drop> LayeredMap<K, V> {
         ensures few { length result < 2 ^ 63 }
     {
         let _ = &self.alloc;
-        let frozen = self.frozen().since(&from).before(&end);
+        let frozen = self.since(&from).before(&end);
         let added = self.added.range(from, end);
         Walk::over(frozen, added)
     }
@@ -222,7 +247,7 @@ impl<K: Apart, V: Clone + Drop> LayeredMap<K, V> {
         ensures few { length result < 2 ^ 63 }
     {
         let _ = &self.alloc;
-        let frozen = self.frozen().since(&from).through(&last);
+        let frozen = self.since(&from).through(&last);
         let added = self.added.through(from, last);
         Walk::over(frozen, added)
     }
@@ -257,6 +282,7 @@ impl<K: Apart, V: Clone + Drop> LayeredMap<K, V> {
             return Err(AllocError);
         };
         *all = self.whole()?;
+        all.hint();
         self.frozen = Some(shared);
         self.added = Added::empty(self.alloc);
         Ok(())

@@ -2,10 +2,12 @@
 #![tactic(auto)]
 
 mod added;
+pub mod hints;
 pub mod kept;
 pub mod layer;
 pub mod layered_map;
 mod pending;
+mod search;
 mod sorted;
 pub mod walk;
 

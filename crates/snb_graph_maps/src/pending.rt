@@ -155,6 +155,7 @@ fn move_by<K: Apart, V: Drop>(mut map: HashMap<K, V>, keys: &[K], values: &mut V
 
 // The entries of a map in order; its keys, and a list that has room for its values.
 fn in_order<K: Apart, V: Drop>(
+    alloc: Global,
     map: HashMap<K, V>,
     mut keys: Vec<K>,
     mut values: Vec<V>,
@@ -167,11 +168,11 @@ fn in_order<K: Apart, V: Drop>(
     let _ = map.len();
     if is_sorted(keys.as_slice()) {
         move_all(map, &mut values);
-        return Sorted::of(keys, values);
+        return Sorted::of(alloc, keys, values);
     }
     keys.sort_unstable();
     move_by(map, keys.as_slice(), &mut values);
-    Sorted::of(keys, values)
+    Sorted::of(alloc, keys, values)
 }
 
 /// Entries in no order. A contract sees them in the order of their keys.
@@ -253,7 +254,7 @@ impl<K: Apart, V: Drop> Pending<K, V> {
         let keys = cloned_keys(self.alloc, &self.map)?;
         let values = Vec::with_capacity(self.alloc, self.map.len())?;
         let map = mem::replace(&mut self.map, HashMap::new(self.alloc));
-        Ok(in_order(map, keys, values))
+        Ok(in_order(self.alloc, map, keys, values))
     }
 
     // All entries, in order.

@@ -1,6 +1,6 @@
 //! Entries in the order of their keys, the keys in an array of their own: a search reads no values.
 
-ghost use Rattle.std.specs.Prelude.{◌≡◌, ◌++◌, ◌∷◌, [], ℕ, ◌↔◌, IsTrue, IfOk, OnOk, OnErr, filter, length, map, not, true};
+ghost use Rattle.std.specs.Prelude.{◌≡◌, ◌++◌, ◌∷◌, [], ℕ, ◌↔◌, IsTrue, IfOk, IfSome, Some, OnOk, OnErr, filter, length, map, not, true};
 ghost use Rattle.std.specs.Option.{option_copied};
 ghost use Rattle.std.specs.Ordering.{is_le, is_lt};
 ghost use Rattle.std.specs.Map.{keys_of};
@@ -9,7 +9,9 @@ ghost use Rattle.std.specs.List.{zip};
 ghost use Rattle.std.specs.BTreeMap.{insert_entry};
 ghost use Rattle.snb_graph_maps.specs.Merged.{Rises, first_key, value_at};
 
+use crate::hints::{group_hints, hinted, hints};
 use crate::kept::Apart;
+use crate::search::{end, start};
 use std::alloc::{AllocError, Global};
 use std::marker::Model;
 
@@ -86,24 +88,12 @@ impl<'a, K: Apart, V> Span<'a, K, V> {
         }
     }
 
-    // The entries whose keys aren't below one.
-    pub(crate) fn since(self, key: &K) -> Self
-        requires { Rises K.cmp self }
-        ensures { result ≡ filter (λ e. is_le (K.cmp key.now e.0)) self.entry }
-    {
-        let at = self.keys.partition_point(|kept| kept.cmp(key).is_lt());
-        Span {
-            keys: &self.keys[at..],
-            values: &self.values[at..],
-        }
-    }
-
     // The entries whose keys are below one.
     pub(crate) fn before(self, key: &K) -> Self
         requires { Rises K.cmp self }
         ensures { result ≡ filter (λ e. not (is_le (K.cmp key.now e.0))) self.entry }
     {
-        let at = self.keys.partition_point(|kept| kept.cmp(key).is_lt());
+        let at = end(self.keys, key, false);
         Span {
             keys: &self.keys[..at],
             values: &self.values[..at],
@@ -115,7 +105,7 @@ impl<'a, K: Apart, V> Span<'a, K, V> {
         requires { Rises K.cmp self }
         ensures { result ≡ filter (λ e. not (is_lt (K.cmp key.now e.0))) self.entry }
     {
-        let at = self.keys.partition_point(|kept| kept.cmp(key).is_le());
+        let at = end(self.keys, key, true);
         Span {
             keys: &self.keys[..at],
             values: &self.values[..at],
@@ -123,15 +113,24 @@ impl<'a, K: Apart, V> Span<'a, K, V> {
     }
 }
 
-/// Entries, the keys and the values in an array each.
+/// Entries, the keys and the values in an array each, and hints where a key is.
 pub(crate) struct Sorted<K: Apart, V: Drop> {
+    alloc: Global,
     keys: Vec<K>,
     values: Vec<V>,
+    slots: Vec<u32>,
+    groups: Vec<u32>,
 }
 
 impl<K: Apart, V: Drop> Drop for Sorted<K, V> {
     fn drop(self) {
-        let Sorted { keys: _, values: _ } = self;
+        let Sorted {
+            alloc: _,
+            keys: _,
+            values: _,
+            slots: _,
+            groups: _,
+        } = self;
     }
 }
 
@@ -148,11 +147,17 @@ impl<K: Apart, V: Drop> Model for Sorted<K, V> {
 
 impl<K: Apart, V: Drop> Sorted<K, V> {
     // The entries of as many keys as values.
-    pub(crate) fn of(keys: Vec<K>, values: Vec<V>) -> Self
+    pub(crate) fn of(alloc: Global, keys: Vec<K>, values: Vec<V>) -> Self
         requires { length values.items ≡ length keys.items }
         ensures { result ≡ zip keys.items values.items }
     {
-        Sorted { keys, values }
+        Sorted {
+            alloc,
+            keys,
+            values,
+            slots: Vec::new(alloc),
+            groups: Vec::new(alloc),
+        }
     }
 
     // No entries, and memory for some.
@@ -161,7 +166,7 @@ impl<K: Apart, V: Drop> Sorted<K, V> {
     {
         let keys = Vec::with_capacity(alloc, room)?;
         let values = Vec::with_capacity(alloc, room)?;
-        Ok(Sorted { keys, values })
+        Ok(Sorted::of(alloc, keys, values))
     }
 
     // The keys.
@@ -178,6 +183,38 @@ impl<K: Apart, V: Drop> Sorted<K, V> {
     {
         let _ = &self.keys;
         self.values.as_slice()
+    }
+
+    // Makes the hints.
+    pub(crate) fn hint(&mut self)
+        ensures { self.new ≡ self.old }
+    {
+        let _ = &self.values;
+        self.slots = hints(self.alloc, self.keys.as_slice());
+        self.groups = group_hints(self.alloc, self.keys.as_slice());
+    }
+
+    // What is kept under a key, if the hints lead to it.
+    pub(crate) fn hinted(&self, key: &K) -> Option<&V>
+        requires { Rises K.cmp self.now }
+        ensures { IfSome result (λ v. value_at K.cmp self.now key.now ≡ Some v.now) }
+    {
+        let values = self.values.as_slice();
+        match hinted(self.keys.as_slice(), self.slots.as_slice(), key) {
+            Some(at) => Some(&values[at]),
+            None => None,
+        }
+    }
+
+    // The entries whose keys aren't below one.
+    pub(crate) fn since(&self, key: &K) -> Span<'_, K, V>
+        requires { Rises K.cmp self.now }
+        ensures { result ≡ filter (λ e. is_le (K.cmp key.now e.0)) self.now }
+    {
+        let keys = self.keys.as_slice();
+        let values = self.values.as_slice();
+        let at = start(keys, self.groups.as_slice(), key);
+        Span::over(&keys[at..], &values[at..])
     }
 
     // Adds an entry after all others. Want of memory leaves them as they were.

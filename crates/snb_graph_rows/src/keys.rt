@@ -86,6 +86,19 @@ impl Apart for EdgeKey {
     ghost same_clone = { λ a b e. e };
 
     ghost same_key = { edge_exact };
+
+    fn number(&self) -> u64 {
+        self.first
+            .wrapping_mul(SPREAD)
+            .wrapping_add(self.second)
+            .wrapping_add(self.table as u64)
+    }
+
+    fn group(&self) -> u64 {
+        self.first
+            .wrapping_mul(SPREAD)
+            .wrapping_add(self.table as u64)
+    }
 }
 
 impl Key for EdgeKey {
@@ -102,6 +115,16 @@ impl Apart for WordKey {
     ghost same_clone = { Prim.search rules };
 
     ghost same_key = { word_exact };
+
+    fn number(&self) -> u64 {
+        self.person
+            .wrapping_mul(SPREAD)
+            .wrapping_add(self.table as u64)
+    }
+
+    fn group(&self) -> u64 {
+        self.number()
+    }
 }
 
 impl Key for WordKey {

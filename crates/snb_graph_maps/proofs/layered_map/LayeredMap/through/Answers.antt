@@ -5,16 +5,16 @@ use Rattle.snb_graph_maps.proofs.PartLemmas.{few_of, ranges_through, rises-filte
 use Rattle.snb_graph_maps.proofs.layered_map.LayeredMap.through.Goals as goal
 
 pub through-frozen-requires : goal.through-frozen-requires
-through-frozen-requires g c = rw (c.since.ensures, c.frozen.ensures.lent) (rises-filter g.K.Ord.cmp g.met.K.Ord.total g.met.K.Apart.same_key (λ k. is_le (g.K.Ord.cmp c.args.from k)) _ c.frozen.ensures.stored.parts.frozen_rises)
+through-frozen-requires g c = rw (c.since.ensures, ← c.self.view_is) (rises-filter g.K.Ord.cmp g.met.K.Ord.total g.met.K.Apart.same_key (λ k. is_le (g.K.Ord.cmp c.args.from k)) (entries_of c.self.inside.frozen) c.self.invariant.parts.frozen_rises)
 
 pub over-requires : goal.over-requires
 over-requires g c = (ranges_through g.K.Ord.cmp g.met.K.Ord.total g.met.K.Apart.same_key c.args.from c.args.last (entries_of c.self.inside.frozen) c.self.inside.added c.through-frozen.result c.since.result c.through-added.result c.self.invariant.parts
-    (rw (rw (← c.self.view_is) at c.frozen.ensures.lent) at c.since.ensures) c.through-frozen.ensures c.through-added.ensures).0
+    (rw (← c.self.view_is) at c.since.ensures) c.through-frozen.ensures c.through-added.ensures).0
 
 pub returns-clause-within : goal.returns-clause-within
 returns-clause-within g c = rw (← c.self.view_is) (c.over.ensures ∙ (ranges_through g.K.Ord.cmp g.met.K.Ord.total g.met.K.Apart.same_key c.args.from c.args.last (entries_of c.self.inside.frozen) c.self.inside.added c.through-frozen.result c.since.result c.through-added.result c.self.invariant.parts
-    (rw (rw (← c.self.view_is) at c.frozen.ensures.lent) at c.since.ensures) c.through-frozen.ensures c.through-added.ensures).1)
+    (rw (← c.self.view_is) at c.since.ensures) c.through-frozen.ensures c.through-added.ensures).1)
 
 pub returns-clause-few : goal.returns-clause-few
 returns-clause-few g c = few_of g.K.Ord.cmp g.met.K.Ord.total g.met.K.Apart.same_key (λ e. is_up_to_end (g.K.Ord.cmp c.args.from e.0) (g.K.Ord.cmp c.args.last e.0)) (entries_of c.self.inside.frozen) c.self.inside.added c.over.result c.self.invariant (c.over.ensures ∙ (ranges_through g.K.Ord.cmp g.met.K.Ord.total g.met.K.Apart.same_key c.args.from c.args.last (entries_of c.self.inside.frozen) c.self.inside.added c.through-frozen.result c.since.result c.through-added.result c.self.invariant.parts
-    (rw (rw (← c.self.view_is) at c.frozen.ensures.lent) at c.since.ensures) c.through-frozen.ensures c.through-added.ensures).1)
+    (rw (← c.self.view_is) at c.since.ensures) c.through-frozen.ensures c.through-added.ensures).1)
