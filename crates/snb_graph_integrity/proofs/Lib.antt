@@ -5,6 +5,7 @@ pub mod LawLemmas
 pub mod Laws
 pub mod MarkLemmas
 pub mod NumberLemmas
+pub mod RisingLemmas
 pub mod RootLemmas
 pub mod RowLemmas
 pub mod SoundLemmas

@@ -3,4 +3,5 @@ pub mod Edges
 pub mod Laws
 pub mod Marks
 pub mod Outcomes
+pub mod Rising
 pub mod SoundLaws

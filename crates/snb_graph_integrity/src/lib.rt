@@ -5,6 +5,7 @@ mod chains;
 mod edges;
 pub mod law;
 mod mark;
+mod rising;
 pub mod sound;
 pub mod unsound;
 
