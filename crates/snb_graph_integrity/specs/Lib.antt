@@ -1,4 +1,5 @@
 pub mod Chains
+pub mod Counts
 pub mod Edges
 pub mod Laws
 pub mod Marks

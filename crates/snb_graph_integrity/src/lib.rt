@@ -2,6 +2,7 @@
 #![tactic(auto)]
 
 mod chains;
+mod counts;
 mod edges;
 pub mod law;
 mod mark;
