@@ -1,5 +1,5 @@
 -- A chain of comments' parents is no longer than there are comments.
-use Rattle.std.proofs.Common.{◌≡◌, ◌≤◌, ℕ, zero, suc, Bool, true, false, List, [], ◌∷◌, length, map, eqb, eqb-true, refl, sym, ap, ◌∙◌, subst, arith}
+use Rattle.std.proofs.Common.{◌≡◌, ◌≤◌, ℕ, zero, suc, Bool, true, false, List, [], ◌∷◌, length, eqb, eqb-true, refl, sym, subst, arith}
 use Rattle.std.proofs.lemmas.List.{length-map}
 use Rattle.std.proofs.lemmas.List.Elements.{All-cons, All-contains, All-nil, All-weaker, recursion_from_All}
 use Rattle.std.proofs.lemmas.List.Folds.{Any-from_list_any}
@@ -9,27 +9,13 @@ use Rattle.std.proofs.lemmas.Map.Views.{list_any-from_Contains}
 use Rattle.std.specs.Cmp.{nat_eq_equiv}
 use Rattle.std.specs.List.{All, Contains, IsDistinct, list_any}
 use Rattle.snb_schema.specs.declared.row.Row.{Row}
-use Rattle.snb_schema.specs.declared.table.Kind.TheVariants as kinds
 use Rattle.snb_schema.specs.declared.table.Table.TheVariants as table
-use Rattle.snb_schema.specs.RowKeys.{RowKey, node_key, row_key}
-use Rattle.snb_graph_rows.specs.Keyed.{key_table}
 use Rattle.snb_graph_integrity.specs.SoundLaws.{ChainsAreShort}
 use Rattle.snb_graph_integrity.proofs.RootLemmas.{chain_post, comment_held, one_end}
-use Rattle.snb_graph_integrity.proofs.RowLemmas.{among_rows}
-use Rattle.snb_graph_model.specs.Graphs.{HasKey, IsGraph, rows}
+use Rattle.snb_graph_integrity.proofs.RowLemmas.{among_ids, id_of, row_ids}
+use Rattle.snb_graph_model.specs.Graphs.{IsGraph, rows}
 use Rattle.snb_graph_model.specs.Messages.{EndsAt}
 use Rattle.snb_graph_model.specs.Soundness.{Sound}
-use Rattle.snb_base.proofs.Laws.{contains_map}
-
--- ---- the ids of the comments
-
-abbrev comment_ids : List Row → List ℕ
-comment_ids g = map (λ r. (row_key r).1) (rows g table.Comment)
-
-among_ids : (g : List Row) (id : ℕ) → HasKey g (node_key kinds.Comment id) → Contains (comment_ids g) id
-among_ids g id has =
-    subst (Contains (comment_ids g)) (ap (λ (k : RowKey). k.1) has.keyed)
-    (contains_map (λ r. (row_key r).1) (rows g table.Comment) has.it (among_rows g table.Comment has.it (sym (key_table has.it) ∙ ap (λ (k : RowKey). k.0) has.keyed) has.held))
 
 -- ---- the comments of a chain
 
@@ -80,12 +66,12 @@ chain_ids g graph (suc n) comment post ends =
     )
 
 -- they are among the comments that are held
-chain_among : (g : List Row) → Sound g → (n : ℕ) (ids : List ℕ) → AreChain g n ids → (q : ℕ) → list_any (eqb q) ids ≡ true → list_any (eqb q) (comment_ids g) ≡ true
+chain_among : (g : List Row) → Sound g → (n : ℕ) (ids : List ℕ) → AreChain g n ids → (q : ℕ) → list_any (eqb q) ids ≡ true → list_any (eqb q) (row_ids g table.Comment) ≡ true
 chain_among g sound n ids are q is =
     let found = Any-from_list_any (eqb q) ids is in
     let near = All-contains (IsNear g n) ids found.1 are.near (found.0, found.2, found.3) in
-    list_any-from_Contains nat_eq_equiv q (comment_ids g)
-    (subst (Contains (comment_ids g)) (sym (eqb-true q found.1 found.4)) (among_ids g found.1 (comment_held g sound near.after found.1 near.post near.ends)))
+    list_any-from_Contains nat_eq_equiv q (row_ids g table.Comment)
+    (subst (Contains (row_ids g table.Comment)) (sym (eqb-true q found.1 found.4)) (among_ids g table.Comment found.1 (comment_held g sound near.after found.1 near.post near.ends)))
 
 -- a chain of parents is no longer than there are comments
 pub chain_short : ChainsAreShort
@@ -93,5 +79,5 @@ chain_short g graph sound n comment ends =
     let chain = chain_post g n comment ends in
     let (ids, are) = chain_ids g graph n comment chain.0 chain.1 in
     let long = are.long in
-    let most = length-le_from_is_member nat_eq_equiv ids (comment_ids g) are.distinct (chain_among g sound n ids are) in
-    omega (arith, long, most, length-map (rows g table.Comment) (λ r. (row_key r).1))
+    let most = length-le_from_is_member nat_eq_equiv ids (row_ids g table.Comment) are.distinct (chain_among g sound n ids are) in
+    omega (arith, long, most, length-map (rows g table.Comment) id_of)

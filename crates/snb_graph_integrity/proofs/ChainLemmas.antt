@@ -39,7 +39,7 @@ link_second : Row → ℕ
 link_second (row.Link t from to) = to
 link_second r = 0
 
-link_ends : (t u : Table) (a b c d : ℕ) → row.Link t a b ≡ row.Link u c d → (a ≡ c) × (b ≡ d)
+pub link_ends : (t u : Table) (a b c d : ℕ) → row.Link t a b ≡ row.Link u c d → (a ≡ c) × (b ≡ d)
 unfolding link_first link_second
 link_ends t u a b c d e = (ap link_first e, ap link_second e)
 

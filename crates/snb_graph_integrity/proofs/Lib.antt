@@ -1,10 +1,13 @@
 pub mod ChainCount
 pub mod ChainLemmas
+pub mod CountLemmas
 pub mod EdgeLemmas
 pub mod LawLemmas
 pub mod Laws
 pub mod MarkLemmas
 pub mod NumberLemmas
+pub mod Pigeons
+pub mod RisingLemmas
 pub mod RootLemmas
 pub mod RowLemmas
 pub mod SoundLemmas

@@ -24,7 +24,7 @@ comment_held g sound (suc n) comment post ends = (replies_held g sound comment e
 
 -- and so is the post at its end
 post_held : (g : List Row) → Sound g → (n comment post : ℕ) → EndsAt g n comment post → HasKey g (node_key kinds.Post post)
-post_held g sound zero comment post ends = (ends_held g table.CommentReplyOfPost comment post kinds.Comment kinds.Post sound refl refl ends).1
+post_held g sound zero comment post ends = (ends_held g table.CommentReplyOfPost comment post kinds.Comment kinds.Post sound.held refl refl ends).1
 post_held g sound (suc n) comment post ends = post_held g sound n ends.0 post ends.2
 
 -- a comment that replies to a post replies to no comment
@@ -81,7 +81,7 @@ from_parent g graph sound comment parent post (inr reply) (inr chain) = inr (suc
 from_parent g graph sound comment parent post (inl reply) (inr chain) =
     absurd (one_kind g graph parent (post_held g sound zero comment parent reply) (comment_held g sound chain.0 parent post chain.1))
 from_parent g graph sound comment parent post (inr reply) (inl own) =
-    absurd (one_kind g graph parent own.0 (ends_held g table.CommentReplyOfComment comment parent kinds.Comment kinds.Comment sound refl refl reply).1)
+    absurd (one_kind g graph parent own.0 (ends_held g table.CommentReplyOfComment comment parent kinds.Comment kinds.Comment sound.held refl refl reply).1)
 
 -- a comment has the root of its parent
 pub parent_root : RootsAreOfParents

@@ -1,5 +1,5 @@
 -- The rows of a table, and their order.
-use Rattle.std.proofs.Common.{◌≡◌, ◌≤◌, ℕ, List, ◌∷◌, Some, Result, Ok, sym, subst}
+use Rattle.std.proofs.Common.{◌≡◌, ◌≤◌, ℕ, List, [], ◌∷◌, map, Some, Result, Ok, sym, ap, ◌∙◌, subst}
 use Rattle.std.proofs.lemmas.List.Elements.{All-contains, All-contains_itself, All-from_recursion, All-weaker}
 use Rattle.std.proofs.lemmas.List.Kept.{IsStrictlySortedBy-filter}
 use Rattle.std.specs.Cmp.{tied_itself}
@@ -14,15 +14,16 @@ use Rattle.snb_schema.specs.declared.row.Row.TheVariants as row
 use Rattle.snb_schema.specs.declared.table.Table.{Table}
 use Rattle.snb_schema.specs.Layouts.{key_columns}
 use Rattle.snb_schema.specs.TableColumns.{shape_columns}
-use Rattle.snb_schema.specs.RowKeys.{edge_key, row_key}
+use Rattle.snb_schema.specs.RowKeys.{RowKey, edge_key, row_key}
 use Rattle.snb_schema.specs.RowValues.{table_of, values}
 use Rattle.snb_schema.specs.TableOrder.{same_table}
 use Rattle.snb_schema.specs.TableRows.{AreWithin, IsTableRow}
+use Rattle.snb_graph_rows.specs.Keyed.{key_table}
 use Rattle.snb_graph_rows.specs.Rows.{GivesRow}
 use Rattle.snb_graph_integrity.proofs.Laws.{table_decides}
 use Rattle.snb_graph_model.proofs.Laws.{row_total}
-use Rattle.snb_graph_model.specs.Graphs.{IsGraph, row_order, rows}
-use Rattle.snb_base.proofs.Laws.{in_filter}
+use Rattle.snb_graph_model.specs.Graphs.{HasKey, IsGraph, row_order, rows}
+use Rattle.snb_base.proofs.Laws.{contains_map, in_filter}
 
 -- ---- the order of rows
 
@@ -63,6 +64,19 @@ among_rows g t r of c = (in_filter (λ x. same_table (table_of x) t) g r).1 (c, 
 
 pub from_rows : (g : List Row) (t : Table) (r : Row) → Contains (rows g t) r → Contains g r
 from_rows g t r c = ((in_filter (λ x. same_table (table_of x) t) g r).0 c).0
+
+-- the first id of a row's key, and those of the rows of a table
+abbrev pub id_of : Row → ℕ
+id_of r = (row_key r).1
+
+abbrev pub row_ids : List Row → Table → List ℕ
+row_ids g t = map id_of (rows g t)
+
+-- the id of a node that is held is among them
+pub among_ids : (g : List Row) (t : Table) (id : ℕ) → HasKey g (t, id, 0, []) → Contains (row_ids g t) id
+among_ids g t id has =
+    subst (Contains (row_ids g t)) (ap (λ (k : RowKey). k.1) has.keyed)
+    (contains_map id_of (rows g t) has.it (among_rows g t has.it (sym (key_table has.it) ∙ ap (λ (k : RowKey). k.0) has.keyed) has.held))
 
 -- a row that a walk gave was the first of those that were left
 pub given_row : {E : Type 0} (left rest : List Row) (item : Result Row E) (r : Row) → item ≡ Ok r → GivesRow left (Some item) rest → left ≡ r ∷ rest

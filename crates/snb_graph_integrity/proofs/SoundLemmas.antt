@@ -22,7 +22,7 @@ use Rattle.snb_graph_integrity.specs.SoundLaws.{CommentsHaveOneParent, MessagesA
 use Rattle.snb_graph_integrity.proofs.Laws.{fills_decides, in_flat_map, table_decides}
 use Rattle.snb_graph_integrity.proofs.RowLemmas.{among_rows}
 use Rattle.snb_graph_model.specs.Graphs.{HasKey, HasSlot, IsGraph, fills, rows}
-use Rattle.snb_graph_model.specs.Soundness.{Need, Sound, edges_of, needs, needs_of}
+use Rattle.snb_graph_model.specs.Soundness.{HasNeededEdges, HoldsRefs, Need, edges_of, needs, needs_of}
 use Rattle.snb_base.proofs.Laws.{contains_map, in_filter}
 
 -- an id is that of a post or of a comment, never of both
@@ -39,18 +39,18 @@ one_link g graph t u a b c d one other same =
     (cc, cc)
 
 -- the nodes at both ends of a link are held
-pub ends_held : (g : List Row) (t : Table) (from to : ℕ) (a b : Kind) → Sound g → from_kind t ≡ Some a → to_kind t ≡ Some b → Contains g (row.Link t from to) → HasKey g (node_key a from) × HasKey g (node_key b to)
-ends_held g t from to a b sound first second link =
-    let all = subst (All (λ r. HasKey g (node_key r.1.kind r.1.id))) (λ i. end_ref 1 (first i) from ++ end_ref 2 (second i) to) (sound.held (row.Link t from to) link) in
+pub ends_held : (g : List Row) (t : Table) (from to : ℕ) (a b : Kind) → HoldsRefs g → from_kind t ≡ Some a → to_kind t ≡ Some b → Contains g (row.Link t from to) → HasKey g (node_key a from) × HasKey g (node_key b to)
+ends_held g t from to a b refs first second link =
+    let all = subst (All (λ r. HasKey g (node_key r.1.kind r.1.id))) (λ i. end_ref 1 (first i) from ++ end_ref 2 (second i) to) (refs (row.Link t from to) link) in
     (all 0 (1, ref a from) (omega arith), all 1 (1, ref a from) (omega arith))
 
 -- a comment that replies is held, and so is the message to which it replies
 pub replies_held : RepliesAreHeld
 replies_held g sound comment message (inl h) =
-    let ends = ends_held g table.CommentReplyOfPost comment message kinds.Comment kinds.Post sound refl refl h in
+    let ends = ends_held g table.CommentReplyOfPost comment message kinds.Comment kinds.Post sound.held refl refl h in
     (ends.0, inl ends.1)
 replies_held g sound comment message (inr h) =
-    let ends = ends_held g table.CommentReplyOfComment comment message kinds.Comment kinds.Comment sound refl refl h in
+    let ends = ends_held g table.CommentReplyOfComment comment message kinds.Comment kinds.Comment sound.held refl refl h in
     (ends.0, inr ends.1)
 
 -- a post replies to nothing
@@ -88,19 +88,19 @@ needed g node edge id must has =
     own = subst (λ l. Contains l (node, id, edge)) (λ i. needs_at (sym has.keyed i).0 (sym has.keyed i).1) (contains_map (λ e. (node, id, e)) (edges_of node) edge edges)
 
 -- and the slot of such an edge is filled
-required_filled : (g : List Row) → Sound g → (node edge : Table) (id : ℕ) → Contains required (node, edge) → HasKey g (node, id, 0, []) → HasSlot g (slot (edge, id, 0, []))
-required_filled g sound node edge id must has = (fills_decides g (slot (edge, id, 0, []))).0 (by (fills g (slot (edge, id, 0, []))) refl)
+pub required_filled : (g : List Row) → HasNeededEdges g → (node edge : Table) (id : ℕ) → Contains required (node, edge) → HasKey g (node, id, 0, []) → HasSlot g (slot (edge, id, 0, []))
+required_filled g complete node edge id must has = (fills_decides g (slot (edge, id, 0, []))).0 (by (fills g (slot (edge, id, 0, []))) refl)
   where
     by : (b : Bool) → fills g (slot (edge, id, 0, [])) ≡ b → fills g (slot (edge, id, 0, [])) ≡ true
     by true e = e
     by false e =
         let lacks = (in_filter (λ (need : Need). not (fills g (slot (need.2, need.1, 0, [])))) (needs g) (node, id, edge)).1 (needed g node edge id must has, ap not e) in
-        absurd (let none = subst (λ l. Contains l (node, id, edge)) sound.complete lacks in omega (arith, none.1))
+        absurd (let none = subst (λ l. Contains l (node, id, edge)) complete lacks in omega (arith, none.1))
 
 -- each edge that a node must have is there, once
 pub required_there : RequiredEdgesAreThere
 required_there g graph sound node edge must id has =
-    let there = required_filled g sound node edge id must has in
+    let there = required_filled g sound.complete node edge id must has in
     record {
       it = there.it;
       held = there.held;
@@ -111,22 +111,24 @@ required_there g graph sound node edge must id has =
 -- ---- authors
 
 -- a row of a table of links is a link
-as_link : (r : Row) (t : Table) → table_of r ≡ t → shape t ≡ shapes.Link → IsTableRow r → (from : ℕ) × (to : ℕ) × (r ≡ row.Link t from to)
+pub as_link : (r : Row) (t : Table) → table_of r ≡ t → shape t ≡ shapes.Link → IsTableRow r → (from : ℕ) × (to : ℕ) × (r ≡ row.Link t from to)
 as_link (row.Link u from to) t of is fit = (from, to, ap (λ x. row.Link x from to) of)
 as_link r t of is fit = let e = fit.shaped ∙ ap shape of ∙ is in absurd cc
 
--- what fills the slot of an edge that shares its keys with no other, and has the id of its first end, is a link from there
-link_there : (g : List Row) (t : Table) (id : ℕ) → IsGraph g → shape t ≡ shapes.Link → key_columns t ≡ First → sharing t ≡ t → ((u : Table) → sharing u ≡ t → u ≡ t) → HasSlot g (slot (t, id, 0, [])) → (to : ℕ) × Contains g (row.Link t id to)
-link_there g t id graph links first own alone has = (link.1, subst (Contains g) (link.2 ∙ ap (λ n. row.Link t n link.1) same) has.held)
+-- what fills the slot of an edge that has the id of its first end is a link from there
+pub link_from : (g : List Row) (t u : Table) (id : ℕ) → IsGraph g → shape t ≡ shapes.Link → key_columns t ≡ First → (has : HasSlot g (slot (u, id, 0, []))) → table_of has.it ≡ t → (to : ℕ) × Contains g (row.Link t id to)
+link_from g t u id graph links first has of = (link.1, subst (Contains g) (link.2 ∙ ap (λ n. row.Link t n link.1) same) has.held)
   where
-    of : table_of has.it ≡ t
-    of = sym (key_table has.it) ∙ alone (row_key has.it).0 (ap (λ (k : RowKey). k.0) has.fills ∙ own)
-
     link : (from : ℕ) × (to : ℕ) × (has.it ≡ row.Link t from to)
     link = as_link has.it t of links (All-contains IsTableRow g has.it graph.of_tables has.held)
 
     same : link.0 ≡ id
     same = ap (λ k. (edge_key k t link.0 link.1).1) (sym first) ∙ ap (λ (k : RowKey). k.1) (sym (ap slot_of link.2) ∙ has.fills)
+
+-- where its table shares its keys with no other, the link is of it
+link_there : (g : List Row) (t : Table) (id : ℕ) → IsGraph g → shape t ≡ shapes.Link → key_columns t ≡ First → sharing t ≡ t → ((u : Table) → sharing u ≡ t → u ≡ t) → HasSlot g (slot (t, id, 0, [])) → (to : ℕ) × Contains g (row.Link t id to)
+link_there g t id graph links first own alone has =
+    link_from g t t id graph links first has (sym (key_table has.it) ∙ alone (row_key has.it).0 (ap (λ (k : RowKey). k.0) has.fills ∙ own))
 
 -- the authors' edges share their keys with no other table
 post_creators : (u : Table) → sharing u ≡ table.PostHasCreatorPerson → u ≡ table.PostHasCreatorPerson
@@ -140,26 +142,26 @@ comment_creators u e = absurd cc
 -- each message has one author
 pub one_author : MessagesHaveOneAuthor
 one_author g graph sound message (inl post) =
-    let filled = required_filled g sound table.Post table.PostHasCreatorPerson message (5, omega arith, refl) post in
+    let filled = required_filled g sound.complete table.Post table.PostHasCreatorPerson message (5, omega arith, refl) post in
     let link = link_there g table.PostHasCreatorPerson message graph refl refl refl post_creators filled in
     record {
       author = link.0;
       wrote = inl link.1;
-      held = (ends_held g table.PostHasCreatorPerson message link.0 kinds.Post kinds.Person sound refl refl link.1).1;
+      held = (ends_held g table.PostHasCreatorPerson message link.0 kinds.Post kinds.Person sound.held refl refl link.1).1;
       alone = λ other wrote. elim wrote [
         | inl a ↦ (one_link g graph table.PostHasCreatorPerson table.PostHasCreatorPerson message other message link.0 a link.1 refl).1
-        | inr a ↦ absurd (one_kind g graph message post (ends_held g table.CommentHasCreatorPerson message other kinds.Comment kinds.Person sound refl refl a).0)
+        | inr a ↦ absurd (one_kind g graph message post (ends_held g table.CommentHasCreatorPerson message other kinds.Comment kinds.Person sound.held refl refl a).0)
       ];
     }
 one_author g graph sound message (inr comment) =
-    let filled = required_filled g sound table.Comment table.CommentHasCreatorPerson message (7, omega arith, refl) comment in
+    let filled = required_filled g sound.complete table.Comment table.CommentHasCreatorPerson message (7, omega arith, refl) comment in
     let link = link_there g table.CommentHasCreatorPerson message graph refl refl refl comment_creators filled in
     record {
       author = link.0;
       wrote = inr link.1;
-      held = (ends_held g table.CommentHasCreatorPerson message link.0 kinds.Comment kinds.Person sound refl refl link.1).1;
+      held = (ends_held g table.CommentHasCreatorPerson message link.0 kinds.Comment kinds.Person sound.held refl refl link.1).1;
       alone = λ other wrote. elim wrote [
-        | inl a ↦ absurd (one_kind g graph message (ends_held g table.PostHasCreatorPerson message other kinds.Post kinds.Person sound refl refl a).0 comment)
+        | inl a ↦ absurd (one_kind g graph message (ends_held g table.PostHasCreatorPerson message other kinds.Post kinds.Person sound.held refl refl a).0 comment)
         | inr a ↦ (one_link g graph table.CommentHasCreatorPerson table.CommentHasCreatorPerson message other message link.0 a link.1 refl).1
       ];
     }

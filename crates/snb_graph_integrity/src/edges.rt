@@ -47,7 +47,7 @@ const NODES: [Table; 6] = [
 ];
 
 // The tables of the edges that each node of a table must have, in order.
-fn required_of(node: Table) -> &'static [Table]
+pub(crate) fn required_of(node: Table) -> &'static [Table]
     ensures { result.now ≡ edges_of node }
 {
     match node {

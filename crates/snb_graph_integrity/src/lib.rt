@@ -2,9 +2,11 @@
 #![tactic(auto)]
 
 mod chains;
+mod counts;
 mod edges;
 pub mod law;
 mod mark;
+mod rising;
 pub mod sound;
 pub mod unsound;
 
