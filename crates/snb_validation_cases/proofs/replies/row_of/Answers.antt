@@ -11,7 +11,7 @@ pub returns : goal.returns
 returns c =
     subst
     (λ (columns : List CellKind). IfOk c.cells_of.result
-        (λ found. MatchOption found
-            ((row : List ByteCell) → ¬ AreAlong IsCellIn columns (map view c.args.items.now) row)
-            (AreAlong IsCellIn columns (map view c.args.items.now))))
+    (λ found. MatchOption found
+    ((row : List ByteCell) → ¬ AreAlong IsCellIn columns (map view c.args.items.now) row)
+    (AreAlong IsCellIn columns (map view c.args.items.now))))
     c.layout_of_query.ensures.cells c.cells_of.ensures
