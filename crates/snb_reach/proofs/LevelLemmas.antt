@@ -173,13 +173,13 @@ eq_flips x y = by (nat_eq y x) refl
     by false e = ne_eqb x y (λ same. eqb-false y x e (sym same))
 
 -- what a filter has
-filter_contains : {X : Type 0} (p : X → Bool) (xs : List X) (x : X) → Contains (filter p xs) x → Contains xs x × (p x ≡ true)
+pub filter_contains : {X : Type 0} (p : X → Bool) (xs : List X) (x : X) → Contains (filter p xs) x → Contains xs x × (p x ≡ true)
 filter_contains p xs x c = (
   All-contains (Contains xs) (filter p xs) x (All-filter p (Contains xs) xs (All-contains_itself xs)) c,
   All-contains (λ y. p y ≡ true) (filter p xs) x (filter_passes p xs) c,
 )
 
-contains_filter : {X : Type 0} (p : X → Bool) (xs : List X) (x : X) → Contains xs x → p x ≡ true → Contains (filter p xs) x
+pub contains_filter : {X : Type 0} (p : X → Bool) (xs : List X) (x : X) → Contains xs x → p x ≡ true → Contains (filter p xs) x
 contains_filter p [] x (k, small, is) passes = absurd (omega arith)
 contains_filter p (y ∷ ys) x (zero, small, is) passes = let same : y ≡ x = is in let k : p y ≡ true = rw same passes in rw k (0, omega arith, same)
 contains_filter p (y ∷ ys) x (suc k, small, is) passes = more (p y) (contains_filter p ys x (k, omega arith, is) passes)

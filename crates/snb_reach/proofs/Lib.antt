@@ -1,5 +1,7 @@
 pub mod Laws
+mod FewLemmas
 mod LevelLemmas
+mod LeveledLemmas
 mod LookLemmas
 mod SideLemmas
 mod WalkLemmas

@@ -1,3 +1,4 @@
 pub mod Distances
+pub mod Few
 pub mod Levels
 pub mod Sides

@@ -1,6 +1,9 @@
 //! Distances between persons over friendships.
 #![tactic(auto)]
 
+mod few;
+mod ids;
+mod leveled;
 mod levels;
 pub mod near;
 pub mod reach;

@@ -8,6 +8,7 @@ ghost use Rattle.snb_read_model.specs.Distance.{IsLength, IsWithin};
 ghost use Rattle.snb_reach.specs.Distances.{AreDistances};
 ghost use Rattle.snb_graph_model.specs.Soundness.{HoldsRefs};
 
+use crate::few;
 use crate::levels::{grow, others};
 use crate::near::{Near, by_id};
 use crate::sides::between;
@@ -15,6 +16,9 @@ use snb_graph::Graph;
 use snb_read_model::{Answer, AnswerRow, Cell, CowText};
 use std::alloc::{AllocError, Global};
 use std::collections::HashMap;
+
+// Of so many steps a search by lists takes less time than one by a map.
+const FEW_STEPS: u32 = 3;
 
 /// The persons who can be reached in at most `steps` steps, each with the distance: the start itself at 0.
 /// From a person that isn't held nobody can be reached.
@@ -28,6 +32,9 @@ pub fn distances(
     requires held { HoldsRefs graph.now }
     ensures { IfOk result (λ met. AreDistances graph.now start steps (get nat_eq met)) }
 {
+    if steps <= FEW_STEPS {
+        return few::distances(alloc, graph, start, steps);
+    }
     let mut met = HashMap::new(alloc);
     let Some(_) = graph.person(start) else {
         return Ok(met);
@@ -58,6 +65,9 @@ pub fn within(alloc: Global, graph: &Graph, start: u64, steps: u32) -> Result<Ne
     requires held { HoldsRefs graph.now }
     ensures { IfOk result (IsWithin graph.now start steps) }
 {
+    if steps <= FEW_STEPS {
+        return few::within(alloc, graph, start, steps);
+    }
     let met = distances(alloc, graph, start, steps)?;
     listed(alloc, &met)
 }

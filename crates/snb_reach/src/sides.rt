@@ -10,6 +10,7 @@ ghost use Rattle.snb_graph_model.specs.Soundness.{HoldsRefs};
 use snb_graph::Graph;
 use std::alloc::{AllocError, Global};
 use std::collections::HashMap;
+use std::collections::hash_map::Entry;
 use std::mem::swap;
 
 // Meets a person for the next level, unless they were met from the same end before. Whether they were met
@@ -25,12 +26,14 @@ fn meet(
     ensures len { OnOk result
         (hash_map_len met.new + length next.old.items ≡ hash_map_len met.old + length next.new.items) }
 {
-    if let Some(by) = met.get(&person) {
-        return Ok(*by != mark);
+    match met.entry(person)? {
+        Entry::Occupied(entry) => Ok(*entry.get() != mark),
+        Entry::Vacant(entry) => {
+            entry.insert(mark);
+            next.push(person)?;
+            Ok(false)
+        }
     }
-    met.insert(person, mark)?;
-    next.push(person)?;
-    Ok(false)
 }
 
 // Meets the friends of a person of the level before. Whether one of them was met from the other end; then
