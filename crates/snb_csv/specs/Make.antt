@@ -13,7 +13,7 @@ use Rattle.snb_schema.specs.declared.table.Table.TheVariants as table
 use Rattle.snb_schema.specs.Columns.{Spells}
 use Rattle.snb_schema.specs.TableColumns.{shape_columns}
 use Rattle.snb_schema.specs.RowValues.{row_shape, table_of, values}
-use Rattle.snb_input_fields.specs.Reading.{IsBadIn, text_at}
+use Rattle.snb_input_fields.specs.Reading.{IsBadIn, SpellsFrom, text_at}
 
 -- the table of a row of this shape: that of a node follows from the shape, and that of an edge or a
 -- word is told
@@ -30,12 +30,6 @@ table_by shapes.Link t = t
 table_by shapes.Dated t = t
 table_by shapes.Yeared t = t
 table_by shapes.Word t = t
-
--- from this place on each column has a field, which spells the value beside it
-abbrev pub SpellsFrom : ℕ → List Column → List (List ℕ) → List Value → Type 0
-SpellsFrom k [] fs [] = Unit {0}
-SpellsFrom k (c ∷ cs) fs (v ∷ vs) = Spells c (text_at fs k) v × SpellsFrom (suc k) cs fs vs
-SpellsFrom k _ fs _ = ⊥
 
 -- the fields spell the values of the row, which is of this shape and table
 pub record IsMadeOf (s : Shape) (t : Table) (fs : List (List ℕ)) (r : Row) : Type 0 where

@@ -1,4 +1,4 @@
--- What another crate may cite of this one: values that are taken, reads that are made of them, and fields read by columns.
+-- What another crate may cite of this one: fields read by columns.
 use Rattle.std.proofs.Common.{◌≡◌, ◌∷◌, ◌∙◌, ◌+◌, ◌⊎◌, [], ℕ, zero, suc, List, Option, Some, None, false, length, take, refl, ap, inl, inr, rules}
 use Rattle.std.proofs.lemmas.Bool.{cases_eq}
 use Rattle.snb_base.specs.Spellings.{Num}
@@ -12,37 +12,8 @@ use Rattle.snb_schema.specs.Columns.{Spells, SpellsAll, StopsAfter}
 use Rattle.snb_schema.specs.ReadKinds.{read_kind_of, parameter_columns, parameter_values}
 use Rattle.snb_schema.specs.RowValues.{IsWide}
 use Rattle.snb_input_lines.specs.Records.{field_at}
-use Rattle.snb_input_fields.specs.Laws.{TakenAgain}
-use Rattle.snb_input_fields.specs.Queries.{query_by}
-use Rattle.snb_input_fields.specs.Values.{starts_twice, taken}
 use Rattle.snb_input_fields.proofs.WideFacts.{wide_none, wide_some}
 use Rattle.snb_base.proofs.Laws.{number_found}
-
--- what is taken first of a value that is spelled is this value
-one_taken : (c : Column) (x : List ℕ) (v : Value) (cs : List Column) (vs : List Value) → Spells c x v → taken (c ∷ cs) (v ∷ vs) ≡ v ∷ taken cs vs
-one_taken (Number most) x (Digits n) cs vs s = refl
-one_taken (Small most) x (SmallDigits n) cs vs s = refl
-one_taken OptionalId x (Digits n) cs vs s = refl
-one_taken OptionalId x NoId cs vs s = refl
-one_taken Date x (Digits n) cs vs s = refl
-one_taken Day x (Digits n) cs vs s = refl
-one_taken Words x (Letters text) cs vs s = refl
-one_taken Word x (Letters text) cs vs s = refl
-one_taken TextList x (Texts texts) cs vs s = refl
-one_taken IdList x (Ids ids) cs vs s = refl
-one_taken PairList x (Pairs pairs) cs vs s = refl
-one_taken column x v cs vs s = absurd s
-
--- and what is taken of all are these values
-pub taken_again : TakenAgain
-taken_again [] [] [] s = refl
-taken_again (c ∷ cs) (x ∷ xs) (v ∷ vs) s = one_taken c x v cs vs s.0 ∙ ap (λ (ws : List Value). v ∷ ws) (taken_again cs xs vs s.1)
-taken_again columns xs vs s = absurd s
-
--- one value alone isn't one number twice
-pub starts_alone : (v : Value) → starts_twice (v ∷ []) ≡ false
-starts_alone (Digits n) = refl
-starts_alone v = refl
 
 -- fields that spell values are as many as their columns
 pub spelled_long : (cs : List Column) (fs : List (List ℕ)) (vs : List Value) → SpellsAll cs fs vs → length fs ≡ length cs
@@ -82,11 +53,3 @@ wide_or_not count fs = go (field_at fs count) refl
 -- a text is a number of at most so much, or it isn't
 pub number_or_not : (x : List ℕ) (most : ℕ) → ((n : ℕ) × Num x n most) ⊎ ((n : ℕ) → ¬ Num x n most)
 number_or_not = number_found
-
--- a read has the kind and the values that it is made of
-pub made : (kind : ReadKind) (vs : List Value) → (read_kind_of (query_by kind vs) ≡ kind) × (parameter_values (query_by kind vs) ≡ taken (parameter_columns kind) vs)
-made kind vs = search rules
-
--- and is what is made of them
-pub query_back : (query : Query) → query_by (read_kind_of query) (parameter_values query) ≡ query
-query_back query = search rules

@@ -2,6 +2,8 @@ pub mod DecidedFacts
 pub mod JoinFacts
 pub mod Laws
 pub mod ReadingFacts
+pub mod Readings
+pub mod TypedRows
 pub mod WideFacts
 mod ReaderFacts
 pub mod SeenFacts

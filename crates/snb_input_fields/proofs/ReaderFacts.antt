@@ -1,5 +1,6 @@
 -- Fields read one after another.
-use Rattle.std.proofs.Common.{◌≡◌, ◌<◌, ◌≤◌, ℕ, zero, suc, List, [], ◌∷◌, ◌++◌, Some, length, take, subst, sym, arith, add-one}
+use Rattle.std.proofs.Common.{◌≡◌, ◌<◌, ◌≤◌, ℕ, zero, suc, List, [], ◌∷◌, ◌++◌, Option, Some, None, length, take, subst, sym, arith, add-one}
+use Rattle.std.specs.Option.{MatchOption}
 use Rattle.snb_input_lines.specs.Records.{field_at}
 use Rattle.snb_schema.specs.declared.column.Column.{Column}
 use Rattle.snb_schema.specs.declared.column.Value.{Value}
@@ -43,6 +44,7 @@ sound_past r is next = record {
   texts = is.texts;
   enough = is.enough;
   few = is.few;
+  within = (let l = below r.columns r.read next.0 next.1 in omega (arith, l));
   done = (is.done.0 ++ next.2 ∷ [], rw add-one (spells_more r.columns r.fields r.read next.0 next.2 is.done.0 next.1 is.enough next.3 is.done.1));
 }
 
@@ -53,3 +55,25 @@ next_below r next = below r.columns r.read next.0 next.1
 -- a sound reader whose next field spells no value stops there
 pub sound_stop : (r : Reading) → IsSound r → ((c : Column) × IsNext r c × ((v : Value) → ¬ SpellsNext r c v)) → StopsAfter r.columns r.fields r.read
 sound_stop r is next = stops_next r.columns r.fields r.read next.0 is.done.0 next.1 is.enough next.2 is.done.1
+
+-- fields that spell values stop nowhere among these
+none_before : (cs : List Column) (fs : List (List ℕ)) (vs : List Value) (k n : ℕ) → k ≤ length cs → SpellsAll (take k cs) (take k fs) vs → StopsAfter cs fs n → k ≤ n
+none_before cs fs vs zero n l s stop = omega arith
+none_before [] fs vs (suc k) n l s stop = absurd stop
+none_before (c ∷ cs) [] vs (suc k) n l s stop = absurd stop
+none_before (c ∷ cs) (x ∷ fs) [] (suc k) n l s stop = absurd s
+none_before (c ∷ cs) (x ∷ fs) (v ∷ vs) (suc k) zero l s stop = absurd (stop v s.0)
+none_before (c ∷ cs) (x ∷ fs) (v ∷ vs) (suc k) (suc n) l s stop = (let more = none_before cs fs vs k n (omega (arith, l)) s.1 stop.1 in omega (arith, more))
+
+-- a sound reader's fields stop nowhere among those that are read
+pub sound_first : (r : Reading) → IsSound r → (n : ℕ) → StopsAfter r.columns r.fields n → r.read ≤ n
+sound_first r is n stop = none_before r.columns r.fields is.done.0 r.read n is.within is.done.1 stop
+
+-- what was found, and that nothing was
+pub found_one : {A : Type 0} (N : Type 0) (S : A → Type 0) (o : Option A) (x : A) → MatchOption o N S → o ≡ Some x → S x
+found_one N S (Some y) x m is = (let same : y ≡ x = cc in subst S same m)
+found_one N S None x m is = absurd cc
+
+pub found_none : {A : Type 0} (N : Type 0) (S : A → Type 0) (o : Option A) → MatchOption o N S → o ≡ None → N
+found_none N S (Some y) m is = absurd cc
+found_none N S None m is = m

@@ -1,15 +1,8 @@
 -- Laws of columns and lines.
-use Rattle.std.specs.Prelude.{◌≡◌, ◌≤◌, ◌⊎◌, ℕ, List, length, take}
+use Rattle.std.specs.Prelude.{◌≤◌, ◌⊎◌, ℕ, List, length, take}
 use Rattle.snb_schema.specs.declared.column.Column.{Column}
 use Rattle.snb_schema.specs.declared.column.Value.{Value}
 use Rattle.snb_schema.specs.Columns.{Spells, SpellsAll, StopsAfter}
-use Rattle.snb_input_fields.specs.Values.{taken}
-
--- values that are taken as their columns say are the values that the fields of these columns spell
-abbrev pub TakenAgain : Type 0
-TakenAgain =
-    (columns : List Column) (xs : List (List ℕ)) (vs : List Value) → SpellsAll columns xs vs
-    → taken columns vs ≡ vs
 
 -- a text spells a value of a column, or it spells none
 abbrev pub EachIsSpelled : Type 0

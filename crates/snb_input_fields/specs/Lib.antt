@@ -1,5 +1,4 @@
 pub mod Cells
+pub mod Fields
 pub mod Laws
-pub mod Queries
 pub mod Reading
-pub mod Values

@@ -2,8 +2,10 @@
 use Rattle.std.specs.Prelude.{◌≡◌, ◌+◌, ◌<◌, ◌≤◌, ℕ, zero, suc, List, [], ◌∷◌, length, take, All, IsUtf8, Option, None, Some}
 use Rattle.snb_schema.specs.declared.column.Column.{Column}
 use Rattle.snb_schema.specs.declared.column.Value.{Value}
+use Rattle.snb_schema.specs.declared.column.Value.TheVariants.{Digits, NoId}
 use Rattle.snb_schema.specs.Columns.{Spells, SpellsAll, StopsAfter}
-use Rattle.snb_input_fields.specs.declared.read.TheConstants.{COLUMNS_END}
+use Rattle.snb_input_fields.specs.Fields.{FieldsMeaning}
+use Rattle.snb_input_fields.specs.declared.wide.TheConstants.{COLUMNS_END}
 
 -- the columns, the fields of a line, and how many of these are read
 pub record Reading : Type 0 where
@@ -53,4 +55,24 @@ pub record IsSound (r : Reading) : Type 0 where
   pub texts : All IsUtf8 r.fields
   pub enough : length r.columns ≤ length r.fields
   pub few : length r.columns < COLUMNS_END
+  pub within : r.read ≤ length r.columns
   pub done : (vs : List Value) × SpellsAll (take r.read r.columns) (take r.read r.fields) vs
+
+-- the value of an id, or of none
+abbrev pub optional_value : Option ℕ → Value
+optional_value (Some n) = Digits n
+optional_value None = NoId
+
+-- from this place on each column has a field, which spells the value beside it
+abbrev pub SpellsFrom : ℕ → List Column → List (List ℕ) → List Value → Type 0
+SpellsFrom k [] fs [] = Unit {0}
+SpellsFrom k (c ∷ cs) fs (v ∷ vs) = Spells c (text_at fs k) v × SpellsFrom (suc k) cs fs vs
+SpellsFrom k _ fs _ = ⊥
+
+-- the fields of a line as fields that are read one after another
+abbrev pub line_meaning : FieldsMeaning Reading
+line_meaning = record {
+  expects = IsNext;
+  reads = λ r column v s. SpellsNext r column v × (s ≡ past r);
+  stops = λ r column number. IsBadNext r number;
+}

@@ -1,23 +1,32 @@
 //! The fields of a line, read one after another.
 
-ghost use Rattle.std.specs.Prelude.{◌≡◌, ◌+◌, ◌<◌, ◌≤◌, length, All, IsUtf8, IfOk, OnOk};
+ghost use Rattle.std.specs.Prelude.{◌≡◌, ◌+◌, ◌<◌, ◌≤◌, ◌↔◌, ℕ, length, All, IsTrue, IsUtf8, IfOk, OnOk};
 ghost use Rattle.snb_schema.specs.declared.column.Column.{Column as AnyColumn};
 ghost use Rattle.snb_schema.specs.declared.column.Column.TheVariants as columns;
 ghost use Rattle.snb_schema.specs.declared.column.Value.{Value as AnyValue};
-ghost use Rattle.snb_schema.specs.declared.column.Value.TheVariants.{Digits, Letters, SmallDigits};
+ghost use Rattle.snb_schema.specs.declared.column.Value.TheVariants.{Digits, Ids, Letters, Pairs as PairsOf, SmallDigits, Texts as TextsOf};
 ghost use Rattle.snb_schema.specs.declared.fault.LineFault.TheVariants as why;
-ghost use Rattle.snb_schema.specs.Columns.{StopsAfter};
+ghost use Rattle.snb_schema.specs.Columns.{StopsAfter, no_id};
 ghost use Rattle.snb_schema.specs.Faults.{OnBadColumn};
-ghost use Rattle.snb_input_fields.specs.Reading.{IsBadIn, IsBadNext, IsNext, SpellsNext, at_first, past, text_at};
+ghost use Rattle.snb_input_fields.specs.Reading.{IsBadIn, IsBadNext, IsNext, SpellsNext, at_first, optional_value, past, text_at};
 
-use crate::lists::text_of;
-use crate::read::COLUMNS_END;
-use snb_base::{Text, read_number};
+use crate::fields::Fields;
+use crate::lists::{read_ids, read_pairs, read_texts, text_of};
+use crate::wide::COLUMNS_END;
+use snb_base::{Numbers, Pairs, Text, Texts, read_number};
 use snb_dates::{read_date, read_day};
 use snb_input_lines::Record;
+use snb_schema::limits::MAX_ID;
 use snb_schema::{Column, LineFault};
 use std::alloc::Global;
 use std::marker::Model;
+
+// Whether a field stands for no id.
+fn is_no_id(field: &[u8]) -> bool
+    ensures { IsTrue result ↔ (field.now ≡ no_id) }
+{
+    field == "-1".as_bytes()
+}
 
 /// Reads the fields of a line by columns, each straight into what is made of it. A contract sees the
 /// columns, the fields, and how many of them were read.
@@ -96,12 +105,22 @@ impl<'a> FieldReader<'a> {
         }
     }
 
-    // Goes past the next field, which spells a value of its column.
-    fn pass(&mut self)
+    /// Goes past the next field, which spells a value of its column.
+    pub fn pass(&mut self)
         requires good { (column : AnyColumn) × IsNext self.old column × (v : AnyValue) × SpellsNext self.old column v }
         ensures { self.new ≡ past self.old }
     {
         self.read += 1;
+    }
+
+    /// Why the field that was read last is refused, where it doesn't go with one before it.
+    pub fn clash(&self) -> LineFault
+        ensures column { result ≡ why.Bad self.now.read }
+        ensures first { (n : ℕ) → StopsAfter self.now.columns self.now.fields n → self.now.read ≤ n }
+    {
+        LineFault::Bad {
+            column: self.read as u32,
+        }
     }
 
     /// A number, in a column of numbers up to this one.
@@ -198,5 +217,99 @@ impl<'a> FieldReader<'a> {
         let text = text_of(self.alloc, self.next_field())?;
         self.pass();
         Ok(text)
+    }
+
+    /// An id, or none where the field is `-1`.
+    pub fn optional_id(&mut self) -> Result<Option<u64>, LineFault>
+        requires next { IsNext self.old columns.OptionalId }
+        ensures ok { IfOk result (λ id. SpellsNext self.old columns.OptionalId (optional_value id)) }
+        ensures past { OnOk result (self.new ≡ past self.old) }
+        ensures bad { OnBadColumn result (IsBadNext self.old) }
+        ensures some { OnBadColumn result (IsBadIn self.old.columns self.old.fields) }
+    {
+        if is_no_id(self.next_field()) {
+            self.pass();
+            return Ok(None);
+        }
+        match read_number(self.next_field(), MAX_ID) {
+            Some(id) => {
+                self.pass();
+                Ok(Some(id))
+            }
+            None => Err(self.refusal()),
+        }
+    }
+
+    /// Texts, each once.
+    pub fn texts(&mut self) -> Result<Texts, LineFault>
+        requires next { IsNext self.old columns.TextList }
+        ensures ok { IfOk result (λ texts. SpellsNext self.old columns.TextList (TextsOf texts)) }
+        ensures past { OnOk result (self.new ≡ past self.old) }
+        ensures bad { OnBadColumn result (IsBadNext self.old) }
+        ensures some { OnBadColumn result (IsBadIn self.old.columns self.old.fields) }
+    {
+        match read_texts(self.alloc, self.next_field())? {
+            Some(texts) => {
+                self.pass();
+                Ok(texts)
+            }
+            None => Err(self.refusal()),
+        }
+    }
+
+    /// Ids, each once.
+    pub fn ids(&mut self) -> Result<Numbers, LineFault>
+        requires next { IsNext self.old columns.IdList }
+        ensures ok { IfOk result (λ ids. SpellsNext self.old columns.IdList (Ids ids)) }
+        ensures past { OnOk result (self.new ≡ past self.old) }
+        ensures bad { OnBadColumn result (IsBadNext self.old) }
+        ensures some { OnBadColumn result (IsBadIn self.old.columns self.old.fields) }
+    {
+        match read_ids(self.alloc, self.next_field())? {
+            Some(ids) => {
+                self.pass();
+                Ok(ids)
+            }
+            None => Err(self.refusal()),
+        }
+    }
+
+    /// Ids with years, each id once.
+    pub fn pairs(&mut self) -> Result<Pairs, LineFault>
+        requires next { IsNext self.old columns.PairList }
+        ensures ok { IfOk result (λ pairs. SpellsNext self.old columns.PairList (PairsOf pairs)) }
+        ensures past { OnOk result (self.new ≡ past self.old) }
+        ensures bad { OnBadColumn result (IsBadNext self.old) }
+        ensures some { OnBadColumn result (IsBadIn self.old.columns self.old.fields) }
+    {
+        match read_pairs(self.alloc, self.next_field())? {
+            Some(pairs) => {
+                self.pass();
+                Ok(pairs)
+            }
+            None => Err(self.refusal()),
+        }
+    }
+}
+
+impl<'a> Fields for FieldReader<'a> {
+    ghost use Rattle.snb_input_fields.specs.Reading.{line_meaning};
+
+    ghost meaning = { line_meaning };
+
+    fn number(&mut self, most: u64) -> Result<u64, LineFault> {
+        FieldReader::number(self, most)
+    }
+
+    fn small(&mut self, most: u32) -> Result<u32, LineFault> {
+        FieldReader::small(self, most)
+    }
+
+    fn date(&mut self) -> Result<u64, LineFault> {
+        FieldReader::date(self)
+    }
+
+    fn text(&mut self) -> Result<Text, LineFault> {
+        FieldReader::text(self)
     }
 }

@@ -1,7 +1,7 @@
 //! Laws of columns and lines, over every line.
 
 ghost use Rattle.snb_columns.specs.Laws.{OneList, OneValue};
-ghost use Rattle.snb_input_fields.specs.Laws.{EachIsSpelled, EachLineIsRead, TakenAgain};
+ghost use Rattle.snb_input_fields.specs.Laws.{EachIsSpelled, EachLineIsRead};
 
 use snb_base::number::one_spelling;
 use snb_dates::law::one_moment;
@@ -14,11 +14,6 @@ pub fn one_value()
     one_spelling();
     one_moment();
 }
-
-/// Values that fields spell are what one takes, each as its column says.
-pub fn taken_again()
-    ensures { TakenAgain }
-{}
 
 /// A text spells a value of a column or it spells none; so the fields of a line that has enough of
 /// them spell a value of each column, or there is a first that spells none.

@@ -1,46 +1,56 @@
-//! The reads that values make.
+//! The reads that parameters make.
 
-ghost use Rattle.std.specs.Prelude.{◌≡◌};
-ghost use Rattle.snb_input_fields.specs.Queries.{query_by};
+ghost use Rattle.std.specs.Prelude.{◌≡◌, ◌∷◌, [], IfOk};
+ghost use Rattle.snb_schema.specs.declared.column.Column.TheVariants.{Date, Small, Words};
+ghost use Rattle.snb_schema.specs.declared.column.Value.TheVariants.{Digits, Letters, SmallDigits};
+ghost use Rattle.snb_schema.specs.Faults.{OnBadColumn};
+ghost use Rattle.snb_schema.specs.ReadKinds.{parameter_columns, parameter_values, read_kind_of};
+ghost use Rattle.snb_input_fields.specs.Fields.{Expects, ReadsAll, StopsIn};
 
-use crate::values::Values;
-use snb_schema::{Query, ReadKind};
+use crate::fields::Fields;
+use snb_schema::limits::{MAX_ID, MAX_YEAR};
+use snb_schema::{LineFault, Query, ReadKind};
 
-/// The read of this kind that has these values.
-pub fn query_of(kind: ReadKind, values: &mut Values) -> Query
-    ensures { result ≡ query_by kind values.old }
+/// The read of this kind whose parameters the next fields spell. The error is the first column in
+/// which one spells none, or want of memory.
+pub fn read_query<F: Fields>(kind: ReadKind, fields: &mut F) -> Result<Query, LineFault>
+    requires { Expects F.meaning fields.old (parameter_columns kind) }
+    ensures kind { IfOk result (λ query. read_kind_of query ≡ kind) }
+    ensures ok { IfOk result
+        (λ query. ReadsAll F.meaning fields.old (parameter_columns kind) (parameter_values query) fields.new) }
+    ensures bad { OnBadColumn result (StopsIn F.meaning fields.old (parameter_columns kind)) }
 {
-    let id = values.number();
+    let id = fields.number(MAX_ID)?;
     match kind {
-        ReadKind::Is1 => Query::Is1 { person: id },
-        ReadKind::Is2 => Query::Is2 { person: id },
-        ReadKind::Is3 => Query::Is3 { person: id },
-        ReadKind::Is4 => Query::Is4 { message: id },
-        ReadKind::Is5 => Query::Is5 { message: id },
-        ReadKind::Is6 => Query::Is6 { message: id },
-        ReadKind::Is7 => Query::Is7 { message: id },
-        ReadKind::Ic1 => Query::Ic1 {
+        ReadKind::Is1 => Ok(Query::Is1 { person: id }),
+        ReadKind::Is2 => Ok(Query::Is2 { person: id }),
+        ReadKind::Is3 => Ok(Query::Is3 { person: id }),
+        ReadKind::Is4 => Ok(Query::Is4 { message: id }),
+        ReadKind::Is5 => Ok(Query::Is5 { message: id }),
+        ReadKind::Is6 => Ok(Query::Is6 { message: id }),
+        ReadKind::Is7 => Ok(Query::Is7 { message: id }),
+        ReadKind::Ic1 => Ok(Query::Ic1 {
             person: id,
-            first_name: values.text(),
-        },
-        ReadKind::Ic2 => Query::Ic2 {
+            first_name: fields.text()?,
+        }),
+        ReadKind::Ic2 => Ok(Query::Ic2 {
             person: id,
-            max_date: values.number(),
-        },
-        ReadKind::Ic7 => Query::Ic7 { person: id },
-        ReadKind::Ic8 => Query::Ic8 { person: id },
-        ReadKind::Ic9 => Query::Ic9 {
+            max_date: fields.date()?,
+        }),
+        ReadKind::Ic7 => Ok(Query::Ic7 { person: id }),
+        ReadKind::Ic8 => Ok(Query::Ic8 { person: id }),
+        ReadKind::Ic9 => Ok(Query::Ic9 {
             person: id,
-            max_date: values.number(),
-        },
-        ReadKind::Ic11 => Query::Ic11 {
+            max_date: fields.date()?,
+        }),
+        ReadKind::Ic11 => Ok(Query::Ic11 {
             person: id,
-            country: values.text(),
-            year: values.small(),
-        },
-        ReadKind::Ic13 => Query::Ic13 {
+            country: fields.text()?,
+            year: fields.small(MAX_YEAR)?,
+        }),
+        ReadKind::Ic13 => Ok(Query::Ic13 {
             from: id,
-            to: values.number(),
-        },
+            to: fields.number(MAX_ID)?,
+        }),
     }
 }

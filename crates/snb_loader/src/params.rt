@@ -187,7 +187,7 @@ fn lists_of(
 /// refused for the first of these: bytes past the most that are read reach it (`TooLarge`); it begins
 /// with a byte order mark (`BadLine` in column 1); it isn't UTF-8 (`NotUtf8`); it is the header, and
 /// hasn't a field for each parameter of the query (`BadLine` in column 0); its bad column by
-/// `read_query` (`BadLine`); it is a data line too many (`TooMany`). A line without a byte is refused
+/// `read_parameters` (`BadLine`); it is a data line too many (`TooMany`). A line without a byte is refused
 /// only as too large. `ReadFault` is a read that failed, and `Memory` want of memory.
 ///
 /// The shelf may be asked for the parameter files of the queries with a frequency in the folder (`allowed`).

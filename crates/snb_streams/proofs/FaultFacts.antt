@@ -1,7 +1,7 @@
 -- Fields that spell no insert.
-use Rattle.std.proofs.Common.{◌≡◌, ◌+◌, ◌≤◌, ◌∙◌, ℕ, Option, Some, None, List, [], ◌∷◌, length, take, refl, sym, ap, subst, inl, inr, arith}
+use Rattle.std.proofs.Common.{◌≡◌, ◌+◌, ◌≤◌, ◌∙◌, ℕ, List, [], ◌∷◌, length, take, refl, sym, ap, subst, inl, inr, arith}
 use Rattle.std.specs.Prelude.{Err}
-use Rattle.std.specs.Option.{unwrap_or}
+use Rattle.std.proofs.lemmas.Bool.{cases_lt}
 use Rattle.std.proofs.lemmas.List.{take_all}
 use Rattle.snb_schema.specs.declared.column.Column.{Column}
 use Rattle.snb_schema.specs.declared.column.Column.TheVariants.{Number}
@@ -14,12 +14,11 @@ use Rattle.snb_schema.specs.declared.fault.LineFault.{LineFault}
 use Rattle.snb_schema.specs.declared.fault.LineFault.TheVariants as line_fault
 use Rattle.snb_schema.specs.Faults.{OnBadColumn}
 use Rattle.snb_schema.specs.Lines.{fields}
-use Rattle.snb_schema.specs.UpdateLines.{IsBadInsert, NamesInsert}
+use Rattle.snb_schema.specs.UpdateLines.{Clashes, IsBadInsert, IsFirstBad, NamesInsert}
 use Rattle.snb_schema.specs.InsertLines.{kind_of, line_columns, line_values}
-use Rattle.snb_streams.specs.Make.{clash_at}
 use Rattle.snb_streams.specs.Spelled.{SpellsInsert}
-use Rattle.snb_streams.proofs.CaseFacts.{IsFieldCase, IsInsertCase, IsThreeCase, insert_from_case, insert_to_case}
-use Rattle.snb_streams.proofs.ClashFacts.{clash_later, clash_off, clash_there, one_clash}
+use Rattle.snb_streams.proofs.CaseFacts.{IsFieldCase, IsInsertCase, IsThreeCase, field_from_case, field_to_case, insert_from_case, insert_to_case}
+use Rattle.snb_streams.proofs.ClashFacts.{clash_decided, clash_spelled, one_clash}
 use Rattle.snb_streams.proofs.InsertFacts.{own_apart}
 use Rattle.snb_streams.proofs.KindFacts.{named_long, one_named, spelled_names}
 use Rattle.snb_input_fields.proofs.Laws.{no_stop, one_stop, spelled_long}
@@ -36,25 +35,28 @@ third_bad allowed fs vs long none s = insert_from_case allowed fs 3 (inr (inl (l
 pub time_bad : (allowed : List InsertKind) (fs : List (List ℕ)) (n column : ℕ) → 3 ≤ length fs → ((kind : InsertKind) → ¬ NamesInsert allowed fs kind) → StopsAfter times fs n → column ≡ n + 1 → IsBadInsert allowed fs column
 time_bad allowed fs n column long none s at = insert_from_case allowed fs column (inr (inl (long, none, inl (n, s, at))))
 
--- fields that stop
-pub stop_bad : (allowed : List InsertKind) (kind : InsertKind) (fs : List (List ℕ)) (vs : List Value) (n column : ℕ) → NamesInsert allowed fs kind → length fs ≡ length (line_columns kind) → StopsAfter (line_columns kind) fs n
-    → SpellsAll (take n (line_columns kind)) (take n fs) vs → column ≡ n + 1 → IsBadInsert allowed fs (unwrap_or (clash_at kind vs) column)
-stop_bad allowed kind fs vs n column names long stop s at =
-    insert_from_case allowed fs (unwrap_or (clash_at kind vs) column) (inr (inr (inr (kind, names, long, first (clash_at kind vs) refl))))
-  where
-    first : (o : Option ℕ) → clash_at kind vs ≡ o → IsFieldCase kind fs (unwrap_or o column)
-    first (Some second) e =
-        let there = clash_there kind fs vs n second s e in
-        inr (there.0, λ m other. (let same = one_stop (line_columns kind) fs n m stop other in let l = there.1 in omega arith))
-    first None e = inl (n, stop, at, λ other h. (let l = clash_later kind fs vs n other s stop e h in omega arith))
+-- a field that stops before those that clash
+pub stop_first : (kind : InsertKind) (fs : List (List ℕ)) (n column : ℕ) → StopsAfter (line_columns kind) fs n → column ≡ n + 1 → ((c : ℕ) → Clashes kind fs c → n + 1 ≤ c) → IsFirstBad kind fs column
+stop_first kind fs n column stop at low =
+    field_from_case kind fs column (inl (n, stop, at, λ other h. (let l = low other h in let ne = clash_spelled kind fs n other stop h in omega arith)))
 
--- fields of which two don't go together
-pub clash_bad : (allowed : List InsertKind) (kind : InsertKind) (fs : List (List ℕ)) (vs : List Value) (column : ℕ) → NamesInsert allowed fs kind → length fs ≡ length (line_columns kind) → SpellsAll (line_columns kind) (take (length (line_columns kind)) fs) vs
-    → clash_at kind vs ≡ Some column → IsBadInsert allowed fs column
-clash_bad allowed kind fs vs column names long s e =
-    let all = take_all (length (line_columns kind)) (line_columns kind) (omega arith) in
-    let there = clash_there kind fs vs (length (line_columns kind)) column (subst (λ (cs : List Column). SpellsAll cs (take (length (line_columns kind)) fs) vs) (sym all) s) e in
-    insert_from_case allowed fs column (inr (inr (inr (kind, names, long, inr (there.0, λ n stop. absurd (no_stop (line_columns kind) fs vs s n stop))))))
+-- fields that clash before any that stops
+pub clash_first : (kind : InsertKind) (fs : List (List ℕ)) (column : ℕ) → Clashes kind fs column → ((n : ℕ) → StopsAfter (line_columns kind) fs n → column ≤ n) → IsFirstBad kind fs column
+clash_first kind fs column clash low = field_from_case kind fs column (inr (clash, low))
+
+-- fields that stop have a first bad column
+pub stop_some : (kind : InsertKind) (fs : List (List ℕ)) (n : ℕ) → StopsAfter (line_columns kind) fs n → (column : ℕ) × IsFirstBad kind fs column
+stop_some kind fs n stop = elim (clash_decided kind fs) [
+  | inr never ↦ (n + 1, stop_first kind fs n (n + 1) stop refl (λ c h. absurd (never c h)))
+  | inl clash ↦ elim (cases_lt n clash.0) [
+    | inl low ↦ (n + 1, stop_first kind fs n (n + 1) stop refl (λ c h. (let same = one_clash kind fs clash.0 c clash.1 h in omega arith)))
+    | inr high ↦ (clash.0, clash_first kind fs clash.0 clash.1 (λ m other. (let same = one_stop (line_columns kind) fs n m stop other in omega arith)))
+  ]
+]
+
+-- the first bad column of the insert that the fields name is theirs
+pub first_bad : (allowed : List InsertKind) (kind : InsertKind) (fs : List (List ℕ)) (column : ℕ) → NamesInsert allowed fs kind → length fs ≡ length (line_columns kind) → IsFirstBad kind fs column → IsBadInsert allowed fs column
+first_bad allowed kind fs column names long first = insert_from_case allowed fs column (inr (inr (inr (kind, names, long, field_to_case kind fs column first))))
 
 -- the first bad one of three fields is one
 one_of_three : (fs : List (List ℕ)) (a b : ℕ) → IsThreeCase fs a → IsThreeCase fs b → a ≡ b
@@ -92,20 +94,15 @@ one_case allowed fs a b (inr (inr (inr p))) (inr (inr (inr q))) = one_bad p.0 fs
 pub one_fault : (allowed : List InsertKind) (fs : List (List ℕ)) (a b : ℕ) → IsBadInsert allowed fs a → IsBadInsert allowed fs b → a ≡ b
 one_fault allowed fs a b p q = one_case allowed fs a b (insert_to_case allowed fs a p) (insert_to_case allowed fs b q)
 
--- fields that spell values of all columns, which don't clash, have no bad one
-none_bad : (kind : InsertKind) (fs : List (List ℕ)) (vs : List Value) (column : ℕ) → SpellsAll (line_columns kind) fs vs → clash_at kind vs ≡ None → ¬ IsFieldCase kind fs column
-none_bad kind fs vs column s e bad =
+-- fields that spell values of all columns and don't clash have no bad one
+none_bad : (kind : InsertKind) (fs : List (List ℕ)) (vs : List Value) (column : ℕ) → SpellsAll (line_columns kind) fs vs → ((c : ℕ) → ¬ Clashes kind fs c) → ¬ IsFieldCase kind fs column
+none_bad kind fs vs column s never bad =
     let long = spelled_long (line_columns kind) fs vs s in
     let few : length fs ≤ length (line_columns kind) = omega (arith, long) in
     let all : SpellsAll (line_columns kind) (take (length (line_columns kind)) fs) vs = subst (λ (xs : List (List ℕ)). SpellsAll (line_columns kind) xs vs) (sym (take_all (length (line_columns kind)) fs few)) s in
-    let n = length (line_columns kind) + column in
-    let wide : length (line_columns kind) ≤ n = omega arith in
-    let wide_fields : length fs ≤ n = omega (arith, long) in
-    let most : SpellsAll (take n (line_columns kind)) (take n fs) vs = subst (λ (cs : List Column). SpellsAll cs (take n fs) vs) (sym (take_all n (line_columns kind) wide))
-    (subst (λ (xs : List (List ℕ)). SpellsAll (line_columns kind) xs vs) (sym (take_all n fs wide_fields)) s) in
     elim bad [
       | inl stop ↦ no_stop (line_columns kind) fs vs all stop.0 stop.1
-      | inr two ↦ clash_off kind fs vs n column most e two.0 (omega arith)
+      | inr two ↦ never column two.0
     ]
 
 -- fields that spell an insert have no bad one
@@ -115,7 +112,7 @@ no_fault allowed fs t t_d op column s bad = elim (insert_to_case allowed fs colu
   | inr (inl none) ↦ none.1 (kind_of op) names
   | inr (inr (inl wrong)) ↦ wrong.2 (long ∙ ap (λ (k : InsertKind). length (line_columns k)) (one_named allowed fs (kind_of op) wrong.0 names wrong.1))
   | inr (inr (inr first)) ↦
-      none_bad (kind_of op) fs (line_values t t_d op) column s.1 (own_apart t t_d op s.2) (subst (λ (k : InsertKind). IsFieldCase k fs column) (one_named allowed fs first.0 (kind_of op) first.1 names) first.3)
+      none_bad (kind_of op) fs (line_values t t_d op) column s.1 (own_apart fs t t_d op s.2 s.1) (subst (λ (k : InsertKind). IsFieldCase k fs column) (one_named allowed fs first.0 (kind_of op) first.1 names) first.3)
 ]
   where
     names : NamesInsert allowed fs (kind_of op)
@@ -135,16 +132,3 @@ pub bad_fields : (A B : Type 0) (fault : LineFault) (kinds allowed : List Insert
 bad_fields A B fault kinds allowed line fs of same bad =
     bad_weaker A B fault (IsBadInsert kinds fs) (IsBadInsert allowed (fields line))
     (λ column h. subst (λ (ks : List InsertKind). IsBadInsert ks (fields line) column) of (subst (λ (xs : List (List ℕ)). IsBadInsert kinds xs column) same h)) bad
-
--- a clash, as the reading of the values tells it
-pub told_clash : (allowed : List InsertKind) (kind : InsertKind) (cs : List Column) (fs : List (List ℕ)) (vs : List Value) (column : ℕ) → cs ≡ line_columns kind → NamesInsert allowed fs kind → length fs ≡ length cs → SpellsAll cs (take (length cs) fs) vs
-    → clash_at kind vs ≡ Some column → IsBadInsert allowed fs column
-told_clash allowed kind cs fs vs column e names long s two =
-    subst (λ (ds : List Column). length fs ≡ length ds → SpellsAll ds (take (length ds) fs) vs → IsBadInsert allowed fs column) (sym e) (λ l t. clash_bad allowed kind fs vs column names l t two) long s
-
--- and a stop
-pub told_stop : (allowed : List InsertKind) (kind : InsertKind) (cs : List Column) (fs : List (List ℕ)) (vs : List Value) (n column answer : ℕ) → cs ≡ line_columns kind → NamesInsert allowed fs kind → length fs ≡ length cs → StopsAfter cs fs n
-    → SpellsAll (take n cs) (take n fs) vs → column ≡ n + 1 → answer ≡ unwrap_or (clash_at kind vs) column → IsBadInsert allowed fs answer
-told_stop allowed kind cs fs vs n column answer e names long stop s at is =
-    rw is (subst (λ (ds : List Column). length fs ≡ length ds → StopsAfter ds fs n → SpellsAll (take n ds) (take n fs) vs → IsBadInsert allowed fs (unwrap_or (clash_at kind vs) column)) (sym e)
-    (λ l t u. stop_bad allowed kind fs vs n column names l t u at) long stop s)

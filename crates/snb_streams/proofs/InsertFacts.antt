@@ -1,114 +1,125 @@
--- The insert that is made of the values of a line.
-use Rattle.std.proofs.Common.{◌≡◌, ◌≤◌, ◌∙◌, ℕ, cond, Some, None, List, [], ◌∷◌, length, take, drop, refl, sym, ap, subst, arith}
-use Rattle.std.proofs.lemmas.Bool.{ne_eqb}
-use Rattle.std.proofs.lemmas.List.{drop-drop, take_all}
-use Rattle.std.specs.List.{Contains}
+-- The insert that the fields of a line spell.
+use Rattle.std.proofs.Common.{◌≡◌, ◌≢◌, ◌⊎◌, ◌∙◌, ℕ, Option, Some, None, List, [], ◌∷◌, get_or, drop, refl, sym, ap, subst, inl, inr, arith}
+use Rattle.snb_base.specs.Spellings.{Num, SpellsId, last_id}
 use Rattle.snb_schema.specs.declared.column.Column.{Column}
-use Rattle.snb_schema.specs.declared.column.Column.TheVariants.{Date, IdList}
+use Rattle.snb_schema.specs.declared.column.Column.TheVariants.{OptionalId}
 use Rattle.snb_schema.specs.declared.column.Value.{Value}
-use Rattle.snb_schema.specs.declared.column.Value.TheVariants.{Digits}
+use Rattle.snb_schema.specs.declared.column.Value.TheVariants.{Digits, NoId}
 use Rattle.snb_schema.specs.declared.op.Op.{Op}
 use Rattle.snb_schema.specs.declared.op.Op.TheVariants.{AddPerson, LikePost, LikeComment, AddForum, AddMember, AddPost, AddComment, AddFriend}
 use Rattle.snb_schema.specs.declared.op.InsertKind.{InsertKind}
 use Rattle.snb_schema.specs.declared.op.InsertKind.TheVariants as kinds
+use Rattle.snb_schema.specs.declared.op.Parent.{Parent}
 use Rattle.snb_schema.specs.declared.op.Parent.TheVariants as parents
-use Rattle.snb_schema.specs.Columns.{SpellsAll}
-use Rattle.snb_schema.specs.UpdateLines.{IsOfTwo, NamesInsert}
-use Rattle.snb_schema.specs.InsertLines.{insert_columns, kind_number, kind_of, line_columns, line_values, op_number, op_values}
-use Rattle.snb_input_fields.specs.Laws.{TakenAgain}
-use Rattle.snb_input_fields.specs.Values.{first_number, starts_twice, taken}
-use Rattle.snb_streams.specs.Make.{are_no_parent, clash_at, op_by}
-use Rattle.snb_streams.specs.Spelled.{SpellsInsert}
-use Rattle.snb_streams.proofs.ClashFacts.{parents_kept, twice_differ, untold}
-use Rattle.snb_streams.proofs.KindFacts.{third_names, third_number}
-use Rattle.snb_streams.proofs.PlaceFacts.{spelled_from}
+use Rattle.snb_schema.specs.Columns.{Spells, SpellsAll, no_id}
+use Rattle.snb_schema.specs.TableColumns.{id_column}
+use Rattle.snb_schema.specs.UpdateLines.{Clashes, IsOfTwo, field}
+use Rattle.snb_schema.specs.InsertLines.{insert_columns, kind_number, kind_of, line_columns, line_values, op_values, parent_comment, parent_post}
+use Rattle.snb_input_fields.specs.Reading.{optional_value}
+use Rattle.snb_input_fields.proofs.TypedRows.{TypedRow, row_of, row_values}
+use Rattle.snb_columns.proofs.Laws.{number_some}
+use Rattle.snb_streams.proofs.ClashFacts.{NoneOrBoth}
+use Rattle.snb_streams.proofs.PlaceFacts.{spells_at}
 
--- the values after the first three
-three_on : (vs : List Value) → drop 1 (drop 1 (drop 1 vs)) ≡ drop 3 vs
-three_on vs = simp drop-drop
+-- what two texts spell where one is an id and the other none
+abbrev OneParent : List ℕ → List ℕ → Parent → Type 0
+OneParent x y parent = Spells OptionalId x (parent_post parent) × Spells OptionalId y (parent_comment parent)
 
--- and eight later
-eight_on : (vs : List Value) → drop 1 (drop 1 (drop 1 (drop 1 (drop 1 (drop 1 (drop 1 (drop 1 (drop 3 vs)))))))) ≡ drop 11 vs
-eight_on vs = simp drop-drop
+-- these are not no ids, nor two
+one_parent : (x y : List ℕ) (parent : Parent) → OneParent x y parent → ¬ NoneOrBoth x y
+one_parent x y (parents.Post id) s (inl none) = number_some x id last_id s.0 none.0
+one_parent x y (parents.Post id) s (inr both) = number_some y both.1 last_id both.3 s.1
+one_parent x y (parents.Comment id) s (inl none) = number_some y id last_id s.1 none.1
+one_parent x y (parents.Comment id) s (inr both) = number_some x both.0 last_id both.2 s.0
 
--- an insert is of the kind that it is made for
-made_kind : (kind : InsertKind) (vs : List Value) → kind_of (op_by kind vs) ≡ kind
-made_kind kinds.AddPerson vs = refl
-made_kind kind vs = refl
+-- the fields of an insert don't clash, where a friendship is of two
+pub own_apart : (fs : List (List ℕ)) (t t_d : ℕ) (op : Op) → IsOfTwo op → SpellsAll (line_columns (kind_of op)) fs (line_values t t_d op) → (c : ℕ) → ¬ Clashes (kind_of op) fs c
+own_apart fs t t_d (AddFriend one other date) two s c h =
+    let a : SpellsId (field 3 fs) one = spells_at 3 id_column NoId (line_columns kinds.AddFriend) fs (line_values t t_d (AddFriend one other date)) s (omega arith) in
+    let b : SpellsId (field 4 fs) other = spells_at 4 id_column NoId (line_columns kinds.AddFriend) fs (line_values t t_d (AddFriend one other date)) s (omega arith) in
+    two (a.value ∙ sym h.1.1.value ∙ h.1.2.value ∙ sym b.value)
+own_apart fs t t_d (AddComment id date ip browser content size author country parent tags) two s c h =
+    let vs = line_values t t_d (AddComment id date ip browser content size author country parent tags) in
+    one_parent (field 11 fs) (field 12 fs) parent (spells_at 11 id_column NoId (line_columns kinds.AddComment) fs vs s (omega arith), spells_at 12 id_column NoId (line_columns kinds.AddComment) fs vs s (omega arith)) h.1
+own_apart fs t t_d (AddPerson id first last gender birthday created ip browser city languages emails tags study work) two s c h = h
+own_apart fs t t_d (LikePost person post date) two s c h = h
+own_apart fs t t_d (LikeComment person comment date) two s c h = h
+own_apart fs t t_d (AddForum id title date moderator tags) two s c h = h
+own_apart fs t t_d (AddMember person forum date) two s c h = h
+own_apart fs t t_d (AddPost id image date ip browser language content size author forum country tags) two s c h = h
 
--- and has the values that it is made of
-made_values : (kind : InsertKind) (fs : List (List ℕ)) (vs : List Value) → SpellsAll (line_columns kind) fs vs → clash_at kind vs ≡ None → op_values (op_by kind (drop 3 vs)) ≡ taken (insert_columns kind) (drop 3 vs)
-made_values kinds.AddPerson fs vs s e = refl
-made_values kinds.LikePost fs vs s e = refl
-made_values kinds.LikeComment fs vs s e = refl
-made_values kinds.AddForum fs vs s e = refl
-made_values kinds.AddMember fs vs s e = refl
-made_values kinds.AddPost fs vs s e = refl
-made_values kinds.AddComment fs vs s e =
-    let kept = rw (← eight_on vs) at (parents_kept (IdList ∷ []) (drop 11 fs) (drop 11 vs) (spelled_from 11 (line_columns kinds.AddComment) fs vs s) (untold (are_no_parent (drop 11 vs)) 13 e)) in
-    simp (kept.0, kept.1) refl
-made_values kinds.AddFriend fs vs s e = refl
+-- the parent that a post and a comment are, of which there is one
+abbrev parent_by : Option ℕ → Option ℕ → Parent
+parent_by (Some post) comment = parents.Post post
+parent_by None (Some comment) = parents.Comment comment
+parent_by None None = parents.Post 0
 
--- a friendship is of two
-made_two : (kind : InsertKind) (fs : List (List ℕ)) (vs : List Value) → SpellsAll (line_columns kind) fs vs → clash_at kind vs ≡ None → IsOfTwo (op_by kind (drop 3 vs))
-made_two kinds.AddPerson fs vs s e = tt
-made_two kinds.LikePost fs vs s e = tt
-made_two kinds.LikeComment fs vs s e = tt
-made_two kinds.AddForum fs vs s e = tt
-made_two kinds.AddMember fs vs s e = tt
-made_two kinds.AddPost fs vs s e = tt
-made_two kinds.AddComment fs vs s e = tt
-made_two kinds.AddFriend fs vs s e = twice_differ (Date ∷ []) (drop 3 fs) (drop 3 vs) (spelled_from 3 (line_columns kinds.AddFriend) fs vs s) (untold (starts_twice (drop 3 vs)) 5 e)
+parent_kept : (x y : List ℕ) (post comment : Option ℕ) → Spells OptionalId x (optional_value post) → Spells OptionalId y (optional_value comment) → ¬ NoneOrBoth x y
+    → (parent_post (parent_by post comment) ≡ optional_value post) × (parent_comment (parent_by post comment) ≡ optional_value comment)
+parent_kept x y (Some post) None s t one = (refl, refl)
+parent_kept x y None (Some comment) s t one = (refl, refl)
+parent_kept x y (Some post) (Some comment) s t one = absurd (one (inr (post, comment, s, t)))
+parent_kept x y None None s t one = absurd (one (inl (s, t)))
 
--- the values of a line are those of the insert that is made of them
-made_line : TakenAgain → (allowed : List InsertKind) (kind : InsertKind) (fs : List (List ℕ)) (vs : List Value) → NamesInsert allowed fs kind → SpellsAll (line_columns kind) fs vs → clash_at kind vs ≡ None
-    → line_values (first_number vs) (first_number (drop 1 vs)) (op_by kind (drop 3 vs)) ≡ vs
-made_line again allowed kind fs vs names s e =
-    let number : op_number (op_by kind (drop 3 vs)) ≡ first_number (drop 1 (drop 1 vs)) = ap kind_number (made_kind kind (drop 3 vs)) ∙ sym (third_number allowed kind fs vs names s) in
-    let values = made_values kind fs vs s e in
-    let later : taken (insert_columns kind) (drop 3 vs) ≡ taken (insert_columns kind) (drop 1 (drop 1 (drop 1 vs))) = ap (taken (insert_columns kind)) (sym (three_on vs)) in
-    (λ i. Digits (first_number vs) ∷ Digits (first_number (drop 1 vs)) ∷ Digits (number i) ∷ (values ∙ later) i) ∙ again (line_columns kind) fs vs s
+-- the insert of what the columns hold
+abbrev pub op_of : (kind : InsertKind) → TypedRow (insert_columns kind) → Op
+op_of kinds.AddPerson (id, first, last, gender, birthday, created, ip, browser, city, languages, emails, tags, study, work, none) =
+    AddPerson id first last gender birthday created ip browser city languages emails tags study work
+op_of kinds.LikePost (person, post, date, none) = LikePost person post date
+op_of kinds.LikeComment (person, comment, date, none) = LikeComment person comment date
+op_of kinds.AddForum (id, title, date, moderator, tags, none) = AddForum id title date moderator tags
+op_of kinds.AddMember (person, forum, date, none) = AddMember person forum date
+op_of kinds.AddPost (id, image, date, ip, browser, language, content, size, author, forum, country, tags, none) =
+    AddPost id image date ip browser language content size author forum country tags
+op_of kinds.AddComment (id, date, ip, browser, content, size, author, country, post, comment, tags, none) =
+    AddComment id date ip browser content size author country (parent_by post comment) tags
+op_of kinds.AddFriend (one, other, date, none) = AddFriend one other date
 
--- an insert of the fields that spell these values
-pub spells_insert : TakenAgain → (allowed : List InsertKind) (kind : InsertKind) (fs : List (List ℕ)) (vs : List Value) (t t_d : ℕ) (op : Op) → NamesInsert allowed fs kind → length fs ≡ length (line_columns kind)
-    → SpellsAll (line_columns kind) (take (length (line_columns kind)) fs) vs → clash_at kind vs ≡ None → t ≡ first_number vs → t_d ≡ first_number (drop 1 vs) → op ≡ op_by kind (drop 1 (drop 1 (drop 1 vs))) → SpellsInsert allowed fs t t_d op
-spells_insert again allowed kind fs vs t t_d op names long s e at at_d made =
-    let few : length fs ≤ length (line_columns kind) = omega (arith, long) in
-    let all : SpellsAll (line_columns kind) fs vs = subst (λ (xs : List (List ℕ)). SpellsAll (line_columns kind) xs vs) (take_all (length (line_columns kind)) fs few) s in
-    let is : op ≡ op_by kind (drop 3 vs) = made ∙ ap (op_by kind) (three_on vs) in
-    let own : kind ≡ kind_of op = sym (ap kind_of is ∙ made_kind kind (drop 3 vs)) in
-    let said : vs ≡ line_values t t_d op = sym ((λ i. line_values (at i) (at_d i) (is i)) ∙ made_line again allowed kind fs vs names all e) in (
-      subst (λ (k : InsertKind). Contains allowed k) own (third_names allowed fs kind names),
-      subst (λ (k : InsertKind). SpellsAll (line_columns k) fs (line_values t t_d op)) own (subst (SpellsAll (line_columns kind) fs) said all),
-      subst IsOfTwo (sym is) (made_two kind fs vs all e),
-    )
+-- it is of this kind
+op_kind : (kind : InsertKind) (row : TypedRow (insert_columns kind)) → kind_of (op_of kind row) ≡ kind
+op_kind kinds.AddPerson row = refl
+op_kind kinds.LikePost row = refl
+op_kind kinds.LikeComment row = refl
+op_kind kinds.AddForum row = refl
+op_kind kinds.AddMember row = refl
+op_kind kinds.AddPost row = refl
+op_kind kinds.AddComment row = refl
+op_kind kinds.AddFriend row = refl
 
--- an insert is what is made of its values
-pub made_again : (op : Op) → op_by (kind_of op) (op_values op) ≡ op
-made_again (AddPerson id first last gender birthday created ip browser city languages emails tags study work) = refl
-made_again (LikePost person post date) = refl
-made_again (LikeComment person comment date) = refl
-made_again (AddForum id title date moderator tags) = refl
-made_again (AddMember person forum date) = refl
-made_again (AddPost id image date ip browser language content size author forum country tags) = refl
-made_again (AddComment id date ip browser content size author country (parents.Post post) tags) = refl
-made_again (AddComment id date ip browser content size author country (parents.Comment comment) tags) = refl
-made_again (AddFriend one other date) = refl
+-- a line's times, its number and what the columns of its insert hold, which don't clash
+abbrev LineRow : InsertKind → Type 0
+LineRow kind = TypedRow (line_columns kind)
 
--- values of an insert don't clash, where a friendship is of two
-pub own_apart : (t t_d : ℕ) (op : Op) → IsOfTwo op → clash_at (kind_of op) (line_values t t_d op) ≡ None
-own_apart t t_d (AddPerson id first last gender birthday created ip browser city languages emails tags study work) two = refl
-own_apart t t_d (LikePost person post date) two = refl
-own_apart t t_d (LikeComment person comment date) two = refl
-own_apart t t_d (AddForum id title date moderator tags) two = refl
-own_apart t t_d (AddMember person forum date) two = refl
-own_apart t t_d (AddPost id image date ip browser language content size author forum country tags) two = refl
-own_apart t t_d (AddComment id date ip browser content size author country (parents.Post post) tags) two = refl
-own_apart t t_d (AddComment id date ip browser content size author country (parents.Comment comment) tags) two = refl
-own_apart t t_d (AddFriend one other date) two = ap (λ b. cond b (Some 5) None) (ne_eqb one other two)
+op_kept : (kind : InsertKind) (fs : List (List ℕ)) (row : LineRow kind) → SpellsAll (line_columns kind) fs (row_values (line_columns kind) row) → ((c : ℕ) → ¬ Clashes kind fs c)
+    → (op_values (op_of kind row.1.1.1) ≡ row_values (insert_columns kind) row.1.1.1) × IsOfTwo (op_of kind row.1.1.1)
+op_kept kinds.AddPerson fs row s never = (refl, tt)
+op_kept kinds.LikePost fs row s never = (refl, tt)
+op_kept kinds.LikeComment fs row s never = (refl, tt)
+op_kept kinds.AddForum fs row s never = (refl, tt)
+op_kept kinds.AddMember fs row s never = (refl, tt)
+op_kept kinds.AddPost fs row s never = (refl, tt)
+op_kept kinds.AddComment fs (t, t_d, n, id, date, ip, browser, content, size, author, country, post, comment, tags, none) s never =
+    let vs = row_values (line_columns kinds.AddComment) (t, t_d, n, id, date, ip, browser, content, size, author, country, post, comment, tags, none) in
+    let kept = parent_kept (field 11 fs) (field 12 fs) post comment (spells_at 11 id_column NoId (line_columns kinds.AddComment) fs vs s (omega arith)) (spells_at 12 id_column NoId (line_columns kinds.AddComment) fs vs s (omega arith)) (λ two. never 13 (refl, two)) in
+    (simp (kept.0, kept.1) refl, tt)
+op_kept kinds.AddFriend fs (t, t_d, n, one, other, date, none) s never =
+    let vs = row_values (line_columns kinds.AddFriend) (t, t_d, n, one, other, date, none) in
+    let a : SpellsId (field 3 fs) one = spells_at 3 id_column NoId (line_columns kinds.AddFriend) fs vs s (omega arith) in
+    let b : SpellsId (field 4 fs) other = spells_at 4 id_column NoId (line_columns kinds.AddFriend) fs vs s (omega arith) in
+    (refl, λ same. never 5 (refl, (one, a, subst (SpellsId (field 4 fs)) (sym same) b)))
 
--- as the reading of the values tells it
-pub told_insert : TakenAgain → (allowed : List InsertKind) (kind : InsertKind) (cs : List Column) (fs : List (List ℕ)) (vs : List Value) (t t_d : ℕ) (op : Op) → cs ≡ line_columns kind → NamesInsert allowed fs kind → length fs ≡ length cs
-    → SpellsAll cs (take (length cs) fs) vs → clash_at kind vs ≡ None → t ≡ first_number vs → t_d ≡ first_number (drop 1 vs) → op ≡ op_by kind (drop 1 (drop 1 (drop 1 vs))) → SpellsInsert allowed fs t t_d op
-told_insert again allowed kind cs fs vs t t_d op e names long s apart at at_d made =
-    subst (λ (ds : List Column). length fs ≡ length ds → SpellsAll ds (take (length ds) fs) vs → SpellsInsert allowed fs t t_d op) (sym e) (λ l u. spells_insert again allowed kind fs vs t t_d op names l u apart at at_d made) long s
+-- fields that spell values of all columns and don't clash spell an insert
+pub op_spelled : (kind : InsertKind) (fs : List (List ℕ)) (vs : List Value) → Num (get_or fs 2 []) (kind_number kind) (kind_number kind) → SpellsAll (line_columns kind) fs vs → ((c : ℕ) → ¬ Clashes kind fs c)
+    → (t : ℕ) × (t_d : ℕ) × (op : Op) × (kind_of op ≡ kind) × (vs ≡ line_values t t_d op) × IsOfTwo op
+op_spelled kind fs vs third s never =
+    let (row, is) = row_of (line_columns kind) fs vs s in
+    let own : SpellsAll (line_columns kind) fs (row_values (line_columns kind) row) = subst (SpellsAll (line_columns kind) fs) is s in
+    let kept = op_kept kind fs row own never in
+    let of = op_kind kind row.1.1.1 in
+    let number : Num (get_or fs 2 []) row.1.1.0 (kind_number kind) = spells_at 2 id_column NoId (line_columns kind) fs (row_values (line_columns kind) row) own (omega arith) in
+    let same : row.1.1.0 ≡ kind_number (kind_of (op_of kind row.1.1.1)) = number.value ∙ sym third.value ∙ ap kind_number (sym of) in
+    (row.0, row.1.0, op_of kind row.1.1.1, of, is ∙ (λ i. Digits row.0 ∷ Digits row.1.0 ∷ Digits (same i) ∷ sym kept.0 i), kept.1)
+
+-- an insert is that of its values
+pub one_op : (op oq : Op) → kind_of op ≡ kind_of oq → op_values op ≡ op_values oq → op ≡ oq
+one_op op oq kind e = ?one

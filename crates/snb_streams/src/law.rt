@@ -3,7 +3,7 @@
 ghost use Rattle.snb_streams.specs.Laws.{InsertOrColumn, InsertsAreRight, LineOrColumn, LinesAreRight, NoBadQuery, OneBadLine, OneBadQuery, OneFault, OneInsert, OneInsertOfFields, OneQuery, OwnInsertLine, QueryOrColumn};
 
 use snb_columns::law::{own_line as own_fields, plain_fields};
-use snb_input_fields::law::{one_value, spelled_or_not, taken_again};
+use snb_input_fields::law::{one_value, spelled_or_not};
 
 /// A text is the line of one insert at most, at one pair of times.
 pub fn one_insert()
@@ -34,7 +34,6 @@ pub fn one_fault()
     ensures one { OneFault }
     ensures none { InsertsAreRight }
 {
-    taken_again();
     spelled_or_not();
 }
 
@@ -56,7 +55,6 @@ pub fn one_query()
     ensures none { NoBadQuery }
     ensures bad { OneBadQuery }
 {
-    taken_again();
     spelled_or_not();
     one_value();
 }

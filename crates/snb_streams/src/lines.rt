@@ -66,14 +66,6 @@ impl Grammar for StreamLines {
         _line: &[u8],
         fields: &Record,
     ) -> Result<Line, LineFault> {
-        match read_insert(self.alloc, inserts_of(self.kind), fields) {
-            Ok(insert) => Ok(Line {
-                t: insert.t,
-                t_d: insert.t_d,
-                op: insert.op,
-                number,
-            }),
-            Err(fault) => Err(fault),
-        }
+        read_insert(self.alloc, inserts_of(self.kind), number, fields)
     }
 }

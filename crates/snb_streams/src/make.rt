@@ -1,162 +1,258 @@
-//! Inserts out of the values of their columns.
+//! Inserts out of the fields of a line.
 
-ghost use Rattle.std.specs.Prelude.{◌≡◌, drop};
-ghost use Rattle.snb_streams.specs.Make.{are_no_parent, clash_at, op_by, parent_by};
-ghost use Rattle.snb_input_fields.specs.Values.{first_optional};
+ghost use Rattle.std.specs.Prelude.{◌≡◌, ℕ, IfOk, OnOk, length, take};
+ghost use Rattle.snb_schema.specs.declared.op.InsertKind.TheVariants as kinds;
+ghost use Rattle.snb_schema.specs.Faults.{OnBadColumn};
+ghost use Rattle.snb_schema.specs.InsertLines.{insert_columns, line_columns};
+ghost use Rattle.snb_schema.specs.UpdateLines.{Clashes, IsFirstBad};
+ghost use Rattle.snb_input_fields.specs.Reading.{IsBadIn, SpellsFrom, at_first, past};
+ghost use Rattle.snb_streams.specs.Make.{IsMade, IsMadeLine, IsParent, IsThird, at_insert, at_parents, head_values};
 
-use snb_input_fields::Values;
-use snb_input_fields::values::starts_twice;
-use snb_schema::{InsertKind, Op, Parent, Value};
+use snb_base::Text;
+use snb_input_fields::FieldReader;
+use snb_schema::limits::{MAX_ID, MAX_LENGTH, MAX_TIME};
+use snb_schema::{InsertKind, Line, LineFault, Op, Parent};
 
-// How many values stand before the two parents of a comment.
-const BEFORE_PARENTS: usize = 11;
-
-// The column of the second of them, counted from 1.
-const SECOND_PARENT: u32 = 13;
-
-// How many values stand before the two persons of a friendship.
-const BEFORE_FRIENDS: usize = 3;
-
-// The column of the second of them, counted from 1.
-const SECOND_FRIEND: u32 = 5;
-
-fn parent(values: &mut Values) -> Parent
-    ensures value { result ≡ parent_by (first_optional values.old) (first_optional (drop 1 values.old)) }
-    ensures left { values.new ≡ drop 1 (drop 1 values.old) }
+fn person(fields: &mut FieldReader<'_>) -> Result<Op, LineFault>
+    requires { fields.old ≡ at_insert kinds.AddPerson fields.old.fields }
+    ensures ok { IfOk result (IsMade kinds.AddPerson fields.old.fields) }
+    ensures bad { OnBadColumn result (IsBadIn (line_columns kinds.AddPerson) fields.old.fields) }
 {
-    let post = values.optional_id();
-    let comment = values.optional_id();
+    Ok(Op::AddPerson {
+        person_id: fields.number(MAX_ID)?,
+        first_name: fields.text()?,
+        last_name: fields.text()?,
+        gender: fields.text()?,
+        birthday: fields.day()?,
+        creation_date: fields.date()?,
+        location_ip: fields.text()?,
+        browser_used: fields.text()?,
+        city_id: fields.number(MAX_ID)?,
+        languages: fields.texts()?,
+        emails: fields.texts()?,
+        tag_ids: fields.ids()?,
+        study_at: fields.pairs()?,
+        work_at: fields.pairs()?,
+    })
+}
+
+fn post_like(fields: &mut FieldReader<'_>) -> Result<Op, LineFault>
+    requires { fields.old ≡ at_insert kinds.LikePost fields.old.fields }
+    ensures ok { IfOk result (IsMade kinds.LikePost fields.old.fields) }
+    ensures bad { OnBadColumn result (IsBadIn (line_columns kinds.LikePost) fields.old.fields) }
+{
+    Ok(Op::LikePost {
+        person_id: fields.number(MAX_ID)?,
+        post_id: fields.number(MAX_ID)?,
+        date: fields.date()?,
+    })
+}
+
+fn comment_like(fields: &mut FieldReader<'_>) -> Result<Op, LineFault>
+    requires { fields.old ≡ at_insert kinds.LikeComment fields.old.fields }
+    ensures ok { IfOk result (IsMade kinds.LikeComment fields.old.fields) }
+    ensures bad { OnBadColumn result (IsBadIn (line_columns kinds.LikeComment) fields.old.fields) }
+{
+    Ok(Op::LikeComment {
+        person_id: fields.number(MAX_ID)?,
+        comment_id: fields.number(MAX_ID)?,
+        date: fields.date()?,
+    })
+}
+
+fn forum(fields: &mut FieldReader<'_>) -> Result<Op, LineFault>
+    requires { fields.old ≡ at_insert kinds.AddForum fields.old.fields }
+    ensures ok { IfOk result (IsMade kinds.AddForum fields.old.fields) }
+    ensures bad { OnBadColumn result (IsBadIn (line_columns kinds.AddForum) fields.old.fields) }
+{
+    Ok(Op::AddForum {
+        forum_id: fields.number(MAX_ID)?,
+        title: fields.text()?,
+        date: fields.date()?,
+        moderator_id: fields.number(MAX_ID)?,
+        tag_ids: fields.ids()?,
+    })
+}
+
+fn member(fields: &mut FieldReader<'_>) -> Result<Op, LineFault>
+    requires { fields.old ≡ at_insert kinds.AddMember fields.old.fields }
+    ensures ok { IfOk result (IsMade kinds.AddMember fields.old.fields) }
+    ensures bad { OnBadColumn result (IsBadIn (line_columns kinds.AddMember) fields.old.fields) }
+{
+    Ok(Op::AddMember {
+        person_id: fields.number(MAX_ID)?,
+        forum_id: fields.number(MAX_ID)?,
+        join_date: fields.date()?,
+    })
+}
+
+fn post(fields: &mut FieldReader<'_>) -> Result<Op, LineFault>
+    requires { fields.old ≡ at_insert kinds.AddPost fields.old.fields }
+    ensures ok { IfOk result (IsMade kinds.AddPost fields.old.fields) }
+    ensures bad { OnBadColumn result (IsBadIn (line_columns kinds.AddPost) fields.old.fields) }
+{
+    Ok(Op::AddPost {
+        post_id: fields.number(MAX_ID)?,
+        image_file: fields.text()?,
+        date: fields.date()?,
+        location_ip: fields.text()?,
+        browser_used: fields.text()?,
+        language: fields.text()?,
+        content: fields.text()?,
+        length: fields.small(MAX_LENGTH)?,
+        author_id: fields.number(MAX_ID)?,
+        forum_id: fields.number(MAX_ID)?,
+        country_id: fields.number(MAX_ID)?,
+        tag_ids: fields.ids()?,
+    })
+}
+
+// The parent of a comment: a post or a comment, and not both.
+fn parent(fields: &mut FieldReader<'_>) -> Result<Parent, LineFault>
+    requires { fields.old ≡ at_parents fields.old.fields }
+    ensures ok { IfOk result (IsParent fields.old.fields) }
+    ensures past { OnOk result (fields.new ≡ past (past fields.old)) }
+    ensures one { OnOk result ((column : ℕ) → ¬ Clashes kinds.AddComment fields.old.fields column) }
+    ensures bad { OnBadColumn result (IsFirstBad kinds.AddComment fields.old.fields) }
+{
+    let post = match fields.optional_id() {
+        Ok(post) => post,
+        Err(why) => return Err(why),
+    };
+    let comment = match fields.optional_id() {
+        Ok(comment) => comment,
+        Err(why) => return Err(why),
+    };
     match (post, comment) {
-        (Some(id), _) => Parent::Post { id },
-        (None, Some(id)) => Parent::Comment { id },
-        (None, None) => Parent::Post { id: 0 },
+        (Some(id), None) => Ok(Parent::Post { id }),
+        (None, Some(id)) => Ok(Parent::Comment { id }),
+        _ => Err(fields.clash()),
     }
 }
 
-/// The insert of this kind that has these values.
-pub fn make_op(kind: InsertKind, values: &mut Values) -> Op
-    ensures { result ≡ op_by kind values.old }
+// What a line with a comment has before the two parents.
+#[derive(Drop)]
+struct CommentHead {
+    comment_id: u64,
+    date: u64,
+    location_ip: Text,
+    browser_used: Text,
+    content: Text,
+    length: u32,
+    author_id: u64,
+    country_id: u64,
+}
+
+fn comment_head(fields: &mut FieldReader<'_>) -> Result<CommentHead, LineFault>
+    requires { fields.old ≡ at_insert kinds.AddComment fields.old.fields }
+    ensures ok { IfOk result (λ head. SpellsFrom 3 (take 8 (insert_columns kinds.AddComment)) fields.old.fields
+        (head_values head)) }
+    ensures past { OnOk result (fields.new ≡ at_parents fields.old.fields) }
+    ensures bad { OnBadColumn result (IsFirstBad kinds.AddComment fields.old.fields) }
+{
+    Ok(CommentHead {
+        comment_id: fields.number(MAX_ID)?,
+        date: fields.date()?,
+        location_ip: fields.text()?,
+        browser_used: fields.text()?,
+        content: fields.text()?,
+        length: fields.small(MAX_LENGTH)?,
+        author_id: fields.number(MAX_ID)?,
+        country_id: fields.number(MAX_ID)?,
+    })
+}
+
+fn comment(fields: &mut FieldReader<'_>) -> Result<Op, LineFault>
+    requires { fields.old ≡ at_insert kinds.AddComment fields.old.fields }
+    ensures ok { IfOk result (IsMade kinds.AddComment fields.old.fields) }
+    ensures bad { OnBadColumn result (IsFirstBad kinds.AddComment fields.old.fields) }
+{
+    let head = comment_head(fields)?;
+    let parent = parent(fields)?;
+    let tag_ids = match fields.ids() {
+        Ok(tag_ids) => tag_ids,
+        Err(why) => return Err(why),
+    };
+    Ok(Op::AddComment {
+        comment_id: head.comment_id,
+        date: head.date,
+        location_ip: head.location_ip,
+        browser_used: head.browser_used,
+        content: head.content,
+        length: head.length,
+        author_id: head.author_id,
+        country_id: head.country_id,
+        parent,
+        tag_ids,
+    })
+}
+
+fn friend(fields: &mut FieldReader<'_>) -> Result<Op, LineFault>
+    requires { fields.old ≡ at_insert kinds.AddFriend fields.old.fields }
+    ensures ok { IfOk result (IsMade kinds.AddFriend fields.old.fields) }
+    ensures bad { OnBadColumn result (IsFirstBad kinds.AddFriend fields.old.fields) }
+{
+    let one = match fields.number(MAX_ID) {
+        Ok(one) => one,
+        Err(why) => return Err(why),
+    };
+    let other = match fields.number(MAX_ID) {
+        Ok(other) => other,
+        Err(why) => return Err(why),
+    };
+    if one == other {
+        return Err(fields.clash());
+    }
+    match fields.date() {
+        Ok(date) => Ok(Op::AddFriend {
+            person1_id: one,
+            person2_id: other,
+            date,
+        }),
+        Err(why) => Err(why),
+    }
+}
+
+// The insert of this kind that the fields spell, whose times and number are read.
+fn make_op(kind: InsertKind, fields: &mut FieldReader<'_>) -> Result<Op, LineFault>
+    requires { fields.old ≡ at_insert kind fields.old.fields }
+    ensures ok { IfOk result (IsMade kind fields.old.fields) }
+    ensures bad { OnBadColumn result (IsFirstBad kind fields.old.fields) }
 {
     match kind {
-        InsertKind::AddPerson => Op::AddPerson {
-            person_id: values.number(),
-            first_name: values.text(),
-            last_name: values.text(),
-            gender: values.text(),
-            birthday: values.number(),
-            creation_date: values.number(),
-            location_ip: values.text(),
-            browser_used: values.text(),
-            city_id: values.number(),
-            languages: values.texts(),
-            emails: values.texts(),
-            tag_ids: values.ids(),
-            study_at: values.pairs(),
-            work_at: values.pairs(),
-        },
-        InsertKind::LikePost => Op::LikePost {
-            person_id: values.number(),
-            post_id: values.number(),
-            date: values.number(),
-        },
-        InsertKind::LikeComment => Op::LikeComment {
-            person_id: values.number(),
-            comment_id: values.number(),
-            date: values.number(),
-        },
-        InsertKind::AddForum => Op::AddForum {
-            forum_id: values.number(),
-            title: values.text(),
-            date: values.number(),
-            moderator_id: values.number(),
-            tag_ids: values.ids(),
-        },
-        InsertKind::AddMember => Op::AddMember {
-            person_id: values.number(),
-            forum_id: values.number(),
-            join_date: values.number(),
-        },
-        InsertKind::AddPost => Op::AddPost {
-            post_id: values.number(),
-            image_file: values.text(),
-            date: values.number(),
-            location_ip: values.text(),
-            browser_used: values.text(),
-            language: values.text(),
-            content: values.text(),
-            length: values.small(),
-            author_id: values.number(),
-            forum_id: values.number(),
-            country_id: values.number(),
-            tag_ids: values.ids(),
-        },
-        InsertKind::AddComment => Op::AddComment {
-            comment_id: values.number(),
-            date: values.number(),
-            location_ip: values.text(),
-            browser_used: values.text(),
-            content: values.text(),
-            length: values.small(),
-            author_id: values.number(),
-            country_id: values.number(),
-            parent: parent(values),
-            tag_ids: values.ids(),
-        },
-        InsertKind::AddFriend => Op::AddFriend {
-            person1_id: values.number(),
-            person2_id: values.number(),
-            date: values.number(),
-        },
+        InsertKind::AddPerson => person(fields),
+        InsertKind::LikePost => post_like(fields),
+        InsertKind::LikeComment => comment_like(fields),
+        InsertKind::AddForum => forum(fields),
+        InsertKind::AddMember => member(fields),
+        InsertKind::AddPost => post(fields),
+        InsertKind::AddComment => comment(fields),
+        InsertKind::AddFriend => friend(fields),
     }
 }
 
-// The values after so many.
-fn after(values: &[Value], count: usize) -> &[Value]
-    ensures { result.now ≡ drop count values.now }
+/// The line of this number with an insert of this kind, as its fields spell it. The error is the first
+/// that isn't in its grammar, or doesn't go with one before it. The third field is the kind's number.
+pub fn make_line(
+    kind: InsertKind,
+    number: u32,
+    fields: &mut FieldReader<'_>,
+) -> Result<Line, LineFault>
+    requires begins { fields.old ≡ at_first (line_columns kind) fields.old.fields }
+    requires long { length fields.old.fields ≡ length (line_columns kind) }
+    requires third { IsThird kind fields.old.fields }
+    ensures ok { IfOk result (λ line. IsMadeLine kind fields.old.fields line × (line.number ≡ number)) }
+    ensures bad { OnBadColumn result (IsFirstBad kind fields.old.fields) }
 {
-    if count < values.len() {
-        &values[count..]
-    } else {
-        &[]
-    }
-}
-
-// Whether the first two values are two ids or none.
-fn are_no_parent(values: &[Value]) -> bool
-    ensures { result ≡ are_no_parent values.now }
-{
-    match values {
-        [Value::Digits { .. }, Value::Digits { .. }, ..] => true,
-        [Value::NoId, Value::NoId, ..] => true,
-        _ => false,
-    }
-}
-
-/// The column, counted from 1, of the second of two values that don't go together in a line with an
-/// insert of this kind, where these are its first values.
-pub fn clash_at(kind: InsertKind, values: &[Value]) -> Option<u32>
-    ensures { result ≡ clash_at kind values.now }
-{
-    match kind {
-        InsertKind::AddPerson => None,
-        InsertKind::LikePost => None,
-        InsertKind::LikeComment => None,
-        InsertKind::AddForum => None,
-        InsertKind::AddMember => None,
-        InsertKind::AddPost => None,
-        InsertKind::AddComment => {
-            if are_no_parent(after(values, BEFORE_PARENTS)) {
-                Some(SECOND_PARENT)
-            } else {
-                None
-            }
-        }
-        InsertKind::AddFriend => {
-            if starts_twice(after(values, BEFORE_FRIENDS)) {
-                Some(SECOND_FRIEND)
-            } else {
-                None
-            }
-        }
-    }
+    let t = match fields.number(MAX_TIME) {
+        Ok(t) => t,
+        Err(why) => return Err(why),
+    };
+    let t_d = match fields.number(MAX_TIME) {
+        Ok(t_d) => t_d,
+        Err(why) => return Err(why),
+    };
+    fields.pass();
+    let op = make_op(kind, fields)?;
+    Ok(Line { t, t_d, op, number })
 }

@@ -6,8 +6,7 @@ ghost use Rattle.snb_schema.specs.ParameterLines.{IsBadQuery, SpellsQuery, query
 ghost use Rattle.snb_schema.specs.Queries.{IsComplex};
 ghost use Rattle.snb_streams.specs.Parameters.{complex_kind};
 
-use snb_input_fields::law::taken_again;
-use snb_input_fields::{Values, query_of, read_values};
+use snb_input_fields::{FieldReader, read_query};
 use snb_input_lines::{Grammar, LineReader, Open, Record};
 use snb_schema::query::is_complex;
 use snb_schema::{Column, FileId, FileKind, LineFault, Query, ReadKind};
@@ -45,13 +44,12 @@ pub fn columns_of(query: u32) -> &'static [Column]
 ///
 /// Where they spell none, the error is their bad column: 0 where they aren't one for each parameter,
 /// else the first that spells no value of its column, counted from 1. The other error is want of memory.
-pub fn read_query(alloc: Global, query: u32, fields: &Record) -> Result<Query, LineFault>
+pub fn read_parameters(alloc: Global, query: u32, fields: &Record) -> Result<Query, LineFault>
     requires texts { All IsUtf8 fields.now }
     requires complex { IsComplex query }
     ensures ok { IfOk result (SpellsQuery query fields.now) }
     ensures bad { OnBadColumn result (IsBadQuery query fields.now) }
 {
-    taken_again();
     let Some(kind) = complex_kind(query) else {
         unreachable!()
     };
@@ -59,11 +57,7 @@ pub fn read_query(alloc: Global, query: u32, fields: &Record) -> Result<Query, L
     if fields.len() != columns.len() {
         return Err(LineFault::Bad { column: 0 });
     }
-    let mut values = Vec::new(alloc);
-    match read_values(alloc, columns, fields, &mut values) {
-        Ok(()) => Ok(query_of(kind, &mut Values::new(alloc, values))),
-        Err(fault) => Err(fault),
-    }
+    read_query(kind, &mut FieldReader::new(alloc, columns, fields))
 }
 
 /// What the lines of a parameter file say: of the header only the number of fields counts, and each
@@ -156,7 +150,7 @@ impl Grammar for QueryLines {
         if !is_complex(self.query) {
             return Err(LineFault::Bad { column: 0 });
         }
-        read_query(self.alloc, self.query, fields)
+        read_parameters(self.alloc, self.query, fields)
     }
 }
 

@@ -1,7 +1,7 @@
 use Rattle.std.proofs.Common.{◌+◌}
 use Rattle.std.proofs.lemmas.Bool.Decides.{Decides-eqb}
 use Rattle.snb_input_fields.proofs.WideFacts.{tests_empty, tests_longer, tests_none}
-use Rattle.snb_input_fields.proofs.read.is_wide.Goals as goal
+use Rattle.snb_input_fields.proofs.wide.is_wide.Goals as goal
 use Rattle.snb_input_lines.proofs.Laws.{found_there, none_there}
 
 pub returns-in-None : goal.returns-in-None
