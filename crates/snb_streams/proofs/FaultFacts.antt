@@ -13,7 +13,6 @@ use Rattle.snb_schema.specs.Columns.{SpellsAll, StopsAfter}
 use Rattle.snb_schema.specs.declared.fault.LineFault.{LineFault}
 use Rattle.snb_schema.specs.declared.fault.LineFault.TheVariants as line_fault
 use Rattle.snb_schema.specs.Faults.{OnBadColumn}
-use Rattle.snb_schema.specs.Lines.{fields}
 use Rattle.snb_schema.specs.UpdateLines.{Clashes, IsBadInsert, IsFirstBad, NamesInsert}
 use Rattle.snb_schema.specs.InsertLines.{kind_of, line_columns, line_values}
 use Rattle.snb_streams.specs.Spelled.{SpellsInsert}
@@ -125,10 +124,3 @@ no_fault allowed fs t t_d op column s bad = elim (insert_to_case allowed fs colu
 pub bad_weaker : (A B : Type 0) (fault : LineFault) (P Q : ℕ → Type 0) → ((column : ℕ) → P column → Q column) → OnBadColumn {A = A} (Err fault) P → OnBadColumn {A = B} (Err fault) Q
 bad_weaker A B (line_fault.Bad column) P Q f p = f column p
 bad_weaker A B line_fault.Memory P Q f p = tt
-
--- a bad column of the fields of a line
-pub bad_fields : (A B : Type 0) (fault : LineFault) (kinds allowed : List InsertKind) (line : List ℕ) (fs : List (List ℕ)) → kinds ≡ allowed → fs ≡ fields line
-    → OnBadColumn {A = A} (Err fault) (IsBadInsert kinds fs) → OnBadColumn {A = B} (Err fault) (IsBadInsert allowed (fields line))
-bad_fields A B fault kinds allowed line fs of same bad =
-    bad_weaker A B fault (IsBadInsert kinds fs) (IsBadInsert allowed (fields line))
-    (λ column h. subst (λ (ks : List InsertKind). IsBadInsert ks (fields line) column) of (subst (λ (xs : List (List ℕ)). IsBadInsert kinds xs column) same h)) bad

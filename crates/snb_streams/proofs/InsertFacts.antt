@@ -1,7 +1,6 @@
 -- The insert that the fields of a line spell.
-use Rattle.std.proofs.Common.{◌≡◌, ◌≢◌, ◌⊎◌, ◌∙◌, ℕ, Option, Some, None, List, [], ◌∷◌, get_or, drop, refl, sym, ap, subst, inl, inr, arith}
+use Rattle.std.proofs.Common.{◌≡◌, ◌∙◌, ℕ, Option, Some, None, List, [], ◌∷◌, get_or, refl, sym, ap, subst, inl, inr, arith}
 use Rattle.snb_base.specs.Spellings.{Num, SpellsId, last_id}
-use Rattle.snb_schema.specs.declared.column.Column.{Column}
 use Rattle.snb_schema.specs.declared.column.Column.TheVariants.{OptionalId}
 use Rattle.snb_schema.specs.declared.column.Value.{Value}
 use Rattle.snb_schema.specs.declared.column.Value.TheVariants.{Digits, NoId}
@@ -11,9 +10,12 @@ use Rattle.snb_schema.specs.declared.op.InsertKind.{InsertKind}
 use Rattle.snb_schema.specs.declared.op.InsertKind.TheVariants as kinds
 use Rattle.snb_schema.specs.declared.op.Parent.{Parent}
 use Rattle.snb_schema.specs.declared.op.Parent.TheVariants as parents
-use Rattle.snb_schema.specs.Columns.{Spells, SpellsAll, no_id}
+use Rattle.snb_schema.specs.Columns.{Spells, SpellsAll}
 use Rattle.snb_schema.specs.TableColumns.{id_column}
-use Rattle.snb_schema.specs.UpdateLines.{Clashes, IsOfTwo, field}
+use Rattle.std.specs.List.{Contains}
+use Rattle.snb_schema.specs.UpdateLines.{Clashes, IsOfTwo, NamesInsert, field}
+use Rattle.snb_streams.specs.Spelled.{SpellsInsert}
+use Rattle.snb_streams.proofs.KindFacts.{third_names}
 use Rattle.snb_schema.specs.InsertLines.{insert_columns, kind_number, kind_of, line_columns, line_values, op_values, parent_comment, parent_post}
 use Rattle.snb_input_fields.specs.Reading.{optional_value}
 use Rattle.snb_input_fields.proofs.TypedRows.{TypedRow, row_of, row_values}
@@ -63,17 +65,17 @@ parent_kept x y None None s t one = absurd (one (inl (s, t)))
 
 -- the insert of what the columns hold
 abbrev pub op_of : (kind : InsertKind) → TypedRow (insert_columns kind) → Op
-op_of kinds.AddPerson (id, first, last, gender, birthday, created, ip, browser, city, languages, emails, tags, study, work, none) =
+op_of kinds.AddPerson (id, (first, (last, (gender, (birthday, (created, (ip, (browser, (city, (languages, (emails, (tags, (study, (work, none)))))))))))))) =
     AddPerson id first last gender birthday created ip browser city languages emails tags study work
-op_of kinds.LikePost (person, post, date, none) = LikePost person post date
-op_of kinds.LikeComment (person, comment, date, none) = LikeComment person comment date
-op_of kinds.AddForum (id, title, date, moderator, tags, none) = AddForum id title date moderator tags
-op_of kinds.AddMember (person, forum, date, none) = AddMember person forum date
-op_of kinds.AddPost (id, image, date, ip, browser, language, content, size, author, forum, country, tags, none) =
+op_of kinds.LikePost (person, (post, (date, none))) = LikePost person post date
+op_of kinds.LikeComment (person, (comment, (date, none))) = LikeComment person comment date
+op_of kinds.AddForum (id, (title, (date, (moderator, (tags, none))))) = AddForum id title date moderator tags
+op_of kinds.AddMember (person, (forum, (date, none))) = AddMember person forum date
+op_of kinds.AddPost (id, (image, (date, (ip, (browser, (language, (content, (size, (author, (forum, (country, (tags, none)))))))))))) =
     AddPost id image date ip browser language content size author forum country tags
-op_of kinds.AddComment (id, date, ip, browser, content, size, author, country, post, comment, tags, none) =
+op_of kinds.AddComment (id, (date, (ip, (browser, (content, (size, (author, (country, (post, (comment, (tags, none))))))))))) =
     AddComment id date ip browser content size author country (parent_by post comment) tags
-op_of kinds.AddFriend (one, other, date, none) = AddFriend one other date
+op_of kinds.AddFriend (one, (other, (date, none))) = AddFriend one other date
 
 -- it is of this kind
 op_kind : (kind : InsertKind) (row : TypedRow (insert_columns kind)) → kind_of (op_of kind row) ≡ kind
@@ -98,12 +100,12 @@ op_kept kinds.LikeComment fs row s never = (refl, tt)
 op_kept kinds.AddForum fs row s never = (refl, tt)
 op_kept kinds.AddMember fs row s never = (refl, tt)
 op_kept kinds.AddPost fs row s never = (refl, tt)
-op_kept kinds.AddComment fs (t, t_d, n, id, date, ip, browser, content, size, author, country, post, comment, tags, none) s never =
-    let vs = row_values (line_columns kinds.AddComment) (t, t_d, n, id, date, ip, browser, content, size, author, country, post, comment, tags, none) in
+op_kept kinds.AddComment fs (t, (t_d, (n, (id, (date, (ip, (browser, (content, (size, (author, (country, (post, (comment, (tags, none)))))))))))))) s never =
+    let vs = row_values (line_columns kinds.AddComment) (t, (t_d, (n, (id, (date, (ip, (browser, (content, (size, (author, (country, (post, (comment, (tags, none)))))))))))))) in
     let kept = parent_kept (field 11 fs) (field 12 fs) post comment (spells_at 11 id_column NoId (line_columns kinds.AddComment) fs vs s (omega arith)) (spells_at 12 id_column NoId (line_columns kinds.AddComment) fs vs s (omega arith)) (λ two. never 13 (refl, two)) in
     (simp (kept.0, kept.1) refl, tt)
-op_kept kinds.AddFriend fs (t, t_d, n, one, other, date, none) s never =
-    let vs = row_values (line_columns kinds.AddFriend) (t, t_d, n, one, other, date, none) in
+op_kept kinds.AddFriend fs (t, (t_d, (n, (one, (other, (date, none)))))) s never =
+    let vs = row_values (line_columns kinds.AddFriend) (t, (t_d, (n, (one, (other, (date, none)))))) in
     let a : SpellsId (field 3 fs) one = spells_at 3 id_column NoId (line_columns kinds.AddFriend) fs vs s (omega arith) in
     let b : SpellsId (field 4 fs) other = spells_at 4 id_column NoId (line_columns kinds.AddFriend) fs vs s (omega arith) in
     (refl, λ same. never 5 (refl, (one, a, subst (SpellsId (field 4 fs)) (sym same) b)))
@@ -120,6 +122,33 @@ op_spelled kind fs vs third s never =
     let same : row.1.1.0 ≡ kind_number (kind_of (op_of kind row.1.1.1)) = number.value ∙ sym third.value ∙ ap kind_number (sym of) in
     (row.0, row.1.0, op_of kind row.1.1.1, of, is ∙ (λ i. Digits row.0 ∷ Digits row.1.0 ∷ Digits (same i) ∷ sym kept.0 i), kept.1)
 
--- an insert is that of its values
-pub one_op : (op oq : Op) → kind_of op ≡ kind_of oq → op_values op ≡ op_values oq → op ≡ oq
-one_op op oq kind e = ?one
+-- a parent is told by its two values
+one_parent_of : (a b : Parent) → parent_post a ≡ parent_post b → parent_comment a ≡ parent_comment b → a ≡ b
+one_parent_of (parents.Post n) (parents.Post m) post comment = cc
+one_parent_of (parents.Comment n) (parents.Comment m) post comment = cc
+one_parent_of (parents.Post n) (parents.Comment m) post comment = absurd cc
+one_parent_of (parents.Comment n) (parents.Post m) post comment = absurd cc
+
+-- two inserts of one kind and with the same values are one
+pub one_op : (a b : Op) → kind_of a ≡ kind_of b → op_values a ≡ op_values b → a ≡ b
+one_op (AddPerson a₁ a₂ a₃ a₄ a₅ a₆ a₇ a₈ a₉ a₁₀ a₁₁ a₁₂ a₁₃ a₁₄) (AddPerson b₁ b₂ b₃ b₄ b₅ b₆ b₇ b₈ b₉ b₁₀ b₁₁ b₁₂ b₁₃ b₁₄) kind e = cc
+one_op (LikePost a₁ a₂ a₃) (LikePost b₁ b₂ b₃) kind e = cc
+one_op (LikeComment a₁ a₂ a₃) (LikeComment b₁ b₂ b₃) kind e = cc
+one_op (AddForum a₁ a₂ a₃ a₄ a₅) (AddForum b₁ b₂ b₃ b₄ b₅) kind e = cc
+one_op (AddMember a₁ a₂ a₃) (AddMember b₁ b₂ b₃) kind e = cc
+one_op (AddPost a₁ a₂ a₃ a₄ a₅ a₆ a₇ a₈ a₉ a₁₀ a₁₁ a₁₂) (AddPost b₁ b₂ b₃ b₄ b₅ b₆ b₇ b₈ b₉ b₁₀ b₁₁ b₁₂) kind e = cc
+one_op (AddComment a₁ a₂ a₃ a₄ a₅ a₆ a₇ a₈ p a₉) (AddComment b₁ b₂ b₃ b₄ b₅ b₆ b₇ b₈ q b₉) kind e =
+    let post : parent_post p ≡ parent_post q = cc in
+    let comment : parent_comment p ≡ parent_comment q = cc in
+    let parent = one_parent_of p q post comment in
+    cc
+one_op (AddFriend a₁ a₂ a₃) (AddFriend b₁ b₂ b₃) kind e = cc
+one_op a b kind e = absurd cc
+
+-- an insert of these kinds whose values the fields spell
+pub spells_insert : (allowed : List InsertKind) (kind : InsertKind) (fs : List (List ℕ)) (t t_d : ℕ) (op : Op) → NamesInsert allowed fs kind → kind_of op ≡ kind → SpellsAll (line_columns kind) fs (line_values t t_d op) → IsOfTwo op → SpellsInsert allowed fs t t_d op
+spells_insert allowed kind fs t t_d op names of s two = (
+  subst (λ (k : InsertKind). Contains allowed k) (sym of) (third_names allowed fs kind names),
+  subst (λ (k : InsertKind). SpellsAll (line_columns k) fs (line_values t t_d op)) (sym of) s,
+  two,
+)

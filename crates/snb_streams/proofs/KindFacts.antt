@@ -1,17 +1,14 @@
 -- The insert that the third field names.
-use Rattle.std.proofs.Common.{◌≡◌, ◌≢◌, ◌<◌, ◌≤◌, ◌∙◌, ℕ, zero, suc, List, [], ◌∷◌, length, drop, get_or, refl, sym, ap, subst, arith}
+use Rattle.std.proofs.Common.{◌≡◌, ◌≢◌, ◌<◌, ◌≤◌, ◌∙◌, ℕ, zero, suc, List, [], ◌∷◌, length, get_or, refl, sym, ap, subst, arith}
 use Rattle.std.specs.Prelude.{Contains, Option, Some, None}
 use Rattle.std.specs.Borrow.{Bor}
 use Rattle.std.specs.Option.{MatchOption, option_map}
 use Rattle.snb_input_lines.specs.Records.{field_at}
 use Rattle.snb_base.specs.Spellings.{Num}
-use Rattle.snb_schema.specs.declared.column.Value.{Value}
-use Rattle.snb_schema.specs.declared.column.Value.TheVariants.{Digits}
 use Rattle.snb_schema.specs.declared.op.Op.{Op}
 use Rattle.snb_schema.specs.declared.op.InsertKind.{InsertKind}
 use Rattle.snb_schema.specs.declared.op.InsertKind.TheVariants as kinds
 use Rattle.snb_schema.specs.Columns.{SpellsAll}
-use Rattle.snb_input_fields.specs.Values.{first_number}
 use Rattle.snb_schema.specs.UpdateLines.{NamesInsert}
 use Rattle.snb_schema.specs.InsertLines.{kind_number, kind_of, line_columns, line_values}
 
@@ -157,7 +154,9 @@ third_field (t₁ ∷ []) t t_d op s = absurd s.1
 third_field (t₁ ∷ t₂ ∷ []) t t_d op s = absurd s.1.1
 third_field (t₁ ∷ t₂ ∷ x ∷ fs) t t_d op s = s.1.1.0
 
--- the third value of an insert is its kind's number
-pub third_number : (allowed : List InsertKind) (kind : InsertKind) (fs : List (List ℕ)) (vs : List Value) → NamesInsert allowed fs kind → SpellsAll (line_columns kind) fs vs → first_number (drop 1 (drop 1 vs)) ≡ kind_number kind
-third_number allowed kind (t₁ ∷ t₂ ∷ x ∷ fs) (v ∷ u ∷ Digits m ∷ vs) names s = s.1.1.0.value ∙ sym names.1.value
-third_number allowed kind fs vs names s = absurd assumption
+-- the third field of fields that name a kind is its number
+pub third_of : (allowed : List InsertKind) (fs : List (List ℕ)) (kind : InsertKind) → NamesInsert allowed fs kind → Num (get_or fs 2 []) (kind_number kind) (kind_number kind)
+third_of allowed [] kind s = absurd s
+third_of allowed (t₁ ∷ []) kind s = absurd s
+third_of allowed (t₁ ∷ t₂ ∷ []) kind s = absurd s
+third_of allowed (t₁ ∷ t₂ ∷ x ∷ fs) kind s = s.1

@@ -5,6 +5,7 @@ pub mod FileFacts
 pub mod InsertFacts
 pub mod KindFacts
 pub mod LineFacts
+pub mod MakeFacts
 pub mod ParameterFacts
 pub mod PlaceFacts
 pub mod PlainFacts

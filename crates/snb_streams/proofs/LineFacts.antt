@@ -15,11 +15,10 @@ use Rattle.snb_input_lines.specs.Cut.{IsCutAtEnd}
 use Rattle.snb_columns.specs.Laws.{HasPlainFields, OneList, OwnLineOfValues}
 use Rattle.snb_streams.specs.Laws.{OneInsert}
 use Rattle.snb_streams.specs.Laws as laws
-use Rattle.snb_streams.specs.Make.{op_by}
 use Rattle.snb_streams.specs.Spelled.{SpellsInsert}
 use Rattle.snb_streams.specs.Split.{IsSplit}
 use Rattle.snb_streams.proofs.CaseFacts.{text_from_case}
-use Rattle.snb_streams.proofs.InsertFacts.{made_again}
+use Rattle.snb_streams.proofs.InsertFacts.{one_op}
 use Rattle.snb_streams.proofs.KindFacts.{one_name, third_field}
 
 -- a line with fields that spell an insert
@@ -40,7 +39,7 @@ one_spelled one fs t t_d op u u_d oq p q =
     let same = one (line_columns (kind_of op)) fs (line_values t t_d op) (line_values u u_d oq) p other in
     let values : op_values op ≡ op_values oq = ap (λ (vs : List Value). drop 3 vs) same in
     let times = same_time t t_d op u u_d oq same in
-    (times.0, times.1, sym (made_again op) ∙ (λ i. op_by (kind i) (values i)) ∙ made_again oq)
+    (times.0, times.1, one_op op oq kind values)
 
 -- a text is the line of one insert
 pub one_insert : OneList → OneInsert

@@ -1,7 +1,7 @@
 -- Fields spell an insert or a query, or they have a bad column.
-use Rattle.std.proofs.Common.{◌≡◌, ◌+◌, ◌⊎◌, ◌∙◌, ℕ, zero, suc, Option, Some, None, List, [], ◌∷◌, length, take, drop, refl, sym, subst, inl, inr, arith}
+use Rattle.std.proofs.Common.{◌≡◌, ◌+◌, ◌⊎◌, ◌∙◌, ℕ, zero, suc, List, [], ◌∷◌, ◌≤◌, length, take, refl, sym, subst, inl, inr, arith}
 use Rattle.std.specs.List.{Contains}
-use Rattle.std.specs.Option.{unwrap_or}
+use Rattle.std.proofs.lemmas.List.{take_all}
 use Rattle.std.proofs.lemmas.Bool.{cases_eq, cases_lt}
 use Rattle.snb_base.specs.Spellings.{Num}
 use Rattle.snb_schema.specs.declared.column.Value.{Value}
@@ -11,18 +11,16 @@ use Rattle.snb_schema.specs.Columns.{SpellsAll}
 use Rattle.snb_schema.specs.ParameterLines.{query_columns}
 use Rattle.snb_schema.specs.UpdateLines.{IsBadInsert, NamesInsert}
 use Rattle.snb_schema.specs.InsertLines.{kind_number, line_columns}
-use Rattle.snb_input_fields.specs.Laws.{EachLineIsRead, TakenAgain}
-use Rattle.snb_input_fields.specs.Queries.{query_by}
-use Rattle.snb_input_fields.specs.Values.{first_number}
-use Rattle.snb_input_fields.proofs.Laws.{number_or_not}
+use Rattle.snb_input_fields.specs.Laws.{EachLineIsRead}
+use Rattle.snb_input_fields.proofs.Laws.{no_stop, number_or_not}
+use Rattle.snb_streams.proofs.KindFacts.{third_of}
 use Rattle.snb_streams.specs.Laws.{InsertOrColumn, QueryOrColumn}
-use Rattle.snb_streams.specs.Make.{clash_at, op_by}
-use Rattle.snb_streams.specs.Parameters.{complex_kind}
 use Rattle.snb_streams.specs.Spelled.{SpellsInsert}
 use Rattle.snb_streams.proofs.CaseFacts.{insert_from_case}
-use Rattle.snb_streams.proofs.FaultFacts.{clash_bad, stop_bad, third_bad, time_bad, times}
-use Rattle.snb_streams.proofs.InsertFacts.{spells_insert}
-use Rattle.snb_streams.proofs.ParameterFacts.{told_query, told_stop}
+use Rattle.snb_streams.proofs.ClashFacts.{clash_decided}
+use Rattle.snb_streams.proofs.FaultFacts.{clash_first, first_bad, stop_some, third_bad, time_bad, times}
+use Rattle.snb_streams.proofs.InsertFacts.{op_spelled, spells_insert}
+use Rattle.snb_streams.proofs.ParameterFacts.{query_spelled, told_stop}
 
 -- the text is the number of this kind
 abbrev IsNumberOf : List ℕ → InsertKind → Type 0
@@ -68,21 +66,20 @@ named_or_not allowed (t₁ ∷ t₂ ∷ x ∷ fs) = elim (one_of_kinds x allowed
 ]
 
 -- fields that spell values of all columns are an insert, or two of them don't go together
-whole : TakenAgain → (allowed : List InsertKind) (kind : InsertKind) (fs : List (List ℕ)) (vs : List Value) → NamesInsert allowed fs kind → length fs ≡ length (line_columns kind)
+whole : (allowed : List InsertKind) (kind : InsertKind) (fs : List (List ℕ)) (vs : List Value) → NamesInsert allowed fs kind → length fs ≡ length (line_columns kind)
     → SpellsAll (line_columns kind) (take (length (line_columns kind)) fs) vs → ((t : ℕ) × (t_d : ℕ) × (op : Op) × SpellsInsert allowed fs t t_d op) ⊎ ((column : ℕ) × IsBadInsert allowed fs column)
-whole again allowed kind fs vs names long s = go (clash_at kind vs) refl
-  where
-    go : (o : Option ℕ) → clash_at kind vs ≡ o → ((t : ℕ) × (t_d : ℕ) × (op : Op) × SpellsInsert allowed fs t t_d op) ⊎ ((column : ℕ) × IsBadInsert allowed fs column)
-    go (Some column) e = inr (column, clash_bad allowed kind fs vs column names long s e)
-    go None e =
-        let t = first_number vs in
-        let t_d = first_number (drop 1 vs) in
-        let op = op_by kind (drop 1 (drop 1 (drop 1 vs))) in
-        inl (t, t_d, op, spells_insert again allowed kind fs vs t t_d op names long s e refl refl refl)
+whole allowed kind fs vs names long s = elim (clash_decided kind fs) [
+  | inl clash ↦ inr (clash.0, first_bad allowed kind fs clash.0 names long (clash_first kind fs clash.0 clash.1 (λ n stop. absurd (no_stop (line_columns kind) fs vs s n stop))))
+  | inr never ↦
+      let few : length fs ≤ length (line_columns kind) = omega (arith, long) in
+      let all : SpellsAll (line_columns kind) fs vs = subst (λ (xs : List (List ℕ)). SpellsAll (line_columns kind) xs vs) (take_all (length (line_columns kind)) fs few) s in
+      let (t, t_d, op, of, is, two) = op_spelled kind fs vs (third_of allowed fs kind names) all never in
+      inl (t, t_d, op, spells_insert allowed kind fs t t_d op names of (subst (SpellsAll (line_columns kind) fs) is all) two)
+]
 
 -- fields spell an insert, or they have a bad column
-pub insert_or_column : TakenAgain → EachLineIsRead → InsertOrColumn
-insert_or_column again read allowed fs = elim (cases_lt (length fs) 3) [
+pub insert_or_column : EachLineIsRead → InsertOrColumn
+insert_or_column read allowed fs = elim (cases_lt (length fs) 3) [
   | inl few ↦ inr (0, inl (few, refl))
   | inr many ↦ elim (named_or_not allowed fs) [
     | inr none ↦ elim (read times fs (omega arith)) [
@@ -92,19 +89,21 @@ insert_or_column again read allowed fs = elim (cases_lt (length fs) 3) [
     | inl named ↦ elim (cases_eq (length fs) (length (line_columns named.0))) [
       | inr other ↦ inr (0, insert_from_case allowed fs 0 (inr (inr (inl (named.0, named.1, other, refl)))))
       | inl long ↦ elim (read (line_columns named.0) fs (omega (arith, long))) [
-        | inl s ↦ whole again allowed named.0 fs s.0 named.1 long s.1
-        | inr stop ↦ inr (unwrap_or (clash_at named.0 stop.1) (stop.0 + 1), stop_bad allowed named.0 fs stop.1 stop.0 (stop.0 + 1) named.1 long stop.2 stop.3 refl)
+        | inl s ↦ whole allowed named.0 fs s.0 named.1 long s.1
+        | inr stop ↦ (let first = stop_some named.0 fs stop.0 stop.2 in inr (first.0, first_bad allowed named.0 fs first.0 named.1 long first.1))
       ]
     ]
   ]
 ]
 
 -- fields are the parameters of a query, or they have a bad column
-pub query_or_column : TakenAgain → EachLineIsRead → QueryOrColumn
-query_or_column again read q fs complex = elim (cases_eq (length fs) (length (query_columns q))) [
+pub query_or_column : EachLineIsRead → QueryOrColumn
+query_or_column read q fs complex = elim (cases_eq (length fs) (length (query_columns q))) [
   | inr other ↦ inr (0, inl (other, refl))
   | inl long ↦ elim (read (query_columns q) fs (omega (arith, long))) [
-    | inl s ↦ inl (query_by (complex_kind q) s.0, told_query again q (query_columns q) fs s.0 (query_by (complex_kind q) s.0) complex refl long s.1 refl)
+    | inl s ↦
+        let few : length fs ≤ length (query_columns q) = omega (arith, long) in
+        inl (query_spelled fs s.0 q complex (subst (λ (xs : List (List ℕ)). SpellsAll (query_columns q) xs s.0) (take_all (length (query_columns q)) fs few) s.1))
     | inr stop ↦ inr (stop.0 + 1, told_stop q (query_columns q) fs stop.0 (stop.0 + 1) refl long stop.2 refl)
   ]
 ]

@@ -7,7 +7,6 @@ use Rattle.snb_schema.specs.declared.column.Value.TheVariants.{Digits, Letters, 
 use Rattle.snb_schema.specs.declared.op.Line.{Line}
 use Rattle.snb_schema.specs.declared.op.Op.{Op}
 use Rattle.snb_schema.specs.declared.op.InsertKind.{InsertKind}
-use Rattle.snb_schema.specs.declared.op.InsertKind.TheVariants as kinds
 use Rattle.snb_schema.specs.declared.op.Parent.{Parent}
 use Rattle.snb_schema.specs.Columns.{SpellsAll}
 use Rattle.snb_schema.specs.UpdateLines.{IsOfTwo}
@@ -15,15 +14,11 @@ use Rattle.snb_schema.specs.InsertLines.{insert_columns, kind_number, kind_of, l
 use Rattle.snb_streams.specs.declared.make.CommentHead.{CommentHead}
 use Rattle.snb_input_fields.specs.Reading.{Reading, SpellsFrom, text_at}
 
--- the two times and the number of a line with an insert of this kind are read
-abbrev pub at_insert : InsertKind → List (List ℕ) → Reading
-at_insert kind fs = record { columns = line_columns kind; fields = fs; read = 3 }
+-- so many fields of a line with an insert of this kind are read
+abbrev pub at_field : InsertKind → List (List ℕ) → ℕ → Reading
+at_field kind fs n = record { columns = line_columns kind; fields = fs; read = n }
 
--- in a line with a comment all before its two parents is read
-abbrev pub at_parents : List (List ℕ) → Reading
-at_parents fs = record { columns = line_columns kinds.AddComment; fields = fs; read = 11 }
-
--- the fields after these spell the insert, which is of this kind, and a friendship isn't with
+-- the fields after a line's times and number spell the insert, which is of this kind, and a friendship isn't with
 -- oneself
 pub record IsMade (kind : InsertKind) (fs : List (List ℕ)) (op : Op) : Type 0 where
   pub kind_is : kind_of op ≡ kind

@@ -5,8 +5,8 @@ ghost use Rattle.snb_schema.specs.declared.op.InsertKind.TheVariants as kinds;
 ghost use Rattle.snb_schema.specs.Faults.{OnBadColumn};
 ghost use Rattle.snb_schema.specs.InsertLines.{insert_columns, line_columns};
 ghost use Rattle.snb_schema.specs.UpdateLines.{Clashes, IsFirstBad};
-ghost use Rattle.snb_input_fields.specs.Reading.{IsBadIn, SpellsFrom, at_first, past};
-ghost use Rattle.snb_streams.specs.Make.{IsMade, IsMadeLine, IsParent, IsThird, at_insert, at_parents, head_values};
+ghost use Rattle.snb_input_fields.specs.Reading.{IsBadIn, SpellsFrom, at_first};
+ghost use Rattle.snb_streams.specs.Make.{IsMade, IsMadeLine, IsParent, IsThird, at_field, head_values};
 
 use snb_base::Text;
 use snb_input_fields::FieldReader;
@@ -14,7 +14,7 @@ use snb_schema::limits::{MAX_ID, MAX_LENGTH, MAX_TIME};
 use snb_schema::{InsertKind, Line, LineFault, Op, Parent};
 
 fn person(fields: &mut FieldReader<'_>) -> Result<Op, LineFault>
-    requires { fields.old ≡ at_insert kinds.AddPerson fields.old.fields }
+    requires { fields.old ≡ at_field kinds.AddPerson fields.old.fields 3 }
     ensures ok { IfOk result (IsMade kinds.AddPerson fields.old.fields) }
     ensures bad { OnBadColumn result (IsBadIn (line_columns kinds.AddPerson) fields.old.fields) }
 {
@@ -37,7 +37,7 @@ fn person(fields: &mut FieldReader<'_>) -> Result<Op, LineFault>
 }
 
 fn post_like(fields: &mut FieldReader<'_>) -> Result<Op, LineFault>
-    requires { fields.old ≡ at_insert kinds.LikePost fields.old.fields }
+    requires { fields.old ≡ at_field kinds.LikePost fields.old.fields 3 }
     ensures ok { IfOk result (IsMade kinds.LikePost fields.old.fields) }
     ensures bad { OnBadColumn result (IsBadIn (line_columns kinds.LikePost) fields.old.fields) }
 {
@@ -49,7 +49,7 @@ fn post_like(fields: &mut FieldReader<'_>) -> Result<Op, LineFault>
 }
 
 fn comment_like(fields: &mut FieldReader<'_>) -> Result<Op, LineFault>
-    requires { fields.old ≡ at_insert kinds.LikeComment fields.old.fields }
+    requires { fields.old ≡ at_field kinds.LikeComment fields.old.fields 3 }
     ensures ok { IfOk result (IsMade kinds.LikeComment fields.old.fields) }
     ensures bad { OnBadColumn result (IsBadIn (line_columns kinds.LikeComment) fields.old.fields) }
 {
@@ -61,7 +61,7 @@ fn comment_like(fields: &mut FieldReader<'_>) -> Result<Op, LineFault>
 }
 
 fn forum(fields: &mut FieldReader<'_>) -> Result<Op, LineFault>
-    requires { fields.old ≡ at_insert kinds.AddForum fields.old.fields }
+    requires { fields.old ≡ at_field kinds.AddForum fields.old.fields 3 }
     ensures ok { IfOk result (IsMade kinds.AddForum fields.old.fields) }
     ensures bad { OnBadColumn result (IsBadIn (line_columns kinds.AddForum) fields.old.fields) }
 {
@@ -75,7 +75,7 @@ fn forum(fields: &mut FieldReader<'_>) -> Result<Op, LineFault>
 }
 
 fn member(fields: &mut FieldReader<'_>) -> Result<Op, LineFault>
-    requires { fields.old ≡ at_insert kinds.AddMember fields.old.fields }
+    requires { fields.old ≡ at_field kinds.AddMember fields.old.fields 3 }
     ensures ok { IfOk result (IsMade kinds.AddMember fields.old.fields) }
     ensures bad { OnBadColumn result (IsBadIn (line_columns kinds.AddMember) fields.old.fields) }
 {
@@ -87,7 +87,7 @@ fn member(fields: &mut FieldReader<'_>) -> Result<Op, LineFault>
 }
 
 fn post(fields: &mut FieldReader<'_>) -> Result<Op, LineFault>
-    requires { fields.old ≡ at_insert kinds.AddPost fields.old.fields }
+    requires { fields.old ≡ at_field kinds.AddPost fields.old.fields 3 }
     ensures ok { IfOk result (IsMade kinds.AddPost fields.old.fields) }
     ensures bad { OnBadColumn result (IsBadIn (line_columns kinds.AddPost) fields.old.fields) }
 {
@@ -109,9 +109,9 @@ fn post(fields: &mut FieldReader<'_>) -> Result<Op, LineFault>
 
 // The parent of a comment: a post or a comment, and not both.
 fn parent(fields: &mut FieldReader<'_>) -> Result<Parent, LineFault>
-    requires { fields.old ≡ at_parents fields.old.fields }
+    requires { fields.old ≡ at_field kinds.AddComment fields.old.fields 11 }
     ensures ok { IfOk result (IsParent fields.old.fields) }
-    ensures past { OnOk result (fields.new ≡ past (past fields.old)) }
+    ensures past { OnOk result (fields.new ≡ at_field kinds.AddComment fields.old.fields 13) }
     ensures one { OnOk result ((column : ℕ) → ¬ Clashes kinds.AddComment fields.old.fields column) }
     ensures bad { OnBadColumn result (IsFirstBad kinds.AddComment fields.old.fields) }
 {
@@ -126,7 +126,8 @@ fn parent(fields: &mut FieldReader<'_>) -> Result<Parent, LineFault>
     match (post, comment) {
         (Some(id), None) => Ok(Parent::Post { id }),
         (None, Some(id)) => Ok(Parent::Comment { id }),
-        _ => Err(fields.clash()),
+        (Some(_), Some(_)) => Err(fields.clash()),
+        (None, None) => Err(fields.clash()),
     }
 }
 
@@ -144,10 +145,10 @@ struct CommentHead {
 }
 
 fn comment_head(fields: &mut FieldReader<'_>) -> Result<CommentHead, LineFault>
-    requires { fields.old ≡ at_insert kinds.AddComment fields.old.fields }
+    requires { fields.old ≡ at_field kinds.AddComment fields.old.fields 3 }
     ensures ok { IfOk result (λ head. SpellsFrom 3 (take 8 (insert_columns kinds.AddComment)) fields.old.fields
         (head_values head)) }
-    ensures past { OnOk result (fields.new ≡ at_parents fields.old.fields) }
+    ensures past { OnOk result (fields.new ≡ at_field kinds.AddComment fields.old.fields 11) }
     ensures bad { OnBadColumn result (IsFirstBad kinds.AddComment fields.old.fields) }
 {
     Ok(CommentHead {
@@ -163,7 +164,7 @@ fn comment_head(fields: &mut FieldReader<'_>) -> Result<CommentHead, LineFault>
 }
 
 fn comment(fields: &mut FieldReader<'_>) -> Result<Op, LineFault>
-    requires { fields.old ≡ at_insert kinds.AddComment fields.old.fields }
+    requires { fields.old ≡ at_field kinds.AddComment fields.old.fields 3 }
     ensures ok { IfOk result (IsMade kinds.AddComment fields.old.fields) }
     ensures bad { OnBadColumn result (IsFirstBad kinds.AddComment fields.old.fields) }
 {
@@ -188,7 +189,7 @@ fn comment(fields: &mut FieldReader<'_>) -> Result<Op, LineFault>
 }
 
 fn friend(fields: &mut FieldReader<'_>) -> Result<Op, LineFault>
-    requires { fields.old ≡ at_insert kinds.AddFriend fields.old.fields }
+    requires { fields.old ≡ at_field kinds.AddFriend fields.old.fields 3 }
     ensures ok { IfOk result (IsMade kinds.AddFriend fields.old.fields) }
     ensures bad { OnBadColumn result (IsFirstBad kinds.AddFriend fields.old.fields) }
 {
@@ -215,7 +216,7 @@ fn friend(fields: &mut FieldReader<'_>) -> Result<Op, LineFault>
 
 // The insert of this kind that the fields spell, whose times and number are read.
 fn make_op(kind: InsertKind, fields: &mut FieldReader<'_>) -> Result<Op, LineFault>
-    requires { fields.old ≡ at_insert kind fields.old.fields }
+    requires { fields.old ≡ at_field kind fields.old.fields 3 }
     ensures ok { IfOk result (IsMade kind fields.old.fields) }
     ensures bad { OnBadColumn result (IsFirstBad kind fields.old.fields) }
 {

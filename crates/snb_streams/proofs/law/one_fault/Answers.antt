@@ -3,4 +3,4 @@ use Rattle.snb_streams.proofs.SomeFacts.{insert_or_column}
 use Rattle.snb_streams.proofs.law.one_fault.Goals as goal
 
 pub returns : goal.returns
-returns c = record { some = insert_or_column c.taken_again.ensures c.spelled_or_not.ensures.line; one = one_fault; none = no_fault }
+returns c = record { some = insert_or_column c.spelled_or_not.ensures.line; one = one_fault; none = no_fault }

@@ -3,7 +3,7 @@ use Rattle.snb_streams.proofs.SomeFacts.{query_or_column}
 use Rattle.snb_streams.proofs.law.one_query.Goals as goal
 
 pub returns-clause-some : goal.returns-clause-some
-returns-clause-some c = query_or_column c.taken_again.ensures c.spelled_or_not.ensures.line
+returns-clause-some c = query_or_column c.spelled_or_not.ensures.line
 
 pub returns-clause-one : goal.returns-clause-one
 returns-clause-one c = one_query c.one_value.ensures.list

@@ -1,12 +1,8 @@
-use Rattle.std.proofs.Common.{rules, ◌≡◌, All, Contains, IfOk, IsUtf8, MatchOption, ℕ, ◌+◌, ◌-◌, ◌*◌, ◌<◌, ◌≤◌, length, ◌/◌, ◌%◌, Bool, true, false, nat_eq, nat_lt, List, [], ◌∷◌, ◌++◌, slice_index_or, slice_set, bit_and, bit_or, Fits, w8, w32, w64, Bor, MutBor}
-use Rattle.snb_base.specs.Spellings.{Num}
-use Rattle.snb_schema.specs.declared.op.InsertKind.{InsertKind as Kind}
-use Rattle.snb_schema.specs.Faults.{OnBadColumn}
-use Rattle.snb_schema.specs.UpdateLines.{IsBadInsert, IsBadLine, IsLine, NamesInsert}
-use Rattle.snb_schema.specs.InsertLines.{kind_number}
-use Rattle.snb_streams.specs.Spelled.{SpellsInsert}
+use Rattle.snb_schema.specs.UpdateLines.{IsBadInsert, IsBadLine, all_inserts}
+use Rattle.snb_streams.proofs.LineFacts.{split_bad}
+use Rattle.snb_streams.proofs.MakeFacts.{on_bad}
 use Rattle.snb_streams.proofs.line.read_line.Goals as goal
 
--- src/line.rt:107:1
 pub returns-clause-bad : goal.returns-clause-bad
-returns-clause-bad c = ?
+returns-clause-bad c =
+    on_bad c.read_insert.result (IsBadInsert all_inserts c.in_ok-fields.fields) (IsBadLine c.args.text.now) (λ column bad. split_bad c.args.text.now c.in_ok-fields.fields column c.in_ok-fields.ensures.ok bad) c.read_insert.ensures.bad

@@ -1,16 +1,33 @@
-use Rattle.std.proofs.Common.{rules, ◌≡◌, ℕ, IfOk, OnOk, length, take, ◌+◌, ◌-◌, ◌*◌, ◌<◌, ◌≤◌, ◌/◌, ◌%◌, Bool, true, false, nat_eq, nat_lt, List, [], ◌∷◌, ◌++◌, slice_index_or, slice_set, bit_and, bit_or, Fits, w8, w32, w64, Bor, MutBor}
+use Rattle.std.proofs.Common.{ℕ, List, [], ◌∷◌, refl, take}
+use Rattle.snb_schema.specs.declared.column.Column.TheVariants.{IdList, OptionalId}
+use Rattle.snb_schema.specs.declared.column.Value.TheVariants.{Ids}
 use Rattle.snb_schema.specs.declared.op.InsertKind.TheVariants as kinds
-use Rattle.snb_schema.specs.Faults.{OnBadColumn}
-use Rattle.snb_schema.specs.InsertLines.{insert_columns, line_columns}
-use Rattle.snb_schema.specs.UpdateLines.{Clashes, IsFirstBad}
-use Rattle.snb_input_fields.specs.Reading.{IsBadIn, SpellsFrom, at_first, past}
-use Rattle.snb_streams.specs.Make.{IsMade, IsMadeLine, IsParent, IsThird, at_insert, at_parents, head_values}
+use Rattle.snb_schema.specs.declared.op.Op.{Op}
+use Rattle.snb_schema.specs.InsertLines.{insert_columns, parent_comment, parent_post}
+use Rattle.snb_schema.specs.UpdateLines.{IsFirstBad}
+use Rattle.snb_input_fields.specs.Reading.{IsBadNext}
+use Rattle.snb_input_fields.proofs.Readings.{spelled}
+use Rattle.snb_streams.specs.Make.{head_values}
+use Rattle.snb_streams.proofs.FaultFacts.{bad_weaker}
+use Rattle.snb_streams.proofs.MakeFacts.{next_bad, spells_both}
 use Rattle.snb_streams.proofs.make.comment.Goals as goal
 
--- src/make.rt:174:21
 pub returns-in-Err-clause-bad : goal.returns-in-Err-clause-bad
-returns-in-Err-clause-bad c = ?
+returns-in-Err-clause-bad c =
+    let fs = c.args.fields.now.fields in
+    let e = rw c.in_ok-head.ensures.past at c.in_ok-parent.ensures.past in
+    bad_weaker (List ℕ) Op c.in-Err.why (IsBadNext c.parent.new.fields) (IsFirstBad kinds.AddComment fs) (next_bad kinds.AddComment fs 13 c.parent.new.fields e (λ column clash. absurd ((rw c.in_ok-head.ensures.past at c.in_ok-parent.ensures.one) column clash))) c.in-Err.ensures.bad
 
--- src/make.rt:165:1
 pub returns-clause-ok : goal.returns-clause-ok
-returns-clause-ok c = ?
+returns-clause-ok c =
+    let fs = c.args.fields.now.fields in
+    let h = c.in_ok-head.head in
+    let p = c.in_ok-parent.parent in
+    let e = rw c.in_ok-head.ensures.past at c.in_ok-parent.ensures.past in
+    let two = rw c.in_ok-head.ensures.past at c.in_ok-parent.ensures.ok in
+    record {
+      kind_is = refl;
+      spelled = spells_both 3 (take 8 (insert_columns kinds.AddComment)) (head_values h) (OptionalId ∷ OptionalId ∷ IdList ∷ []) (parent_post p ∷ parent_comment p ∷ Ids c.in-Ok.tag_ids ∷ []) fs c.in_ok-head.ensures.ok
+          (two.0, (two.1.0, (spelled 13 IdList (Ids c.in-Ok.tag_ids) e c.in-Ok.ensures.ok, tt)));
+      of_two = tt;
+    }

@@ -1,16 +1,31 @@
-use Rattle.std.proofs.Common.{rules, ◌≡◌, ℕ, IfOk, OnOk, length, take, ◌+◌, ◌-◌, ◌*◌, ◌<◌, ◌≤◌, ◌/◌, ◌%◌, Bool, true, false, nat_eq, nat_lt, List, [], ◌∷◌, ◌++◌, slice_index_or, slice_set, bit_and, bit_or, Fits, w8, w32, w64, Bor, MutBor}
+use Rattle.std.proofs.Common.{ℕ, List, refl, subst, sym}
+use Rattle.snb_base.specs.Spellings.{SpellsId}
+use Rattle.snb_schema.specs.declared.column.Column.TheVariants as columns
+use Rattle.snb_schema.specs.declared.column.Value.TheVariants.{Digits}
+use Rattle.snb_schema.specs.declared.limits.TheConstants.{MAX_ID}
 use Rattle.snb_schema.specs.declared.op.InsertKind.TheVariants as kinds
-use Rattle.snb_schema.specs.Faults.{OnBadColumn}
-use Rattle.snb_schema.specs.InsertLines.{insert_columns, line_columns}
-use Rattle.snb_schema.specs.UpdateLines.{Clashes, IsFirstBad}
-use Rattle.snb_input_fields.specs.Reading.{IsBadIn, SpellsFrom, at_first, past}
-use Rattle.snb_streams.specs.Make.{IsMade, IsMadeLine, IsParent, IsThird, at_insert, at_parents, head_values}
+use Rattle.snb_schema.specs.declared.op.Op.{Op}
+use Rattle.snb_schema.specs.UpdateLines.{field}
+use Rattle.snb_input_fields.proofs.Readings.{moved, spelled}
+use Rattle.snb_streams.proofs.MakeFacts.{clash_here}
+use Rattle.snb_streams.proofs.PlaceFacts.{same_field}
 use Rattle.snb_streams.proofs.make.friend.Goals as goal
 
--- src/make.rt:204:9
 pub returns-then-one-other-clause-bad : goal.returns-then-one-other-clause-bad
-returns-then-one-other-clause-bad c = ?
+returns-then-one-other-clause-bad c =
+    let fs = c.args.fields.now.fields in
+    let e1 = moved c.in-Ok.ensures.past c.requires in
+    let e2 = moved c.in-Ok-number.ensures.past e1 in
+    let one : SpellsId (field 3 fs) c.in-Ok.one = subst (λ (x : List ℕ). SpellsId x c.in-Ok.one) (same_field fs 3) (spelled 3 (columns.Number MAX_ID) (Digits c.in-Ok.one) c.requires c.in-Ok.ensures.ok) in
+    let other : SpellsId (field 4 fs) c.in-Ok-number.other = subst (λ (x : List ℕ). SpellsId x c.in-Ok-number.other) (same_field fs 4) (spelled 4 (columns.Number MAX_ID) (Digits c.in-Ok-number.other) e1 c.in-Ok-number.ensures.ok) in
+    clash_here Op kinds.AddFriend fs c.clash.result c.number-2.new.self 5 c.clash.ensures.column e2 (refl, (c.in-Ok.one, one, subst (SpellsId (field 4 fs)) (sym c.if-one-other.true) other)) c.clash.ensures.first
 
--- src/make.rt:190:1
 pub returns-in-Ok-date-clause-ok : goal.returns-in-Ok-date-clause-ok
-returns-in-Ok-date-clause-ok c = ?
+returns-in-Ok-date-clause-ok c =
+    let e1 = moved c.in-Ok.ensures.past c.requires in
+    let e2 = moved c.in-Ok-number.ensures.past e1 in
+    record {
+      kind_is = refl;
+      spelled = (spelled 3 (columns.Number MAX_ID) (Digits c.in-Ok.one) c.requires c.in-Ok.ensures.ok, (spelled 4 (columns.Number MAX_ID) (Digits c.in-Ok-number.other) e1 c.in-Ok-number.ensures.ok, (spelled 5 columns.Date (Digits c.in-Ok-date.date) e2 c.in-Ok-date.ensures.ok, tt)));
+      of_two = c.if-one-other.false;
+    }

@@ -1,16 +1,32 @@
-use Rattle.std.proofs.Common.{rules, ◌≡◌, ℕ, IfOk, OnOk, length, take, ◌+◌, ◌-◌, ◌*◌, ◌<◌, ◌≤◌, ◌/◌, ◌%◌, Bool, true, false, nat_eq, nat_lt, List, [], ◌∷◌, ◌++◌, slice_index_or, slice_set, bit_and, bit_or, Fits, w8, w32, w64, Bor, MutBor}
-use Rattle.snb_schema.specs.declared.op.InsertKind.TheVariants as kinds
-use Rattle.snb_schema.specs.Faults.{OnBadColumn}
-use Rattle.snb_schema.specs.InsertLines.{insert_columns, line_columns}
-use Rattle.snb_schema.specs.UpdateLines.{Clashes, IsFirstBad}
-use Rattle.snb_input_fields.specs.Reading.{IsBadIn, SpellsFrom, at_first, past}
-use Rattle.snb_streams.specs.Make.{IsMade, IsMadeLine, IsParent, IsThird, at_insert, at_parents, head_values}
+use Rattle.std.proofs.Common.{ℕ, List, ap, refl, subst, sym}
+use Rattle.snb_schema.specs.declared.column.Column.TheVariants as columns
+use Rattle.snb_schema.specs.declared.column.Value.TheVariants.{Digits}
+use Rattle.snb_schema.specs.declared.limits.TheConstants.{MAX_TIME}
+use Rattle.snb_schema.specs.InsertLines.{kind_number}
+use Rattle.snb_input_fields.specs.Reading.{Reading, SpellsNext}
+use Rattle.snb_input_fields.proofs.Readings.{moved, spelled}
+use Rattle.snb_streams.specs.Make.{IsMade}
+use Rattle.snb_streams.proofs.MakeFacts.{line_made}
 use Rattle.snb_streams.proofs.make.make_line.Goals as goal
 
--- src/make.rt:255:5
 pub pass-requires : goal.pass-requires
-pass-requires c = ?
+pass-requires c =
+    let e1 = moved c.in-Ok.ensures.past c.requires.begins in
+    let e2 = moved c.in-Ok-number.ensures.past e1 in
+    let number = kind_number c.args.kind in
+    record { good = (columns.Number number, rw e2 refl, Digits number, subst (λ (r : Reading). SpellsNext r (columns.Number number) (Digits number)) (sym e2) c.requires.third) }
 
--- src/make.rt:236:1
 pub returns-clause-ok : goal.returns-clause-ok
-returns-clause-ok c = ?
+returns-clause-ok c =
+    let fs = c.args.fields.now.fields in
+    let e1 = moved c.in-Ok.ensures.past c.requires.begins in
+    let e2 = moved c.in-Ok-number.ensures.past e1 in
+    let e3 = moved c.pass.ensures e2 in
+    let made : IsMade c.args.kind fs c.in_ok-op.op = subst (λ (xs : List (List ℕ)). IsMade c.args.kind xs c.in_ok-op.op) (ap (λ (r : Reading). r.fields) e3) c.in_ok-op.ensures.ok in (
+      record {
+        kind_is = made.kind_is;
+        spelled = line_made c.args.kind fs c.in-Ok.t c.in-Ok-number.t_d c.in_ok-op.op c.requires.long (spelled 0 (columns.Number MAX_TIME) (Digits c.in-Ok.t) c.requires.begins c.in-Ok.ensures.ok) (spelled 1 (columns.Number MAX_TIME) (Digits c.in-Ok-number.t_d) e1 c.in-Ok-number.ensures.ok) c.requires.third made;
+        of_two = made.of_two;
+      },
+      refl,
+    )
