@@ -29,126 +29,28 @@ returns-clause-ok c =
     }
 
 pub text-requires-4 : goal.text-requires-4
-text-requires-4 c =
-    let e1 = moved c.in_ok-number.ensures.past c.requires in
-    let e2 = moved c.in_ok-text.ensures.past e1 in
-    let e3 = moved c.in_ok-text-2.ensures.past e2 in
-    let e4 = moved c.in_ok-text-3.ensures.past e3 in
-    let e5 = moved c.in_ok-day.ensures.past e4 in
-    let e6 = moved c.in_ok-date.ensures.past e5 in
-    record { next = rw e6 refl }
+text-requires-4 c = record { next = rw (moved c.in_ok-date.ensures.past (moved c.in_ok-day.ensures.past (moved c.in_ok-text-3.ensures.past (moved c.in_ok-text-2.ensures.past (moved c.in_ok-text.ensures.past (moved c.in_ok-number.ensures.past c.requires)))))) refl }
 
 pub text-requires-5 : goal.text-requires-5
-text-requires-5 c =
-    let e1 = moved c.in_ok-number.ensures.past c.requires in
-    let e2 = moved c.in_ok-text.ensures.past e1 in
-    let e3 = moved c.in_ok-text-2.ensures.past e2 in
-    let e4 = moved c.in_ok-text-3.ensures.past e3 in
-    let e5 = moved c.in_ok-day.ensures.past e4 in
-    let e6 = moved c.in_ok-date.ensures.past e5 in
-    let e7 = moved c.in_ok-text-4.ensures.past e6 in
-    record { next = rw e7 refl }
+text-requires-5 c = record { next = rw (moved c.in_ok-text-4.ensures.past (moved c.in_ok-date.ensures.past (moved c.in_ok-day.ensures.past (moved c.in_ok-text-3.ensures.past (moved c.in_ok-text-2.ensures.past (moved c.in_ok-text.ensures.past (moved c.in_ok-number.ensures.past c.requires))))))) refl }
 
 pub number-requires-2 : goal.number-requires-2
-number-requires-2 c =
-    let e1 = moved c.in_ok-number.ensures.past c.requires in
-    let e2 = moved c.in_ok-text.ensures.past e1 in
-    let e3 = moved c.in_ok-text-2.ensures.past e2 in
-    let e4 = moved c.in_ok-text-3.ensures.past e3 in
-    let e5 = moved c.in_ok-day.ensures.past e4 in
-    let e6 = moved c.in_ok-date.ensures.past e5 in
-    let e7 = moved c.in_ok-text-4.ensures.past e6 in
-    let e8 = moved c.in_ok-text-5.ensures.past e7 in
-    record { next = rw e8 refl }
+number-requires-2 c = record { next = rw (moved c.in_ok-text-5.ensures.past (moved c.in_ok-text-4.ensures.past (moved c.in_ok-date.ensures.past (moved c.in_ok-day.ensures.past (moved c.in_ok-text-3.ensures.past (moved c.in_ok-text-2.ensures.past (moved c.in_ok-text.ensures.past (moved c.in_ok-number.ensures.past c.requires)))))))) refl }
 
 pub texts-requires : goal.texts-requires
-texts-requires c =
-    let e1 = moved c.in_ok-number.ensures.past c.requires in
-    let e2 = moved c.in_ok-text.ensures.past e1 in
-    let e3 = moved c.in_ok-text-2.ensures.past e2 in
-    let e4 = moved c.in_ok-text-3.ensures.past e3 in
-    let e5 = moved c.in_ok-day.ensures.past e4 in
-    let e6 = moved c.in_ok-date.ensures.past e5 in
-    let e7 = moved c.in_ok-text-4.ensures.past e6 in
-    let e8 = moved c.in_ok-text-5.ensures.past e7 in
-    let e9 = moved c.in_ok-number-2.ensures.past e8 in
-    record { next = rw e9 refl }
+texts-requires c = record { next = rw (moved c.in_ok-number-2.ensures.past (moved c.in_ok-text-5.ensures.past (moved c.in_ok-text-4.ensures.past (moved c.in_ok-date.ensures.past (moved c.in_ok-day.ensures.past (moved c.in_ok-text-3.ensures.past (moved c.in_ok-text-2.ensures.past (moved c.in_ok-text.ensures.past (moved c.in_ok-number.ensures.past c.requires))))))))) refl }
 
 pub texts-requires-2 : goal.texts-requires-2
-texts-requires-2 c =
-    let e1 = moved c.in_ok-number.ensures.past c.requires in
-    let e2 = moved c.in_ok-text.ensures.past e1 in
-    let e3 = moved c.in_ok-text-2.ensures.past e2 in
-    let e4 = moved c.in_ok-text-3.ensures.past e3 in
-    let e5 = moved c.in_ok-day.ensures.past e4 in
-    let e6 = moved c.in_ok-date.ensures.past e5 in
-    let e7 = moved c.in_ok-text-4.ensures.past e6 in
-    let e8 = moved c.in_ok-text-5.ensures.past e7 in
-    let e9 = moved c.in_ok-number-2.ensures.past e8 in
-    let e10 = moved c.in_ok-texts.ensures.past e9 in
-    record { next = rw e10 refl }
+texts-requires-2 c = record { next = rw (moved c.in_ok-texts.ensures.past (moved c.in_ok-number-2.ensures.past (moved c.in_ok-text-5.ensures.past (moved c.in_ok-text-4.ensures.past (moved c.in_ok-date.ensures.past (moved c.in_ok-day.ensures.past (moved c.in_ok-text-3.ensures.past (moved c.in_ok-text-2.ensures.past (moved c.in_ok-text.ensures.past (moved c.in_ok-number.ensures.past c.requires)))))))))) refl }
 
 pub ids-requires : goal.ids-requires
-ids-requires c =
-    let e1 = moved c.in_ok-number.ensures.past c.requires in
-    let e2 = moved c.in_ok-text.ensures.past e1 in
-    let e3 = moved c.in_ok-text-2.ensures.past e2 in
-    let e4 = moved c.in_ok-text-3.ensures.past e3 in
-    let e5 = moved c.in_ok-day.ensures.past e4 in
-    let e6 = moved c.in_ok-date.ensures.past e5 in
-    let e7 = moved c.in_ok-text-4.ensures.past e6 in
-    let e8 = moved c.in_ok-text-5.ensures.past e7 in
-    let e9 = moved c.in_ok-number-2.ensures.past e8 in
-    let e10 = moved c.in_ok-texts.ensures.past e9 in
-    let e11 = moved c.in_ok-texts-2.ensures.past e10 in
-    record { next = rw e11 refl }
+ids-requires c = record { next = rw (moved c.in_ok-texts-2.ensures.past (moved c.in_ok-texts.ensures.past (moved c.in_ok-number-2.ensures.past (moved c.in_ok-text-5.ensures.past (moved c.in_ok-text-4.ensures.past (moved c.in_ok-date.ensures.past (moved c.in_ok-day.ensures.past (moved c.in_ok-text-3.ensures.past (moved c.in_ok-text-2.ensures.past (moved c.in_ok-text.ensures.past (moved c.in_ok-number.ensures.past c.requires))))))))))) refl }
 
 pub pairs-requires : goal.pairs-requires
-pairs-requires c =
-    let e1 = moved c.in_ok-number.ensures.past c.requires in
-    let e2 = moved c.in_ok-text.ensures.past e1 in
-    let e3 = moved c.in_ok-text-2.ensures.past e2 in
-    let e4 = moved c.in_ok-text-3.ensures.past e3 in
-    let e5 = moved c.in_ok-day.ensures.past e4 in
-    let e6 = moved c.in_ok-date.ensures.past e5 in
-    let e7 = moved c.in_ok-text-4.ensures.past e6 in
-    let e8 = moved c.in_ok-text-5.ensures.past e7 in
-    let e9 = moved c.in_ok-number-2.ensures.past e8 in
-    let e10 = moved c.in_ok-texts.ensures.past e9 in
-    let e11 = moved c.in_ok-texts-2.ensures.past e10 in
-    let e12 = moved c.in_ok-ids.ensures.past e11 in
-    record { next = rw e12 refl }
+pairs-requires c = record { next = rw (moved c.in_ok-ids.ensures.past (moved c.in_ok-texts-2.ensures.past (moved c.in_ok-texts.ensures.past (moved c.in_ok-number-2.ensures.past (moved c.in_ok-text-5.ensures.past (moved c.in_ok-text-4.ensures.past (moved c.in_ok-date.ensures.past (moved c.in_ok-day.ensures.past (moved c.in_ok-text-3.ensures.past (moved c.in_ok-text-2.ensures.past (moved c.in_ok-text.ensures.past (moved c.in_ok-number.ensures.past c.requires)))))))))))) refl }
 
 pub pairs-requires-2 : goal.pairs-requires-2
-pairs-requires-2 c =
-    let e1 = moved c.in_ok-number.ensures.past c.requires in
-    let e2 = moved c.in_ok-text.ensures.past e1 in
-    let e3 = moved c.in_ok-text-2.ensures.past e2 in
-    let e4 = moved c.in_ok-text-3.ensures.past e3 in
-    let e5 = moved c.in_ok-day.ensures.past e4 in
-    let e6 = moved c.in_ok-date.ensures.past e5 in
-    let e7 = moved c.in_ok-text-4.ensures.past e6 in
-    let e8 = moved c.in_ok-text-5.ensures.past e7 in
-    let e9 = moved c.in_ok-number-2.ensures.past e8 in
-    let e10 = moved c.in_ok-texts.ensures.past e9 in
-    let e11 = moved c.in_ok-texts-2.ensures.past e10 in
-    let e12 = moved c.in_ok-ids.ensures.past e11 in
-    let e13 = moved c.in_ok-pairs.ensures.past e12 in
-    record { next = rw e13 refl }
+pairs-requires-2 c = record { next = rw (moved c.in_ok-pairs.ensures.past (moved c.in_ok-ids.ensures.past (moved c.in_ok-texts-2.ensures.past (moved c.in_ok-texts.ensures.past (moved c.in_ok-number-2.ensures.past (moved c.in_ok-text-5.ensures.past (moved c.in_ok-text-4.ensures.past (moved c.in_ok-date.ensures.past (moved c.in_ok-day.ensures.past (moved c.in_ok-text-3.ensures.past (moved c.in_ok-text-2.ensures.past (moved c.in_ok-text.ensures.past (moved c.in_ok-number.ensures.past c.requires))))))))))))) refl }
 
 pub returns-in_err-pairs-2-clause-bad : goal.returns-in_err-pairs-2-clause-bad
-returns-in_err-pairs-2-clause-bad c =
-    let e1 = moved c.in_ok-number.ensures.past c.requires in
-    let e2 = moved c.in_ok-text.ensures.past e1 in
-    let e3 = moved c.in_ok-text-2.ensures.past e2 in
-    let e4 = moved c.in_ok-text-3.ensures.past e3 in
-    let e5 = moved c.in_ok-day.ensures.past e4 in
-    let e6 = moved c.in_ok-date.ensures.past e5 in
-    let e7 = moved c.in_ok-text-4.ensures.past e6 in
-    let e8 = moved c.in_ok-text-5.ensures.past e7 in
-    let e9 = moved c.in_ok-number-2.ensures.past e8 in
-    let e10 = moved c.in_ok-texts.ensures.past e9 in
-    let e11 = moved c.in_ok-texts-2.ensures.past e10 in
-    let e12 = moved c.in_ok-ids.ensures.past e11 in
-    let e13 = moved c.in_ok-pairs.ensures.past e12 in
-    subst (λ (r : Reading). OnBadColumn c.from_residual-in_err-pairs-2.result (IsBadIn r.columns r.fields)) e13 (search rules)
+returns-in_err-pairs-2-clause-bad c = subst (λ (r : Reading). OnBadColumn c.from_residual-in_err-pairs-2.result (IsBadIn r.columns r.fields)) (moved c.in_ok-pairs.ensures.past (moved c.in_ok-ids.ensures.past (moved c.in_ok-texts-2.ensures.past (moved c.in_ok-texts.ensures.past (moved c.in_ok-number-2.ensures.past (moved c.in_ok-text-5.ensures.past (moved c.in_ok-text-4.ensures.past (moved c.in_ok-date.ensures.past (moved c.in_ok-day.ensures.past (moved c.in_ok-text-3.ensures.past (moved c.in_ok-text-2.ensures.past (moved c.in_ok-text.ensures.past (moved c.in_ok-number.ensures.past c.requires))))))))))))) (search rules)

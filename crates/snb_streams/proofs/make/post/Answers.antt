@@ -25,16 +25,4 @@ returns-clause-ok c =
     }
 
 pub ids-requires : goal.ids-requires
-ids-requires c =
-    let e1 = moved c.in_ok-number.ensures.past c.requires in
-    let e2 = moved c.in_ok-text.ensures.past e1 in
-    let e3 = moved c.in_ok-date.ensures.past e2 in
-    let e4 = moved c.in_ok-text-2.ensures.past e3 in
-    let e5 = moved c.in_ok-text-3.ensures.past e4 in
-    let e6 = moved c.in_ok-text-4.ensures.past e5 in
-    let e7 = moved c.in_ok-text-5.ensures.past e6 in
-    let e8 = moved c.in_ok-small.ensures.past e7 in
-    let e9 = moved c.in_ok-number-2.ensures.past e8 in
-    let e10 = moved c.in_ok-number-3.ensures.past e9 in
-    let e11 = moved c.in_ok-number-4.ensures.past e10 in
-    record { next = rw e11 refl }
+ids-requires c = record { next = rw (moved c.in_ok-number-4.ensures.past (moved c.in_ok-number-3.ensures.past (moved c.in_ok-number-2.ensures.past (moved c.in_ok-small.ensures.past (moved c.in_ok-text-5.ensures.past (moved c.in_ok-text-4.ensures.past (moved c.in_ok-text-3.ensures.past (moved c.in_ok-text-2.ensures.past (moved c.in_ok-date.ensures.past (moved c.in_ok-text.ensures.past (moved c.in_ok-number.ensures.past c.requires))))))))))) refl }
