@@ -60,12 +60,7 @@ clash_decided kinds.AddComment fs = elim (none_or_both (field 11 fs) (field 12 f
   | inl is ↦ inl (13, (refl, is))
   | inr never ↦ inr (λ column h. never h.1)
 ]
-clash_decided kinds.AddPerson fs = inr (λ column h. h)
-clash_decided kinds.LikePost fs = inr (λ column h. h)
-clash_decided kinds.LikeComment fs = inr (λ column h. h)
-clash_decided kinds.AddForum fs = inr (λ column h. h)
-clash_decided kinds.AddMember fs = inr (λ column h. h)
-clash_decided kinds.AddPost fs = inr (λ column h. h)
+clash_decided kind fs = inr (λ column h. h)
 
 -- a second field that spells nothing
 second_bad : (c d : Column) (cs : List Column) (fs : List (List ℕ)) → StopsAfter (c ∷ d ∷ cs) fs 1 → (v : Value) → ¬ Spells d (get_or fs 1 []) v

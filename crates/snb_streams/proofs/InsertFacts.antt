@@ -43,12 +43,7 @@ own_apart fs t t_d (AddFriend one other date) two s c h =
 own_apart fs t t_d (AddComment id date ip browser content size author country parent tags) two s c h =
     let vs = line_values t t_d (AddComment id date ip browser content size author country parent tags) in
     one_parent (field 11 fs) (field 12 fs) parent (spells_at 11 id_column NoId (line_columns kinds.AddComment) fs vs s (omega arith), spells_at 12 id_column NoId (line_columns kinds.AddComment) fs vs s (omega arith)) h.1
-own_apart fs t t_d (AddPerson id first last gender birthday created ip browser city languages emails tags study work) two s c h = h
-own_apart fs t t_d (LikePost person post date) two s c h = h
-own_apart fs t t_d (LikeComment person comment date) two s c h = h
-own_apart fs t t_d (AddForum id title date moderator tags) two s c h = h
-own_apart fs t t_d (AddMember person forum date) two s c h = h
-own_apart fs t t_d (AddPost id image date ip browser language content size author forum country tags) two s c h = h
+own_apart fs t t_d op two s c h = h
 
 -- the parent that a post and a comment are, of which there is one
 abbrev parent_by : Option ℕ → Option ℕ → Parent
@@ -80,13 +75,7 @@ op_of kinds.AddFriend (one, (other, (date, none))) = AddFriend one other date
 -- it is of this kind
 op_kind : (kind : InsertKind) (row : TypedRow (insert_columns kind)) → kind_of (op_of kind row) ≡ kind
 op_kind kinds.AddPerson row = refl
-op_kind kinds.LikePost row = refl
-op_kind kinds.LikeComment row = refl
-op_kind kinds.AddForum row = refl
-op_kind kinds.AddMember row = refl
-op_kind kinds.AddPost row = refl
-op_kind kinds.AddComment row = refl
-op_kind kinds.AddFriend row = refl
+op_kind kind row = refl
 
 -- a line's times, its number and what the columns of its insert hold, which don't clash
 abbrev LineRow : InsertKind → Type 0
@@ -94,12 +83,6 @@ LineRow kind = TypedRow (line_columns kind)
 
 op_kept : (kind : InsertKind) (fs : List (List ℕ)) (row : LineRow kind) → SpellsAll (line_columns kind) fs (row_values (line_columns kind) row) → ((c : ℕ) → ¬ Clashes kind fs c)
     → (op_values (op_of kind row.1.1.1) ≡ row_values (insert_columns kind) row.1.1.1) × IsOfTwo (op_of kind row.1.1.1)
-op_kept kinds.AddPerson fs row s never = (refl, tt)
-op_kept kinds.LikePost fs row s never = (refl, tt)
-op_kept kinds.LikeComment fs row s never = (refl, tt)
-op_kept kinds.AddForum fs row s never = (refl, tt)
-op_kept kinds.AddMember fs row s never = (refl, tt)
-op_kept kinds.AddPost fs row s never = (refl, tt)
 op_kept kinds.AddComment fs (t, (t_d, (n, (id, (date, (ip, (browser, (content, (size, (author, (country, (post, (comment, (tags, none)))))))))))))) s never =
     let vs = row_values (line_columns kinds.AddComment) (t, (t_d, (n, (id, (date, (ip, (browser, (content, (size, (author, (country, (post, (comment, (tags, none)))))))))))))) in
     let kept = parent_kept (field 11 fs) (field 12 fs) post comment (spells_at 11 id_column NoId (line_columns kinds.AddComment) fs vs s (omega arith)) (spells_at 12 id_column NoId (line_columns kinds.AddComment) fs vs s (omega arith)) (λ two. never 13 (refl, two)) in
@@ -109,6 +92,7 @@ op_kept kinds.AddFriend fs (t, (t_d, (n, (one, (other, (date, none)))))) s never
     let a : SpellsId (field 3 fs) one = spells_at 3 id_column NoId (line_columns kinds.AddFriend) fs vs s (omega arith) in
     let b : SpellsId (field 4 fs) other = spells_at 4 id_column NoId (line_columns kinds.AddFriend) fs vs s (omega arith) in
     (refl, λ same. never 5 (refl, (one, a, subst (SpellsId (field 4 fs)) (sym same) b)))
+op_kept kind fs row s never = (refl, tt)
 
 -- fields that spell values of all columns and don't clash spell an insert
 pub op_spelled : (kind : InsertKind) (fs : List (List ℕ)) (vs : List Value) → Num (get_or fs 2 []) (kind_number kind) (kind_number kind) → SpellsAll (line_columns kind) fs vs → ((c : ℕ) → ¬ Clashes kind fs c)

@@ -12,46 +12,17 @@ use Rattle.snb_schema.specs.Columns.{SpellsAll}
 use Rattle.snb_schema.specs.UpdateLines.{NamesInsert}
 use Rattle.snb_schema.specs.InsertLines.{kind_number, kind_of, line_columns, line_values}
 
--- the kind of a number, counted from 0
-abbrev kind_at : ℕ → InsertKind
-kind_at zero = kinds.AddPerson
-kind_at (suc zero) = kinds.LikePost
-kind_at (suc (suc zero)) = kinds.LikeComment
-kind_at (suc (suc (suc zero))) = kinds.AddForum
-kind_at (suc (suc (suc (suc zero)))) = kinds.AddMember
-kind_at (suc (suc (suc (suc (suc zero))))) = kinds.AddPost
-kind_at (suc (suc (suc (suc (suc (suc zero)))))) = kinds.AddComment
-kind_at _ = kinds.AddFriend
-
--- a kind is that of its number
-kind_again : (kind : InsertKind) (n : ℕ) → kind_number kind ≡ suc n → kind_at n ≡ kind
-kind_again kinds.AddPerson n e = (let at : n ≡ 0 = omega (arith, e) in ap kind_at at)
-kind_again kinds.LikePost n e = (let at : n ≡ 1 = omega (arith, e) in ap kind_at at)
-kind_again kinds.LikeComment n e = (let at : n ≡ 2 = omega (arith, e) in ap kind_at at)
-kind_again kinds.AddForum n e = (let at : n ≡ 3 = omega (arith, e) in ap kind_at at)
-kind_again kinds.AddMember n e = (let at : n ≡ 4 = omega (arith, e) in ap kind_at at)
-kind_again kinds.AddPost n e = (let at : n ≡ 5 = omega (arith, e) in ap kind_at at)
-kind_again kinds.AddComment n e = (let at : n ≡ 6 = omega (arith, e) in ap kind_at at)
-kind_again kinds.AddFriend n e = (let at : n ≡ 7 = omega (arith, e) in ap kind_at at)
-
--- no kind has the number 0
-kind_counted : (kind : InsertKind) → 0 < kind_number kind
-kind_counted kinds.AddPerson = omega arith
-kind_counted kinds.LikePost = omega arith
-kind_counted kinds.LikeComment = omega arith
-kind_counted kinds.AddForum = omega arith
-kind_counted kinds.AddMember = omega arith
-kind_counted kinds.AddPost = omega arith
-kind_counted kinds.AddComment = omega arith
-kind_counted kinds.AddFriend = omega arith
-
--- and two kinds have two numbers
+-- two kinds have two numbers
 pub one_kind : (a b : InsertKind) → kind_number a ≡ kind_number b → a ≡ b
-one_kind a b e = go (kind_number a) refl (kind_counted a)
-  where
-    go : (n : ℕ) → kind_number a ≡ n → 0 < n → a ≡ b
-    go zero is some = absurd (omega (arith, some))
-    go (suc n) is some = sym (kind_again a n is) ∙ kind_again b n (sym e ∙ is)
+one_kind kinds.AddPerson kinds.AddPerson e = refl
+one_kind kinds.LikePost kinds.LikePost e = refl
+one_kind kinds.LikeComment kinds.LikeComment e = refl
+one_kind kinds.AddForum kinds.AddForum e = refl
+one_kind kinds.AddMember kinds.AddMember e = refl
+one_kind kinds.AddPost kinds.AddPost e = refl
+one_kind kinds.AddComment kinds.AddComment e = refl
+one_kind kinds.AddFriend kinds.AddFriend e = refl
+one_kind a b e = absurd cc
 
 -- a text names one kind at most
 pub one_name : (x : List ℕ) (a b : InsertKind) → Num x (kind_number a) (kind_number a) → Num x (kind_number b) (kind_number b) → a ≡ b
