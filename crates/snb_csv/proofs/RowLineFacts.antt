@@ -1,5 +1,5 @@
 -- A row that a table can have has a line, and the row of a line is one that its table can have.
-use Rattle.std.proofs.Common.{◌≡◌, ◌≢◌, ◌<◌, ◌≤◌, ◌^◌, ◌∙◌, ◌∷◌, ◌++◌, [], ℕ, min, max, Bool, true, false, List, length, map, refl, sym, ap, subst, inr, arith, append-nil, All}
+use Rattle.std.proofs.Common.{◌≡◌, ◌≢◌, ◌<◌, ◌^◌, ◌∙◌, ◌∷◌, ◌++◌, [], ℕ, min, max, Bool, true, false, List, length, map, refl, sym, ap, subst, inr, arith, append-nil, All}
 use Rattle.std.proofs.Math.Seq.{take-append_seam}
 use Rattle.std.proofs.lemmas.Bool.{le-ltb}
 use Rattle.std.proofs.lemmas.List.Elements.{All-cons, All-head, All-nil, All-tail, All-take}
@@ -9,7 +9,8 @@ use Rattle.std.specs.Fmt.{decimal}
 use Rattle.std.specs.List.{AllByRecursion}
 use Rattle.std.specs.Str.{IsUtf8}
 use Rattle.snb_base.specs.Calendar.{IsDigit}
-use Rattle.snb_base.specs.Spellings.{Num, last_time}
+use Rattle.snb_base.specs.Spellings.{last_time}
+use Rattle.snb_base.proofs.Laws.{number_spelled}
 use Rattle.snb_schema.specs.declared.column.Column.{Column}
 use Rattle.snb_schema.specs.declared.column.Column.TheVariants.{Number, Small, OptionalId, Date, Day, Words, Word, TextList, IdList, PairList}
 use Rattle.snb_schema.specs.declared.column.Value.{Value}
@@ -26,15 +27,11 @@ use Rattle.snb_schema.specs.TableColumns.{columns, shape_columns}
 use Rattle.snb_schema.specs.Lines.{HasNoBar, HasNoEnd, fields}
 use Rattle.snb_schema.specs.RowLines.{IsRow, canonical}
 use Rattle.snb_schema.specs.RowValues.{Differ, in_order, is_turned, table_of, values}
-use Rattle.snb_csv.specs.Laws.{RowsOfFieldsFit}
-use Rattle.snb_schema.specs.TableRows.{AreWithin, HasLine, HasLowerFirst, IsFieldText, IsTableRow, IsInBounds, TableRowsAreOfLines}
-use Rattle.snb_columns.specs.Laws.{HasPlainFields, OwnLineOfValues}
+use Rattle.snb_csv.specs.Laws.{OwnRowLine, RowsOfFieldsFit}
+use Rattle.snb_schema.specs.TableRows.{AreWithin, HasLowerFirst, IsFieldText, IsTableRow, IsInBounds, TableRowsAreOfLines}
+use Rattle.snb_columns.specs.Laws.{HasPlainFields, OneList, OwnLineOfValues}
 use Rattle.snb_columns.proofs.Laws.{all_digits}
-use Rattle.snb_csv.proofs.OwnFacts.{number_first}
-
--- digits spell their number, where 19 suffice
-abbrev pub OwnNumbers : Type 0
-OwnNumbers = (n most : ℕ) → n ≤ most → n < 10 ^ 19 → Num (decimal n) n most
+use Rattle.snb_csv.proofs.OneFacts.{one_row}
 
 -- a column of a table, whose numbers have 19 digits at most
 abbrev pub IsOfTables : Column → Type 0
@@ -51,55 +48,50 @@ IsOfTables PairList = ⊥
 
 -- the columns of each shape are such columns
 of_tables : (s : Shape) → AllByRecursion IsOfTables (shape_columns s)
-of_tables shapes.Place = (omega arith, (tt, (tt, (tt, tt))))
-of_tables shapes.TagClass = (omega arith, (tt, (tt, tt)))
-of_tables shapes.Tag = (omega arith, (tt, (tt, tt)))
-of_tables shapes.Organisation = (omega arith, (tt, (tt, (tt, tt))))
-of_tables shapes.Person = (omega arith, (tt, (tt, (tt, (tt, (tt, (tt, (tt, tt))))))))
-of_tables shapes.Forum = (omega arith, (tt, (tt, tt)))
-of_tables shapes.Post = (omega arith, (tt, (tt, (tt, (tt, (tt, (tt, (omega arith, tt))))))))
-of_tables shapes.Comment = (omega arith, (tt, (tt, (tt, (tt, (omega arith, tt))))))
-of_tables shapes.Link = (omega arith, (omega arith, tt))
-of_tables shapes.Dated = (omega arith, (omega arith, (tt, tt)))
-of_tables shapes.Yeared = (omega arith, (omega arith, (omega arith, tt)))
-of_tables shapes.Word = (omega arith, (tt, tt))
+of_tables shapes.Place = search arith
+of_tables s = search arith
 
 -- the canonical spelling of a value within its column's bounds spells it
-spelled : OwnNumbers → (c : Column) (v : Value) → IsOfTables c → IsInBounds c v → Spells c (canonical_field v) v
-spelled own (Number most) (Digits n) o w = own n most w (omega arith)
-spelled own (Small most) (SmallDigits n) o w = own n most w (omega arith)
-spelled own Date (Digits n) o w = (w, inr (own n last_time w (omega arith)))
-spelled own Day (Digits n) o w = (w, inr (own n last_time w (omega arith)))
-spelled own Words (Letters text) o w = refl
-spelled own Word (Letters text) o w = (w.0, refl)
-spelled own c v o w = absurd w
+spelled : (c : Column) (v : Value) → IsOfTables c → IsInBounds c v → Spells c (canonical_field v) v
+spelled (Number most) (Digits n) o w = number_spelled n most w (omega arith)
+spelled (Small most) (SmallDigits n) o w = number_spelled n most w (omega arith)
+spelled Date (Digits n) o w = (w, inr (number_spelled n last_time w (omega arith)))
+spelled Day (Digits n) o w = (w, inr (number_spelled n last_time w (omega arith)))
+spelled Words (Letters text) o w = refl
+spelled Word (Letters text) o w = (w.0, refl)
+spelled c v o w = absurd w
 
 -- so do the canonical spellings of all
-spelled_all : OwnNumbers → (cs : List Column) (vs : List Value) → AllByRecursion IsOfTables cs → AreWithin cs vs → SpellsAll cs (map canonical_field vs) vs
-spelled_all own [] [] o w = tt
-spelled_all own (c ∷ cs) (v ∷ vs) o w = (spelled own c v o.0 w.0, spelled_all own cs vs o.1 w.1)
-spelled_all own cs vs o w = absurd w
+spelled_all : (cs : List Column) (vs : List Value) → AllByRecursion IsOfTables cs → AreWithin cs vs → SpellsAll cs (map canonical_field vs) vs
+spelled_all [] [] o w = tt
+spelled_all (c ∷ cs) (v ∷ vs) o w = (spelled c v o.0 w.0, spelled_all cs vs o.1 w.1)
+spelled_all cs vs o w = absurd w
 
 -- what holds of digits and of a field's text holds of the canonical spelling
-held : OwnNumbers → (P : List ℕ → Type 0) → ((t : List ℕ) → AllByRecursion IsDigit t → P t) → ((t : List ℕ) → IsFieldText t → P t) → (c : Column) (v : Value) → IsOfTables c → IsInBounds c v → P (canonical_field v)
-held own P digits text (Number most) (Digits n) o w = digits (decimal n) (own n most w (omega arith)).digits
-held own P digits text (Small most) (SmallDigits n) o w = digits (decimal n) (own n most w (omega arith)).digits
-held own P digits text Date (Digits n) o w = digits (decimal n) (own n last_time w (omega arith)).digits
-held own P digits text Day (Digits n) o w = digits (decimal n) (own n last_time w (omega arith)).digits
-held own P digits text Words (Letters t) o w = text t w
-held own P digits text Word (Letters t) o w = text t w.1
-held own P digits text c v o w = absurd w
+held : (P : List ℕ → Type 0) → ((t : List ℕ) → AllByRecursion IsDigit t → P t) → ((t : List ℕ) → IsFieldText t → P t) → (c : Column) (v : Value) → IsOfTables c → IsInBounds c v → P (canonical_field v)
+held P digits text (Number most) (Digits n) o w = digits (decimal n) (number_spelled n most w (omega arith)).digits
+held P digits text (Small most) (SmallDigits n) o w = digits (decimal n) (number_spelled n most w (omega arith)).digits
+held P digits text Date (Digits n) o w = digits (decimal n) (number_spelled n last_time w (omega arith)).digits
+held P digits text Day (Digits n) o w = digits (decimal n) (number_spelled n last_time w (omega arith)).digits
+held P digits text Words (Letters t) o w = text t w
+held P digits text Word (Letters t) o w = text t w.1
+held P digits text c v o w = absurd w
 
 -- and of all of them
-held_all : OwnNumbers → (P : List ℕ → Type 0) → ((t : List ℕ) → AllByRecursion IsDigit t → P t) → ((t : List ℕ) → IsFieldText t → P t) → (cs : List Column) (vs : List Value) → AllByRecursion IsOfTables cs → AreWithin cs vs → All P (map canonical_field vs)
-held_all own P digits text [] [] o w = All-nil P
-held_all own P digits text (c ∷ cs) (v ∷ vs) o w = All-cons P (canonical_field v) (map canonical_field vs) (held own P digits text c v o.0 w.0) (held_all own P digits text cs vs o.1 w.1)
-held_all own P digits text cs vs o w = absurd w
+held_all : (P : List ℕ → Type 0) → ((t : List ℕ) → AllByRecursion IsDigit t → P t) → ((t : List ℕ) → IsFieldText t → P t) → (cs : List Column) (vs : List Value) → AllByRecursion IsOfTables cs → AreWithin cs vs → All P (map canonical_field vs)
+held_all P digits text [] [] o w = All-nil P
+held_all P digits text (c ∷ cs) (v ∷ vs) o w = All-cons P (canonical_field v) (map canonical_field vs) (held P digits text c v o.0 w.0) (held_all P digits text cs vs o.1 w.1)
+held_all P digits text cs vs o w = absurd w
 
 -- so its table has columns
 some_columns : (cs : List Column) (n : ℕ) (vs rest : List Value) → vs ≡ Digits n ∷ rest → AreWithin cs vs → cs ≢ []
 some_columns (c ∷ cs) n vs rest e w = λ f. cc
 some_columns [] n vs rest e w = absurd (subst (AreWithin []) e w)
+
+-- each row begins with a number
+number_first : (r : Row) → (n : ℕ) × (rest : List Value) × (values r ≡ Digits n ∷ rest)
+number_first (row.Place p) = (_, _, refl)
+number_first r = (_, _, refl)
 
 -- ends of which the first is lower differ, are in order, and aren't turned
 lower_differ : (undirected : Bool) (vs : List Value) → HasLowerFirst undirected vs → Differ undirected vs
@@ -118,35 +110,33 @@ lower_unturned true (Digits one ∷ Digits other ∷ rest) low = sym (le-ltb oth
 lower_unturned undirected vs low = refl
 
 -- the row's own line
-has_line : OwnNumbers → OwnLineOfValues → (r : Row) → IsTableRow r → HasLine (table_of r) r
-has_line own law r h =
+own_row : OwnLineOfValues → (r : Row) → IsTableRow r → IsRow (table_of r) (canonical r) r
+own_row law r h =
     let cs = columns (table_of r) in
     let vs = values r in
     let o = of_tables (shape (table_of r)) in
     let first = number_first r in
-    let all = λ (P : List ℕ → Type 0) (digits : (t : List ℕ) → AllByRecursion IsDigit t → P t) (text : (t : List ℕ) → IsFieldText t → P t). held_all own P digits text cs vs o h.within in
-    let line = law cs (map canonical_field vs) vs (some_columns cs first.0 vs first.1 first.2 h.within) (spelled_all own cs vs o h.within) (all HasNoBar (all_digits (λ b. b ≢ 124) (λ b d. omega arith)) (λ t f. f.no_bar)) in (
-      canonical r,
-      record {
-        text = line.text (all IsUtf8 (λ t d. IsUtf8-from_ascii t (IsAscii-from_all t (all_digits (λ b. b < 128) (λ b d. omega arith) t d))) (λ t f. f.utf8));
-        unmarked = line.unmarked first.0 first.1 first.2;
-        one_line = line.one_line (all HasNoEnd (all_digits (λ b. b ≢ 10) (λ b d. omega arith)) (λ t f. f.one_line));
-        turned = false;
-        spelled = record {
-          table = refl;
-          shaped = h.shaped;
-          own = map canonical_field vs;
-          extra = [];
-          split = line.split ∙ sym (append-nil (map canonical_field vs));
-          no_more = tt;
-          said = vs;
-          spelled = line.spelled;
-          differ = lower_differ (has_no_direction (table_of r)) vs h.in_order;
-          kept = lower_kept (has_no_direction (table_of r)) vs h.in_order;
-          turns = lower_unturned (has_no_direction (table_of r)) vs h.in_order;
-        };
-      },
-    )
+    let all = λ (P : List ℕ → Type 0) (digits : (t : List ℕ) → AllByRecursion IsDigit t → P t) (text : (t : List ℕ) → IsFieldText t → P t). held_all P digits text cs vs o h.within in
+    let line = law cs (map canonical_field vs) vs (some_columns cs first.0 vs first.1 first.2 h.within) (spelled_all cs vs o h.within) (all HasNoBar (all_digits (λ b. b ≢ 124) (λ b d. omega arith)) (λ t f. f.no_bar)) in
+    record {
+      text = line.text (all IsUtf8 (λ t d. IsUtf8-from_ascii t (IsAscii-from_all t (all_digits (λ b. b < 128) (λ b d. omega arith) t d))) (λ t f. f.utf8));
+      unmarked = line.unmarked first.0 first.1 first.2;
+      one_line = line.one_line (all HasNoEnd (all_digits (λ b. b ≢ 10) (λ b d. omega arith)) (λ t f. f.one_line));
+      turned = false;
+      spelled = record {
+        table = refl;
+        shaped = h.shaped;
+        own = map canonical_field vs;
+        extra = [];
+        split = line.split ∙ sym (append-nil (map canonical_field vs));
+        no_more = tt;
+        said = vs;
+        spelled = line.spelled;
+        differ = lower_differ (has_no_direction (table_of r)) vs h.in_order;
+        kept = lower_kept (has_no_direction (table_of r)) vs h.in_order;
+        turns = lower_unturned (has_no_direction (table_of r)) vs h.in_order;
+      };
+    }
 
 -- a value that a field's text spells is within its column's bounds
 within : (c : Column) (x : List ℕ) (v : Value) → IsOfTables c → IsFieldText x → Spells c x v → IsInBounds c v
@@ -202,8 +192,16 @@ of_line : ((line : List ℕ) → HasPlainFields line) → (t : Table) (line : Li
 of_line plain t line r h = of_fields t (fields line) r h.turned (field_texts line (plain line) h.text h.one_line) h.spelled
 
 -- the rows that a table can have are those of its lines
-pub of_lines : OwnNumbers → OwnLineOfValues → ((line : List ℕ) → HasPlainFields line) → TableRowsAreOfLines
-of_lines own law plain t r = (
-  λ h. subst (λ (a : Table). HasLine a r) h.0 (has_line own law r h.1),
+pub of_lines : OwnLineOfValues → ((line : List ℕ) → HasPlainFields line) → TableRowsAreOfLines
+of_lines law plain t r = (
+  λ h. (canonical r, subst (λ (a : Table). IsRow a (canonical r) r) h.0 (own_row law r h.1)),
   λ h. of_line plain t h.0 r h.1,
 )
+
+-- so the line that is written for the row of a line spells it, and no other
+pub own_line : OneList → OwnLineOfValues → ((line : List ℕ) → HasPlainFields line) → OwnRowLine
+own_line list law plain t line r h =
+    let fits = of_line plain t line r h in
+    let again = subst (λ (a : Table). IsRow a (canonical r) r) fits.0 (own_row law r fits.1) in
+    let other = λ (q : Row) (g : IsRow t (canonical r) q). (one_row list t (fields (canonical r)) q r g.turned again.turned g.spelled again.spelled).0 in
+    record { again = again; no_other = other; same = λ q g. ap canonical (other q g) }

@@ -1,87 +1,95 @@
--- The row of a table that has these values.
-use Rattle.std.specs.Prelude.{◌≡◌, Bool, List, drop}
+-- The row of a table whose columns have these values.
+use Rattle.std.proofs.Common.{◌≡◌, ◌≢◌, ◌↔◌, ◌∙◌, ◌≤◌, ℕ, Bool, true, List, [], ◌∷◌, ◌++◌, length, length-append, take, arith, refl, sym, ap, subst}
+use Rattle.std.proofs.Math.Seq.{take-append_seam}
+use Rattle.snb_base.specs.Spellings.{SpellsId}
+use Rattle.snb_base.proofs.Laws.{one_number}
+use Rattle.snb_schema.specs.declared.column.Column.{Column}
+use Rattle.snb_schema.specs.declared.column.Column.TheVariants.{Date}
 use Rattle.snb_schema.specs.declared.column.Value.{Value}
+use Rattle.snb_schema.specs.declared.column.Value.TheVariants.{Digits, SmallDigits, Letters}
 use Rattle.snb_schema.specs.declared.layout.Shape.{Shape}
 use Rattle.snb_schema.specs.declared.layout.Shape.TheVariants as shapes
-use Rattle.snb_schema.specs.declared.nodes.Comment.{Comment}
-use Rattle.snb_schema.specs.declared.nodes.Forum.{Forum}
-use Rattle.snb_schema.specs.declared.nodes.Named.{Named}
-use Rattle.snb_schema.specs.declared.nodes.Organisation.{Organisation}
-use Rattle.snb_schema.specs.declared.nodes.Place.{Place}
-use Rattle.snb_schema.specs.declared.nodes.Post.{Post}
-use Rattle.snb_schema.specs.declared.person.Person.{Person}
 use Rattle.snb_schema.specs.declared.row.Row.{Row}
 use Rattle.snb_schema.specs.declared.row.Row.TheVariants as row
 use Rattle.snb_schema.specs.declared.table.Table.{Table}
+use Rattle.snb_schema.specs.declared.table.Table.TheVariants as table
+use Rattle.snb_schema.specs.Columns.{SpellsAll}
 use Rattle.snb_schema.specs.Layouts.{has_no_direction, shape}
-use Rattle.snb_schema.specs.RowValues.{Differ, in_order, is_turned, row_shape, table_of, values}
-use Rattle.snb_input_fields.specs.Values.{first_number, first_small, first_text}
+use Rattle.snb_schema.specs.TableColumns.{columns, id_column}
+use Rattle.snb_schema.specs.RowLines.{IsLoop, SpellsRow}
+use Rattle.snb_schema.specs.RowValues.{Differ, IsWide, in_order, is_turned, row_shape, table_of, values}
+use Rattle.snb_input_fields.proofs.TypedRows.{TypedRow, row_values}
 
-abbrev pub place_of : List Value → Place
-place_of vs = record { id = first_number vs; name = first_text (drop 1 vs); url = first_text (drop 1 (drop 1 vs)); kind = first_text (drop 1 (drop 1 (drop 1 vs))) }
-
-abbrev pub named_of : List Value → Named
-named_of vs = record { id = first_number vs; name = first_text (drop 1 vs); url = first_text (drop 1 (drop 1 vs)) }
-
-abbrev pub organisation_of : List Value → Organisation
-organisation_of vs = record { id = first_number vs; kind = first_text (drop 1 vs); name = first_text (drop 1 (drop 1 vs)); url = first_text (drop 1 (drop 1 (drop 1 vs))) }
-
-abbrev pub person_of : List Value → Person
-person_of vs = record {
-  id = first_number vs;
-  first_name = first_text (drop 1 vs);
-  last_name = first_text (drop 1 (drop 1 vs));
-  gender = first_text (drop 1 (drop 1 (drop 1 vs)));
-  birthday = first_number (drop 1 (drop 1 (drop 1 (drop 1 vs))));
-  creation_date = first_number (drop 1 (drop 1 (drop 1 (drop 1 (drop 1 vs)))));
-  location_ip = first_text (drop 1 (drop 1 (drop 1 (drop 1 (drop 1 (drop 1 vs))))));
-  browser_used = first_text (drop 1 (drop 1 (drop 1 (drop 1 (drop 1 (drop 1 (drop 1 vs)))))));
-}
-
-abbrev pub forum_of : List Value → Forum
-forum_of vs = record { id = first_number vs; title = first_text (drop 1 vs); creation_date = first_number (drop 1 (drop 1 vs)) }
-
-abbrev pub post_of : List Value → Post
-post_of vs = record {
-  id = first_number vs;
-  image_file = first_text (drop 1 vs);
-  creation_date = first_number (drop 1 (drop 1 vs));
-  location_ip = first_text (drop 1 (drop 1 (drop 1 vs)));
-  browser_used = first_text (drop 1 (drop 1 (drop 1 (drop 1 vs))));
-  language = first_text (drop 1 (drop 1 (drop 1 (drop 1 (drop 1 vs)))));
-  content = first_text (drop 1 (drop 1 (drop 1 (drop 1 (drop 1 (drop 1 vs))))));
-  length = first_small (drop 1 (drop 1 (drop 1 (drop 1 (drop 1 (drop 1 (drop 1 vs)))))));
-}
-
-abbrev pub comment_of : List Value → Comment
-comment_of vs = record {
-  id = first_number vs;
-  creation_date = first_number (drop 1 vs);
-  location_ip = first_text (drop 1 (drop 1 vs));
-  browser_used = first_text (drop 1 (drop 1 (drop 1 vs)));
-  content = first_text (drop 1 (drop 1 (drop 1 (drop 1 vs))));
-  length = first_small (drop 1 (drop 1 (drop 1 (drop 1 (drop 1 vs)))));
-}
-
--- the row of this shape and table
+-- the row of this shape and table that has these values, where they are such a row's
 abbrev pub row_by : Shape → Table → List Value → Row
-row_by shapes.Place t vs = row.Place (place_of vs)
-row_by shapes.TagClass t vs = row.TagClass (named_of vs)
-row_by shapes.Tag t vs = row.Tag (named_of vs)
-row_by shapes.Organisation t vs = row.Organisation (organisation_of vs)
-row_by shapes.Person t vs = row.Person (person_of vs)
-row_by shapes.Forum t vs = row.Forum (forum_of vs)
-row_by shapes.Post t vs = row.Post (post_of vs)
-row_by shapes.Comment t vs = row.Comment (comment_of vs)
-row_by shapes.Link t vs = row.Link t (first_number vs) (first_number (drop 1 vs))
-row_by shapes.Dated t vs = row.Dated t (first_number vs) (first_number (drop 1 vs)) (first_number (drop 1 (drop 1 vs)))
-row_by shapes.Yeared t vs = row.Yeared t (first_number vs) (first_number (drop 1 vs)) (first_small (drop 1 (drop 1 vs)))
-row_by shapes.Word t vs = row.Word t (first_number vs) (first_text (drop 1 vs))
+row_by shapes.Place t (Digits id ∷ Letters name ∷ Letters url ∷ Letters kind ∷ []) = row.Place (record { id = id; name = name; url = url; kind = kind })
+row_by shapes.TagClass t (Digits id ∷ Letters name ∷ Letters url ∷ []) = row.TagClass (record { id = id; name = name; url = url })
+row_by shapes.Tag t (Digits id ∷ Letters name ∷ Letters url ∷ []) = row.Tag (record { id = id; name = name; url = url })
+row_by shapes.Organisation t (Digits id ∷ Letters kind ∷ Letters name ∷ Letters url ∷ []) = row.Organisation (record { id = id; kind = kind; name = name; url = url })
+row_by shapes.Person t (Digits id ∷ Letters first ∷ Letters last ∷ Letters gender ∷ Digits birthday ∷ Digits date ∷ Letters ip ∷ Letters browser ∷ []) =
+    row.Person (record { id = id; first_name = first; last_name = last; gender = gender; birthday = birthday; creation_date = date; location_ip = ip; browser_used = browser })
+row_by shapes.Forum t (Digits id ∷ Letters title ∷ Digits date ∷ []) = row.Forum (record { id = id; title = title; creation_date = date })
+row_by shapes.Post t (Digits id ∷ Letters image ∷ Digits date ∷ Letters ip ∷ Letters browser ∷ Letters language ∷ Letters content ∷ SmallDigits size ∷ []) =
+    row.Post (record { id = id; image_file = image; creation_date = date; location_ip = ip; browser_used = browser; language = language; content = content; length = size })
+row_by shapes.Comment t (Digits id ∷ Digits date ∷ Letters ip ∷ Letters browser ∷ Letters content ∷ SmallDigits size ∷ []) =
+    row.Comment (record { id = id; creation_date = date; location_ip = ip; browser_used = browser; content = content; length = size })
+row_by shapes.Dated t (Digits from ∷ Digits to ∷ Digits date ∷ []) = row.Dated t from to date
+row_by shapes.Yeared t (Digits from ∷ Digits to ∷ SmallDigits year ∷ []) = row.Yeared t from to year
+row_by shapes.Word t (Digits person ∷ Letters text ∷ []) = row.Word t person text
+row_by s t (Digits from ∷ Digits to ∷ []) = row.Link t from to
+row_by s t vs = row.Link t 0 0
+
+-- a row is what its shape, its table and its values make
+pub row_again : (r : Row) → row_by (row_shape r) (table_of r) (values r) ≡ r
+row_again (row.Place p) = refl
+row_again r = refl
 
 -- the row of the table whose line has these values, and whether the line has its ends the other way round
 pub record IsRowOf (t : Table) (said : List Value) (r : Row) (turned : Bool) : Type 0 where
   pub table : table_of r ≡ t
   pub shaped : row_shape r ≡ shape t
-  pub differ : Differ (has_no_direction t) said
   pub kept : values r ≡ in_order (has_no_direction t) said
   pub turns : turned ≡ is_turned (has_no_direction t) said
+
+-- what the columns of a table hold makes such a row
+pub row_made : (t : Table) (h : TypedRow (columns t)) → (r : Row) × (turned : Bool) × IsRowOf t (row_values (columns t) h) r turned
+row_made table.Place h = (row_by shapes.Place table.Place (row_values (columns table.Place) h), _, record { table = refl; shaped = refl; kept = refl; turns = refl })
+row_made t h = (row_by (shape t) t (in_order (has_no_direction t) (row_values (columns t) h)), _, record { table = refl; shaped = refl; kept = refl; turns = refl })
+
+-- the first two of these fields are different ids where they don't lead back
+ends : (cs : List Column) (fs : List (List ℕ)) (one other : ℕ) (rest : List Value) → SpellsAll (id_column ∷ id_column ∷ cs) (take (length (id_column ∷ id_column ∷ cs)) fs) (Digits one ∷ Digits other ∷ rest) → one ≢ other ↔ ¬ IsLoop true fs
+ends cs [] one other rest s = absurd s
+ends cs (x ∷ []) one other rest s = absurd s.1
+ends cs (x ∷ y ∷ fs) one other rest s = (
+  λ differ loop. differ (one_number x one loop.0 s.0 loop.1 ∙ sym (one_number y other loop.0 s.1.0 loop.2)),
+  λ apart same. apart (one, s.0, subst (SpellsId y) (sym same) s.1.0),
+)
+
+-- so do those of an edge without direction
+pub differ_apart : (t : Table) (fs : List (List ℕ)) (h : TypedRow (columns t)) → SpellsAll (columns t) (take (length (columns t)) fs) (row_values (columns t) h) → Differ (has_no_direction t) (row_values (columns t) h) ↔ ¬ IsLoop (has_no_direction t) fs
+differ_apart table.PersonKnowsPerson fs h s = ends (Date ∷ []) fs h.0 h.1.0 (row_values (Date ∷ []) h.1.1) s
+differ_apart t fs h s = (λ differ loop. loop, λ apart. tt)
+
+-- a wide line has so many fields
+pub wide_long : (n : ℕ) (fs : List (List ℕ)) → IsWide n fs → n ≤ length fs
+wide_long n fs w = let e = ap length w.split in let size = w.size in omega (arith, e, size, length-append w.own w.extra)
+
+-- and the first of them are its own
+pub own_first : (n : ℕ) (fs : List (List ℕ)) (w : IsWide n fs) → take n fs ≡ w.own
+own_first n fs w = ap (take n) w.split ∙ subst (λ k. take k (w.own ++ w.extra) ≡ w.own) w.size (take-append_seam w.own w.extra)
+
+-- a row of the fields of a wide line
+pub spells_row : (t : Table) (fs : List (List ℕ)) (vs : List Value) (r : Row) (turned : Bool) → IsWide (length (columns t)) fs → SpellsAll (columns t) (take (length (columns t)) fs) vs → Differ (has_no_direction t) vs → IsRowOf t vs r turned → SpellsRow t fs r turned
+spells_row t fs vs r turned w s differ is = record {
+  table = is.table;
+  shaped = is.shaped;
+  own = w.own;
+  extra = w.extra;
+  split = w.split;
+  no_more = w.no_more;
+  said = vs;
+  spelled = subst (λ (xs : List (List ℕ)). SpellsAll (columns t) xs vs) (own_first (length (columns t)) fs w) s;
+  differ = differ;
+  kept = is.kept;
+  turns = is.turns;
+}

@@ -1,8 +1,6 @@
 -- The row that the fields of a line make. Cited by contracts of private functions alone.
-use Rattle.std.specs.Prelude.{◌≡◌, ◌≢◌, ◌⊎◌, ℕ, suc, Bool, List, [], ◌∷◌, min, max, nat_lt}
+use Rattle.std.specs.Prelude.{◌≡◌, ◌≢◌, ◌⊎◌, ℕ, Bool, List, [], ◌∷◌, min, max, nat_lt}
 use Rattle.snb_base.specs.Spellings.{SpellsId}
-use Rattle.snb_schema.specs.declared.column.Column.{Column}
-use Rattle.snb_schema.specs.declared.column.Value.{Value}
 use Rattle.snb_schema.specs.declared.column.Value.TheVariants.{Digits}
 use Rattle.snb_schema.specs.declared.layout.Shape.{Shape}
 use Rattle.snb_schema.specs.declared.layout.Shape.TheVariants as shapes
@@ -10,7 +8,6 @@ use Rattle.snb_schema.specs.declared.row.Row.{Row}
 use Rattle.snb_schema.specs.declared.row.Row.TheVariants as row
 use Rattle.snb_schema.specs.declared.table.Table.{Table}
 use Rattle.snb_schema.specs.declared.table.Table.TheVariants as table
-use Rattle.snb_schema.specs.Columns.{Spells}
 use Rattle.snb_schema.specs.TableColumns.{shape_columns}
 use Rattle.snb_schema.specs.RowValues.{row_shape, table_of, values}
 use Rattle.snb_input_fields.specs.Reading.{IsBadIn, SpellsFrom, text_at}

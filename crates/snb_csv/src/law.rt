@@ -3,7 +3,6 @@
 ghost use Rattle.snb_schema.specs.TableRows.{TableRowsAreOfLines};
 ghost use Rattle.snb_csv.specs.Laws.{OneColumn, OneRow, OwnRowLine, RowOrColumn, RowsAreRight, RowsOfFieldsFit};
 
-use snb_base::number::one_spelling;
 use snb_columns::law::{own_line as own_line_of_values, plain_fields};
 use snb_input_fields::law::{one_value, spelled_or_not};
 
@@ -39,7 +38,6 @@ pub fn one_column()
 pub fn table_rows_are_of_lines()
     ensures { TableRowsAreOfLines }
 {
-    one_spelling();
     own_line_of_values();
     plain_fields();
 }

@@ -7,8 +7,8 @@ ghost use Rattle.snb_schema.specs.Faults.{OnBadColumn};
 ghost use Rattle.snb_schema.specs.Layouts.{shape};
 ghost use Rattle.snb_schema.specs.TableColumns.{columns, shape_columns};
 ghost use Rattle.snb_schema.specs.RowValues.{values};
-ghost use Rattle.snb_input_fields.specs.Reading.{IsBadIn, at_first};
-ghost use Rattle.snb_csv.specs.Make.{AreFriends, AreNoFriends, IsMadeOf, SpellsFrom};
+ghost use Rattle.snb_input_fields.specs.Reading.{IsBadIn, SpellsFrom, at_first};
+ghost use Rattle.snb_csv.specs.Make.{AreFriends, AreNoFriends, IsMadeOf};
 
 use snb_input_fields::FieldReader;
 use snb_schema::layout::shape_of;
@@ -244,7 +244,7 @@ pub fn make_friends(
         Err(why) => return Err(why),
     };
     if one == other {
-        return Err(LineFault::Bad { column: 2 });
+        return Err(fields.clash());
     }
     let date = fields.date()?;
     Ok(Placed {

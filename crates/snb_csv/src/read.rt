@@ -6,7 +6,7 @@ ghost use Rattle.snb_schema.specs.RowLines.{IsBadColumn, SpellsRow};
 
 use crate::make::{make_friends, make_row};
 use snb_input_fields::FieldReader;
-use snb_input_fields::read::is_wide;
+use snb_input_fields::wide::is_wide;
 use snb_input_lines::Record;
 use snb_schema::layout::{columns_of, is_undirected};
 use snb_schema::{LineFault, Placed, Table};

@@ -1,4 +1,4 @@
-use Rattle.snb_csv.proofs.OwnFacts.{own_line}
+use Rattle.snb_csv.proofs.RowLineFacts.{own_line}
 use Rattle.snb_csv.proofs.law.own_line.Goals as goal
 
 pub returns : goal.returns

@@ -2,7 +2,7 @@ use Rattle.std.proofs.Common.{refl}
 use Rattle.snb_schema.specs.declared.column.Column.TheVariants as columns
 use Rattle.snb_schema.specs.declared.column.Value.TheVariants.{Digits, Letters}
 use Rattle.snb_schema.specs.declared.limits.TheConstants.{MAX_ID}
-use Rattle.snb_csv.proofs.StepFacts.{moved, spelled}
+use Rattle.snb_input_fields.proofs.Readings.{moved, spelled}
 use Rattle.snb_csv.proofs.make.person.Goals as goal
 
 pub returns-clause-ok : goal.returns-clause-ok
@@ -22,21 +22,10 @@ returns-clause-ok c =
 
 pub text-requires-4 : goal.text-requires-4
 text-requires-4 c =
-    let e1 = moved c.in_ok-number.ensures.past c.requires in
-    let e2 = moved c.in_ok-text.ensures.past e1 in
-    let e3 = moved c.in_ok-text-2.ensures.past e2 in
-    let e4 = moved c.in_ok-text-3.ensures.past e3 in
-    let e5 = moved c.in_ok-day.ensures.past e4 in
-    let e6 = moved c.in_ok-date.ensures.past e5 in
-    record { next = rw e6 refl }
+    let e3 = moved c.in_ok-text-2.ensures.past (moved c.in_ok-text.ensures.past (moved c.in_ok-number.ensures.past c.requires)) in
+    record { next = rw (moved c.in_ok-date.ensures.past (moved c.in_ok-day.ensures.past (moved c.in_ok-text-3.ensures.past e3))) refl }
 
 pub text-requires-5 : goal.text-requires-5
 text-requires-5 c =
-    let e1 = moved c.in_ok-number.ensures.past c.requires in
-    let e2 = moved c.in_ok-text.ensures.past e1 in
-    let e3 = moved c.in_ok-text-2.ensures.past e2 in
-    let e4 = moved c.in_ok-text-3.ensures.past e3 in
-    let e5 = moved c.in_ok-day.ensures.past e4 in
-    let e6 = moved c.in_ok-date.ensures.past e5 in
-    let e7 = moved c.in_ok-text-4.ensures.past e6 in
-    record { next = rw e7 refl }
+    let e3 = moved c.in_ok-text-2.ensures.past (moved c.in_ok-text.ensures.past (moved c.in_ok-number.ensures.past c.requires)) in
+    record { next = rw (moved c.in_ok-text-4.ensures.past (moved c.in_ok-date.ensures.past (moved c.in_ok-day.ensures.past (moved c.in_ok-text-3.ensures.past e3)))) refl }
