@@ -1,23 +1,20 @@
 -- The parameters of a query, read one after another, and a query by its kind and its values.
-use Rattle.std.proofs.Common.{◌≡◌, ◌<◌, ◌+◌, ℕ, List, [], ◌∷◌, length, map, refl, sym, subst, ap, rules, arith, inl, inr}
+use Rattle.std.proofs.Common.{◌≡◌, ◌+◌, ℕ, List, [], ◌∷◌, map, refl, sym, subst, rules, inl, inr}
 use Rattle.serde_json.specs.Data.{Data}
 use Rattle.serde_json.specs.View.{view}
 use Rattle.serde_json.specs.declared.value.Value.{Value as Json}
 use Rattle.snb_schema.specs.declared.column.Column.{Column}
-use Rattle.snb_schema.specs.declared.column.Column.TheVariants.{Number, Small, Date, Words}
 use Rattle.snb_schema.specs.declared.column.Value.{Value}
-use Rattle.snb_schema.specs.declared.column.Value.TheVariants.{Digits, SmallDigits, Letters}
-use Rattle.snb_schema.specs.declared.limits.TheConstants.{MAX_TIME}
 use Rattle.snb_schema.specs.declared.query.Query.{Query}
 use Rattle.snb_schema.specs.declared.read_kind.ReadKind.{ReadKind}
 use Rattle.snb_schema.specs.ReadKinds.{read_kind_of, parameter_columns, parameter_values}
-use Rattle.snb_input_fields.specs.Fields.{Expects, ReadsAll, StopsIn}
-use Rattle.snb_validation_cases.specs.Parameters.{AreParameters, IsParameter, JsonReading, StopsNext, json_meaning}
+use Rattle.snb_input_fields.specs.Fields.{StopsIn}
+use Rattle.snb_validation_cases.specs.Parameters.{AreParameters, IsParameter, JsonReading, json_meaning}
 use Rattle.snb_validation_cases.specs.Values.{AreAlong, IsArray}
 use Rattle.snb_validation_cases.proofs.OneFacts.{along_one, parameter_one}
 use Rattle.snb_validation_cases.proofs.ValueFacts.{array_all}
 
--- and where one of them is refused, they are no parameters
+-- where the reading stops, the values that were left are no parameters
 pub stops_along : (cs : List Column) (ds : List Json) (s : JsonReading) (number : ℕ) → s.left ≡ ds → StopsIn json_meaning s cs number → (vs : List Value) → ¬ AreAlong IsParameter cs (map view ds) vs
 stops_along [] ds s number e r vs h = r
 stops_along (c ∷ cs) (d ∷ ds) s number e (inl (none, is)) (v ∷ vs) h = none v (record { left = ds; read = s.read + 1 }) (d, e, refl, h.0)
@@ -26,8 +23,7 @@ stops_along (c ∷ cs) (d ∷ ds) s number e (inr (w, next, (a, is, read, p), r)
     stops_along cs ds next number others r vs h.1
 stops_along cs ds s number e r vs h = h
 
--- ---- a query by its kind and its values
-
+-- queries of one kind with the same values are one
 same_query : (a b : Query) → read_kind_of a ≡ read_kind_of b → parameter_values a ≡ parameter_values b → a ≡ b
 same_query a b e f = search rules
 

@@ -31,18 +31,18 @@ AreParameters ds query =
 abbrev pub AreOfKind : ReadKind → List Data → Query → Type 0
 AreOfKind kind ds query = (kind ≡ read_kind_of query) × AreParameters ds query
 
--- the values of an array that are left, and how many were read before them
+-- the values of an array that are left to read, and how many were read
 pub record JsonReading : Type 0 where
   pub left : List Json
   pub read : ℕ
 
--- the first of the values left is this parameter of the column, and after it the others are left
+-- the first of the values left is this parameter of the column, and then the others are left
 abbrev pub ReadsNext : JsonReading → Column → Value → JsonReading → Type 0
 ReadsNext s column v t =
     (value : Json) × (s.left ≡ value ∷ t.left) × (t.read ≡ s.read + 1)
     × IsParameter column (view value) v
 
--- there is no value left, or the first is no parameter of the column, which is this one, counted from 1
+-- no value is left, or the first is no parameter of the column, which has this number, counted from 1
 abbrev pub StopsNext : JsonReading → Column → ℕ → Type 0
 StopsNext s column number =
     ((v : Value) (t : JsonReading) → ¬ ReadsNext s column v t) × (number ≡ s.read + 1)

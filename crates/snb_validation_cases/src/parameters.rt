@@ -17,8 +17,8 @@ use snb_schema::{LineFault, Query, ReadKind};
 use std::alloc::{AllocError, Global};
 use std::marker::Model;
 
-// Reads the values of an array one after another. A contract sees the values that are left, and how
-// many were read.
+// Reads the values of an array as parameters, one after another. A contract sees the values that are
+// left, and how many were read.
 #[derive(Drop)]
 struct JsonFields<'a> {
     alloc: Global,
@@ -55,7 +55,7 @@ impl<'a> JsonFields<'a> {
         }
     }
 
-    // The next value, which is read then. The error is `Bad`, where there is none.
+    // Takes the next value. The error is `Bad`, where none is left.
     fn next(&mut self) -> Result<&'a Json, LineFault>
         ensures next { IfOk result (λ value. self.old.left ≡ value.now ∷ self.new.left) }
         ensures read { OnOk result (self.new.read ≡ self.old.read + 1) }
