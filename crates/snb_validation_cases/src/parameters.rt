@@ -1,101 +1,107 @@
 //! The queries that JSON values ask.
 
-ghost use Rattle.std.specs.Prelude.{List, IfOk, MatchOption, map};
+ghost use Rattle.std.specs.Prelude.{◌≡◌, ◌+◌, ◌<◌, ◌∷◌, [], length, IfOk, MatchOption, OnOk, map};
 ghost use Rattle.serde_json.specs.View.{view};
-ghost use Rattle.snb_schema.specs.declared.column.Column.TheVariants.{Date, Number, Small, Words};
-ghost use Rattle.snb_schema.specs.declared.column.Value.{Value as AnyValue};
 ghost use Rattle.snb_schema.specs.declared.query.Query.{Query as AnyQuery};
-ghost use Rattle.snb_validation_cases.specs.Parameters.{AreOfKind, IsParameter};
-ghost use Rattle.snb_validation_cases.specs.Values.{AreAlong, IsArray};
+ghost use Rattle.snb_schema.specs.Faults.{OnBadColumn};
+ghost use Rattle.snb_validation_cases.specs.Parameters.{AreOfKind};
+ghost use Rattle.snb_validation_cases.specs.Values.{IsArray};
 
 use crate::values::{items_in, number_in, text_in};
 use serde_json::Value as Json;
-use snb_input_fields::{Values, query_of};
+use snb_base::Text;
+use snb_input_fields::wide::COLUMNS_END;
+use snb_input_fields::{Fields, read_query};
 use snb_schema::limits::MAX_TIME;
-use snb_schema::{Column, Query, ReadKind, Value};
+use snb_schema::{LineFault, Query, ReadKind};
 use std::alloc::{AllocError, Global};
+use std::marker::Model;
 
-// The number up to `most` that a value is.
-fn digits_in(value: &Json, most: u64) -> Option<Value>
-    ensures { MatchOption result ((v : AnyValue) → ¬ IsParameter (Number most) (view value.now) v)
-        (IsParameter (Number most) (view value.now)) }
-{
-    match number_in(value, most) {
-        Some(n) => Some(Value::Digits { n }),
-        None => None,
-    }
-}
-
-// The date that a value is.
-fn date_in(value: &Json) -> Option<Value>
-    ensures { MatchOption result ((v : AnyValue) → ¬ IsParameter Date (view value.now) v)
-        (IsParameter Date (view value.now)) }
-{
-    match number_in(value, MAX_TIME) {
-        Some(n) => Some(Value::Digits { n }),
-        None => None,
-    }
-}
-
-// The small number up to `most` that a value is.
-fn small_digits_in(value: &Json, most: u32) -> Option<Value>
-    ensures { MatchOption result ((v : AnyValue) → ¬ IsParameter (Small most) (view value.now) v)
-        (IsParameter (Small most) (view value.now)) }
-{
-    match number_in(value, u64::from(most)) {
-        Some(n) => Some(Value::SmallDigits { n: n as u32 }),
-        None => None,
-    }
-}
-
-// The text that a value is.
-fn letters_in(alloc: Global, value: &Json) -> Result<Option<Value>, AllocError>
-    ensures { IfOk result (λ found. MatchOption found
-        ((v : AnyValue) → ¬ IsParameter Words (view value.now) v)
-        (IsParameter Words (view value.now))) }
-{
-    match text_in(alloc, value)? {
-        Some(text) => Ok(Some(Value::Letters { text })),
-        None => Ok(None),
-    }
-}
-
-// The parameter of a column that a value is.
-fn parameter_in(alloc: Global, column: Column, value: &Json) -> Result<Option<Value>, AllocError>
-    ensures { IfOk result (λ found. MatchOption found
-        ((v : AnyValue) → ¬ IsParameter column (view value.now) v)
-        (IsParameter column (view value.now))) }
-{
-    match column {
-        Column::Number { most } => Ok(digits_in(value, most)),
-        Column::Small { most } => Ok(small_digits_in(value, most)),
-        Column::Date => Ok(date_in(value)),
-        Column::Words => letters_in(alloc, value),
-        _ => Ok(None),
-    }
-}
-
-// The parameters of these columns that values are.
-fn parameters_of(
+// Reads the values of an array as parameters, one after another. A contract sees the values that are
+// left, and how many were read.
+#[derive(Drop)]
+struct JsonFields<'a> {
     alloc: Global,
-    columns: &[Column],
-    items: &[Json],
-) -> Result<Option<Vec<Value>>, AllocError>
-    ensures { IfOk result (λ found. MatchOption found
-        ((values : List AnyValue) → ¬ AreAlong IsParameter columns.now (map view items.now) values)
-        (λ values. AreAlong IsParameter columns.now (map view items.now) values.items)) }
-{
-    if columns.len() != items.len() {
-        return Ok(None);
+    left: &'a [Json],
+    read: u32,
+}
+
+impl<'a> Model for JsonFields<'a> {
+    ghost use Rattle.std.specs.Prelude.{◌+◌, ◌<◌, length};
+    ghost use Rattle.std.specs.Coded.{codes};
+    ghost use Rattle.serde_json.specs.contracts.value.Value as json;
+    ghost use Rattle.snb_input_fields.specs.declared.wide.TheConstants.{COLUMNS_END};
+    ghost use Rattle.snb_validation_cases.specs.Parameters.{JsonReading};
+
+    ghost Value = { JsonReading };
+
+    ghost coded = { Prim.hlevel (codes, json.the_row.coded) };
+
+    ghost view = { λ r. record { left = r.left.now; read = r.read } };
+
+    ghost invariant = { λ r. r.read + length r.left.now < COLUMNS_END };
+}
+
+impl<'a> JsonFields<'a> {
+    // Before the first of some values.
+    fn new(alloc: Global, items: &'a [Json]) -> JsonFields<'a>
+        requires few { length items.now < COLUMNS_END }
+        ensures { result ≡ record { left = items.now; read = 0 } }
+    {
+        JsonFields {
+            alloc,
+            left: items,
+            read: 0,
+        }
     }
-    let mut values = Vec::new(alloc);
-    for i in 0..columns.len() {
-        let Some(value) = parameter_in(alloc, columns[i], &items[i])? else {
-            return Ok(None);
+
+    // Takes the next value. The error is `Bad`, where none is left.
+    fn next(&mut self) -> Result<&'a Json, LineFault>
+        ensures next { IfOk result (λ value. self.old.left ≡ value.now ∷ self.new.left) }
+        ensures read { OnOk result (self.new.read ≡ self.old.read + 1) }
+        ensures none { OnBadColumn result (λ number. (self.old.left ≡ []) × (number ≡ self.old.read + 1)) }
+    {
+        let [first, left @ ..] = self.left else {
+            return Err(LineFault::Bad {
+                column: self.read + 1,
+            });
         };
-        values.push(value)?;
+        self.left = left;
+        self.read += 1;
+        Ok(first)
     }
-    Ok(Some(values))
+}
+
+impl<'a> Fields for JsonFields<'a> {
+    ghost use Rattle.snb_validation_cases.specs.Parameters.{json_meaning};
+
+    ghost meaning = { json_meaning };
+
+    fn number(&mut self, most: u64) -> Result<u64, LineFault> {
+        match number_in(self.next()?, most) {
+            Some(n) => Ok(n),
+            None => Err(LineFault::Bad { column: self.read }),
+        }
+    }
+
+    fn small(&mut self, most: u32) -> Result<u32, LineFault> {
+        match number_in(self.next()?, u64::from(most)) {
+            Some(n) => Ok(n as u32),
+            None => Err(LineFault::Bad { column: self.read }),
+        }
+    }
+
+    fn date(&mut self) -> Result<u64, LineFault> {
+        self.number(MAX_TIME)
+    }
+
+    fn text(&mut self) -> Result<Text, LineFault> {
+        let value = self.next()?;
+        match text_in(self.alloc, value)? {
+            Some(text) => Ok(text),
+            None => Err(LineFault::Bad { column: self.read }),
+        }
+    }
 }
 
 // The query of this kind that has these parameters.
@@ -104,9 +110,13 @@ fn query_with(alloc: Global, kind: ReadKind, items: &[Json]) -> Result<Option<Qu
         ((query : AnyQuery) → ¬ AreOfKind kind (map view items.now) query)
         (AreOfKind kind (map view items.now))) }
 {
-    match parameters_of(alloc, kind.columns(), items)? {
-        Some(values) => Ok(Some(query_of(kind, &mut Values::new(alloc, values)))),
-        None => Ok(None),
+    if kind.columns().len() != items.len() {
+        return Ok(None);
+    }
+    match read_query(kind, &mut JsonFields::new(alloc, items)) {
+        Ok(query) => Ok(Some(query)),
+        Err(LineFault::Bad { column: _ }) => Ok(None),
+        Err(LineFault::Memory) => Err(AllocError),
     }
 }
 

@@ -1,8 +1,0 @@
-use Rattle.std.proofs.Common.{map, take}
-use Rattle.serde_json.specs.View.{view}
-use Rattle.snb_validation_cases.specs.Parameters.{IsParameter}
-use Rattle.snb_validation_cases.specs.Values.{AreAlong}
-use Rattle.snb_validation_cases.proofs.parameters.parameters_of.Given as goal
-
-abbrev pub invariant-loop-i : goal.invariant-loop-i
-invariant-loop-i l = AreAlong IsParameter (take l.i l.columns) (map view (take l.i l.items)) l.values.items
