@@ -12,10 +12,6 @@ use Rattle.snb_tool_words.specs.Taken.{AreValuesFound, IsReadFound, words_meanin
 use Rattle.snb_tool_words.proofs.OptionLemmas.{must_one}
 use Rattle.snb_tool_words.proofs.ReadLemmas.{one_query}
 
--- the places of the parameters
-abbrev pub read_places : List (List ℕ)
-read_places = codes "third" ∷ codes "fourth" ∷ codes "fifth" ∷ []
-
 -- words that were found to spell values may be read
 pub may_read : (cs : List Column) (words : List (Option (List ℕ))) (vs : List Value) → AreValuesFound cs words vs → Expects words_meaning words cs
 may_read [] words [] s = tt
@@ -40,7 +36,7 @@ read_one one (c ∷ cs) (word ∷ words) more (v ∷ vs) (w ∷ ws) r s =
 read_one one cs words more vs ws r s = absurd s
 
 -- the read that is made of the words that were found is the one that was found
-pub same_read : OneValue → (word_of : List ℕ → Option (List ℕ)) (made query : Query) (kind : ReadKind) (more : List (Option (List ℕ))) → read_kind_of made ≡ kind → kind ≡ read_kind_of query
-    → ReadsAll words_meaning (map word_of read_places) (parameter_columns kind) (parameter_values made) more → IsReadFound word_of query → made ≡ query
-same_read one word_of made query kind more is alike read found =
-    one_query made query (is ∙ alike) (read_one one (parameter_columns kind) (map word_of read_places) more (parameter_values made) (parameter_values query) read (rw alike found.parameters))
+pub same_read : OneValue → (words more : List (Option (List ℕ))) (made query : Query) (kind : ReadKind) → read_kind_of made ≡ kind → kind ≡ read_kind_of query
+    → ReadsAll words_meaning words (parameter_columns kind) (parameter_values made) more → AreValuesFound (parameter_columns (read_kind_of query)) words (parameter_values query) → made ≡ query
+same_read one words more made query kind is alike read found =
+    one_query made query (is ∙ alike) (read_one one (parameter_columns kind) words more (parameter_values made) (parameter_values query) read (rw alike found))

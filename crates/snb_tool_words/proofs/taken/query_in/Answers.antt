@@ -11,4 +11,4 @@ pub unreachable-requires : goal.unreachable-requires
 unreachable-requires c = never_stops (parameter_columns c.kind_in.result) _ _ (rw c.in-Err-Bad.field-0-is at c.in-Err-Bad.ensures).bad
 
 pub returns-in-Ok : goal.returns-in-Ok
-returns-in-Ok c = λ query found. same_read c.one_value.ensures.value _ c.in-Ok.query query c.kind_in.result _ c.in-Ok.ensures.kind (c.kind_in.ensures (read_kind_of query) found.kind) c.in-Ok.ensures.ok found
+returns-in-Ok c = λ query found. same_read c.one_value.ensures.value _ _ c.in-Ok.query query c.kind_in.result c.in-Ok.ensures.kind (c.kind_in.ensures (read_kind_of query) found.kind) c.in-Ok.ensures.ok found.parameters
