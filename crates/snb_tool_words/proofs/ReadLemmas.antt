@@ -1,10 +1,11 @@
 -- Facts on the words of reads.
-use Rattle.std.proofs.Common.{◌≡◌, ◌↔◌, ◌<◌, ◌≤◌, Bool, false, IsTrue, Option, Some, None, List, [], ◌∷◌, length, refl, sym, subst, ap, ◌∙◌, arith, rules, ℕ}
+use Rattle.std.proofs.Common.{◌≡◌, ◌↔◌, ◌<◌, ◌≤◌, Bool, false, IsTrue, Option, Some, None, List, [], ◌∷◌, length, refl, sym, subst, ap, ◌∙◌, inl, inr, arith, rules, ℕ}
 use Rattle.std.specs.Option.{MatchOption, is_some}
 use Rattle.snb_base.specs.Spellings.{Date, Num}
 use Rattle.snb_input_fields.proofs.Laws.{spelled_long}
 use Rattle.snb_input_fields.proofs.TypedRows.{TypedRow, row_of, row_values}
-use Rattle.snb_columns.specs.Laws.{OneList}
+use Rattle.snb_input_fields.specs.Fields.{Expects, ReadsAll, StopsIn}
+use Rattle.snb_columns.specs.Laws.{OneList, OneValue}
 use Rattle.snb_schema.specs.declared.column.Column.{Column}
 use Rattle.snb_schema.specs.declared.column.Column.TheVariants as columns
 use Rattle.snb_schema.specs.declared.column.Column.TheVariants.{Number, Small}
@@ -17,6 +18,8 @@ use Rattle.snb_schema.specs.declared.read_kind.ReadKind.TheVariants.{Is1, Is2, I
 use Rattle.snb_schema.specs.Columns.{Spells, SpellsAll}
 use Rattle.snb_schema.specs.ReadKinds.{read_kind_of, parameter_columns, parameter_values, read_word}
 use Rattle.snb_tool_words.specs.Commands.{IsReadOf}
+use Rattle.snb_tool_words.specs.Taken.{AreValuesFound, words_meaning}
+use Rattle.snb_tool_words.proofs.OptionLemmas.{must_one}
 use Rattle.snb_schema.proofs.Laws.{one_kind}
 
 -- a read has one to three parameters
@@ -57,16 +60,16 @@ only_date word none (Digits n) s = none n s
 only_date word none v s = s
 
 -- values are spelled where a first one and the others are
-spelled_parts : (c : Column) (cs : List Column) (x : List ℕ) (xs : List (List ℕ)) (vs : List Value) → SpellsAll (c ∷ cs) (x ∷ xs) vs → IsSpelled c x × AnySpelled cs xs
-spelled_parts c cs x xs [] s = absurd s
-spelled_parts c cs x xs (v ∷ vs) s = ((v, s.0), (vs, s.1))
+spelled_parts : (c : Column) (cs : List Column) (x : List ℕ) (xs : List (List ℕ)) → AnySpelled (c ∷ cs) (x ∷ xs) → IsSpelled c x × AnySpelled cs xs
+spelled_parts c cs x xs ([], s) = absurd s
+spelled_parts c cs x xs (v ∷ vs, s) = ((v, s.0), (vs, s.1))
 
 module _ (c : Column) (cs all : List Column) (x : List ℕ) (xs words : List (List ℕ)) (r : Bool) (columns : all ≡ c ∷ cs) (are : words ≡ x ∷ xs) where
   pub more_spells : IsSpelled c x → (IsTrue r ↔ AnySpelled cs xs) → IsTrue r ↔ AnySpelled all words
-  more_spells first iff = rw (columns, are) (λ t. let more = iff.0 t in (first.0 ∷ more.0, (first.1, more.1)), λ s. iff.1 (spelled_parts c cs x xs s.0 s.1).1)
+  more_spells first iff = rw (columns, are) (λ t. let more = iff.0 t in (first.0 ∷ more.0, (first.1, more.1)), λ s. iff.1 (spelled_parts c cs x xs s).1)
 
   pub first_spells : r ≡ false → (IsTrue r ↔ IsSpelled c x) → IsTrue r ↔ AnySpelled all words
-  first_spells e iff = rw (columns, are) (λ t. absurd cc, λ s. iff.1 (spelled_parts c cs x xs s.0 s.1).0)
+  first_spells e iff = rw (columns, are) (λ t. absurd cc, λ s. iff.1 (spelled_parts c cs x xs s).0)
 
 -- ---- a read by its kind and its values
 
@@ -111,3 +114,34 @@ read_is kind word words columns r named same iff = (
       let alike = one_kind kind (read_kind_of q.0) (sym named ∙ q.1.0) in
       iff.1 (parameter_values q.0, rw (same, alike) q.1.1),
 )
+
+-- ---- the words of a read that were found, read one after another
+
+-- words that were found to spell values may be read
+pub may_read : (cs : List Column) (words : List (Option (List ℕ))) (vs : List Value) → AreValuesFound cs words vs → Expects words_meaning words cs
+may_read [] words [] s = tt
+may_read (c ∷ cs) (word ∷ words) (v ∷ vs) s = ((v, s.0), λ w more r. subst (λ (t : List (Option (List ℕ))). Expects words_meaning t cs) (sym r.1) (may_read cs words vs s.1))
+may_read cs words vs s = absurd s
+
+-- no word spells nothing
+pub never_stops : (cs : List Column) (words : List (Option (List ℕ))) (n : ℕ) → ¬ StopsIn words_meaning words cs n
+never_stops [] words n s = s
+never_stops (c ∷ cs) words n (inl s) = s
+never_stops (c ∷ cs) words n (inr s) = never_stops cs s.1 n s.3
+
+-- and what is read is what was found
+read_one : OneValue → (cs : List Column) (words more : List (Option (List ℕ))) (vs ws : List Value) → ReadsAll words_meaning words cs vs more → AreValuesFound cs words ws → vs ≡ ws
+read_one one [] words more [] [] r s = refl
+read_one one [] words more (v ∷ vs) [] r s = absurd r
+read_one one (c ∷ cs) (word ∷ words) more [] (w ∷ ws) r s = absurd r
+read_one one (c ∷ cs) (word ∷ words) more (v ∷ vs) (w ∷ ws) r s =
+    let same = must_one (Spells c) (one c) word v w r.1.0 s.0 in
+    let others = read_one one cs words more vs ws (subst (λ (t : List (Option (List ℕ))). ReadsAll words_meaning t cs vs more) r.1.1 r.2) s.1 in
+    λ i. same i ∷ others i
+read_one one cs words more vs ws r s = absurd s
+
+-- the read that is made of the words that were found is the one that was found
+pub same_read : OneValue → (words more : List (Option (List ℕ))) (made query : Query) (kind : ReadKind) → read_kind_of made ≡ kind → kind ≡ read_kind_of query
+    → ReadsAll words_meaning words (parameter_columns kind) (parameter_values made) more → AreValuesFound (parameter_columns (read_kind_of query)) words (parameter_values query) → made ≡ query
+same_read one words more made query kind is alike read found =
+    one_query made query (is ∙ alike) (read_one one (parameter_columns kind) words more (parameter_values made) (parameter_values query) read (rw alike found))

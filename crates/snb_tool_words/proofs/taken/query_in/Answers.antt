@@ -1,5 +1,5 @@
 use Rattle.snb_schema.specs.ReadKinds.{parameter_columns, parameter_values, read_kind_of}
-use Rattle.snb_tool_words.proofs.ReadTaken.{may_read, never_stops, same_read}
+use Rattle.snb_tool_words.proofs.ReadLemmas.{may_read, never_stops, same_read}
 use Rattle.snb_tool_words.proofs.taken.query_in.Goals as goal
 
 pub read_query-requires : goal.read_query-requires
