@@ -123,13 +123,13 @@ may_read [] words [] s = tt
 may_read (c ∷ cs) (word ∷ words) (v ∷ vs) s = ((v, s.0), λ w more r. subst (λ (t : List (Option (List ℕ))). Expects words_meaning t cs) (sym r.1) (may_read cs words vs s.1))
 may_read cs words vs s = absurd s
 
--- no word spells nothing
+-- reading stops at none of them
 pub never_stops : (cs : List Column) (words : List (Option (List ℕ))) (n : ℕ) → ¬ StopsIn words_meaning words cs n
 never_stops [] words n s = s
 never_stops (c ∷ cs) words n (inl s) = s
 never_stops (c ∷ cs) words n (inr s) = never_stops cs s.1 n s.3
 
--- and what is read is what was found
+-- what is read is what was found
 read_one : OneValue → (cs : List Column) (words more : List (Option (List ℕ))) (vs ws : List Value) → ReadsAll words_meaning words cs vs more → AreValuesFound cs words ws → vs ≡ ws
 read_one one [] words more [] [] r s = refl
 read_one one [] words more (v ∷ vs) [] r s = absurd r

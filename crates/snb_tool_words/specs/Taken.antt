@@ -117,8 +117,8 @@ abbrev pub next_of : List (Option (List ℕ)) → Option (List ℕ)
 next_of [] = None
 next_of (word ∷ words) = word
 
--- the words that were found, as fields that are read one after another: where one is read it spells
--- a value of its column
+-- the words that were found, as fields that are read one after another, of which each that is read
+-- spells a value of its column
 abbrev pub words_meaning : FieldsMeaning (List (Option (List ℕ)))
 words_meaning = record {
   expects = λ words column. (v : Value) × MustSay (Spells column) (next_of words) v;
