@@ -5,7 +5,6 @@ mod NumberLemmas
 mod OptionLemmas
 mod PartLemmas
 mod ReadLemmas
-mod ReadTaken
 mod TakenLemmas
 mod TakenLines
 mod WalkFacts

@@ -1,21 +1,25 @@
 -- Facts on the words of reads.
-use Rattle.std.proofs.Common.{◌≡◌, ◌↔◌, ◌<◌, ◌≤◌, Bool, false, IsTrue, Option, Some, None, List, [], ◌∷◌, length, refl, sym, subst, ap, ◌∙◌, arith, rules, ℕ}
+use Rattle.std.proofs.Common.{◌≡◌, ◌↔◌, ◌<◌, ◌≤◌, Bool, false, IsTrue, Option, Some, None, List, [], ◌∷◌, length, refl, sym, subst, ap, ◌∙◌, inl, inr, arith, rules, ℕ}
 use Rattle.std.specs.Option.{MatchOption, is_some}
 use Rattle.snb_base.specs.Spellings.{Date, Num}
-use Rattle.snb_input_fields.proofs.Laws.{made, query_back, spelled_long}
-use Rattle.snb_columns.specs.Laws.{OneList}
-use Rattle.snb_input_fields.specs.Laws.{TakenAgain}
-use Rattle.snb_input_fields.specs.Queries.{query_by}
+use Rattle.snb_input_fields.proofs.Laws.{spelled_long}
+use Rattle.snb_input_fields.proofs.TypedRows.{TypedRow, row_of, row_values}
+use Rattle.snb_input_fields.specs.Fields.{Expects, ReadsAll, StopsIn}
+use Rattle.snb_columns.specs.Laws.{OneList, OneValue}
 use Rattle.snb_schema.specs.declared.column.Column.{Column}
 use Rattle.snb_schema.specs.declared.column.Column.TheVariants as columns
 use Rattle.snb_schema.specs.declared.column.Column.TheVariants.{Number, Small}
 use Rattle.snb_schema.specs.declared.column.Value.{Value}
 use Rattle.snb_schema.specs.declared.column.Value.TheVariants.{Digits, SmallDigits}
 use Rattle.snb_schema.specs.declared.query.Query.{Query}
+use Rattle.snb_schema.specs.declared.query.Query.TheVariants as queries
 use Rattle.snb_schema.specs.declared.read_kind.ReadKind.{ReadKind}
+use Rattle.snb_schema.specs.declared.read_kind.ReadKind.TheVariants.{Is1, Is2, Is3, Is4, Is5, Is6, Is7, Ic1, Ic2, Ic7, Ic8, Ic9, Ic11, Ic13}
 use Rattle.snb_schema.specs.Columns.{Spells, SpellsAll}
 use Rattle.snb_schema.specs.ReadKinds.{read_kind_of, parameter_columns, parameter_values, read_word}
 use Rattle.snb_tool_words.specs.Commands.{IsReadOf}
+use Rattle.snb_tool_words.specs.Taken.{AreValuesFound, words_meaning}
+use Rattle.snb_tool_words.proofs.OptionLemmas.{must_one}
 use Rattle.snb_schema.proofs.Laws.{one_kind}
 
 -- a read has one to three parameters
@@ -56,37 +60,88 @@ only_date word none (Digits n) s = none n s
 only_date word none v s = s
 
 -- values are spelled where a first one and the others are
-spelled_parts : (c : Column) (cs : List Column) (x : List ℕ) (xs : List (List ℕ)) (vs : List Value) → SpellsAll (c ∷ cs) (x ∷ xs) vs → IsSpelled c x × AnySpelled cs xs
-spelled_parts c cs x xs [] s = absurd s
-spelled_parts c cs x xs (v ∷ vs) s = ((v, s.0), (vs, s.1))
+spelled_parts : (c : Column) (cs : List Column) (x : List ℕ) (xs : List (List ℕ)) → AnySpelled (c ∷ cs) (x ∷ xs) → IsSpelled c x × AnySpelled cs xs
+spelled_parts c cs x xs ([], s) = absurd s
+spelled_parts c cs x xs (v ∷ vs, s) = ((v, s.0), (vs, s.1))
 
 module _ (c : Column) (cs all : List Column) (x : List ℕ) (xs words : List (List ℕ)) (r : Bool) (columns : all ≡ c ∷ cs) (are : words ≡ x ∷ xs) where
   pub more_spells : IsSpelled c x → (IsTrue r ↔ AnySpelled cs xs) → IsTrue r ↔ AnySpelled all words
-  more_spells first iff = rw (columns, are) (λ t. let more = iff.0 t in (first.0 ∷ more.0, (first.1, more.1)), λ s. iff.1 (spelled_parts c cs x xs s.0 s.1).1)
+  more_spells first iff = rw (columns, are) (λ t. let more = iff.0 t in (first.0 ∷ more.0, (first.1, more.1)), λ s. iff.1 (spelled_parts c cs x xs s).1)
 
   pub first_spells : r ≡ false → (IsTrue r ↔ IsSpelled c x) → IsTrue r ↔ AnySpelled all words
-  first_spells e iff = rw (columns, are) (λ t. absurd cc, λ s. iff.1 (spelled_parts c cs x xs s.0 s.1).0)
+  first_spells e iff = rw (columns, are) (λ t. absurd cc, λ s. iff.1 (spelled_parts c cs x xs s).0)
 
 -- ---- a read by its kind and its values
+
+-- a read is one by its kind and its values
+pub one_query : (a b : Query) → read_kind_of a ≡ read_kind_of b → parameter_values a ≡ parameter_values b → a ≡ b
+one_query a b kinds values = search rules
 
 -- words name one read
 pub one_read : OneList → (kind : List ℕ) (parameters : List (List ℕ)) (a b : Query) → IsReadOf kind parameters a → IsReadOf kind parameters b → a ≡ b
 one_read list kind parameters a b x y =
     let alike = one_kind (read_kind_of a) (read_kind_of b) (sym x.0 ∙ y.0) in
-    let same = list (parameter_columns (read_kind_of a)) parameters (parameter_values a) (parameter_values b) x.1
-    (subst (λ (k : ReadKind). SpellsAll (parameter_columns k) parameters (parameter_values b)) (sym alike) y.1) in
-    sym (query_back a) ∙ (λ i. query_by (alike i) (same i)) ∙ query_back b
+    one_query a b alike (list (parameter_columns (read_kind_of a)) parameters (parameter_values a) (parameter_values b) x.1
+    (subst (λ (k : ReadKind). SpellsAll (parameter_columns k) parameters (parameter_values b)) (sym alike) y.1))
+
+-- what the columns of a kind hold is what a read has
+typed_query : (kind : ReadKind) (row : TypedRow (parameter_columns kind)) → (query : Query) × (read_kind_of query ≡ kind) × (parameter_values query ≡ row_values (parameter_columns kind) row)
+typed_query Is1 row = (queries.Is1 row.0, refl, refl)
+typed_query Is2 row = (queries.Is2 row.0, refl, refl)
+typed_query Is3 row = (queries.Is3 row.0, refl, refl)
+typed_query Is4 row = (queries.Is4 row.0, refl, refl)
+typed_query Is5 row = (queries.Is5 row.0, refl, refl)
+typed_query Is6 row = (queries.Is6 row.0, refl, refl)
+typed_query Is7 row = (queries.Is7 row.0, refl, refl)
+typed_query Ic1 row = (queries.Ic1 row.0 row.1.0, refl, refl)
+typed_query Ic2 row = (queries.Ic2 row.0 row.1.0, refl, refl)
+typed_query Ic7 row = (queries.Ic7 row.0, refl, refl)
+typed_query Ic8 row = (queries.Ic8 row.0, refl, refl)
+typed_query Ic9 row = (queries.Ic9 row.0 row.1.0, refl, refl)
+typed_query Ic11 row = (queries.Ic11 row.0 row.1.0 row.1.1.0, refl, refl)
+typed_query Ic13 row = (queries.Ic13 row.0 row.1.0, refl, refl)
 
 -- words that spell values of the columns of a kind name a read of this kind, and no other words do
-pub read_is : TakenAgain → (kind : ReadKind) (word : List ℕ) (words : List (List ℕ)) (columns : List Column) (r : Bool) → word ≡ read_word kind → columns ≡ parameter_columns kind
+pub read_is : (kind : ReadKind) (word : List ℕ) (words : List (List ℕ)) (columns : List Column) (r : Bool) → word ≡ read_word kind → columns ≡ parameter_columns kind
     → (IsTrue r ↔ AnySpelled columns words) → IsTrue r ↔ ((query : Query) × IsReadOf word words query)
-read_is again kind word words columns r named same iff = (
+read_is kind word words columns r named same iff = (
   λ t.
-      let s = iff.0 t in
-      let all : SpellsAll (parameter_columns kind) words s.0 = subst (λ (cs : List Column). SpellsAll cs words s.0) same s.1 in
-      let is = made kind s.0 in
-      (query_by kind s.0, (named ∙ ap read_word (sym is.0), rw (is.0, is.1, again (parameter_columns kind) words s.0 all) all)),
+      let (vs, all) = rw same at iff.0 t in
+      let (row, values) = row_of (parameter_columns kind) words vs all in
+      let (query, is, has) = typed_query kind row in
+      (query, (named ∙ ap read_word (sym is), rw (is, has, sym values) all)),
   λ q.
       let alike = one_kind kind (read_kind_of q.0) (sym named ∙ q.1.0) in
-      iff.1 (parameter_values q.0, subst (λ (cs : List Column). SpellsAll cs words (parameter_values q.0)) (sym (same ∙ ap parameter_columns alike)) q.1.1),
+      iff.1 (parameter_values q.0, rw (same, alike) q.1.1),
 )
+
+-- ---- the words of a read that were found, read one after another
+
+-- words that were found to spell values may be read
+pub may_read : (cs : List Column) (words : List (Option (List ℕ))) (vs : List Value) → AreValuesFound cs words vs → Expects words_meaning words cs
+may_read [] words [] s = tt
+may_read (c ∷ cs) (word ∷ words) (v ∷ vs) s = ((v, s.0), λ w more r. subst (λ (t : List (Option (List ℕ))). Expects words_meaning t cs) (sym r.1) (may_read cs words vs s.1))
+may_read cs words vs s = absurd s
+
+-- reading stops at none of them
+pub never_stops : (cs : List Column) (words : List (Option (List ℕ))) (n : ℕ) → ¬ StopsIn words_meaning words cs n
+never_stops [] words n s = s
+never_stops (c ∷ cs) words n (inl s) = s
+never_stops (c ∷ cs) words n (inr s) = never_stops cs s.1 n s.3
+
+-- what is read is what was found
+read_one : OneValue → (cs : List Column) (words more : List (Option (List ℕ))) (vs ws : List Value) → ReadsAll words_meaning words cs vs more → AreValuesFound cs words ws → vs ≡ ws
+read_one one [] words more [] [] r s = refl
+read_one one [] words more (v ∷ vs) [] r s = absurd r
+read_one one (c ∷ cs) (word ∷ words) more [] (w ∷ ws) r s = absurd r
+read_one one (c ∷ cs) (word ∷ words) more (v ∷ vs) (w ∷ ws) r s =
+    let same = must_one (Spells c) (one c) word v w r.1.0 s.0 in
+    let others = read_one one cs words more vs ws (subst (λ (t : List (Option (List ℕ))). ReadsAll words_meaning t cs vs more) r.1.1 r.2) s.1 in
+    λ i. same i ∷ others i
+read_one one cs words more vs ws r s = absurd s
+
+-- the read that is made of the words that were found is the one that was found
+pub same_read : OneValue → (words more : List (Option (List ℕ))) (made query : Query) (kind : ReadKind) → read_kind_of made ≡ kind → kind ≡ read_kind_of query
+    → ReadsAll words_meaning words (parameter_columns kind) (parameter_values made) more → AreValuesFound (parameter_columns (read_kind_of query)) words (parameter_values query) → made ≡ query
+same_read one words more made query kind is alike read found =
+    one_query made query (is ∙ alike) (read_one one (parameter_columns kind) words more (parameter_values made) (parameter_values query) read (rw alike found))

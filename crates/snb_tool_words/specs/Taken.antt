@@ -1,6 +1,6 @@
 -- What `clap` sees of a line, and what it finds there. Only the contracts of private functions cite
 -- these definitions.
-use Rattle.std.specs.Prelude.{◌≡◌, ℕ, ◌≤◌, List, [], ◌∷◌, ◌++◌, Option, Some, None, true, codes, map}
+use Rattle.std.specs.Prelude.{◌≡◌, ℕ, ◌≤◌, List, [], ◌∷◌, ◌++◌, Option, Some, None, true, codes, drop, map}
 use Rattle.std.specs.Option.{IfSome, option_map}
 use Rattle.snb_base.specs.Spellings.{Num}
 use Rattle.snb_schema.specs.declared.limits.TheConstants.{MAX_TRIAL}
@@ -11,6 +11,7 @@ use Rattle.snb_schema.specs.declared.query.Query.{Query}
 use Rattle.snb_schema.specs.declared.read_kind.ReadKind.{ReadKind}
 use Rattle.snb_schema.specs.Columns.{Spells}
 use Rattle.snb_schema.specs.ReadKinds.{read_kind_of, parameter_columns, parameter_values, read_word}
+use Rattle.snb_input_fields.specs.Fields.{FieldsMeaning}
 use Rattle.clap.specs.Simple.{App, new_rule, new_shape}
 use Rattle.clap.specs.Walk.{Rule}
 use Rattle.snb_tool_words.specs.declared.command.Command.{Command}
@@ -110,6 +111,20 @@ AreValuesFound [] words [] = Unit {0}
 AreValuesFound (c ∷ cs) (word ∷ words) (v ∷ vs) =
     MustSay (Spells c) word v × AreValuesFound cs words vs
 AreValuesFound cs words vs = ⊥
+
+-- the next of the words that were found
+abbrev pub next_of : List (Option (List ℕ)) → Option (List ℕ)
+next_of [] = None
+next_of (word ∷ words) = word
+
+-- the words that were found, as fields that are read one after another, of which each that is read
+-- spells a value of its column
+abbrev pub words_meaning : FieldsMeaning (List (Option (List ℕ)))
+words_meaning = record {
+  expects = λ words column. (v : Value) × MustSay (Spells column) (next_of words) v;
+  reads = λ words column v more. MustSay (Spells column) (next_of words) v × (more ≡ drop 1 words);
+  stops = λ words column number. ⊥;
+}
 
 -- the word names the kind
 abbrev pub NamesKind : List ℕ → ReadKind → Type 0

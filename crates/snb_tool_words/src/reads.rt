@@ -11,7 +11,6 @@ ghost use Rattle.snb_tool_words.specs.Words.{texts_of};
 
 use snb_base::read_number;
 use snb_dates::read_date;
-use snb_input_fields::law::taken_again;
 use snb_schema::{Column, ReadKind};
 
 // Whether the word spells a value of the column. The condition: a parameter may have the column.
@@ -48,7 +47,6 @@ fn are_spelled(columns: &[Column], words: &[&str]) -> bool
 pub fn is_read(kind: &str, parameters: &[&str]) -> bool
     ensures { IsTrue result ↔ ((query : AnyQuery) × IsReadOf kind.now (texts_of parameters.now) query) }
 {
-    taken_again();
     match ReadKind::of_word(kind) {
         Some(kind) => are_spelled(kind.columns(), parameters),
         None => false,

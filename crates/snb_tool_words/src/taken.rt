@@ -1,30 +1,30 @@
 //! The words of an accepted line, taken apart by `clap`.
 
-ghost use Rattle.std.specs.Prelude.{◌≡◌, ℕ, List, [], Some, IfOk, IsSome, codes, false, option_map, true};
+ghost use Rattle.std.specs.Prelude.{◌≡◌, ℕ, List, [], Some, IfOk, IsSome, codes, drop, false, true};
 ghost use Rattle.clap.specs.Takes.{takes};
 ghost use Rattle.clap.specs.Words.{app_of, first_of, first_value, found_of, matches_of, rule_of};
 ghost use Rattle.snb_ratio.specs.Chances.{ChanceFall, SpellsChance};
 ghost use Rattle.snb_ratio.specs.Ratios.{SpellsRatio, real_time};
-ghost use Rattle.snb_schema.specs.declared.column.Value.{Value as AnyValue};
 ghost use Rattle.snb_schema.specs.declared.query.Query.{Query as AnyQuery};
 ghost use Rattle.snb_schema.specs.declared.read_kind.ReadKind.{ReadKind as AnyKind};
-ghost use Rattle.snb_schema.specs.Columns.{Spells};
 ghost use Rattle.snb_schema.specs.Frequencies.{FrequencyTable};
 ghost use Rattle.snb_tool_words.specs.declared.options.Via.{Via as AnyVia};
 ghost use Rattle.snb_tool_words.specs.Options.{MustSay, OptionSays, SaysFrequencies, SaysVia, SaysWorkers, SpellsWords, no_frequencies};
-ghost use Rattle.snb_tool_words.specs.Taken.{IsReadFound, NamesKind, SaysSize, app_with, line_app, option_rule};
+ghost use Rattle.snb_tool_words.specs.Taken.{IsReadFound, NamesKind, SaysSize, app_with, line_app, next_of, option_rule};
 ghost use Rattle.snb_tool_words.specs.Words.{texts_of};
 
 use crate::number_words::words_of;
 use crate::options::{Via, chance_of, frequencies_of, ratio_of, size_of, via_of, workers_of};
 use clap::error::ErrorKind;
 use clap::{Arg, ArgMatches, Command};
-use snb_base::{Numbers, Text};
+use snb_base::{Numbers, Text, read_number};
+use snb_dates::read_date;
 use snb_input_fields::law::one_value;
-use snb_input_fields::{Values, query_of, read_value};
+use snb_input_fields::{Fields, read_query};
 use snb_ratio::{Chance, Ratio};
-use snb_schema::{Column, Frequencies, Query, ReadKind, Value};
+use snb_schema::{Frequencies, LineFault, Query, ReadKind};
 use std::alloc::{AllocError, Global};
+use std::marker::Model;
 
 // The command that has these places.
 fn places_command<'a>(alloc: Global, places: &[&'a str]) -> Result<Command<'a>, AllocError>
@@ -195,19 +195,71 @@ fn kind_in(matches: &ArgMatches<'_>) -> ReadKind
     }
 }
 
-// The value that the word spells in a column. The error is want of memory. The condition: there is a word
-// that spells one.
-fn value_of(alloc: Global, column: Column, word: Option<&str>) -> Result<Value, AllocError>
-    requires { (value : AnyValue) × MustSay (Spells column) (option_map (λ w. w.now) word) value }
-    ensures { IfOk result
-        (λ made. (value : AnyValue) → MustSay (Spells column) (option_map (λ w. w.now) word.entry) value
-        → made ≡ value) }
-{
-    one_value();
-    let Some(word) = word else { unreachable!() };
-    match read_value(alloc, column, word.as_bytes())? {
-        Some(value) => Ok(value),
-        None => unreachable!(),
+// Reads the words that were found at these places, one after another, each by a column in which it
+// spells a value.
+#[derive(Drop)]
+struct WordFields<'m, 'a> {
+    alloc: Global,
+    matches: &'m ArgMatches<'a>,
+    places: &'static [&'static str],
+}
+
+impl<'m, 'a> Model for WordFields<'m, 'a> {
+    ghost use Rattle.std.specs.Prelude.{ℕ, List, Option, map};
+    ghost use Rattle.clap.specs.Words.{first_value, found_of};
+    ghost use Rattle.snb_tool_words.specs.Words.{texts_of};
+
+    ghost Value = { List (Option (List ℕ)) };
+
+    ghost view = { λ r. map (first_value (found_of r.matches.now)) (texts_of r.places.now) };
+}
+
+impl<'a> WordFields<'_, 'a> {
+    // The next word. The condition: there is one.
+    fn next_word(&mut self) -> &'a str
+        requires { IsSome (next_of self.old) }
+        ensures word { next_of self.old ≡ Some result.now }
+        ensures past { self.new ≡ drop 1 self.old }
+    {
+        let [place, places @ ..] = self.places else {
+            unreachable!()
+        };
+        self.places = places;
+        match self.matches.get_str(place) {
+            Some(word) => word,
+            None => unreachable!(),
+        }
+    }
+}
+
+impl Fields for WordFields<'_, '_> {
+    ghost use Rattle.snb_tool_words.specs.Taken.{words_meaning};
+
+    ghost meaning = { words_meaning };
+
+    fn number(&mut self, most: u64) -> Result<u64, LineFault> {
+        match read_number(self.next_word().as_bytes(), most) {
+            Some(n) => Ok(n),
+            None => unreachable!(),
+        }
+    }
+
+    fn small(&mut self, most: u32) -> Result<u32, LineFault> {
+        match read_number(self.next_word().as_bytes(), u64::from(most)) {
+            Some(n) => Ok(n as u32),
+            None => unreachable!(),
+        }
+    }
+
+    fn date(&mut self) -> Result<u64, LineFault> {
+        match read_date(self.next_word().as_bytes()) {
+            Some(n) => Ok(n),
+            None => unreachable!(),
+        }
+    }
+
+    fn text(&mut self) -> Result<Text, LineFault> {
+        Ok(Text::from_str(self.alloc, self.next_word())?)
     }
 }
 
@@ -218,16 +270,15 @@ pub fn query_in(alloc: Global, matches: &ArgMatches<'_>) -> Result<Query, AllocE
     ensures { IfOk result
         (λ made. (query : AnyQuery) → IsReadFound (first_value (found_of matches.now)) query → made ≡ query) }
 {
-    let kind = kind_in(matches);
-    let columns = kind.columns();
-    let words = [
-        matches.get_str("third"),
-        matches.get_str("fourth"),
-        matches.get_str("fifth"),
-    ];
-    let mut values = Vec::new(alloc);
-    for i in 0..columns.len() {
-        values.push(value_of(alloc, columns[i], words[i])?)?;
+    one_value();
+    let mut words = WordFields {
+        alloc,
+        matches,
+        places: &["third", "fourth", "fifth"],
+    };
+    match read_query(kind_in(matches), &mut words) {
+        Ok(query) => Ok(query),
+        Err(LineFault::Memory) => Err(AllocError),
+        Err(LineFault::Bad { .. }) => unreachable!(),
     }
-    Ok(query_of(kind, &mut Values::new(alloc, values)))
 }
