@@ -1,5 +1,5 @@
 -- Values are one thing at most, and so is a case.
-use Rattle.std.proofs.Common.{◌≡◌, ◌∙◌, ap, ap₂, sym, subst, refl, arith, map, length, take, take_all, drop, get_or, ◌≤◌, ◌-◌, ℕ, pos, negsuc, List, [], ◌∷◌, Some}
+use Rattle.std.proofs.Common.{◌≡◌, ◌∙◌, ap, ap₂, sym, subst, refl, arith, map, length, take, take_all, drop, get_or, ◌≤◌, ◌-◌, ℕ, List, [], ◌∷◌, Some}
 use Rattle.std.specs.List.{AllZip}
 use Rattle.serde_json.specs.Data.{Data}
 use Rattle.serde_json.specs.View.{view}

@@ -1,6 +1,6 @@
 //! The queries that JSON values ask.
 
-ghost use Rattle.std.specs.Prelude.{◌≡◌, ◌+◌, ◌<◌, ◌∷◌, [], length, IfOk, MatchOption, OnOk, map};
+ghost use Rattle.std.specs.Prelude.{◌≡◌, ◌+◌, ◌∷◌, [], IfOk, MatchOption, OnOk, map};
 ghost use Rattle.serde_json.specs.View.{view};
 ghost use Rattle.snb_schema.specs.declared.query.Query.{Query as AnyQuery};
 ghost use Rattle.snb_schema.specs.Faults.{OnBadColumn};
@@ -10,7 +10,6 @@ ghost use Rattle.snb_validation_cases.specs.Values.{IsArray};
 use crate::values::{items_in, number_in, text_in};
 use serde_json::Value as Json;
 use snb_base::Text;
-use snb_input_fields::wide::COLUMNS_END;
 use snb_input_fields::{Fields, read_query};
 use snb_schema::limits::MAX_TIME;
 use snb_schema::{LineFault, Query, ReadKind};
@@ -43,18 +42,6 @@ impl<'a> Model for JsonFields<'a> {
 }
 
 impl<'a> JsonFields<'a> {
-    // Before the first of some values.
-    fn new(alloc: Global, items: &'a [Json]) -> JsonFields<'a>
-        requires few { length items.now < COLUMNS_END }
-        ensures { result ≡ record { left = items.now; read = 0 } }
-    {
-        JsonFields {
-            alloc,
-            left: items,
-            read: 0,
-        }
-    }
-
     // Takes the next value. The error is `Bad`, where none is left.
     fn next(&mut self) -> Result<&'a Json, LineFault>
         ensures next { IfOk result (λ value. self.old.left ≡ value.now ∷ self.new.left) }
@@ -113,7 +100,12 @@ fn query_with(alloc: Global, kind: ReadKind, items: &[Json]) -> Result<Option<Qu
     if kind.columns().len() != items.len() {
         return Ok(None);
     }
-    match read_query(kind, &mut JsonFields::new(alloc, items)) {
+    let mut fields = JsonFields {
+        alloc,
+        left: items,
+        read: 0,
+    };
+    match read_query(kind, &mut fields) {
         Ok(query) => Ok(Some(query)),
         Err(LineFault::Bad { column: _ }) => Ok(None),
         Err(LineFault::Memory) => Err(AllocError),
