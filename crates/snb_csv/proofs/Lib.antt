@@ -1,4 +1,3 @@
-pub mod CaseFacts
 pub mod FileFacts
 pub mod OneFacts
 pub mod RowFacts

@@ -38,13 +38,10 @@ abbrev pub IsOfTables : Column → Type 0
 IsOfTables (Number most) = most < 10 ^ 19
 IsOfTables (Small most) = most < 10 ^ 19
 IsOfTables OptionalId = ⊥
-IsOfTables Date = Unit {0}
-IsOfTables Day = Unit {0}
-IsOfTables Words = Unit {0}
-IsOfTables Word = Unit {0}
 IsOfTables TextList = ⊥
 IsOfTables IdList = ⊥
 IsOfTables PairList = ⊥
+IsOfTables column = Unit {0}
 
 -- the columns of each shape are such columns
 of_tables : (s : Shape) → AllByRecursion IsOfTables (shape_columns s)
@@ -67,21 +64,27 @@ spelled_all [] [] o w = tt
 spelled_all (c ∷ cs) (v ∷ vs) o w = (spelled c v o.0 w.0, spelled_all cs vs o.1 w.1)
 spelled_all cs vs o w = absurd w
 
--- what holds of digits and of a field's text holds of the canonical spelling
-held : (P : List ℕ → Type 0) → ((t : List ℕ) → AllByRecursion IsDigit t → P t) → ((t : List ℕ) → IsFieldText t → P t) → (c : Column) (v : Value) → IsOfTables c → IsInBounds c v → P (canonical_field v)
-held P digits text (Number most) (Digits n) o w = digits (decimal n) (number_spelled n most w (omega arith)).digits
-held P digits text (Small most) (SmallDigits n) o w = digits (decimal n) (number_spelled n most w (omega arith)).digits
-held P digits text Date (Digits n) o w = digits (decimal n) (number_spelled n last_time w (omega arith)).digits
-held P digits text Day (Digits n) o w = digits (decimal n) (number_spelled n last_time w (omega arith)).digits
-held P digits text Words (Letters t) o w = text t w
-held P digits text Word (Letters t) o w = text t w.1
-held P digits text c v o w = absurd w
+-- it is a text that a field can hold
+digits_plain : (t : List ℕ) → AllByRecursion IsDigit t → IsFieldText t
+digits_plain t d = record {
+  utf8 = IsUtf8-from_ascii t (IsAscii-from_all t (all_digits (λ b. b < 128) (λ b e. omega arith) t d));
+  no_bar = all_digits (λ b. b ≢ 124) (λ b e. omega arith) t d;
+  one_line = all_digits (λ b. b ≢ 10) (λ b e. omega arith) t d;
+}
 
--- and of all of them
-held_all : (P : List ℕ → Type 0) → ((t : List ℕ) → AllByRecursion IsDigit t → P t) → ((t : List ℕ) → IsFieldText t → P t) → (cs : List Column) (vs : List Value) → AllByRecursion IsOfTables cs → AreWithin cs vs → All P (map canonical_field vs)
-held_all P digits text [] [] o w = All-nil P
-held_all P digits text (c ∷ cs) (v ∷ vs) o w = All-cons P (canonical_field v) (map canonical_field vs) (held P digits text c v o.0 w.0) (held_all P digits text cs vs o.1 w.1)
-held_all P digits text cs vs o w = absurd w
+plain : (c : Column) (v : Value) → IsOfTables c → IsInBounds c v → IsFieldText (canonical_field v)
+plain (Number most) (Digits n) o w = digits_plain (decimal n) (number_spelled n most w (omega arith)).digits
+plain (Small most) (SmallDigits n) o w = digits_plain (decimal n) (number_spelled n most w (omega arith)).digits
+plain Date (Digits n) o w = digits_plain (decimal n) (number_spelled n last_time w (omega arith)).digits
+plain Day (Digits n) o w = digits_plain (decimal n) (number_spelled n last_time w (omega arith)).digits
+plain Words (Letters text) o w = w
+plain Word (Letters text) o w = w.1
+plain c v o w = absurd w
+
+plain_all : (cs : List Column) (vs : List Value) → AllByRecursion IsOfTables cs → AreWithin cs vs → All IsFieldText (map canonical_field vs)
+plain_all [] [] o w = All-nil IsFieldText
+plain_all (c ∷ cs) (v ∷ vs) o w = All-cons IsFieldText (canonical_field v) (map canonical_field vs) (plain c v o.0 w.0) (plain_all cs vs o.1 w.1)
+plain_all cs vs o w = absurd w
 
 -- so its table has columns
 some_columns : (cs : List Column) (n : ℕ) (vs rest : List Value) → vs ≡ Digits n ∷ rest → AreWithin cs vs → cs ≢ []
@@ -94,20 +97,12 @@ number_first (row.Place p) = (_, _, refl)
 number_first r = (_, _, refl)
 
 -- ends of which the first is lower differ, are in order, and aren't turned
-lower_differ : (undirected : Bool) (vs : List Value) → HasLowerFirst undirected vs → Differ undirected vs
-lower_differ true (Digits one ∷ Digits other ∷ rest) low = λ e. omega arith
-lower_differ undirected vs low = low
-
-lower_kept : (undirected : Bool) (vs : List Value) → HasLowerFirst undirected vs → vs ≡ in_order undirected vs
-lower_kept true (Digits one ∷ Digits other ∷ rest) low =
+lower : (undirected : Bool) (vs : List Value) → HasLowerFirst undirected vs → Differ undirected vs × (vs ≡ in_order undirected vs) × (false ≡ is_turned undirected vs)
+lower true (Digits one ∷ Digits other ∷ rest) low =
     let first : min one other ≡ one = omega arith in
     let second : max one other ≡ other = omega arith in
-    rw (first, second) refl
-lower_kept undirected vs low = refl
-
-lower_unturned : (undirected : Bool) (vs : List Value) → HasLowerFirst undirected vs → false ≡ is_turned undirected vs
-lower_unturned true (Digits one ∷ Digits other ∷ rest) low = sym (le-ltb other one (omega arith))
-lower_unturned undirected vs low = refl
+    (λ e. omega arith, rw (first, second) refl, sym (le-ltb other one (omega arith)))
+lower undirected vs low = (low, refl, refl)
 
 -- the row's own line
 own_row : OwnLineOfValues → (r : Row) → IsTableRow r → IsRow (table_of r) (canonical r) r
@@ -116,12 +111,13 @@ own_row law r h =
     let vs = values r in
     let o = of_tables (shape (table_of r)) in
     let first = number_first r in
-    let all = λ (P : List ℕ → Type 0) (digits : (t : List ℕ) → AllByRecursion IsDigit t → P t) (text : (t : List ℕ) → IsFieldText t → P t). held_all P digits text cs vs o h.within in
-    let line = law cs (map canonical_field vs) vs (some_columns cs first.0 vs first.1 first.2 h.within) (spelled_all cs vs o h.within) (all HasNoBar (all_digits (λ b. b ≢ 124) (λ b d. omega arith)) (λ t f. f.no_bar)) in
+    let all = plain_all cs vs o h.within in
+    let low = lower (has_no_direction (table_of r)) vs h.in_order in
+    let line = law cs (map canonical_field vs) vs (some_columns cs first.0 vs first.1 first.2 h.within) (spelled_all cs vs o h.within) (λ k d lt. (all k d lt).no_bar) in
     record {
-      text = line.text (all IsUtf8 (λ t d. IsUtf8-from_ascii t (IsAscii-from_all t (all_digits (λ b. b < 128) (λ b d. omega arith) t d))) (λ t f. f.utf8));
+      text = line.text (λ k d lt. (all k d lt).utf8);
       unmarked = line.unmarked first.0 first.1 first.2;
-      one_line = line.one_line (all HasNoEnd (all_digits (λ b. b ≢ 10) (λ b d. omega arith)) (λ t f. f.one_line));
+      one_line = line.one_line (λ k d lt. (all k d lt).one_line);
       turned = false;
       spelled = record {
         table = refl;
@@ -132,9 +128,9 @@ own_row law r h =
         no_more = tt;
         said = vs;
         spelled = line.spelled;
-        differ = lower_differ (has_no_direction (table_of r)) vs h.in_order;
-        kept = lower_kept (has_no_direction (table_of r)) vs h.in_order;
-        turns = lower_unturned (has_no_direction (table_of r)) vs h.in_order;
+        differ = low.0;
+        kept = low.1;
+        turns = low.2;
       };
     }
 

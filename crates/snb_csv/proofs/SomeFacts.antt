@@ -15,7 +15,6 @@ use Rattle.snb_input_fields.specs.Laws.{EachLineIsRead}
 use Rattle.snb_input_fields.proofs.Laws.{wide_or_not}
 use Rattle.snb_input_fields.proofs.TypedRows.{row_of}
 use Rattle.snb_csv.specs.Laws.{RowOrColumn}
-use Rattle.snb_csv.proofs.CaseFacts.{from_case}
 use Rattle.snb_csv.proofs.RowsByValues.{differ_apart, row_made, spells_row, wide_long}
 
 -- a line leads back, or it doesn't
@@ -45,10 +44,10 @@ pub row_or_column : EachLineIsRead → RowOrColumn
 row_or_column read t fs = elim (wide_or_not (length (columns t)) fs) [
   | inr narrow ↦ inr (0, inl (narrow, refl))
   | inl w ↦ elim (loop_or_not (has_no_direction t) fs) [
-    | inl loop ↦ inr (2, from_case t fs 2 (inr (inl (w, loop, refl))))
+    | inl loop ↦ inr (2, inr (λ c q. q.0 w, inl (loop, refl)))
     | inr apart ↦ elim (read (columns t) fs (wide_long (length (columns t)) fs w)) [
       | inl s ↦ inl (row_apart t fs s.0 w apart s.1)
-      | inr s ↦ inr (s.0 + 1, from_case t fs (s.0 + 1) (inr (inr (w, apart, (s.0, s.2, refl)))))
+      | inr s ↦ inr (s.0 + 1, inr (λ c q. q.0 w, inr (λ c q. apart q.0, inl (s.0, s.2, refl))))
     ]
   ]
 ]

@@ -1,16 +1,16 @@
-use Rattle.std.proofs.Common.{refl}
+use Rattle.std.proofs.Common.{arith, refl}
 use Rattle.snb_schema.specs.declared.column.Column.TheVariants as columns
 use Rattle.snb_schema.specs.declared.column.Value.TheVariants.{Digits}
 use Rattle.snb_schema.specs.declared.limits.TheConstants.{MAX_ID}
-use Rattle.snb_csv.proofs.RowFacts.{no_first, no_second}
+use Rattle.snb_csv.proofs.RowFacts.{no_friends}
 use Rattle.snb_input_fields.proofs.Readings.{moved, spelled}
 use Rattle.snb_csv.proofs.make.make_friends.Goals as goal
 
 pub returns-in-Err-clause-bad : goal.returns-in-Err-clause-bad
-returns-in-Err-clause-bad c = no_first c.in-Err.why c.args.fields.now c.requires c.in-Err.ensures.bad
+returns-in-Err-clause-bad c = no_friends 0 c.in-Err.why c.args.fields.now c.args.fields.now.fields (omega arith) c.requires c.in-Err.ensures.bad
 
 pub returns-in-Err-number-clause-bad : goal.returns-in-Err-number-clause-bad
-returns-in-Err-number-clause-bad c = no_second c.in-Err-number.why c.number.new.self c.args.fields.now.fields (moved c.in-Ok.ensures.past c.requires) c.in-Err-number.ensures.bad
+returns-in-Err-number-clause-bad c = no_friends 1 c.in-Err-number.why c.number.new.self c.args.fields.now.fields (omega arith) (moved c.in-Ok.ensures.past c.requires) c.in-Err-number.ensures.bad
 
 pub returns-clause-ok : goal.returns-clause-ok
 returns-clause-ok c =
