@@ -1,6 +1,6 @@
 pub mod FileFacts
 pub mod OneFacts
 pub mod RowFacts
-pub mod RowsByValues
+mod RowsByValues
 pub mod RowLineFacts
 pub mod SomeFacts

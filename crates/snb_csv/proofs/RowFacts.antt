@@ -48,11 +48,11 @@ no_end (x ∷ y ∷ fs) (suc zero) early s l = s.1 (Digits l.0) l.2
 no_end (x ∷ y ∷ fs) (suc (suc n)) early s l = omega (arith, early)
 
 -- so they are no friendship
-pub no_friends : (n : ℕ) (why : LineFault) (r : Reading) (fs : List (List ℕ)) → n < 2 → r ≡ at (shape_columns shapes.Dated) fs n → OnBadColumn {A = ℕ} (Err why) (IsBadNext r) → OnBadColumn {A = Placed} (Err why) (AreNoFriends fs)
-no_friends n Memory r fs early is b = tt
-no_friends n (Bad column) r fs early is b =
+pub no_friends : (n : ℕ) (why : LineFault) (result : Result Placed LineFault) (r : Reading) (fs : List (List ℕ)) → result ≡ Err why → n < 2 → r ≡ at (shape_columns shapes.Dated) fs n → OnBadColumn {A = ℕ} (Err why) (IsBadNext r) → OnBadColumn result (AreNoFriends fs)
+no_friends n Memory result r fs same early is b = rw same tt
+no_friends n (Bad column) result r fs same early is b =
     let stops : StopsAfter (shape_columns shapes.Dated) fs n = subst (λ (q : Reading). StopsAfter q.columns q.fields q.read) is b.stops in
-    inr (no_end fs n early stops, (n, stops, b.at ∙ ap (λ (q : Reading). q.read + 1) is))
+    rw same (inr (no_end fs n early stops, (n, stops, b.at ∙ ap (λ (q : Reading). q.read + 1) is)))
 
 -- what is answered for the fields of a friendship
 pub answers_friends : (t : Table) (fs gs : List (List ℕ)) (line : ℕ) (result : Result Placed LineFault) → gs ≡ fs → t ≡ table.PersonKnowsPerson → IsWide (length (columns t)) fs

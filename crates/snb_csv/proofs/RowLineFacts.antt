@@ -1,5 +1,5 @@
 -- A row that a table can have has a line, and the row of a line is one that its table can have.
-use Rattle.std.proofs.Common.{◌≡◌, ◌≢◌, ◌<◌, ◌^◌, ◌∙◌, ◌∷◌, ◌++◌, [], ℕ, min, max, Bool, true, false, List, length, map, refl, sym, ap, subst, inr, arith, append-nil, All}
+use Rattle.std.proofs.Common.{◌≡◌, ◌≢◌, ◌<◌, ◌^◌, ◌∙◌, ◌∷◌, ◌++◌, [], ℕ, min, max, Bool, true, false, List, length, map, refl, sym, ap, subst, inr, arith, append-nil, All, rules}
 use Rattle.std.proofs.Math.Seq.{take-append_seam}
 use Rattle.std.proofs.lemmas.Bool.{le-ltb}
 use Rattle.std.proofs.lemmas.List.Elements.{All-cons, All-head, All-nil, All-tail, All-take}
@@ -24,7 +24,7 @@ use Rattle.snb_schema.specs.declared.table.Table.TheVariants as table
 use Rattle.snb_schema.specs.Columns.{Spells, SpellsAll, canonical_field}
 use Rattle.snb_schema.specs.Layouts.{has_no_direction, shape}
 use Rattle.snb_schema.specs.TableColumns.{columns, shape_columns}
-use Rattle.snb_schema.specs.Lines.{HasNoBar, HasNoEnd, fields}
+use Rattle.snb_schema.specs.Lines.{HasNoEnd, fields}
 use Rattle.snb_schema.specs.RowLines.{IsRow, canonical}
 use Rattle.snb_schema.specs.RowValues.{Differ, in_order, is_turned, table_of, values}
 use Rattle.snb_csv.specs.Laws.{OwnRowLine, RowsOfFieldsFit}
@@ -142,11 +142,7 @@ within Date x (Digits n) o f s = s.0
 within Day x (Digits n) o f s = s.0
 within Words x (Letters text) o f s = subst IsFieldText s f
 within Word x (Letters text) o f s = (λ e. s.0 (s.1 ∙ e), subst IsFieldText s.1 f)
-within OptionalId x v o f s = absurd o
-within TextList x v o f s = absurd o
-within IdList x v o f s = absurd o
-within PairList x v o f s = absurd o
-within c x v o f s = absurd s
+within c x v o f s = search rules
 
 -- and so are all
 within_all : (cs : List Column) (xs : List (List ℕ)) (vs : List Value) → AllByRecursion IsOfTables cs → All IsFieldText xs → SpellsAll cs xs vs → AreWithin cs vs
