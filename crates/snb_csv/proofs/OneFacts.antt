@@ -5,11 +5,10 @@ use Rattle.snb_schema.specs.declared.table.Table.{Table}
 use Rattle.snb_schema.specs.Columns.{SpellsAll}
 use Rattle.snb_schema.specs.Layouts.{has_no_direction}
 use Rattle.snb_schema.specs.TableColumns.{columns}
-use Rattle.snb_schema.specs.RowLines.{IsLoop, SpellsRow}
-use Rattle.snb_schema.specs.RowValues.{Differ, IsWide, in_order, is_turned, row_shape, table_of, values}
+use Rattle.snb_schema.specs.RowLines.{SpellsRow}
+use Rattle.snb_schema.specs.RowValues.{IsWide, in_order, is_turned, row_shape, table_of, values}
 use Rattle.snb_columns.specs.Laws.{OneList}
 use Rattle.snb_input_fields.proofs.Laws.{no_stop, one_stop, spelled_long}
-use Rattle.snb_input_fields.proofs.TypedRows.{row_of}
 use Rattle.snb_csv.specs.Laws.{OneColumn, OneRow, RowsAreRight}
 use Rattle.snb_csv.proofs.RowsByValues.{differ_apart, own_first, row_again, row_by}
 
@@ -31,17 +30,10 @@ one_row list t fs r q a b s u =
     let valued : values r ≡ values q = s.kept ∙ ap (in_order (has_no_direction t)) said ∙ sym u.kept in
     (sym (row_again r) ∙ (λ i. row_by (shaped i) (tabled i) (valued i)) ∙ row_again q, s.turns ∙ ap (is_turned (has_no_direction t)) said ∙ sym u.turns)
 
--- the fields of a row don't lead back
-no_loop : (t : Table) (fs : List (List ℕ)) (r : Row) (turned : Bool) → SpellsRow t fs r turned → ¬ IsLoop (has_no_direction t) fs
-no_loop t fs r turned s =
-    let first = first_spelled t fs r turned s in
-    let h = row_of (columns t) (take (length (columns t)) fs) s.said first in
-    (differ_apart t fs h.0 (subst (SpellsAll (columns t) (take (length (columns t)) fs)) h.1 first)).0 (subst (Differ (has_no_direction t)) h.1 s.differ)
-
 -- and have no bad column
 pub rows_are_right : RowsAreRight
 rows_are_right t fs r turned column s (inl narrow) = narrow.0 (row_wide t fs r turned s)
-rows_are_right t fs r turned column s (inr (size, inl loop)) = no_loop t fs r turned s loop.0
+rows_are_right t fs r turned column s (inr (size, inl loop)) = (differ_apart t fs s.said (first_spelled t fs r turned s)).0 s.differ loop.0
 rows_are_right t fs r turned column s (inr (size, inr (loop, inl stop))) = no_stop (columns t) fs s.said (first_spelled t fs r turned s) stop.0 stop.1
 rows_are_right t fs r turned column s (inr (size, inr (loop, inr p))) = p.1
 

@@ -1,5 +1,5 @@
 -- A row that a table can have has a line, and the row of a line is one that its table can have.
-use Rattle.std.proofs.Common.{◌≡◌, ◌≢◌, ◌<◌, ◌^◌, ◌∙◌, ◌∷◌, ◌++◌, [], ℕ, min, max, Bool, true, false, List, length, map, refl, sym, ap, subst, inr, arith, append-nil, All, rules}
+use Rattle.std.proofs.Common.{◌≡◌, ◌≢◌, ◌<◌, ◌≤◌, ◌^◌, ◌∙◌, ◌∷◌, ◌++◌, [], ℕ, min, max, Bool, true, false, List, length, map, refl, sym, ap, subst, inr, arith, append-nil, All, rules}
 use Rattle.std.proofs.Math.Seq.{take-append_seam}
 use Rattle.std.proofs.lemmas.Bool.{le-ltb}
 use Rattle.std.proofs.lemmas.List.Elements.{All-cons, All-head, All-nil, All-tail, All-take}
@@ -8,8 +8,7 @@ use Rattle.std.proofs.lemmas.Str.Ascii.{IsAscii-from_all}
 use Rattle.std.specs.Fmt.{decimal}
 use Rattle.std.specs.List.{AllByRecursion}
 use Rattle.std.specs.Str.{IsUtf8}
-use Rattle.snb_base.specs.Calendar.{IsDigit}
-use Rattle.snb_base.specs.Spellings.{last_time}
+use Rattle.snb_base.specs.Spellings.{Num, last_time}
 use Rattle.snb_base.proofs.Laws.{number_spelled}
 use Rattle.snb_schema.specs.declared.column.Column.{Column}
 use Rattle.snb_schema.specs.declared.column.Column.TheVariants.{Number, Small, OptionalId, Date, Day, Words, Word, TextList, IdList, PairList}
@@ -48,45 +47,38 @@ of_tables : (s : Shape) → AllByRecursion IsOfTables (shape_columns s)
 of_tables shapes.Place = search arith
 of_tables s = search arith
 
--- the canonical spelling of a value within its column's bounds spells it
-spelled : (c : Column) (v : Value) → IsOfTables c → IsInBounds c v → Spells c (canonical_field v) v
-spelled (Number most) (Digits n) o w = number_spelled n most w (omega arith)
-spelled (Small most) (SmallDigits n) o w = number_spelled n most w (omega arith)
-spelled Date (Digits n) o w = (w, inr (number_spelled n last_time w (omega arith)))
-spelled Day (Digits n) o w = (w, inr (number_spelled n last_time w (omega arith)))
-spelled Words (Letters text) o w = refl
-spelled Word (Letters text) o w = (w.0, refl)
-spelled c v o w = absurd w
+-- digits spell their number, and are a text that a field can hold
+number_plain : (n most : ℕ) → n ≤ most → most < 10 ^ 19 → Num (decimal n) n most × IsFieldText (decimal n)
+number_plain n most small few =
+    let num = number_spelled n most small (omega (arith, small, few)) in (
+      num,
+      record {
+        utf8 = IsUtf8-from_ascii (decimal n) (IsAscii-from_all (decimal n) (all_digits (λ b. b < 128) (λ b d. omega arith) (decimal n) num.digits));
+        no_bar = all_digits (λ b. b ≢ 124) (λ b d. omega arith) (decimal n) num.digits;
+        one_line = all_digits (λ b. b ≢ 10) (λ b d. omega arith) (decimal n) num.digits;
+      },
+    )
 
--- so do the canonical spellings of all
-spelled_all : (cs : List Column) (vs : List Value) → AllByRecursion IsOfTables cs → AreWithin cs vs → SpellsAll cs (map canonical_field vs) vs
-spelled_all [] [] o w = tt
-spelled_all (c ∷ cs) (v ∷ vs) o w = (spelled c v o.0 w.0, spelled_all cs vs o.1 w.1)
-spelled_all cs vs o w = absurd w
+-- so does the canonical spelling of a value within its column's bounds, and is such a text
+own_field : (c : Column) (v : Value) → IsOfTables c → IsInBounds c v → Spells c (canonical_field v) v × IsFieldText (canonical_field v)
+own_field (Number most) (Digits n) o w = number_plain n most w o
+own_field (Small most) (SmallDigits n) o w = number_plain n most w o
+own_field Date (Digits n) o w = let own = number_plain n last_time w (omega arith) in ((w, inr own.0), own.1)
+own_field Day (Digits n) o w = let own = number_plain n last_time w (omega arith) in ((w, inr own.0), own.1)
+own_field Words (Letters text) o w = (refl, w)
+own_field Word (Letters text) o w = ((w.0, refl), w.1)
+own_field c v o w = absurd w
 
--- it is a text that a field can hold
-digits_plain : (t : List ℕ) → AllByRecursion IsDigit t → IsFieldText t
-digits_plain t d = record {
-  utf8 = IsUtf8-from_ascii t (IsAscii-from_all t (all_digits (λ b. b < 128) (λ b e. omega arith) t d));
-  no_bar = all_digits (λ b. b ≢ 124) (λ b e. omega arith) t d;
-  one_line = all_digits (λ b. b ≢ 10) (λ b e. omega arith) t d;
-}
+-- and those of all
+own_fields : (cs : List Column) (vs : List Value) → AllByRecursion IsOfTables cs → AreWithin cs vs → SpellsAll cs (map canonical_field vs) vs × All IsFieldText (map canonical_field vs)
+own_fields [] [] o w = (tt, All-nil IsFieldText)
+own_fields (c ∷ cs) (v ∷ vs) o w =
+    let one = own_field c v o.0 w.0 in
+    let more = own_fields cs vs o.1 w.1 in
+    ((one.0, more.0), All-cons IsFieldText (canonical_field v) (map canonical_field vs) one.1 more.1)
+own_fields cs vs o w = absurd w
 
-plain : (c : Column) (v : Value) → IsOfTables c → IsInBounds c v → IsFieldText (canonical_field v)
-plain (Number most) (Digits n) o w = digits_plain (decimal n) (number_spelled n most w (omega arith)).digits
-plain (Small most) (SmallDigits n) o w = digits_plain (decimal n) (number_spelled n most w (omega arith)).digits
-plain Date (Digits n) o w = digits_plain (decimal n) (number_spelled n last_time w (omega arith)).digits
-plain Day (Digits n) o w = digits_plain (decimal n) (number_spelled n last_time w (omega arith)).digits
-plain Words (Letters text) o w = w
-plain Word (Letters text) o w = w.1
-plain c v o w = absurd w
-
-plain_all : (cs : List Column) (vs : List Value) → AllByRecursion IsOfTables cs → AreWithin cs vs → All IsFieldText (map canonical_field vs)
-plain_all [] [] o w = All-nil IsFieldText
-plain_all (c ∷ cs) (v ∷ vs) o w = All-cons IsFieldText (canonical_field v) (map canonical_field vs) (plain c v o.0 w.0) (plain_all cs vs o.1 w.1)
-plain_all cs vs o w = absurd w
-
--- so its table has columns
+-- columns that have such values are some
 some_columns : (cs : List Column) (n : ℕ) (vs rest : List Value) → vs ≡ Digits n ∷ rest → AreWithin cs vs → cs ≢ []
 some_columns (c ∷ cs) n vs rest e w = λ f. cc
 some_columns [] n vs rest e w = absurd (subst (AreWithin []) e w)
@@ -109,11 +101,10 @@ own_row : OwnLineOfValues → (r : Row) → IsTableRow r → IsRow (table_of r) 
 own_row law r h =
     let cs = columns (table_of r) in
     let vs = values r in
-    let o = of_tables (shape (table_of r)) in
     let first = number_first r in
-    let all = plain_all cs vs o h.within in
+    let (spelled, all) = own_fields cs vs (of_tables (shape (table_of r))) h.within in
     let low = lower (has_no_direction (table_of r)) vs h.in_order in
-    let line = law cs (map canonical_field vs) vs (some_columns cs first.0 vs first.1 first.2 h.within) (spelled_all cs vs o h.within) (λ k d lt. (all k d lt).no_bar) in
+    let line = law cs (map canonical_field vs) vs (some_columns cs first.0 vs first.1 first.2 h.within) spelled (λ k d lt. (all k d lt).no_bar) in
     record {
       text = line.text (λ k d lt. (all k d lt).utf8);
       unmarked = line.unmarked first.0 first.1 first.2;
