@@ -1,7 +1,6 @@
-pub mod CaseFacts
 pub mod FileFacts
 pub mod OneFacts
 pub mod RowFacts
-pub mod RowsByValues
+mod RowsByValues
 pub mod RowLineFacts
 pub mod SomeFacts

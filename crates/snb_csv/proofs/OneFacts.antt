@@ -5,14 +5,12 @@ use Rattle.snb_schema.specs.declared.table.Table.{Table}
 use Rattle.snb_schema.specs.Columns.{SpellsAll}
 use Rattle.snb_schema.specs.Layouts.{has_no_direction}
 use Rattle.snb_schema.specs.TableColumns.{columns}
-use Rattle.snb_schema.specs.RowLines.{IsLoop, SpellsRow}
-use Rattle.snb_schema.specs.RowValues.{Differ, IsWide, in_order, is_turned, row_shape, table_of, values}
+use Rattle.snb_schema.specs.RowLines.{SpellsRow}
+use Rattle.snb_schema.specs.RowValues.{IsWide, in_order, is_turned, row_shape, table_of, values}
 use Rattle.snb_columns.specs.Laws.{OneList}
 use Rattle.snb_input_fields.proofs.Laws.{no_stop, one_stop, spelled_long}
-use Rattle.snb_input_fields.proofs.TypedRows.{row_of}
 use Rattle.snb_csv.specs.Laws.{OneColumn, OneRow, RowsAreRight}
 use Rattle.snb_csv.proofs.RowsByValues.{differ_apart, own_first, row_again, row_by}
-use Rattle.snb_csv.proofs.CaseFacts.{IsBadColumnCase, to_case}
 
 -- the fields of a row are wide
 row_wide : (t : Table) (fs : List (List ℕ)) (r : Row) (turned : Bool) → SpellsRow t fs r turned → IsWide (length (columns t)) fs
@@ -32,33 +30,21 @@ one_row list t fs r q a b s u =
     let valued : values r ≡ values q = s.kept ∙ ap (in_order (has_no_direction t)) said ∙ sym u.kept in
     (sym (row_again r) ∙ (λ i. row_by (shaped i) (tabled i) (valued i)) ∙ row_again q, s.turns ∙ ap (is_turned (has_no_direction t)) said ∙ sym u.turns)
 
--- the fields of a row don't lead back
-no_loop : (t : Table) (fs : List (List ℕ)) (r : Row) (turned : Bool) → SpellsRow t fs r turned → ¬ IsLoop (has_no_direction t) fs
-no_loop t fs r turned s =
-    let first = first_spelled t fs r turned s in
-    let h = row_of (columns t) (take (length (columns t)) fs) s.said first in
-    (differ_apart t fs h.0 (subst (SpellsAll (columns t) (take (length (columns t)) fs)) h.1 first)).0 (subst (Differ (has_no_direction t)) h.1 s.differ)
-
--- fields that spell a row have no bad column
-right_case : (t : Table) (fs : List (List ℕ)) (r : Row) (turned : Bool) (column : ℕ) → SpellsRow t fs r turned → ¬ IsBadColumnCase t fs column
-right_case t fs r turned column s (inl narrow) = narrow.0 (row_wide t fs r turned s)
-right_case t fs r turned column s (inr (inl loop)) = no_loop t fs r turned s loop.1
-right_case t fs r turned column s (inr (inr stop)) = no_stop (columns t) fs s.said (first_spelled t fs r turned s) stop.2.0 stop.2.1
-
+-- and have no bad column
 pub rows_are_right : RowsAreRight
-rows_are_right t fs r turned column s bad = right_case t fs r turned column s (to_case t fs column bad)
+rows_are_right t fs r turned column s (inl narrow) = narrow.0 (row_wide t fs r turned s)
+rows_are_right t fs r turned column s (inr (size, inl loop)) = (differ_apart t fs s.said (first_spelled t fs r turned s)).0 s.differ loop.0
+rows_are_right t fs r turned column s (inr (size, inr (loop, inl stop))) = no_stop (columns t) fs s.said (first_spelled t fs r turned s) stop.0 stop.1
+rows_are_right t fs r turned column s (inr (size, inr (loop, inr p))) = p.1
 
--- and others have one at most
-one_case : (t : Table) (fs : List (List ℕ)) (a b : ℕ) → IsBadColumnCase t fs a → IsBadColumnCase t fs b → a ≡ b
-one_case t fs a b (inl p) (inl q) = p.1 ∙ sym q.1
-one_case t fs a b (inl p) (inr (inl q)) = absurd (p.0 q.0)
-one_case t fs a b (inl p) (inr (inr q)) = absurd (p.0 q.0)
-one_case t fs a b (inr (inl p)) (inl q) = absurd (q.0 p.0)
-one_case t fs a b (inr (inl p)) (inr (inl q)) = p.2 ∙ sym q.2
-one_case t fs a b (inr (inl p)) (inr (inr q)) = absurd (q.1 p.1)
-one_case t fs a b (inr (inr p)) (inl q) = absurd (q.0 p.0)
-one_case t fs a b (inr (inr p)) (inr (inl q)) = absurd (p.1 q.1)
-one_case t fs a b (inr (inr p)) (inr (inr q)) = p.2.2 ∙ ap (λ n. n + 1) (one_stop (columns t) fs p.2.0 q.2.0 p.2.1 q.2.1) ∙ sym q.2.2
-
+-- others have one at most
 pub one_column : OneColumn
-one_column t fs a b p q = one_case t fs a b (to_case t fs a p) (to_case t fs b q)
+one_column t fs a b (inl p) (inl q) = p.1 ∙ sym q.1
+one_column t fs a b (inl p) (inr q) = absurd (q.0 a p)
+one_column t fs a b (inr p) (inl q) = absurd (p.0 b q)
+one_column t fs a b (inr (m, inl p)) (inr (n, inl q)) = p.1 ∙ sym q.1
+one_column t fs a b (inr (m, inl p)) (inr (n, inr q)) = absurd (q.0 a p)
+one_column t fs a b (inr (m, inr p)) (inr (n, inl q)) = absurd (p.0 b q)
+one_column t fs a b (inr (m, inr (k, inl p))) (inr (n, inr (l, inl q))) = p.2 ∙ ap (λ n. n + 1) (one_stop (columns t) fs p.0 q.0 p.1 q.1) ∙ sym q.2
+one_column t fs a b (inr (m, inr (k, inl p))) (inr (n, inr (l, inr q))) = absurd q.1
+one_column t fs a b (inr (m, inr (k, inr p))) (inr (n, inr q)) = absurd p.1

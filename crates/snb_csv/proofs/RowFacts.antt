@@ -1,5 +1,5 @@
 -- The row that is made of the fields of a line.
-use Rattle.std.proofs.Common.{Result, Ok, Err, IfOk, ◌≡◌, ◌∙◌, ◌+◌, ℕ, Bool, false, List, [], ◌∷◌, length, refl, sym, ap, subst, inr, arith}
+use Rattle.std.proofs.Common.{Result, Ok, Err, IfOk, ◌≡◌, ◌∙◌, ◌+◌, ◌<◌, ℕ, zero, suc, Bool, false, List, [], ◌∷◌, length, refl, sym, ap, subst, inr, arith}
 use Rattle.snb_schema.specs.declared.column.Value.{Value}
 use Rattle.snb_schema.specs.declared.column.Value.TheVariants.{Digits}
 use Rattle.snb_schema.specs.declared.layout.Shape.TheVariants as shapes
@@ -15,8 +15,8 @@ use Rattle.snb_schema.specs.Faults.{OnBadColumn}
 use Rattle.snb_schema.specs.declared.fault.LineFault.{LineFault}
 use Rattle.snb_schema.specs.declared.fault.LineFault.TheVariants.{Bad, Memory}
 use Rattle.snb_schema.specs.declared.row.Placed.{Placed}
-use Rattle.snb_input_fields.specs.Reading.{IsBadNext, Reading, at_first, past}
-use Rattle.snb_input_fields.proofs.Readings.{spells_from}
+use Rattle.snb_input_fields.specs.Reading.{IsBadNext, Reading}
+use Rattle.snb_input_fields.proofs.Readings.{at, spells_from}
 use Rattle.snb_csv.specs.Make.{AreFriends, AreNoFriends, IsMadeOf, LeadsBack, table_by}
 use Rattle.snb_csv.proofs.RowsByValues.{spells_row, wide_long}
 
@@ -39,29 +39,20 @@ spells_knows fs r turned w f =
 pub spells_friends : (t : Table) (fs : List (List ℕ)) (r : Row) (turned : Bool) → t ≡ table.PersonKnowsPerson → IsWide (length (columns t)) fs → AreFriends t fs r turned → SpellsRow t fs r turned
 spells_friends t fs r turned knows = subst (λ (u : Table). IsWide (length (columns u)) fs → AreFriends u fs r turned → SpellsRow u fs r turned) (sym knows) (spells_knows fs r turned)
 
--- nor do those of which the first or the second spells no id
-pub first_is_none : (fs : List (List ℕ)) → StopsAfter (shape_columns shapes.Dated) fs 0 → ¬ LeadsBack fs
-first_is_none [] s l = absurd s
-first_is_none (x ∷ fs) s l = s (Digits l.0) l.1
+-- fields of which the first or the second spells no id don't lead back
+no_end : (fs : List (List ℕ)) (n : ℕ) → n < 2 → StopsAfter (shape_columns shapes.Dated) fs n → ¬ LeadsBack fs
+no_end [] n early s l = s
+no_end (x ∷ fs) zero early s l = s (Digits l.0) l.1
+no_end (x ∷ []) (suc n) early s l = s.1
+no_end (x ∷ y ∷ fs) (suc zero) early s l = s.1 (Digits l.0) l.2
+no_end (x ∷ y ∷ fs) (suc (suc n)) early s l = omega (arith, early)
 
-pub second_is_none : (fs : List (List ℕ)) → StopsAfter (shape_columns shapes.Dated) fs 1 → ¬ LeadsBack fs
-second_is_none [] s l = absurd s
-second_is_none (x ∷ []) s l = absurd s.1
-second_is_none (x ∷ y ∷ fs) s l = s.1 (Digits l.0) l.2
-
--- so a line whose first field spells no id is no friendship
-pub no_first : (why : LineFault) (r : Reading) → r ≡ at_first (shape_columns shapes.Dated) r.fields → OnBadColumn {A = ℕ} (Err why) (IsBadNext r) → OnBadColumn {A = Placed} (Err why) (AreNoFriends r.fields)
-no_first Memory r is b = tt
-no_first (Bad column) r is b =
-    let stops : StopsAfter (shape_columns shapes.Dated) r.fields 0 = subst (λ (q : Reading). StopsAfter q.columns r.fields q.read) is b.stops in
-    inr (first_is_none r.fields stops, (0, stops, b.at ∙ ap (λ (q : Reading). q.read + 1) is))
-
--- nor is one whose second does
-pub no_second : (why : LineFault) (r : Reading) (fs : List (List ℕ)) → r ≡ past (at_first (shape_columns shapes.Dated) fs) → OnBadColumn {A = ℕ} (Err why) (IsBadNext r) → OnBadColumn {A = Placed} (Err why) (AreNoFriends fs)
-no_second Memory r fs is b = tt
-no_second (Bad column) r fs is b =
-    let stops : StopsAfter (shape_columns shapes.Dated) fs 1 = subst (λ (q : Reading). StopsAfter q.columns q.fields q.read) is b.stops in
-    inr (second_is_none fs stops, (1, stops, b.at ∙ ap (λ (q : Reading). q.read + 1) is))
+-- so they are no friendship
+pub no_friends : (n : ℕ) (why : LineFault) (result : Result Placed LineFault) (r : Reading) (fs : List (List ℕ)) → result ≡ Err why → n < 2 → r ≡ at (shape_columns shapes.Dated) fs n → OnBadColumn {A = ℕ} (Err why) (IsBadNext r) → OnBadColumn result (AreNoFriends fs)
+no_friends n Memory result r fs same early is b = rw same tt
+no_friends n (Bad column) result r fs same early is b =
+    let stops : StopsAfter (shape_columns shapes.Dated) fs n = subst (λ (q : Reading). StopsAfter q.columns q.fields q.read) is b.stops in
+    rw same (inr (no_end fs n early stops, (n, stops, b.at ∙ ap (λ (q : Reading). q.read + 1) is)))
 
 -- what is answered for the fields of a friendship
 pub answers_friends : (t : Table) (fs gs : List (List ℕ)) (line : ℕ) (result : Result Placed LineFault) → gs ≡ fs → t ≡ table.PersonKnowsPerson → IsWide (length (columns t)) fs

@@ -1,5 +1,5 @@
 -- A row that a table can have has a line, and the row of a line is one that its table can have.
-use Rattle.std.proofs.Common.{◌≡◌, ◌≢◌, ◌<◌, ◌^◌, ◌∙◌, ◌∷◌, ◌++◌, [], ℕ, min, max, Bool, true, false, List, length, map, refl, sym, ap, subst, inr, arith, append-nil, All}
+use Rattle.std.proofs.Common.{◌≡◌, ◌≢◌, ◌<◌, ◌≤◌, ◌^◌, ◌∙◌, ◌∷◌, ◌++◌, [], ℕ, min, max, Bool, true, false, List, length, map, refl, sym, ap, subst, inr, arith, append-nil, All, rules}
 use Rattle.std.proofs.Math.Seq.{take-append_seam}
 use Rattle.std.proofs.lemmas.Bool.{le-ltb}
 use Rattle.std.proofs.lemmas.List.Elements.{All-cons, All-head, All-nil, All-tail, All-take}
@@ -8,8 +8,7 @@ use Rattle.std.proofs.lemmas.Str.Ascii.{IsAscii-from_all}
 use Rattle.std.specs.Fmt.{decimal}
 use Rattle.std.specs.List.{AllByRecursion}
 use Rattle.std.specs.Str.{IsUtf8}
-use Rattle.snb_base.specs.Calendar.{IsDigit}
-use Rattle.snb_base.specs.Spellings.{last_time}
+use Rattle.snb_base.specs.Spellings.{Num, last_time}
 use Rattle.snb_base.proofs.Laws.{number_spelled}
 use Rattle.snb_schema.specs.declared.column.Column.{Column}
 use Rattle.snb_schema.specs.declared.column.Column.TheVariants.{Number, Small, OptionalId, Date, Day, Words, Word, TextList, IdList, PairList}
@@ -24,7 +23,7 @@ use Rattle.snb_schema.specs.declared.table.Table.TheVariants as table
 use Rattle.snb_schema.specs.Columns.{Spells, SpellsAll, canonical_field}
 use Rattle.snb_schema.specs.Layouts.{has_no_direction, shape}
 use Rattle.snb_schema.specs.TableColumns.{columns, shape_columns}
-use Rattle.snb_schema.specs.Lines.{HasNoBar, HasNoEnd, fields}
+use Rattle.snb_schema.specs.Lines.{HasNoEnd, fields}
 use Rattle.snb_schema.specs.RowLines.{IsRow, canonical}
 use Rattle.snb_schema.specs.RowValues.{Differ, in_order, is_turned, table_of, values}
 use Rattle.snb_csv.specs.Laws.{OwnRowLine, RowsOfFieldsFit}
@@ -38,52 +37,48 @@ abbrev pub IsOfTables : Column → Type 0
 IsOfTables (Number most) = most < 10 ^ 19
 IsOfTables (Small most) = most < 10 ^ 19
 IsOfTables OptionalId = ⊥
-IsOfTables Date = Unit {0}
-IsOfTables Day = Unit {0}
-IsOfTables Words = Unit {0}
-IsOfTables Word = Unit {0}
 IsOfTables TextList = ⊥
 IsOfTables IdList = ⊥
 IsOfTables PairList = ⊥
+IsOfTables column = Unit {0}
 
 -- the columns of each shape are such columns
 of_tables : (s : Shape) → AllByRecursion IsOfTables (shape_columns s)
 of_tables shapes.Place = search arith
 of_tables s = search arith
 
--- the canonical spelling of a value within its column's bounds spells it
-spelled : (c : Column) (v : Value) → IsOfTables c → IsInBounds c v → Spells c (canonical_field v) v
-spelled (Number most) (Digits n) o w = number_spelled n most w (omega arith)
-spelled (Small most) (SmallDigits n) o w = number_spelled n most w (omega arith)
-spelled Date (Digits n) o w = (w, inr (number_spelled n last_time w (omega arith)))
-spelled Day (Digits n) o w = (w, inr (number_spelled n last_time w (omega arith)))
-spelled Words (Letters text) o w = refl
-spelled Word (Letters text) o w = (w.0, refl)
-spelled c v o w = absurd w
+-- digits spell their number, and are a text that a field can hold
+number_plain : (n most : ℕ) → n ≤ most → most < 10 ^ 19 → Num (decimal n) n most × IsFieldText (decimal n)
+number_plain n most small few =
+    let num = number_spelled n most small (omega (arith, small, few)) in (
+      num,
+      record {
+        utf8 = IsUtf8-from_ascii (decimal n) (IsAscii-from_all (decimal n) (all_digits (λ b. b < 128) (λ b d. omega arith) (decimal n) num.digits));
+        no_bar = all_digits (λ b. b ≢ 124) (λ b d. omega arith) (decimal n) num.digits;
+        one_line = all_digits (λ b. b ≢ 10) (λ b d. omega arith) (decimal n) num.digits;
+      },
+    )
 
--- so do the canonical spellings of all
-spelled_all : (cs : List Column) (vs : List Value) → AllByRecursion IsOfTables cs → AreWithin cs vs → SpellsAll cs (map canonical_field vs) vs
-spelled_all [] [] o w = tt
-spelled_all (c ∷ cs) (v ∷ vs) o w = (spelled c v o.0 w.0, spelled_all cs vs o.1 w.1)
-spelled_all cs vs o w = absurd w
+-- so does the canonical spelling of a value within its column's bounds, and is such a text
+own_field : (c : Column) (v : Value) → IsOfTables c → IsInBounds c v → Spells c (canonical_field v) v × IsFieldText (canonical_field v)
+own_field (Number most) (Digits n) o w = number_plain n most w o
+own_field (Small most) (SmallDigits n) o w = number_plain n most w o
+own_field Date (Digits n) o w = let own = number_plain n last_time w (omega arith) in ((w, inr own.0), own.1)
+own_field Day (Digits n) o w = let own = number_plain n last_time w (omega arith) in ((w, inr own.0), own.1)
+own_field Words (Letters text) o w = (refl, w)
+own_field Word (Letters text) o w = ((w.0, refl), w.1)
+own_field c v o w = absurd w
 
--- what holds of digits and of a field's text holds of the canonical spelling
-held : (P : List ℕ → Type 0) → ((t : List ℕ) → AllByRecursion IsDigit t → P t) → ((t : List ℕ) → IsFieldText t → P t) → (c : Column) (v : Value) → IsOfTables c → IsInBounds c v → P (canonical_field v)
-held P digits text (Number most) (Digits n) o w = digits (decimal n) (number_spelled n most w (omega arith)).digits
-held P digits text (Small most) (SmallDigits n) o w = digits (decimal n) (number_spelled n most w (omega arith)).digits
-held P digits text Date (Digits n) o w = digits (decimal n) (number_spelled n last_time w (omega arith)).digits
-held P digits text Day (Digits n) o w = digits (decimal n) (number_spelled n last_time w (omega arith)).digits
-held P digits text Words (Letters t) o w = text t w
-held P digits text Word (Letters t) o w = text t w.1
-held P digits text c v o w = absurd w
+-- and those of all
+own_fields : (cs : List Column) (vs : List Value) → AllByRecursion IsOfTables cs → AreWithin cs vs → SpellsAll cs (map canonical_field vs) vs × All IsFieldText (map canonical_field vs)
+own_fields [] [] o w = (tt, All-nil IsFieldText)
+own_fields (c ∷ cs) (v ∷ vs) o w =
+    let one = own_field c v o.0 w.0 in
+    let more = own_fields cs vs o.1 w.1 in
+    ((one.0, more.0), All-cons IsFieldText (canonical_field v) (map canonical_field vs) one.1 more.1)
+own_fields cs vs o w = absurd w
 
--- and of all of them
-held_all : (P : List ℕ → Type 0) → ((t : List ℕ) → AllByRecursion IsDigit t → P t) → ((t : List ℕ) → IsFieldText t → P t) → (cs : List Column) (vs : List Value) → AllByRecursion IsOfTables cs → AreWithin cs vs → All P (map canonical_field vs)
-held_all P digits text [] [] o w = All-nil P
-held_all P digits text (c ∷ cs) (v ∷ vs) o w = All-cons P (canonical_field v) (map canonical_field vs) (held P digits text c v o.0 w.0) (held_all P digits text cs vs o.1 w.1)
-held_all P digits text cs vs o w = absurd w
-
--- so its table has columns
+-- columns that have such values are some
 some_columns : (cs : List Column) (n : ℕ) (vs rest : List Value) → vs ≡ Digits n ∷ rest → AreWithin cs vs → cs ≢ []
 some_columns (c ∷ cs) n vs rest e w = λ f. cc
 some_columns [] n vs rest e w = absurd (subst (AreWithin []) e w)
@@ -94,34 +89,26 @@ number_first (row.Place p) = (_, _, refl)
 number_first r = (_, _, refl)
 
 -- ends of which the first is lower differ, are in order, and aren't turned
-lower_differ : (undirected : Bool) (vs : List Value) → HasLowerFirst undirected vs → Differ undirected vs
-lower_differ true (Digits one ∷ Digits other ∷ rest) low = λ e. omega arith
-lower_differ undirected vs low = low
-
-lower_kept : (undirected : Bool) (vs : List Value) → HasLowerFirst undirected vs → vs ≡ in_order undirected vs
-lower_kept true (Digits one ∷ Digits other ∷ rest) low =
+lower : (undirected : Bool) (vs : List Value) → HasLowerFirst undirected vs → Differ undirected vs × (vs ≡ in_order undirected vs) × (false ≡ is_turned undirected vs)
+lower true (Digits one ∷ Digits other ∷ rest) low =
     let first : min one other ≡ one = omega arith in
     let second : max one other ≡ other = omega arith in
-    rw (first, second) refl
-lower_kept undirected vs low = refl
-
-lower_unturned : (undirected : Bool) (vs : List Value) → HasLowerFirst undirected vs → false ≡ is_turned undirected vs
-lower_unturned true (Digits one ∷ Digits other ∷ rest) low = sym (le-ltb other one (omega arith))
-lower_unturned undirected vs low = refl
+    (λ e. omega arith, rw (first, second) refl, sym (le-ltb other one (omega arith)))
+lower undirected vs low = (low, refl, refl)
 
 -- the row's own line
 own_row : OwnLineOfValues → (r : Row) → IsTableRow r → IsRow (table_of r) (canonical r) r
 own_row law r h =
     let cs = columns (table_of r) in
     let vs = values r in
-    let o = of_tables (shape (table_of r)) in
     let first = number_first r in
-    let all = λ (P : List ℕ → Type 0) (digits : (t : List ℕ) → AllByRecursion IsDigit t → P t) (text : (t : List ℕ) → IsFieldText t → P t). held_all P digits text cs vs o h.within in
-    let line = law cs (map canonical_field vs) vs (some_columns cs first.0 vs first.1 first.2 h.within) (spelled_all cs vs o h.within) (all HasNoBar (all_digits (λ b. b ≢ 124) (λ b d. omega arith)) (λ t f. f.no_bar)) in
+    let (spelled, all) = own_fields cs vs (of_tables (shape (table_of r))) h.within in
+    let low = lower (has_no_direction (table_of r)) vs h.in_order in
+    let line = law cs (map canonical_field vs) vs (some_columns cs first.0 vs first.1 first.2 h.within) spelled (λ k d lt. (all k d lt).no_bar) in
     record {
-      text = line.text (all IsUtf8 (λ t d. IsUtf8-from_ascii t (IsAscii-from_all t (all_digits (λ b. b < 128) (λ b d. omega arith) t d))) (λ t f. f.utf8));
+      text = line.text (λ k d lt. (all k d lt).utf8);
       unmarked = line.unmarked first.0 first.1 first.2;
-      one_line = line.one_line (all HasNoEnd (all_digits (λ b. b ≢ 10) (λ b d. omega arith)) (λ t f. f.one_line));
+      one_line = line.one_line (λ k d lt. (all k d lt).one_line);
       turned = false;
       spelled = record {
         table = refl;
@@ -132,9 +119,9 @@ own_row law r h =
         no_more = tt;
         said = vs;
         spelled = line.spelled;
-        differ = lower_differ (has_no_direction (table_of r)) vs h.in_order;
-        kept = lower_kept (has_no_direction (table_of r)) vs h.in_order;
-        turns = lower_unturned (has_no_direction (table_of r)) vs h.in_order;
+        differ = low.0;
+        kept = low.1;
+        turns = low.2;
       };
     }
 
@@ -146,11 +133,7 @@ within Date x (Digits n) o f s = s.0
 within Day x (Digits n) o f s = s.0
 within Words x (Letters text) o f s = subst IsFieldText s f
 within Word x (Letters text) o f s = (λ e. s.0 (s.1 ∙ e), subst IsFieldText s.1 f)
-within OptionalId x v o f s = absurd o
-within TextList x v o f s = absurd o
-within IdList x v o f s = absurd o
-within PairList x v o f s = absurd o
-within c x v o f s = absurd s
+within c x v o f s = search rules
 
 -- and so are all
 within_all : (cs : List Column) (xs : List (List ℕ)) (vs : List Value) → AllByRecursion IsOfTables cs → All IsFieldText xs → SpellsAll cs xs vs → AreWithin cs vs

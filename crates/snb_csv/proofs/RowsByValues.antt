@@ -18,7 +18,7 @@ use Rattle.snb_schema.specs.Layouts.{has_no_direction, shape}
 use Rattle.snb_schema.specs.TableColumns.{columns, id_column}
 use Rattle.snb_schema.specs.RowLines.{IsLoop, SpellsRow}
 use Rattle.snb_schema.specs.RowValues.{Differ, IsWide, in_order, is_turned, row_shape, table_of, values}
-use Rattle.snb_input_fields.proofs.TypedRows.{TypedRow, row_values}
+use Rattle.snb_input_fields.proofs.TypedRows.{TypedRow, row_of, row_values}
 
 -- the row of this shape and table that has these values, where they are such a row's
 abbrev pub row_by : Shape → Table → List Value → Row
@@ -56,7 +56,7 @@ pub row_made : (t : Table) (h : TypedRow (columns t)) → (r : Row) × (turned :
 row_made table.Place h = (row_by shapes.Place table.Place (row_values (columns table.Place) h), _, record { table = refl; shaped = refl; kept = refl; turns = refl })
 row_made t h = (row_by (shape t) t (in_order (has_no_direction t) (row_values (columns t) h)), _, record { table = refl; shaped = refl; kept = refl; turns = refl })
 
--- the first two of these fields are different ids where they don't lead back
+-- two ids differ where the fields that spell them don't lead back
 ends : (cs : List Column) (fs : List (List ℕ)) (one other : ℕ) (rest : List Value) → SpellsAll (id_column ∷ id_column ∷ cs) (take (length (id_column ∷ id_column ∷ cs)) fs) (Digits one ∷ Digits other ∷ rest) → one ≢ other ↔ ¬ IsLoop true fs
 ends cs [] one other rest s = absurd s
 ends cs (x ∷ []) one other rest s = absurd s.1
@@ -65,10 +65,12 @@ ends cs (x ∷ y ∷ fs) one other rest s = (
   λ apart same. apart (one, s.0, subst (SpellsId y) (sym same) s.1.0),
 )
 
--- so do those of an edge without direction
-pub differ_apart : (t : Table) (fs : List (List ℕ)) (h : TypedRow (columns t)) → SpellsAll (columns t) (take (length (columns t)) fs) (row_values (columns t) h) → Differ (has_no_direction t) (row_values (columns t) h) ↔ ¬ IsLoop (has_no_direction t) fs
-differ_apart table.PersonKnowsPerson fs h s = ends (Date ∷ []) fs h.0 h.1.0 (row_values (Date ∷ []) h.1.1) s
-differ_apart t fs h s = (λ differ loop. loop, λ apart. tt)
+-- so the ends of an edge without direction differ where it doesn't lead back
+pub differ_apart : (t : Table) (fs : List (List ℕ)) (vs : List Value) → SpellsAll (columns t) (take (length (columns t)) fs) vs → Differ (has_no_direction t) vs ↔ ¬ IsLoop (has_no_direction t) fs
+differ_apart table.PersonKnowsPerson fs vs s =
+    let (h, is) = row_of (columns table.PersonKnowsPerson) (take 3 fs) vs s in
+    subst (λ (ws : List Value). Differ true ws ↔ ¬ IsLoop true fs) (sym is) (ends (Date ∷ []) fs h.0 h.1.0 (row_values (Date ∷ []) h.1.1) (subst (SpellsAll (columns table.PersonKnowsPerson) (take 3 fs)) is s))
+differ_apart t fs vs s = (λ differ loop. loop, λ apart. tt)
 
 -- a wide line has so many fields
 pub wide_long : (n : ℕ) (fs : List (List ℕ)) → IsWide n fs → n ≤ length fs

@@ -15,8 +15,7 @@ use Rattle.snb_input_fields.specs.Laws.{EachLineIsRead}
 use Rattle.snb_input_fields.proofs.Laws.{wide_or_not}
 use Rattle.snb_input_fields.proofs.TypedRows.{row_of}
 use Rattle.snb_csv.specs.Laws.{RowOrColumn}
-use Rattle.snb_csv.proofs.CaseFacts.{from_case}
-use Rattle.snb_csv.proofs.RowsByValues.{differ_apart, row_made, spells_row, wide_long}
+use Rattle.snb_csv.proofs.RowsByValues.{IsRowOf, differ_apart, row_made, spells_row, wide_long}
 
 -- a line leads back, or it doesn't
 loop_or_not : (undirected : Bool) (fs : List (List ℕ)) → Decided (IsLoop undirected fs)
@@ -35,20 +34,19 @@ loop_or_not undirected fs = inr (λ l. l)
 -- one that doesn't and spells values is a row
 row_apart : (t : Table) (fs : List (List ℕ)) (vs : List Value) → IsWide (length (columns t)) fs → ¬ IsLoop (has_no_direction t) fs → SpellsAll (columns t) (take (length (columns t)) fs) vs → (r : Row) × (turned : Bool) × SpellsRow t fs r turned
 row_apart t fs vs w apart s =
-    let h = row_of (columns t) (take (length (columns t)) fs) vs s in
-    let said = subst (SpellsAll (columns t) (take (length (columns t)) fs)) h.1 s in
-    let made = row_made t h.0 in
-    (made.0, made.1, spells_row t fs _ made.0 made.1 w said ((differ_apart t fs h.0 said).1 apart) made.2)
+    let (h, is) = row_of (columns t) (take (length (columns t)) fs) vs s in
+    let made = subst (λ (ws : List Value). (r : Row) × (turned : Bool) × IsRowOf t ws r turned) (sym is) (row_made t h) in
+    (made.0, made.1, spells_row t fs vs made.0 made.1 w s ((differ_apart t fs vs s).1 apart) made.2)
 
 -- fields spell a row, or they have a bad column
 pub row_or_column : EachLineIsRead → RowOrColumn
 row_or_column read t fs = elim (wide_or_not (length (columns t)) fs) [
   | inr narrow ↦ inr (0, inl (narrow, refl))
   | inl w ↦ elim (loop_or_not (has_no_direction t) fs) [
-    | inl loop ↦ inr (2, from_case t fs 2 (inr (inl (w, loop, refl))))
+    | inl loop ↦ inr (2, inr (λ c q. q.0 w, inl (loop, refl)))
     | inr apart ↦ elim (read (columns t) fs (wide_long (length (columns t)) fs w)) [
       | inl s ↦ inl (row_apart t fs s.0 w apart s.1)
-      | inr s ↦ inr (s.0 + 1, from_case t fs (s.0 + 1) (inr (inr (w, apart, (s.0, s.2, refl)))))
+      | inr s ↦ inr (s.0 + 1, inr (λ c q. q.0 w, inr (λ c q. apart q.0, inl (s.0, s.2, refl))))
     ]
   ]
 ]

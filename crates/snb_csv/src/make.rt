@@ -235,14 +235,8 @@ pub fn make_friends(
     ensures ok { IfOk result (λ p. AreFriends table fields.old.fields p.row p.turned × (p.line ≡ line)) }
     ensures bad { OnBadColumn result (AreNoFriends fields.old.fields) }
 {
-    let one = match fields.number(MAX_ID) {
-        Ok(one) => one,
-        Err(why) => return Err(why),
-    };
-    let other = match fields.number(MAX_ID) {
-        Ok(other) => other,
-        Err(why) => return Err(why),
-    };
+    let one = fields.number(MAX_ID)?;
+    let other = fields.number(MAX_ID)?;
     if one == other {
         return Err(fields.clash());
     }
