@@ -1,6 +1,5 @@
 -- Fields that spell no insert.
 use Rattle.std.proofs.Common.{◌≡◌, ◌+◌, ◌≤◌, ◌∙◌, ℕ, List, [], ◌∷◌, length, take, refl, sym, ap, subst, inl, inr, arith}
-use Rattle.std.specs.Prelude.{Err}
 use Rattle.std.proofs.lemmas.Bool.{cases_lt}
 use Rattle.std.proofs.lemmas.List.{take_all}
 use Rattle.snb_schema.specs.declared.column.Column.{Column}
@@ -10,9 +9,6 @@ use Rattle.snb_schema.specs.declared.limits.TheConstants.{MAX_TIME}
 use Rattle.snb_schema.specs.declared.op.Op.{Op}
 use Rattle.snb_schema.specs.declared.op.InsertKind.{InsertKind}
 use Rattle.snb_schema.specs.Columns.{SpellsAll, StopsAfter}
-use Rattle.snb_schema.specs.declared.fault.LineFault.{LineFault}
-use Rattle.snb_schema.specs.declared.fault.LineFault.TheVariants as line_fault
-use Rattle.snb_schema.specs.Faults.{OnBadColumn}
 use Rattle.snb_schema.specs.UpdateLines.{Clashes, IsBadInsert, IsFirstBad, NamesInsert}
 use Rattle.snb_schema.specs.InsertLines.{kind_of, line_columns, line_values}
 use Rattle.snb_streams.specs.Spelled.{SpellsInsert}
@@ -119,8 +115,3 @@ no_fault allowed fs t t_d op column s bad = elim (insert_to_case allowed fs colu
 
     long : length fs ≡ length (line_columns (kind_of op))
     long = spelled_long (line_columns (kind_of op)) fs (line_values t t_d op) s.1
-
--- a fault of fields, by what is known of its column
-pub bad_weaker : (A B : Type 0) (fault : LineFault) (P Q : ℕ → Type 0) → ((column : ℕ) → P column → Q column) → OnBadColumn {A = A} (Err fault) P → OnBadColumn {A = B} (Err fault) Q
-bad_weaker A B (line_fault.Bad column) P Q f p = f column p
-bad_weaker A B line_fault.Memory P Q f p = tt

@@ -115,14 +115,8 @@ fn parent(fields: &mut FieldReader<'_>) -> Result<Parent, LineFault>
     ensures one { OnOk result ((column : ℕ) → ¬ Clashes kinds.AddComment fields.old.fields column) }
     ensures bad { OnBadColumn result (IsFirstBad kinds.AddComment fields.old.fields) }
 {
-    let post = match fields.optional_id() {
-        Ok(post) => post,
-        Err(why) => return Err(why),
-    };
-    let comment = match fields.optional_id() {
-        Ok(comment) => comment,
-        Err(why) => return Err(why),
-    };
+    let post = fields.optional_id()?;
+    let comment = fields.optional_id()?;
     match (post, comment) {
         (Some(id), None) => Ok(Parent::Post { id }),
         (None, Some(id)) => Ok(Parent::Comment { id }),
@@ -170,10 +164,7 @@ fn comment(fields: &mut FieldReader<'_>) -> Result<Op, LineFault>
 {
     let head = comment_head(fields)?;
     let parent = parent(fields)?;
-    let tag_ids = match fields.ids() {
-        Ok(tag_ids) => tag_ids,
-        Err(why) => return Err(why),
-    };
+    let tag_ids = fields.ids()?;
     Ok(Op::AddComment {
         comment_id: head.comment_id,
         date: head.date,
@@ -193,25 +184,16 @@ fn friend(fields: &mut FieldReader<'_>) -> Result<Op, LineFault>
     ensures ok { IfOk result (IsMade kinds.AddFriend fields.old.fields) }
     ensures bad { OnBadColumn result (IsFirstBad kinds.AddFriend fields.old.fields) }
 {
-    let one = match fields.number(MAX_ID) {
-        Ok(one) => one,
-        Err(why) => return Err(why),
-    };
-    let other = match fields.number(MAX_ID) {
-        Ok(other) => other,
-        Err(why) => return Err(why),
-    };
+    let one = fields.number(MAX_ID)?;
+    let other = fields.number(MAX_ID)?;
     if one == other {
         return Err(fields.clash());
     }
-    match fields.date() {
-        Ok(date) => Ok(Op::AddFriend {
-            person1_id: one,
-            person2_id: other,
-            date,
-        }),
-        Err(why) => Err(why),
-    }
+    Ok(Op::AddFriend {
+        person1_id: one,
+        person2_id: other,
+        date: fields.date()?,
+    })
 }
 
 // The insert of this kind that the fields spell, whose times and number are read.
@@ -245,14 +227,8 @@ pub fn make_line(
     ensures ok { IfOk result (λ line. IsMadeLine kind fields.old.fields line × (line.number ≡ number)) }
     ensures bad { OnBadColumn result (IsFirstBad kind fields.old.fields) }
 {
-    let t = match fields.number(MAX_TIME) {
-        Ok(t) => t,
-        Err(why) => return Err(why),
-    };
-    let t_d = match fields.number(MAX_TIME) {
-        Ok(t_d) => t_d,
-        Err(why) => return Err(why),
-    };
+    let t = fields.number(MAX_TIME)?;
+    let t_d = fields.number(MAX_TIME)?;
     fields.pass();
     let op = make_op(kind, fields)?;
     Ok(Line { t, t_d, op, number })

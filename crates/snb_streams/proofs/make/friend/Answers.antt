@@ -14,18 +14,18 @@ use Rattle.snb_streams.proofs.make.friend.Goals as goal
 pub returns-then-one-other-clause-bad : goal.returns-then-one-other-clause-bad
 returns-then-one-other-clause-bad c =
     let fs = c.args.fields.now.fields in
-    let e1 = moved c.in-Ok.ensures.past c.requires in
-    let e2 = moved c.in-Ok-number.ensures.past e1 in
-    let one : SpellsId (field 3 fs) c.in-Ok.one = subst (λ (x : List ℕ). SpellsId x c.in-Ok.one) (same_field fs 3) (spelled 3 (columns.Number MAX_ID) (Digits c.in-Ok.one) c.requires c.in-Ok.ensures.ok) in
-    let other : SpellsId (field 4 fs) c.in-Ok-number.other = subst (λ (x : List ℕ). SpellsId x c.in-Ok-number.other) (same_field fs 4) (spelled 4 (columns.Number MAX_ID) (Digits c.in-Ok-number.other) e1 c.in-Ok-number.ensures.ok) in
-    clash_here Op kinds.AddFriend fs c.clash.result c.number-2.new.self 5 c.clash.ensures.column e2 (refl, (c.in-Ok.one, one, subst (SpellsId (field 4 fs)) (sym c.if-one-other.true) other)) c.clash.ensures.first
+    let e1 = moved c.in_ok-one.ensures.past c.requires in
+    let e2 = moved c.in_ok-other.ensures.past e1 in
+    let one : SpellsId (field 3 fs) c.in_ok-one.one = subst (λ (x : List ℕ). SpellsId x c.in_ok-one.one) (same_field fs 3) (spelled 3 (columns.Number MAX_ID) (Digits c.in_ok-one.one) c.requires c.in_ok-one.ensures.ok) in
+    let other : SpellsId (field 4 fs) c.in_ok-other.other = subst (λ (x : List ℕ). SpellsId x c.in_ok-other.other) (same_field fs 4) (spelled 4 (columns.Number MAX_ID) (Digits c.in_ok-other.other) e1 c.in_ok-other.ensures.ok) in
+    clash_here Op kinds.AddFriend fs c.clash.result c.number-2.new.self 5 c.clash.ensures.column e2 (refl, (c.in_ok-one.one, one, subst (SpellsId (field 4 fs)) (sym c.if-one-other.true) other)) c.clash.ensures.first
 
-pub returns-in-Ok-date-clause-ok : goal.returns-in-Ok-date-clause-ok
-returns-in-Ok-date-clause-ok c =
-    let e1 = moved c.in-Ok.ensures.past c.requires in
-    let e2 = moved c.in-Ok-number.ensures.past e1 in
+pub returns-clause-ok : goal.returns-clause-ok
+returns-clause-ok c =
+    let e1 = moved c.in_ok-one.ensures.past c.requires in
+    let e2 = moved c.in_ok-other.ensures.past e1 in
     record {
       kind_is = refl;
-      spelled = (spelled 3 (columns.Number MAX_ID) (Digits c.in-Ok.one) c.requires c.in-Ok.ensures.ok, (spelled 4 (columns.Number MAX_ID) (Digits c.in-Ok-number.other) e1 c.in-Ok-number.ensures.ok, (spelled 5 columns.Date (Digits c.in-Ok-date.date) e2 c.in-Ok-date.ensures.ok, tt)));
+      spelled = (spelled 3 (columns.Number MAX_ID) (Digits c.in_ok-one.one) c.requires c.in_ok-one.ensures.ok, (spelled 4 (columns.Number MAX_ID) (Digits c.in_ok-other.other) e1 c.in_ok-other.ensures.ok, (spelled 5 columns.Date (Digits c.in_ok-date.field-0) e2 c.in_ok-date.ensures.ok, tt)));
       of_two = c.if-one-other.false;
     }

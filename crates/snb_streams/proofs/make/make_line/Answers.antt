@@ -11,21 +11,21 @@ use Rattle.snb_streams.proofs.make.make_line.Goals as goal
 
 pub pass-requires : goal.pass-requires
 pass-requires c =
-    let e1 = moved c.in-Ok.ensures.past c.requires.begins in
-    let e2 = moved c.in-Ok-number.ensures.past e1 in
+    let e1 = moved c.in_ok-t.ensures.past c.requires.begins in
+    let e2 = moved c.in_ok-t_d.ensures.past e1 in
     let number = kind_number c.args.kind in
     record { good = (columns.Number number, rw e2 refl, Digits number, subst (λ (r : Reading). SpellsNext r (columns.Number number) (Digits number)) (sym e2) c.requires.third) }
 
 pub returns-clause-ok : goal.returns-clause-ok
 returns-clause-ok c =
     let fs = c.args.fields.now.fields in
-    let e1 = moved c.in-Ok.ensures.past c.requires.begins in
-    let e2 = moved c.in-Ok-number.ensures.past e1 in
+    let e1 = moved c.in_ok-t.ensures.past c.requires.begins in
+    let e2 = moved c.in_ok-t_d.ensures.past e1 in
     let e3 = moved c.pass.ensures e2 in
     let made : IsMade c.args.kind fs c.in_ok-op.op = subst (λ (xs : List (List ℕ)). IsMade c.args.kind xs c.in_ok-op.op) (ap (λ (r : Reading). r.fields) e3) c.in_ok-op.ensures.ok in (
       record {
         kind_is = made.kind_is;
-        spelled = line_made c.args.kind fs c.in-Ok.t c.in-Ok-number.t_d c.in_ok-op.op c.requires.long (spelled 0 (columns.Number MAX_TIME) (Digits c.in-Ok.t) c.requires.begins c.in-Ok.ensures.ok) (spelled 1 (columns.Number MAX_TIME) (Digits c.in-Ok-number.t_d) e1 c.in-Ok-number.ensures.ok) c.requires.third made;
+        spelled = line_made c.args.kind fs c.in_ok-t.t c.in_ok-t_d.t_d c.in_ok-op.op c.requires.long (spelled 0 (columns.Number MAX_TIME) (Digits c.in_ok-t.t) c.requires.begins c.in_ok-t.ensures.ok) (spelled 1 (columns.Number MAX_TIME) (Digits c.in_ok-t_d.t_d) e1 c.in_ok-t_d.ensures.ok) c.requires.third made;
         of_two = made.of_two;
       },
       refl,
