@@ -1,6 +1,6 @@
 //! The loading of one file.
 
-ghost use Rattle.std.specs.Prelude.{◌≡◌, ◌+◌, ◌≤◌, ◌<◌, ℕ, [], List, IfOk, vec_len, None, false, true};
+ghost use Rattle.std.specs.Prelude.{◌≡◌, ◌+◌, ◌≤◌, ◌<◌, ℕ, [], List, IfOk, length, vec_len, None, false, true};
 ghost use Rattle.snb_base.specs.Reads.{IsShelfRead};
 ghost use Rattle.snb_schema.specs.declared.limits.TheConstants.{MAX_BYTES};
 ghost use Rattle.snb_input_lines.specs.Counts.{IsUnder};
@@ -24,8 +24,8 @@ use std::alloc::{AllocError, Global};
 // How many bytes are asked for at once.
 const PIECE: usize = 65536;
 
-// Room for one piece.
-fn piece_buffer(alloc: Global) -> Result<Vec<u8>, AllocError>
+/// Room for one piece.
+pub(crate) fn piece_buffer(alloc: Global) -> Result<Vec<u8>, AllocError>
     ensures { IfOk result (λ buffer. 0 < vec_len buffer) }
 {
     vec![in alloc; 0u8; PIECE]
@@ -70,6 +70,49 @@ fn end_file<G: Grammar + Drop, P: FileSink<G> + Drop>(
                 file_sink,
                 used: Used { bytes, rows },
             })
+        }
+    }
+}
+
+/// Does what `load_known` does, with a buffer that the caller keeps too, so that it can be used for one file
+/// after the other. It has room for a byte (`room`).
+pub(crate) fn load_into<S: Shelf, G: Grammar + Drop, P: FileSink<G> + Drop>(
+    shelf: &mut S,
+    path: &str,
+    file: FileId,
+    used: Used,
+    reader: &mut LineReader<G>,
+    file_sink: P,
+    buffer: &mut [u8],
+) -> Result<Found<P>, Load>
+    requires right { AreTakers G.language P.stage P.meaning }
+    requires begins { reader.old ≡ at_begin file (P.stage.grammar_of file)
+        (G.language (P.stage.grammar_of file)).begins }
+    requires bytes { used.bytes ≤ MAX_BYTES }
+    requires rows { IsUnder P.stage.limit used.rows }
+    requires room { 0 < length buffer.old }
+    requires allowed { S.may shelf.old path.now ≡ true }
+    ensures answer { (begun : P) (past : List ReadFile) (done : List (List G.Item))
+        → FilesSay (format_in G.language P.stage begun) past done → P.stage.heard begun file_sink done []
+        → IsKnownAnswer (format_in G.language P.stage begun) (P.stage.heard begun) (S.contents shelf.old) path.now file
+        used past file_sink reader.new.known result }
+    ensures within { IfOk result (IsWithin P.stage.limit) }
+    ensures read { IsShelfRead (is_read_fault result) S.Shelf shelf.old shelf.new }
+{
+    let most = MAX_BYTES - used.bytes;
+    let mut sink = RowCount {
+        most: file_sink.most(),
+        rows: used.rows,
+        sink: file_sink,
+    };
+    'pieces: loop {
+        match read_piece(shelf, path, file, most, reader, &mut sink, buffer) {
+            Err(load) => return Err(load),
+            Ok(Step::Absent) => return Ok(Found::Absent {
+                file_sink: sink.sink,
+            }),
+            Ok(Step::End) => return end_file(file, used, reader, sink),
+            Ok(Step::More) => {}
         }
     }
 }
@@ -137,21 +180,6 @@ pub fn load_known<S: Shelf, G: Grammar + Drop, P: FileSink<G> + Drop>(
     ensures within { IfOk result (IsWithin P.stage.limit) }
     ensures read { IsShelfRead (is_read_fault result) S.Shelf shelf.old shelf.new }
 {
-    let most = MAX_BYTES - used.bytes;
     let mut buffer = piece_buffer(alloc)?;
-    let mut sink = RowCount {
-        most: file_sink.most(),
-        rows: used.rows,
-        sink: file_sink,
-    };
-    'pieces: loop {
-        match read_piece(shelf, path, file, most, reader, &mut sink, &mut buffer) {
-            Err(load) => return Err(load),
-            Ok(Step::Absent) => return Ok(Found::Absent {
-                file_sink: sink.sink,
-            }),
-            Ok(Step::End) => return end_file(file, used, reader, sink),
-            Ok(Step::More) => {}
-        }
-    }
+    load_into(shelf, path, file, used, reader, file_sink, &mut buffer)
 }

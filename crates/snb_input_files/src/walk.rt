@@ -1,6 +1,6 @@
 //! The files of a stage of an input, looked for in order.
 
-ghost use Rattle.std.specs.Prelude.{◌≡◌, ◌++◌, ◌∷◌, ◌≤◌, ◌<◌, ◌^◌, ℕ, [], List, IfOk, string_bytes, true};
+ghost use Rattle.std.specs.Prelude.{◌≡◌, ◌++◌, ◌∷◌, ◌≤◌, ◌<◌, ◌^◌, ℕ, [], List, IfOk, length, string_bytes, true};
 ghost use Rattle.snb_base.specs.Reads.{IsShelfRead};
 ghost use Rattle.snb_schema.specs.declared.limits.TheConstants.{MAX_BYTES};
 ghost use Rattle.snb_input_lines.specs.Counts.{IsUnder};
@@ -12,13 +12,13 @@ ghost use Rattle.snb_input_files.specs.Names.{Allows, IsNameIn};
 ghost use Rattle.snb_input_files.specs.Stages.{AreRising, IsStage, IsWalkWithin, Walked, before};
 ghost use Rattle.snb_input_files.specs.Walk.{Before, Look};
 
-use crate::file::load_file;
+use crate::file::{load_into, piece_buffer};
 use crate::file_sink::FileSink;
 use crate::found::Found;
 use crate::load::{Load, Used};
 use crate::series::Series;
 use snb_base::{Got, Shelf};
-use snb_input_lines::Grammar;
+use snb_input_lines::{Grammar, LineReader};
 use snb_schema::file::name_text;
 use snb_schema::{FileId, Refusal};
 use std::alloc::{AllocError, Global};
@@ -65,10 +65,12 @@ fn look<S: Shelf, G: Grammar + Drop, P: FileSink<G> + Drop>(
     file: FileId,
     needed: bool,
     walk: Walk<P>,
+    buffer: &mut [u8],
 ) -> Result<Found<P>, Load>
     requires right { AreTakers G.language P.stage P.meaning }
     requires bytes { walk.used.bytes ≤ MAX_BYTES }
     requires rows { IsUnder P.stage.limit walk.used.rows }
+    requires room { 0 < length buffer.old }
     requires allowed { S.may shelf.old (folder.now ++ 47 ∷ name_of file) ≡ true }
     ensures answer { (begun : P) (start : Before) (looked : List Look)
         → Walked (format_in G.language P.stage begun) (P.stage.heard begun) start looked walk
@@ -78,7 +80,16 @@ fn look<S: Shelf, G: Grammar + Drop, P: FileSink<G> + Drop>(
     ensures read { IsShelfRead (is_read_fault result) S.Shelf shelf.old shelf.new }
 {
     let path = path_of(alloc, folder, file)?;
-    match load_file(alloc, shelf, path.as_str(), file, walk.used, walk.file_sink) {
+    let mut reader = LineReader::of_file(alloc, file, walk.file_sink.grammar(file));
+    match load_into(
+        shelf,
+        path.as_str(),
+        file,
+        walk.used,
+        &mut reader,
+        walk.file_sink,
+        buffer,
+    ) {
         Err(load) => Err(load),
         Ok(Found::Absent { file_sink }) => {
             if needed {
@@ -108,10 +119,12 @@ fn walk_series<S: Shelf, G: Grammar + Drop, P: FileSink<G> + Drop>(
     folder: &str,
     series: Series,
     walk: Walk<P>,
+    buffer: &mut [u8],
 ) -> Result<Walk<P>, Load>
     requires right { AreTakers G.language P.stage P.meaning }
     requires bytes { walk.used.bytes ≤ MAX_BYTES }
     requires rows { IsUnder P.stage.limit walk.used.rows }
+    requires room { 0 < length buffer.old }
     requires few { series.most < 2 ^ 32 }
     requires allowed { Allows (S.may shelf.old) (IsNameIn (series ∷ []) folder.now) }
     ensures answer { (begun : P) (start : Before) (looked : List Look)
@@ -129,7 +142,7 @@ fn walk_series<S: Shelf, G: Grammar + Drop, P: FileSink<G> + Drop>(
             part,
         };
         let used = so_far.used;
-        match look(alloc, shelf, folder, file, needed, so_far) {
+        match look(alloc, shelf, folder, file, needed, so_far, buffer) {
             Err(load) => return Err(load),
             Ok(Found::Absent { file_sink }) => return Ok(Walk { used, file_sink }),
             Ok(Found::Whole { file_sink, used }) => {
@@ -186,9 +199,11 @@ pub fn walk_stage<S: Shelf, G: Grammar + Drop, P: FileSink<G> + Drop>(
     ensures within { IfOk result (IsWalkWithin P.stage.limit) }
     ensures read { IsShelfRead (is_read_fault result) S.Shelf shelf.old shelf.new }
 {
+    // All files of the stage are read through one buffer.
+    let mut buffer = piece_buffer(alloc)?;
     let mut so_far = Walk { used, file_sink };
     for series in stage {
-        match walk_series(alloc, shelf, folder, *series, so_far) {
+        match walk_series(alloc, shelf, folder, *series, so_far, &mut buffer) {
             Err(load) => return Err(load),
             Ok(walk) => so_far = walk,
         }

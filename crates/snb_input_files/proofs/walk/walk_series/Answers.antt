@@ -16,6 +16,7 @@ loop-part-init g c = record {
   along = λ begun start looked k. along_first (format_in g.G.Grammar.language g.P.FileSink.stage begun) (g.P.FileSink.stage.heard begun) (g.S.Shelf.contents c.args.shelf.now) c.args.folder.now c.args.series start looked c.args.walk k;
   bytes = search rules;
   rows = search rules;
+  room = search rules;
   read = search rules;
 }
 
@@ -50,6 +51,7 @@ loop-part-preserved g c = record {
       along_more (format_in g.G.Grammar.language g.P.FileSink.stage begun) (g.P.FileSink.stage.heard begun) (g.S.Shelf.contents c.args.shelf.now) c.args.folder.now c.args.series start looked c.loop-part.part (first_role c.loop-part.needed) c.loop-part.so_far a h.0 (record { used = c.in-Ok-Whole.used; file_sink = c.in-Ok-Whole.file_sink }) (search rules) h.1 h.2;
   bytes = (subst (λ (z : Found g.row.P.Denot). IsWithin g.P.FileSink.stage.limit z) c.in-Ok-Whole.field-0-is c.in-Ok-Whole.ensures.within).0;
   rows = (subst (λ (z : Found g.row.P.Denot). IsWithin g.P.FileSink.stage.limit z) c.in-Ok-Whole.field-0-is c.in-Ok-Whole.ensures.within).1;
+  room = search rules;
   read = read_after c.loop-part.invariant.read c.in-Ok-Whole.ensures.read;
 }
 

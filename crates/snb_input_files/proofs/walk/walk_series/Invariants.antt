@@ -1,4 +1,4 @@
-use Rattle.std.proofs.Common.{◌≤◌, List, false}
+use Rattle.std.proofs.Common.{◌≤◌, ◌<◌, List, length, false}
 use Rattle.snb_base.specs.Reads.{IsShelfRead}
 use Rattle.snb_schema.specs.declared.limits.TheConstants.{MAX_BYTES}
 use Rattle.snb_input_lines.specs.Counts.{IsUnder}
@@ -17,5 +17,6 @@ invariant-loop-part g l = record {
       → Along (format_in g.G.Grammar.language g.P.FileSink.stage begun) (g.P.FileSink.stage.heard begun) (g.S.Shelf.contents l.fn.shelf) l.folder l.series start looked l.part (first_role l.needed) l.so_far;
   bytes : l.so_far.used.bytes ≤ MAX_BYTES;
   rows : IsUnder g.P.FileSink.stage.limit l.so_far.used.rows;
+  room : 0 < length l.buffer;
   read : IsShelfRead false g.S.Shelf l.fn.shelf l.shelf;
 }

@@ -1,4 +1,5 @@
-use Rattle.std.proofs.Common.{rules, ◌+◌, List, Option, Ok, Err, drop, get_or, subst}
+use Rattle.std.proofs.Common.{rules, ◌+◌, List, Option, Ok, Err, drop, get_or, subst, arith}
+use Rattle.std.proofs.lemmas.Grind.{common_steps}
 use Rattle.std.proofs.lemmas.List.{drop_all}
 use Rattle.std.proofs.lemmas.List.Elements.{Contains-get_or}
 use Rattle.snb_base.specs.Shelf.{Files}
@@ -20,6 +21,7 @@ loop-series-init g c = record {
       (walked_first (format_in g.G.Grammar.language g.P.FileSink.stage c.args.file_sink) (g.P.FileSink.stage.heard c.args.file_sink) c.args.used c.args.file_sink fresh);
   bytes = search rules;
   rows = search rules;
+  room = search rules;
   read = search rules;
 }
 
@@ -51,6 +53,7 @@ loop-series-preserved g c = record {
       (subst (λ (z : Option Files). IsSeries (format_in g.G.Grammar.language g.P.FileSink.stage c.args.file_sink) (g.P.FileSink.stage.heard c.args.file_sink) z c.args.folder.now one (before c.args.used) k.ls (Ok c.in-Ok.walk)) c.loop-series.invariant.read.same (c.in-Ok.ensures.answer c.args.file_sink (before c.args.used) k.ls k.walked));
   bytes = search rules;
   rows = search rules;
+  room = grind (arith, common_steps);
   read = read_after c.loop-series.invariant.read c.in-Ok.ensures.read;
 }
 

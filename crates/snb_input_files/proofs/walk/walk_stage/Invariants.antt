@@ -1,4 +1,4 @@
-use Rattle.std.proofs.Common.{◌≤◌, [], drop, false}
+use Rattle.std.proofs.Common.{◌≤◌, ◌<◌, [], drop, length, false}
 use Rattle.snb_base.specs.Reads.{IsShelfRead}
 use Rattle.snb_schema.specs.declared.limits.TheConstants.{MAX_BYTES}
 use Rattle.snb_input_lines.specs.Counts.{IsUnder}
@@ -15,5 +15,6 @@ invariant-loop-series g l = record {
       → Staged (format_in g.G.Grammar.language g.P.FileSink.stage l.fn.file_sink) (g.P.FileSink.stage.heard l.fn.file_sink) (g.S.Shelf.contents l.fn.shelf) l.folder l.stage (before l.fn.used) (drop l.series-index l.stage) l.so_far;
   bytes : l.so_far.used.bytes ≤ MAX_BYTES;
   rows : IsUnder g.P.FileSink.stage.limit l.so_far.used.rows;
+  room : 0 < length l.buffer.items;
   read : IsShelfRead false g.S.Shelf l.fn.shelf l.shelf;
 }

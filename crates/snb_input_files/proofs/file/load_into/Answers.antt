@@ -1,5 +1,4 @@
 use Rattle.std.proofs.Common.{rules, ◌-◌, Option, Ok, Err, ap, refl, subst, arith}
-use Rattle.std.proofs.lemmas.Grind.{common_steps}
 use Rattle.snb_base.specs.Shelf.{Files}
 use Rattle.snb_base.proofs.Laws.{read_after, read_well}
 use Rattle.snb_schema.specs.declared.limits.TheConstants.{MAX_BYTES}
@@ -10,7 +9,7 @@ use Rattle.snb_input_files.specs.Format.{format_in}
 use Rattle.snb_input_files.specs.Pieces.{IsStep}
 use Rattle.snb_input_files.proofs.NameFacts.{still_asked}
 use Rattle.snb_input_files.proofs.Going.{first, going_absent, going_begins, going_end, going_err, going_more, kept_reader}
-use Rattle.snb_input_files.proofs.file.load_known.Goals as goal
+use Rattle.snb_input_files.proofs.file.load_into.Goals as goal
 
 pub pieces-init : goal.pieces-init
 pieces-init g c = record {
@@ -68,7 +67,7 @@ pieces-preserved g c = record {
   few = search rules;
   goes_on = search rules;
   good = search rules;
-  room = grind (arith, common_steps);
+  room = search rules;
   read = read_after c.pieces.invariant.read c.in-Ok-More.ensures.read;
 }
 

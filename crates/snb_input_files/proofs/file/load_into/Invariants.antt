@@ -2,7 +2,7 @@ use Rattle.std.proofs.Common.{◌≡◌, ◌-◌, ◌≤◌, ◌<◌, length, No
 use Rattle.snb_base.specs.Reads.{IsShelfRead}
 use Rattle.snb_input_files.specs.Format.{format_in}
 use Rattle.snb_input_files.proofs.Going.{Going, first}
-use Rattle.snb_input_files.proofs.file.load_known.Given as goal
+use Rattle.snb_input_files.proofs.file.load_into.Given as goal
 
 -- the reader was fed the first bytes of the file, and the shelf has changed nothing
 abbrev pub invariant-pieces : goal.invariant-pieces
@@ -15,7 +15,7 @@ invariant-pieces g l = record {
   few : l.reader.fed ≤ l.most;
   goes_on : l.reader.over ≡ false;
   good : l.reader.fault ≡ None;
-  room : 0 < length l.buffer.items;
+  room : 0 < length l.buffer;
   read : IsShelfRead false g.S.Shelf l.fn.shelf l.shelf;
 }
 
