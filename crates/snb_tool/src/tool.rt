@@ -6,6 +6,8 @@ ghost use Rattle.snb_base.specs.Reads.{IsShelfRead};
 ghost use Rattle.snb_handlers.specs.Table.{kinds};
 ghost use Rattle.snb_input_files.specs.Loading.{is_read_fault};
 ghost use Rattle.snb_input_files.specs.Names.{Allows};
+ghost use Rattle.snb_tool_words.specs.declared.command.Command.{Command as AnyCommand};
+ghost use Rattle.snb_tool_words.specs.Commands.{IsLineOf};
 ghost use Rattle.snb_tool_words.specs.CommandFacts.{folder_of, needs_table, command_waits};
 ghost use Rattle.snb_tool_words.specs.Words.{texts_of};
 ghost use Rattle.snb_tool.specs.Connectors.{given_by};
@@ -128,6 +130,20 @@ fn obey<S: Shelf>(
     }
 }
 
+// Whether the words ask a table, and none is given. Only where none is given are they looked at.
+fn lacks_table(words: &[&str], given: Option<(&Handlers, &Policy)>) -> bool
+    ensures lacks { result ≡ true → (command : AnyCommand) × IsLineOf (texts_of words.now) command
+        × (needs_table command ≡ true) × ¬ IsSome (given_by given.entry) }
+    ensures has { result ≡ false → (command : AnyCommand) → IsLineOf (texts_of words.now) command
+        → needs_table command ≡ true → IsSome (given_by given.entry) }
+{
+    one_command();
+    match given {
+        Some(_) => false,
+        None => asks_table(words).unwrap_or(false),
+    }
+}
+
 // The command that the words are the line of, where it can be done: one that asks a table needs one.
 fn asked_command(
     alloc: Global,
@@ -140,15 +156,10 @@ fn asked_command(
     ensures memory { OnErr result (¬ IsOther (asked_by words.now (given_by given.entry))) }
 {
     one_command();
-    match asks_table(words) {
-        Some(asks) => {
-            if asks && given.is_none() {
-                return Ok(None);
-            }
-            command_of(alloc, words)
-        }
-        None => Ok(None),
+    if lacks_table(words, given) {
+        return Ok(None);
     }
+    command_of(alloc, words)
 }
 
 // Answers words that run no plan, with a table of handlers and a policy or without them.
