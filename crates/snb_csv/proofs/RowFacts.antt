@@ -16,7 +16,7 @@ use Rattle.snb_schema.specs.declared.fault.LineFault.{LineFault}
 use Rattle.snb_schema.specs.declared.fault.LineFault.TheVariants.{Bad, Memory}
 use Rattle.snb_schema.specs.declared.row.Placed.{Placed}
 use Rattle.snb_input_fields.specs.Reading.{IsBadNext, Reading}
-use Rattle.snb_input_fields.proofs.Readings.{at, spells_from}
+use Rattle.snb_input_fields.proofs.Laws.{at, spells_from}
 use Rattle.snb_csv.specs.Make.{AreFriends, AreNoFriends, IsMadeOf, LeadsBack, table_by}
 use Rattle.snb_csv.proofs.RowsByValues.{spells_row, wide_long}
 

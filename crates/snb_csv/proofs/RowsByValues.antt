@@ -18,7 +18,7 @@ use Rattle.snb_schema.specs.Layouts.{has_no_direction, shape}
 use Rattle.snb_schema.specs.TableColumns.{columns, id_column}
 use Rattle.snb_schema.specs.RowLines.{IsLoop, SpellsRow}
 use Rattle.snb_schema.specs.RowValues.{Differ, IsWide, in_order, is_turned, row_shape, table_of, values}
-use Rattle.snb_input_fields.proofs.TypedRows.{TypedRow, row_of, row_values}
+use Rattle.snb_input_fields.proofs.Laws.{TypedRow, row_of, row_values}
 
 -- the row of this shape and table that has these values, where they are such a row's
 abbrev pub row_by : Shape → Table → List Value → Row

@@ -12,8 +12,7 @@ use Rattle.snb_schema.specs.TableColumns.{columns}
 use Rattle.snb_schema.specs.RowLines.{IsLoop, SpellsRow}
 use Rattle.snb_schema.specs.RowValues.{IsWide}
 use Rattle.snb_input_fields.specs.Laws.{EachLineIsRead}
-use Rattle.snb_input_fields.proofs.Laws.{wide_or_not}
-use Rattle.snb_input_fields.proofs.TypedRows.{row_of}
+use Rattle.snb_input_fields.proofs.Laws.{wide_or_not, row_of}
 use Rattle.snb_csv.specs.Laws.{RowOrColumn}
 use Rattle.snb_csv.proofs.RowsByValues.{IsRowOf, differ_apart, row_made, spells_row, wide_long}
 

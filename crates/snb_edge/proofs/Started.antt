@@ -16,7 +16,8 @@ use Rattle.snb_tool_outcome.specs.Served.{HasServed}
 use Rattle.snb_tool_words.specs.Words.{texts_of}
 use Rattle.snb_walk.specs.declared.target.Pick.{Pick}
 use Rattle.snb_walk.specs.declared.target.Pick.TheVariants.{Modulo}
-use Rattle.snb_edge.specs.Edge.{every_read, started_with}
+use Rattle.snb_schema.specs.ReadKinds.{every_read}
+use Rattle.snb_edge.specs.Edge.{started_with}
 
 -- ---- its table
 

@@ -3,8 +3,7 @@ use Rattle.std.specs.Prelude.{◌≡◌, ◌∷◌, ℕ, ◌⊎◌, List, [], If
 use Rattle.snb_base.specs.declared.outbox.Outbox.{Ghosts as Outboxes}
 use Rattle.snb_base.specs.declared.shelf.Shelf.{Ghosts as Shelves}
 use Rattle.snb_base.specs.Moments.{Moments}
-use Rattle.snb_schema.specs.declared.read_kind.ReadKind.{ReadKind}
-use Rattle.snb_schema.specs.declared.read_kind.ReadKind.TheVariants.{Is1, Is2, Is3, Is4, Is5, Is6, Is7, Ic1, Ic2, Ic7, Ic8, Ic9, Ic11, Ic13}
+use Rattle.snb_schema.specs.ReadKinds.{every_read}
 use Rattle.snb_tool_outcome.specs.Outcome.{Asked}
 use Rattle.snb_tool_outcome.specs.Served.{HasServed}
 use Rattle.snb_walk.specs.declared.target.Pick.TheVariants.{Modulo}
@@ -12,11 +11,6 @@ use Rattle.snb_walk.specs.declared.target.Pick.TheVariants.{Modulo}
 -- the words are those that are told, where any are
 abbrev pub AreTold : Option (List (List ℕ)) → List (List ℕ) → Type 0
 AreTold told texts = IfSome told (λ words. texts ≡ words)
-
--- each kind of read
-abbrev pub every_read : List ReadKind
-every_read =
-    Is1 ∷ Is2 ∷ Is3 ∷ Is4 ∷ Is5 ∷ Is6 ∷ Is7 ∷ Ic1 ∷ Ic2 ∷ Ic7 ∷ Ic8 ∷ Ic9 ∷ Ic11 ∷ Ic13 ∷ []
 
 -- what the program is asked that is started with these words: they come with a table in which each
 -- kind of read has a handler, and with a policy that picks by the word modulo the number of targets

@@ -1,26 +1,9 @@
 -- A table of handlers, and the kinds of reads that have one.
-use Rattle.std.specs.Prelude.{ℕ, ◌<◌, List, Contains, map}
+use Rattle.std.specs.Prelude.{◌≡◌, ◌⊎◌, List, [], ◌∷◌, Contains, map}
 use Rattle.snb_schema.specs.declared.read_kind.ReadKind.{ReadKind}
-use Rattle.snb_schema.specs.declared.read_kind.ReadKind.TheVariants.{Is1, Is2, Is3, Is4, Is5, Is6, Is7, Ic1, Ic2, Ic7, Ic8, Ic9, Ic11, Ic13}
+use Rattle.snb_schema.specs.ReadKinds.{every_read}
 use Rattle.snb_handlers.specs.declared.handler.Handler.{Handler}
 use Rattle.snb_handlers.specs.declared.handlers.Handlers.{Handlers}
-
--- the place of a kind in the order of `ReadKind`, from 0
-abbrev pub kind_place : ReadKind → ℕ
-kind_place Is1 = 0
-kind_place Is2 = 1
-kind_place Is3 = 2
-kind_place Is4 = 3
-kind_place Is5 = 4
-kind_place Is6 = 5
-kind_place Is7 = 6
-kind_place Ic1 = 7
-kind_place Ic2 = 8
-kind_place Ic7 = 9
-kind_place Ic8 = 10
-kind_place Ic9 = 11
-kind_place Ic11 = 12
-kind_place Ic13 = 13
 
 -- The type of a handler has three more arguments in the logic, for the closure that it keeps.
 
@@ -40,7 +23,12 @@ kinds table = handled_kinds (handlers_of table)
 abbrev pub HasAll : List ReadKind → Type 0
 HasAll there = (kind : ReadKind) → Contains there kind
 
+-- the kind is the first of these that has none
+abbrev pub IsFirstWithout : List ReadKind → List ReadKind → ReadKind → Type 0
+IsFirstWithout [] there kind = ⊥
+IsFirstWithout (k ∷ ks) there kind =
+    ((kind ≡ k) × ¬ Contains there k) ⊎ (Contains there k × IsFirstWithout ks there kind)
+
 -- the kind has none, and each kind before it has one
-pub record IsFirstUnhandled (there : List ReadKind) (kind : ReadKind) : Type 0 where
-  pub lacking : ¬ Contains there kind
-  pub before : (earlier : ReadKind) → kind_place earlier < kind_place kind → Contains there earlier
+abbrev pub IsFirstUnhandled : List ReadKind → ReadKind → Type 0
+IsFirstUnhandled there kind = IsFirstWithout every_read there kind

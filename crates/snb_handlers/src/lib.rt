@@ -4,10 +4,9 @@
 
 pub mod handler;
 pub mod handlers;
-pub mod kinds;
 pub mod table;
 
 pub use handler::{Call, Handler};
 pub use handlers::Handlers;
-pub use kinds::KINDS;
+pub use snb_schema::READ_KINDS as KINDS;
 pub use table::Register;

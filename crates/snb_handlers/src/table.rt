@@ -1,21 +1,21 @@
 //! How handlers are registered and asked.
 
 ghost use Rattle.std.specs.Prelude.{◌≡◌, ◌↔◌, ◌∷◌, ◌++◌, [], Contains, Err, IfOk, IsTrue, MatchOption, OnErr, OnOk};
-ghost use Rattle.std.specs.List.{AllZip};
+ghost use Rattle.std.specs.List.{AllByRecursion, AllZip};
 ghost use Rattle.snb_schema.specs.ReadKinds.{read_kind_of};
 ghost use Rattle.snb_graph_model.specs.Soundness.{Sound};
 ghost use Rattle.snb_read_model.specs.Replies.{IsAnswer, IsReply};
-ghost use Rattle.snb_handlers.specs.Table.{HasAll, IsFirstUnhandled, handlers_of, kinds, handled_kinds};
+ghost use Rattle.snb_handlers.specs.Table.{HasAll, IsFirstUnhandled, IsFirstWithout, handlers_of, kinds, handled_kinds};
+ghost use Rattle.snb_handlers.specs.Table.{kinds as kinds_of};
 
 use crate::handler::Handler;
 use crate::handlers::Handlers;
-use crate::kinds::{KINDS, place_of};
 use snb_base::Text;
 use snb_graph::Graph;
 use snb_read_model::tail::tail_of;
 use snb_read_model::{Answer, CowText, Reply, cow_answer, cow_reply, lend_answer, reply_with_tail};
 use snb_replies::Replies;
-use snb_schema::{Query, ReadKind};
+use snb_schema::{Query, READ_KINDS, ReadKind};
 use std::alloc::{AllocError, Global};
 
 /// Why a handler isn't registered.
@@ -34,11 +34,28 @@ fn find(items: &[Handler], kind: ReadKind) -> Option<&Handler>
         (λ found. (found.now.kind ≡ kind) × Contains (handled_kinds items.now) kind) }
 {
     for one in items {
-        if place_of(one.kind) == place_of(kind) {
+        if one.kind == kind {
             return Some(one);
         }
     }
     None
+}
+
+// The first of the kinds without a handler.
+fn first_without(table: &Handlers, kinds: &[ReadKind]) -> Option<ReadKind>
+    ensures { MatchOption result (AllByRecursion (Contains (kinds_of table.now)) kinds.now)
+        (IsFirstWithout kinds.now (kinds_of table.now)) }
+{
+    match kinds {
+        [] => None,
+        [kind, kinds @ ..] => {
+            if table.has(*kind) {
+                first_without(table, kinds)
+            } else {
+                Some(*kind)
+            }
+        }
+    }
 }
 
 impl Handlers {
@@ -67,12 +84,7 @@ impl Handlers {
     pub fn missing(&self) -> Option<ReadKind>
         ensures { MatchOption result (HasAll (kinds self.now)) (IsFirstUnhandled (kinds self.now)) }
     {
-        for kind in KINDS {
-            if !self.has(kind) {
-                return Some(kind);
-            }
-        }
-        None
+        first_without(self, &READ_KINDS)
     }
 
     /// Adds a handler. `Duplicate` says that its kind has one, `Memory` that memory doesn't suffice. After each of

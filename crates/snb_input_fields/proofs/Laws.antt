@@ -1,19 +1,17 @@
 -- What another crate may cite of this one: fields read by columns.
-use Rattle.std.proofs.Common.{◌≡◌, ◌∷◌, ◌∙◌, ◌+◌, ◌⊎◌, [], ℕ, zero, suc, List, Option, Some, None, false, length, take, refl, ap, inl, inr, rules}
+use Rattle.std.proofs.Common.{◌≡◌, ◌∷◌, ◌+◌, ◌⊎◌, [], ℕ, zero, suc, List, Option, Some, None, length, take, refl, ap, inl, inr}
 use Rattle.std.proofs.lemmas.Bool.{cases_eq}
 use Rattle.snb_base.specs.Spellings.{Num}
 use Rattle.snb_schema.specs.declared.column.Column.{Column}
-use Rattle.snb_schema.specs.declared.column.Column.TheVariants.{Number, Small, OptionalId, Date, Day, Words, Word, TextList, IdList, PairList}
 use Rattle.snb_schema.specs.declared.column.Value.{Value}
-use Rattle.snb_schema.specs.declared.column.Value.TheVariants.{Digits, SmallDigits, NoId, Letters, Texts, Ids, Pairs}
-use Rattle.snb_schema.specs.declared.query.Query.{Query}
-use Rattle.snb_schema.specs.declared.read_kind.ReadKind.{ReadKind}
-use Rattle.snb_schema.specs.Columns.{Spells, SpellsAll, StopsAfter}
-use Rattle.snb_schema.specs.ReadKinds.{read_kind_of, parameter_columns, parameter_values}
+use Rattle.snb_schema.specs.Columns.{SpellsAll, StopsAfter}
 use Rattle.snb_schema.specs.RowValues.{IsWide}
 use Rattle.snb_input_lines.specs.Records.{field_at}
 use Rattle.snb_input_fields.proofs.WideFacts.{wide_none, wide_some}
 use Rattle.snb_base.proofs.Laws.{number_found}
+pub use Rattle.snb_input_fields.proofs.Queries.{one_query, typed_query}
+pub use Rattle.snb_input_fields.proofs.Readings.{at, expects_all, moved, reads_spell, spelled, spells_from, stops_bad}
+pub use Rattle.snb_input_fields.proofs.TypedRows.{TypedRow, row_of, row_values}
 
 -- fields that spell values are as many as their columns
 pub spelled_long : (cs : List Column) (fs : List (List ℕ)) (vs : List Value) → SpellsAll cs fs vs → length fs ≡ length cs

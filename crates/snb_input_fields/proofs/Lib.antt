@@ -1,6 +1,7 @@
 pub mod DecidedFacts
 pub mod JoinFacts
 pub mod Laws
+pub mod Queries
 pub mod ReadingFacts
 pub mod Readings
 pub mod TypedRows

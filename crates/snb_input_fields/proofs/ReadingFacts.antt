@@ -1,14 +1,12 @@
 -- Fields read by columns, one after another.
-use Rattle.std.proofs.Common.{◌≡◌, ◌<◌, ℕ, zero, suc, List, [], ◌∷◌, ◌++◌, Option, Some, None, length, take, get_or, All, sym, subst, arith}
+use Rattle.std.proofs.Common.{◌≡◌, ℕ, zero, suc, List, [], ◌∷◌, Some, All, subst}
 use Rattle.std.proofs.lemmas.List.Elements.{All-head, All-tail}
-use Rattle.std.specs.Option.{MatchOption}
 use Rattle.snb_input_lines.specs.Records.{field_at}
 use Rattle.snb_base.specs.Spellings.{Date, Day, IdList, PairList, WordList}
-use Rattle.snb_schema.specs.declared.column.Column.{Column}
 use Rattle.snb_schema.specs.declared.column.Column.TheVariants as column
 use Rattle.snb_schema.specs.declared.column.Value.{Value}
 use Rattle.snb_schema.specs.declared.column.Value.TheVariants.{Digits, Texts, Ids, Pairs}
-use Rattle.snb_schema.specs.Columns.{Spells, SpellsAll, StopsAfter}
+use Rattle.snb_schema.specs.Columns.{Spells}
 
 -- what holds of each field holds of the one at a place
 pub holds_at : (P : List ℕ → Type 0) (xs : List (List ℕ)) (i : ℕ) (x : List ℕ) → All P xs → field_at xs i ≡ Some x → P x

@@ -12,5 +12,5 @@ pub mod write;
 
 pub use field_reader::FieldReader;
 pub use fields::Fields;
-pub use query::read_query;
+pub use query::{parameters_of, read_query};
 pub use write::{Cell, put_fields, put_line};

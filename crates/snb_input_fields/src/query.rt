@@ -1,18 +1,21 @@
 //! The reads that parameters make.
 
-ghost use Rattle.std.specs.Prelude.{◌≡◌, ◌∷◌, [], IfOk};
+ghost use Rattle.std.specs.Prelude.{◌≡◌, ◌∷◌, [], IfOk, map};
 ghost use Rattle.snb_schema.specs.declared.column.Column.TheVariants.{Date, Small, Words};
 ghost use Rattle.snb_schema.specs.declared.column.Value.TheVariants.{Digits, Letters, SmallDigits};
 ghost use Rattle.snb_schema.specs.Faults.{OnBadColumn};
 ghost use Rattle.snb_schema.specs.ReadKinds.{parameter_columns, parameter_values, read_kind_of};
+ghost use Rattle.snb_input_fields.specs.Cells.{value_of};
 ghost use Rattle.snb_input_fields.specs.Fields.{Expects, ReadsAll, StopsIn};
 
 use crate::fields::Fields;
+use crate::write::Cell;
 use snb_schema::limits::{MAX_ID, MAX_YEAR};
 use snb_schema::{LineFault, Query, ReadKind};
+use std::alloc::{AllocError, Global};
 
 /// The read of this kind whose parameters the next fields spell. The error is the first column in
-/// which one spells none, or want of memory.
+/// which one spells none, or want of memory. The fields have a place for each parameter of the kind.
 pub fn read_query<F: Fields>(kind: ReadKind, fields: &mut F) -> Result<Query, LineFault>
     requires { Expects F.meaning fields.old (parameter_columns kind) }
     ensures kind { IfOk result (λ query. read_kind_of query ≡ kind) }
@@ -52,5 +55,44 @@ pub fn read_query<F: Fields>(kind: ReadKind, fields: &mut F) -> Result<Query, Li
             from: id,
             to: fields.number(MAX_ID)?,
         }),
+    }
+}
+
+/// The parameters of a read, in the order of its columns.
+pub fn parameters_of(alloc: Global, query: &Query) -> Result<Vec<Cell<'_>>, AllocError>
+    ensures { IfOk result (λ cells. map value_of cells.items ≡ parameter_values query.now) }
+{
+    match query {
+        Query::Is1 { person }
+        | Query::Is2 { person }
+        | Query::Is3 { person }
+        | Query::Ic7 { person }
+        | Query::Ic8 { person } => Vec::from_slice(alloc, &[Cell::Digits(*person)]),
+        Query::Is4 { message }
+        | Query::Is5 { message }
+        | Query::Is6 { message }
+        | Query::Is7 { message } => Vec::from_slice(alloc, &[Cell::Digits(*message)]),
+        Query::Ic1 { person, first_name } => Vec::from_slice(
+            alloc,
+            &[Cell::Digits(*person), Cell::Letters(first_name.as_str())],
+        ),
+        Query::Ic2 { person, max_date } | Query::Ic9 { person, max_date } => {
+            Vec::from_slice(alloc, &[Cell::Digits(*person), Cell::Digits(*max_date)])
+        }
+        Query::Ic11 {
+            person,
+            country,
+            year,
+        } => Vec::from_slice(
+            alloc,
+            &[
+                Cell::Digits(*person),
+                Cell::Letters(country.as_str()),
+                Cell::SmallDigits(*year),
+            ],
+        ),
+        Query::Ic13 { from, to } => {
+            Vec::from_slice(alloc, &[Cell::Digits(*from), Cell::Digits(*to)])
+        }
     }
 }

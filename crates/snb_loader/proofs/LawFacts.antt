@@ -23,6 +23,7 @@ use Rattle.snb_loader.specs.Laws.{DatasetIsOne, DatasetRefusesOnce, LanesAreOne,
 use Rattle.snb_loader.specs.Params.{IsListSaid, params_format, params_stage}
 use Rattle.snb_loader.specs.Tables.{IsHeard, table_format}
 use Rattle.snb_loader.proofs.Laws.{once_append, once_single}
+use Rattle.snb_schema.proofs.Laws.{same_values}
 use Rattle.snb_base.proofs.Laws.{first_same}
 
 none_first : {X : Type 0} (x : X) (xs ys : List X) → ys ≡ x ∷ xs → ys ≡ [] → ⊥
@@ -95,7 +96,7 @@ module _ (one : OneSaying params_format) where
       cc_some x y e = cc
 
   pub params_one : ParamsAreOne
-  params_one at held table a b p q = λ i. (same 1 i, (same 2 i, (same 7 i, (same 8 i, (same 9 i, (same 11 i, (same 13 i, tt)))))))
+  params_one at held table a b p q = same_values [] a b same
     where
       by_frequency : (query n : ℕ) → frequency_at table query ≡ n → list_of a query ≡ list_of b query
       by_frequency query zero e = p.others query e ∙ sym (q.others query e)

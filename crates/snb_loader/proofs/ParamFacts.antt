@@ -1,14 +1,14 @@
 -- The parameter files that are read are those of the queries with a frequency, and what each says.
 use Rattle.std.proofs.Common.{◌≡◌, ◌∙◌, ◌<◌, ltb, ℕ, true, List, [], ◌∷◌, ◌++◌, Option, Some, None, Ok, map, length, refl, sym, subst, arith, append_assoc, append-nil, inl, inr}
 use Rattle.snb_base.specs.Shelf.{Files}
-use Rattle.snb_schema.proofs.Laws.{frequent_complex}
+use Rattle.snb_schema.proofs.Laws.{frequent_complex, of_one}
 use Rattle.snb_schema.specs.declared.file.FileId.{FileId}
 use Rattle.snb_schema.specs.declared.query.Query.{Query}
 use Rattle.snb_schema.specs.declared.refusal.Refusal.TheVariants.{Absent, NoParameters}
 use Rattle.snb_schema.specs.Frequencies.{FrequencyTable, frequency_at}
 use Rattle.snb_schema.specs.Lines.{fields, lines}
 use Rattle.snb_schema.specs.ParameterLines.{SpellsQuery}
-use Rattle.snb_schema.specs.Queries.{IsComplex, number_of_query}
+use Rattle.snb_schema.specs.Queries.{IsComplex, number_of_query, complex_queries}
 use Rattle.snb_schema.specs.QueryLists.{AreOf, HaveParameters, QueryLists, list_of}
 use Rattle.snb_streams.specs.Laws.{NoBadQuery, OneBadQuery, OneQuery}
 use Rattle.snb_input_lines.proofs.Laws.{says_each}
@@ -22,7 +22,6 @@ use Rattle.snb_input_files.specs.Places.{FileSays, FilesSay, ReadFile}
 use Rattle.snb_input_files.specs.Stages.{IsStage, before}
 use Rattle.snb_input_files.specs.Walk.{Before, Held, Look, after_walk, looks_from, series_looks, stage_looks, walk_checks, with_file}
 use Rattle.snb_input_files.specs.Walk.Role.{Needed}
-use Rattle.snb_schema.specs.QueryPlaces.{complex_queries}
 use Rattle.snb_loader.specs.Order.{params_series}
 use Rattle.snb_loader.specs.Params.{AreOfEach, HasHeard, IsListSaid, IsParamsAnswer, ParamLines, asked, params_format, params_stage, query_in}
 use Rattle.snb_loader.proofs.ParamListFacts.{Each, each_passing}
@@ -103,18 +102,9 @@ said_each held f (q ∷ qs) [] t h = absurd t
 said_each held f (q ∷ qs) (s ∷ ss) t h =
     (((s.bytes, t.1, subst (λ (file : FileId). FileSays params_format (record { file = file; bytes = s.bytes }) (f q)) t.0 h.0), t.2 (f q) h.0), said_each held f qs ss t.3 h.1)
 
-one_of : (P : ℕ → Type 0) (q : ℕ) → IsComplex q → Each P complex_queries → P q
-one_of P q (inl e) h = subst P (sym e) h.0
-one_of P q (inr (inl e)) h = subst P (sym e) h.1.0
-one_of P q (inr (inr (inl e))) h = subst P (sym e) h.1.1.0
-one_of P q (inr (inr (inr (inl e)))) h = subst P (sym e) h.1.1.1.0
-one_of P q (inr (inr (inr (inr (inl e))))) h = subst P (sym e) h.1.1.1.1.0
-one_of P q (inr (inr (inr (inr (inr (inl e)))))) h = subst P (sym e) h.1.1.1.1.1.0
-one_of P q (inr (inr (inr (inr (inr (inr e)))))) h = subst P (sym e) h.1.1.1.1.1.1.0
-
 -- what holds of the queries with a frequency, one after the other, holds of each
 of_asked : (P : ℕ → Type 0) (table : FrequencyTable) → Each P (asked table) → (q : ℕ) → 0 < frequency_at table q → P q
-of_asked P table h q l = one_of (λ x. ltb 0 (frequency_at table x) ≡ true → P x) q (frequent_complex table q l) (each_passing P (λ x. ltb 0 (frequency_at table x)) complex_queries h) (lt-ltb 0 (frequency_at table q) l)
+of_asked P table h q l = of_one (λ x. ltb 0 (frequency_at table x) ≡ true → P x) complex_queries q (frequent_complex table q l) (each_passing P (λ x. ltb 0 (frequency_at table x)) complex_queries h) (lt-ltb 0 (frequency_at table q) l)
 
 -- the answer is one of the stage of the queries with a frequency
 pub of_stage : (contents : Option Files) (folder : List ℕ) (table : FrequencyTable) (old : Used) (w : Walk ParamLines) (stage items : List Series) → stage ≡ items → items ≡ params_stage table → IsStage params_format HasHeard contents folder stage (before old) (Ok w) → IsStage params_format HasHeard contents folder (params_stage table) (before old) (Ok w)

@@ -1,11 +1,12 @@
 -- Lists of parameters that are filled one after the other.
 use Rattle.std.proofs.Common.{◌≡◌, ◌≢◌, ◌∙◌, ◌<◌, Global, Vec, ◌+◌, ◌==◌, ltb, ℕ, suc, Bool, true, false, cond, List, [], ◌∷◌, ◌++◌, drop, filter, map, if◌then◌else◌, slice_index_or, refl, sym, ap, subst, rules, arith, inl, inr}
+use Rattle.std.specs.List.{AllByRecursion}
 use Rattle.std.proofs.lemmas.Bool.{cases_eq, lt-ltb}
 use Rattle.std.proofs.Math.Seq.{drop-cons}
 use Rattle.snb_schema.specs.declared.query.Query.{Query}
 use Rattle.snb_schema.specs.Frequencies.{FrequencyTable, frequency_at}
 use Rattle.snb_schema.specs.QueryLists.{AreOf, QueryLists, list_of}
-use Rattle.snb_schema.specs.QueryPlaces.{complex_queries}
+use Rattle.snb_schema.specs.Queries.{complex_queries}
 use Rattle.snb_loader.specs.Params.{AreOfEach, asked}
 
 -- the lists with these appended to that of this query
@@ -24,8 +25,7 @@ left_of table i = filter (λ q. ltb 0 (frequency_at table q)) (drop i complex_qu
 
 -- it holds of each
 abbrev pub Each : (ℕ → Type 0) → List ℕ → Type 0
-Each P [] = Unit {0}
-Each P (q ∷ qs) = P q × Each P qs
+Each P qs = AllByRecursion P qs
 
 -- none of these is repeated
 abbrev pub AreApart : List ℕ → Type 0

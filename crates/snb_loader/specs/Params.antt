@@ -10,7 +10,7 @@ use Rattle.snb_schema.specs.declared.refusal.Refusal.{Refusal}
 use Rattle.snb_schema.specs.declared.refusal.Refusal.TheVariants.{NoParameters}
 use Rattle.snb_schema.specs.Frequencies.{FrequencyTable, frequency_at}
 use Rattle.snb_schema.specs.QueryLists.{AreOf, QueryLists, list_of}
-use Rattle.snb_schema.specs.QueryPlaces.{complex_queries}
+use Rattle.snb_schema.specs.Queries.{complex_queries}
 use Rattle.snb_input_lines.specs.Sinks.{SinkMeaning, Takes}
 use Rattle.snb_streams.specs.Parameters.{params_file, params_language}
 use Rattle.snb_input_files.specs.declared.load.Load.{Load}

@@ -11,8 +11,7 @@ use Rattle.std.proofs.lemmas.List.FromFn.{get_or-map-range_with_len, length-map-
 use Rattle.std.proofs.lemmas.Nat.{div-add-mod', div-mul-add, le-div, mul-le}
 use Rattle.snb_plan.specs.contracts.instances.InstanceOrd.TheImpl.Laws.{total-law}
 use Rattle.snb_schema.specs.Frequencies.{FrequencyTable, frequency_at}
-use Rattle.snb_schema.specs.Queries.{IsComplex}
-use Rattle.snb_schema.specs.QueryPlaces.{complex_queries}
+use Rattle.snb_schema.specs.Queries.{IsOneOf, complex_queries}
 use Rattle.snb_schema.proofs.Laws.{frequent_complex}
 use Rattle.snb_plan.specs.declared.instances.Instance.{Instance}
 use Rattle.snb_plan.specs.Merging.{AreReads, IsInstance, IsSooner, read_count, share}
@@ -139,31 +138,15 @@ all_parts : (fr : FrequencyTable) (c : ℕ) → Parts fr c (all_instances fr c) 
 unfolding IsRising
 all_parts fr c = parts_of fr c 1 complex_queries (omega arith, (omega arith, (omega arith, (omega arith, (omega arith, (omega arith, (omega arith, tt)))))))
 
--- the query is one of these
-IsOneOf : ℕ → List ℕ → Type 0
-IsOneOf q [] = ⊥
-IsOneOf q (x ∷ xs) = (q ≡ x) ⊎ IsOneOf q xs
-
 -- an instance of one of the queries is among theirs
 among : (fr : FrequencyTable) (c : ℕ) (qs : List ℕ) (q : ℕ) (i : Instance) → IsOneOf q qs → Contains (instances_of fr c q) i → Contains (flat_map (instances_of fr c) qs) i
-unfolding IsOneOf
 among fr c [] q i none at = absurd none
 among fr c (x ∷ qs) q i (inl here) at =
     Contains-append_left (instances_of fr c x) (flat_map (instances_of fr c) qs) i (subst (λ (n : ℕ). Contains (instances_of fr c n) i) here at)
 among fr c (x ∷ qs) q i (inr later) at = Contains-append_right (instances_of fr c x) (flat_map (instances_of fr c) qs) i (among fr c qs q i later at)
 
 all_of : (fr : FrequencyTable) (c : ℕ) (i : Instance) → IsInstance fr c i → Contains (all_instances fr c) i
-unfolding IsOneOf
-all_of fr c i is = among fr c complex_queries i.query i (listed (frequent_complex fr i.query is.frequent)) (part_of fr c i is)
-  where
-    listed : IsComplex i.query → IsOneOf i.query complex_queries
-    listed (inl e) = inl e
-    listed (inr (inl e)) = inr (inl e)
-    listed (inr (inr (inl e))) = inr (inr (inl e))
-    listed (inr (inr (inr (inl e)))) = inr (inr (inr (inl e)))
-    listed (inr (inr (inr (inr (inl e))))) = inr (inr (inr (inr (inl e))))
-    listed (inr (inr (inr (inr (inr (inl e)))))) = inr (inr (inr (inr (inr (inl e)))))
-    listed (inr (inr (inr (inr (inr (inr e)))))) = inr (inr (inr (inr (inr (inr (inl e))))))
+all_of fr c i is = among fr c complex_queries i.query i (frequent_complex fr i.query is.frequent) (part_of fr c i is)
 
 -- ---- in order
 

@@ -5,7 +5,7 @@ use Rattle.std.specs.List.{flat_map, range_with_len}
 use Rattle.snb_schema.specs.declared.op.Line.{Line}
 use Rattle.snb_schema.specs.declared.op.Op.TheVariants.{AddFriend}
 use Rattle.snb_schema.specs.Frequencies.{FrequencyTable, frequency_at}
-use Rattle.snb_schema.specs.QueryPlaces.{complex_queries}
+use Rattle.snb_schema.specs.Queries.{complex_queries}
 use Rattle.snb_plan.specs.declared.instances.Instance.{Instance}
 use Rattle.snb_plan.specs.declared.positions.Position.{Position}
 use Rattle.snb_plan.specs.Merging.{share}

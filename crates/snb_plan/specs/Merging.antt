@@ -9,7 +9,7 @@ use Rattle.snb_history.specs.declared.step.LaneKind.TheVariants as lane_kinds
 use Rattle.snb_schema.specs.Frequencies.{FrequencyTable, frequency_at}
 use Rattle.snb_schema.specs.LineLanes.{LineLanes}
 use Rattle.snb_schema.specs.QueryLists.{QueryLists, list_of}
-use Rattle.snb_schema.specs.QueryPlaces.{complex_queries}
+use Rattle.snb_schema.specs.Queries.{complex_queries}
 use Rattle.snb_plan.specs.declared.instances.Instance.{Instance}
 
 -- the elements of the list are those with the property, each once, in this order

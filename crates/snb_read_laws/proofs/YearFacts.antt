@@ -22,8 +22,8 @@ use Rattle.snb_read_model.specs.Order.{AllRows}
 use Rattle.snb_read_model.specs.Replies.{IsAnswer}
 use Rattle.snb_graph_model.proofs.Laws.{in_rows}
 use Rattle.snb_read_order.proofs.Laws.{chosen}
-use Rattle.snb_read_model.specs.declared.layout.CellKind.{CellKind}
-use Rattle.snb_read_model.specs.declared.layout.CellKind.TheVariants.{Stays}
+use Rattle.snb_schema.specs.declared.read_kind.CellKind.{CellKind}
+use Rattle.snb_schema.specs.declared.read_kind.CellKind.TheVariants.{Stays}
 use Rattle.snb_read_model.specs.Columns.{IsOfColumn, columns_of}
 use Rattle.snb_read_laws.specs.Laws.{AnswersHaveYears, HasYears}
 use Rattle.snb_read_laws.proofs.ColumnFacts.{columns_of_answer, rows_have}

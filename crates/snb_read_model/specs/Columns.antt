@@ -4,10 +4,10 @@ use Rattle.std.specs.List.{All, AllZip}
 use Rattle.snb_schema.specs.declared.query.Query.{Query}
 use Rattle.snb_read_model.specs.Cells.{ByteCell}
 use Rattle.snb_read_model.specs.declared.cell.Cell.TheVariants as cells
-use Rattle.snb_read_model.specs.declared.layout.CellKind.{CellKind}
-use Rattle.snb_read_model.specs.declared.layout.CellKind.TheVariants.{Number, Flag, Words, Texts, Stays}
-use Rattle.snb_read_model.specs.declared.layout.TargetColumn.{TargetColumn}
-use Rattle.snb_read_model.specs.ReadLayouts.{layout_of}
+use Rattle.snb_schema.specs.declared.read_kind.CellKind.{CellKind}
+use Rattle.snb_schema.specs.declared.read_kind.CellKind.TheVariants.{Number, Flag, Words, Texts, Stays}
+use Rattle.snb_schema.specs.declared.read_kind.TargetColumn.{TargetColumn}
+use Rattle.snb_schema.specs.ReadKinds.{layout_of}
 
 -- the columns of each read
 abbrev pub columns_of : Query → List CellKind

@@ -1,6 +1,4 @@
 pub mod Cells
-pub mod ReadLayouts
-pub mod CodeLayouts
 pub mod Columns
 pub mod ComplexReads
 pub mod MessageReads

@@ -7,9 +7,9 @@ use Rattle.snb_schema.specs.declared.row.Row.{Row}
 use Rattle.snb_read_model.specs.ComplexReads.{Ic1Answer, Ic11Answer, Ic13Answer}
 use Rattle.snb_read_model.specs.MessageReads.{Ic2Answer, Ic7Answer, Ic8Answer, Ic9Answer}
 use Rattle.snb_read_model.specs.Cells.{ByteCell, column, number_in}
-use Rattle.snb_read_model.specs.declared.layout.TargetColumn.{TargetColumn}
-use Rattle.snb_read_model.specs.declared.layout.TargetColumn.TheVariants.{PersonAt, MessageAt}
-use Rattle.snb_read_model.specs.ReadLayouts.{layout_of}
+use Rattle.snb_schema.specs.declared.read_kind.TargetColumn.{TargetColumn}
+use Rattle.snb_schema.specs.declared.read_kind.TargetColumn.TheVariants.{PersonAt, MessageAt}
+use Rattle.snb_schema.specs.ReadKinds.{layout_of}
 use Rattle.snb_read_model.specs.ShortReads.{Is1Answer, Is2Answer, Is3Answer, Is4Answer, Is5Answer, Is6Answer, Is7Answer}
 
 -- the id that a number is; below 0 it is 0

@@ -5,7 +5,6 @@
 pub mod answer;
 pub mod cell;
 pub mod cow_text;
-pub mod layout;
 pub mod like;
 pub mod sent;
 pub mod tail;
@@ -17,7 +16,7 @@ pub use answer::{
 };
 pub use cell::{Cell, CellTexts, Stays};
 pub use cow_text::CowText;
-pub use layout::{CellKind, ReadLayout, TargetColumn, layout_of_query, read_layout_of};
 pub use like::Like;
 pub use sent::Sent;
+pub use snb_schema::{CellKind, ReadLayout, TargetColumn, layout_of_query, read_layout_of};
 pub use tail::Tail;

@@ -9,8 +9,7 @@ ghost use Rattle.snb_read_model.specs.Tails.{IsNumberAt, IsTargetOf, no_tail, qu
 use crate::answer::{Answer, AnswerRow};
 use crate::cell::Cell;
 use crate::cow_text::CowText;
-use crate::layout::{TargetColumn, layout_of_query};
-use snb_schema::Query;
+use snb_schema::{Query, TargetColumn, layout_of_query};
 use std::alloc::{AllocError, Global};
 
 /// Whom and which message the short reads ask about that follow an answer.

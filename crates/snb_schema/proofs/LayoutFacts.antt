@@ -1,5 +1,5 @@
 -- What the code keeps of a table.
-use Rattle.std.proofs.Common.{◌≡◌, List, [], ◌∷◌, refl, sym, subst}
+use Rattle.std.proofs.Common.{◌≡◌, [], ◌∷◌, refl, sym, subst}
 use Rattle.snb_schema.specs.declared.layout.Layout.{Layout}
 use Rattle.snb_schema.specs.declared.table.Table.{Table}
 use Rattle.snb_schema.specs.declared.table.Table.TheVariants as table

@@ -2,19 +2,20 @@
 use Rattle.std.proofs.Common.{◌≡◌, ◌≢◌, ◌==◌, ◌∷◌, ◌∙◌, ◌<◌, ◌≤◌, [], ℕ, zero, suc, List, Bool, true, false, inl, inr, refl, sym, ap, subst, length, arith, get_or, set, replicate, map, Ok, Err, Result, OnOk, if◌then◌else◌}
 use Rattle.std.proofs.lemmas.Bool.{cases_lt, eqb-true, eqb-false}
 use Rattle.std.proofs.lemmas.List.{get_or-set_same, get_or-set_other, length-map, length-set, map-set}
+use Rattle.std.specs.List.{AllByRecursion}
 use Rattle.snb_schema.specs.Frequencies.{FrequencyTable, frequency_at}
-use Rattle.snb_schema.specs.Queries.{IsComplex}
-use Rattle.snb_schema.specs.QueryPlaces.{Values, complex_queries, index_in, place_of, value_at, values_of}
+use Rattle.snb_schema.specs.Queries.{IsComplex, IsOneOf, complex_queries}
+use Rattle.snb_schema.specs.QueryPlaces.{Values, index_in, place_of, value_at, values_of}
+
+-- what holds of each of a list holds of one of them
+pub of_one : (P : ℕ → Type 0) (xs : List ℕ) (q : ℕ) → IsOneOf q xs → AllByRecursion P xs → P q
+of_one P [] q none all = absurd none
+of_one P (x ∷ xs) q (inl e) all = subst P (sym e) all.0
+of_one P (x ∷ xs) q (inr later) all = of_one P xs q later all.1
 
 -- the place of a complex query is one of the seven
 pub complex_place : (q : ℕ) → IsComplex q → place_of q < 7
-complex_place q (inl e) = subst (λ (n : ℕ). place_of n < 7) (sym e) (omega arith)
-complex_place q (inr (inl e)) = subst (λ (n : ℕ). place_of n < 7) (sym e) (omega arith)
-complex_place q (inr (inr (inl e))) = subst (λ (n : ℕ). place_of n < 7) (sym e) (omega arith)
-complex_place q (inr (inr (inr (inl e)))) = subst (λ (n : ℕ). place_of n < 7) (sym e) (omega arith)
-complex_place q (inr (inr (inr (inr (inl e))))) = subst (λ (n : ℕ). place_of n < 7) (sym e) (omega arith)
-complex_place q (inr (inr (inr (inr (inr (inl e)))))) = subst (λ (n : ℕ). place_of n < 7) (sym e) (omega arith)
-complex_place q (inr (inr (inr (inr (inr (inr e)))))) = subst (λ (n : ℕ). place_of n < 7) (sym e) (omega arith)
+complex_place q complex = of_one (λ n. place_of n < 7) complex_queries q complex (omega (arith), (omega (arith), (omega (arith), (omega (arith), (omega (arith), (omega (arith), (omega (arith), tt)))))))
 
 -- at the place of a number stands the number, where it does in the rest
 by_test : (b : Bool) (x q d : ℕ) (xs : List ℕ) (rest : ℕ) → (q == x) ≡ b → (rest < length xs → get_or xs rest d ≡ q)
@@ -47,22 +48,17 @@ past_last zero values place none past = refl
 past_last (suc n) values zero none past = absurd (omega (arith, past))
 past_last (suc n) values (suc place) none past = past_last n values.1 place none (omega (arith, past))
 
--- at each place stands a complex query
-complex_at : (place : ℕ) → place < 7 → IsComplex (get_or complex_queries place 0)
-complex_at zero lt = inl refl
-complex_at (suc zero) lt = inr (inl refl)
-complex_at (suc (suc zero)) lt = inr (inr (inl refl))
-complex_at (suc (suc (suc zero))) lt = inr (inr (inr (inl refl)))
-complex_at (suc (suc (suc (suc zero)))) lt = inr (inr (inr (inr (inl refl))))
-complex_at (suc (suc (suc (suc (suc zero))))) lt = inr (inr (inr (inr (inr (inl refl)))))
-complex_at (suc (suc (suc (suc (suc (suc zero)))))) lt = inr (inr (inr (inr (inr (inr refl)))))
-complex_at (suc (suc (suc (suc (suc (suc (suc place))))))) lt = absurd (omega (arith, lt))
+-- at each place of a list stands one of it
+one_at : (xs : List ℕ) (place d : ℕ) → place < length xs → IsOneOf (get_or xs place d) xs
+one_at [] place d lt = absurd (omega (arith, lt))
+one_at (x ∷ xs) zero d lt = inl refl
+one_at (x ∷ xs) (suc place) d lt = inr (one_at xs place d (omega (arith, lt)))
 
 -- a query with a frequency is one of the seven
 pub frequent_complex : (table : FrequencyTable) (q : ℕ) → 0 < frequency_at table q → IsComplex q
 frequent_complex table q some =
     elim (cases_lt (place_of q) 7) [
-      | inl low ↦ subst IsComplex (found complex_queries q 0 low) (complex_at (place_of q) low)
+      | inl low ↦ subst IsComplex (found complex_queries q 0 low) (one_at complex_queries (place_of q) 0 low)
       | inr past ↦ absurd (let none = past_last 7 table (place_of q) 0 past in omega (arith, some, none))
     ]
 
@@ -100,6 +96,10 @@ pub lists_kept : {A B : Type 0} (f : A → B) (xs : List A) (one : A) (none : B)
 lists_kept f xs one none place query other at complex whole apart =
     ap (λ (ys : List _). value_at 7 (values_of 7 ys none) (place_of other) none) (map-set f xs place one)
     ∙ value_kept 7 (map f xs) place (f one) none (length-map xs f ∙ whole) (place_of other) (λ e. other_place other query complex apart (e ∙ at))
+
+-- values are one where those of each query are
+pub same_values : {A : Type 0} (none : A) (a b : Values 7 A) → ((q : ℕ) → value_at 7 a (place_of q) none ≡ value_at 7 b (place_of q) none) → a ≡ b
+same_values none a b p = λ i. (p 1 i, (p 2 i, (p 7 i, (p 8 i, (p 9 i, (p 11 i, (p 13 i, tt)))))))
 
 -- what holds holds where a result is fine
 pub always : {T E : Type 0} {P : Type 0} (r : Result T E) → P → OnOk r P

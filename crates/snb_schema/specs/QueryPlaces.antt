@@ -1,10 +1,7 @@
 -- Values for the complex queries, each at its query's place.
 use Rattle.std.proofs.Common.{refl}
 use Rattle.std.specs.Prelude.{◌≡◌, ℕ, zero, suc, ◌==◌, List, [], ◌∷◌, if◌then◌else◌, length, ⊤}
-
--- the numbers of the complex queries, in their order
-abbrev pub complex_queries : List ℕ
-complex_queries = 1 ∷ 2 ∷ 7 ∷ 8 ∷ 9 ∷ 11 ∷ 13 ∷ []
+use Rattle.snb_schema.specs.Queries.{complex_queries}
 
 -- the place of a number in a list; one that isn't there has the place past the last
 abbrev pub index_in : List ℕ → ℕ → ℕ

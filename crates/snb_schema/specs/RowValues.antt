@@ -1,5 +1,5 @@
 -- The values of a row, by its table.
-use Rattle.std.specs.Prelude.{◌≡◌, ◌≢◌, ◌+◌, ℕ, min, max, nat_lt, Bool, true, false, List, [], ◌∷◌, ◌++◌, length}
+use Rattle.std.specs.Prelude.{◌≡◌, ◌≢◌, ℕ, min, max, nat_lt, Bool, true, false, List, [], ◌∷◌, ◌++◌, length}
 use Rattle.snb_schema.specs.declared.column.Value.{Value}
 use Rattle.snb_schema.specs.declared.column.Value.TheVariants.{Digits, SmallDigits, Letters}
 use Rattle.snb_schema.specs.declared.layout.Shape.{Shape}

@@ -7,7 +7,6 @@ use Rattle.snb_schema.specs.declared.layout.Shape.{Shape}
 use Rattle.snb_schema.specs.declared.layout.Shape.TheVariants.{Link, Dated, Yeared, Word}
 use Rattle.snb_schema.specs.declared.layout.Shape.TheVariants as shapes
 use Rattle.snb_schema.specs.declared.limits.TheConstants.{MAX_ID, MAX_LENGTH, MAX_YEAR}
-use Rattle.snb_schema.specs.declared.table.Kind.TheVariants.{Place, TagClass, Tag, Organisation, Person, Forum, Post, Comment}
 use Rattle.snb_schema.specs.declared.table.Table.{Table}
 use Rattle.snb_schema.specs.Layouts.{shape}
 

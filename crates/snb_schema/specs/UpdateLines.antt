@@ -7,7 +7,7 @@ use Rattle.snb_base.specs.Spellings.{Num, SpellsId}
 use Rattle.snb_schema.specs.declared.column.Column.TheVariants.{Number}
 use Rattle.snb_schema.specs.declared.limits.TheConstants.{MAX_TIME}
 use Rattle.snb_schema.specs.declared.op.Op.{Op}
-use Rattle.snb_schema.specs.declared.op.Op.TheVariants.{AddPerson, LikePost, LikeComment, AddForum, AddMember, AddPost, AddComment, AddFriend}
+use Rattle.snb_schema.specs.declared.op.Op.TheVariants.{AddFriend}
 use Rattle.snb_schema.specs.declared.op.InsertKind.{InsertKind}
 use Rattle.snb_schema.specs.declared.op.InsertKind.TheVariants as kinds
 use Rattle.snb_schema.specs.Columns.{SpellsAll, StopsAfter, canonical_field, no_id}

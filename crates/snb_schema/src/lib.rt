@@ -35,7 +35,10 @@ pub use nodes::{Comment, Forum, Named, Organisation, Place, Post};
 pub use op::{InsertKind, Line, Op, Parent};
 pub use person::Person;
 pub use query::{COMPLEX_QUERIES, Query};
-pub use read_kind::ReadKind;
+pub use read_kind::{
+    COMPLEX_READS, CellKind, READ_KINDS, ReadKind, ReadLayout, TargetColumn, layout_of_query,
+    read_layout_of,
+};
 pub use references::Keys;
 pub use refusal::{Counted, Missing, Refusal};
 pub use row::{Placed, Row};

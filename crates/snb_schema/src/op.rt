@@ -1,5 +1,8 @@
 //! The inserts of the update streams.
 
+ghost use Rattle.std.specs.Prelude.{◌≡◌};
+ghost use Rattle.snb_schema.specs.InsertLines.{kind_of};
+
 use snb_base::{Numbers, Pairs, Text, Texts};
 
 /// The message that a comment replies to.
@@ -170,8 +173,26 @@ impl Drop for Op {
     }
 }
 
+impl Op {
+    /// Its kind.
+    pub fn kind(&self) -> InsertKind
+        ensures { result ≡ kind_of self.now }
+    {
+        match self {
+            Op::AddPerson { .. } => InsertKind::AddPerson,
+            Op::LikePost { .. } => InsertKind::LikePost,
+            Op::LikeComment { .. } => InsertKind::LikeComment,
+            Op::AddForum { .. } => InsertKind::AddForum,
+            Op::AddMember { .. } => InsertKind::AddMember,
+            Op::AddPost { .. } => InsertKind::AddPost,
+            Op::AddComment { .. } => InsertKind::AddComment,
+            Op::AddFriend { .. } => InsertKind::AddFriend,
+        }
+    }
+}
+
 /// The eight inserts, in the order of their numbers from 1 on.
-#[derive(Clone, Copy)]
+#[derive(Clone, Copy, PartialEq, Eq)]
 pub enum InsertKind {
     AddPerson,
     LikePost,

@@ -1,9 +1,11 @@
 //! The reads of the workload.
 
-ghost use Rattle.std.specs.Prelude.{◌≡◌, ◌↔◌, IsTrue};
+ghost use Rattle.std.specs.Prelude.{◌≡◌, ◌↔◌, ◌≤◌, IsTrue, length, map};
 ghost use Rattle.snb_schema.specs.Queries.{IsComplex};
-ghost use Rattle.snb_schema.specs.QueryPlaces.{place_of};
+ghost use Rattle.snb_schema.specs.QueryPlaces.{index_in, place_of};
+ghost use Rattle.snb_schema.specs.ReadKinds.{number_of_kind};
 
+use crate::read_kind::{COMPLEX_READS, ReadKind};
 use snb_base::Text;
 
 /// A read of the Interactive workload of LDBC's Social Network Benchmark: the short reads are IS1 to
@@ -114,7 +116,7 @@ pub const COMPLEX_QUERIES: [u32; 7] = [1, 2, 7, 8, 9, 11, 13];
 pub fn is_complex(query: u32) -> bool
     ensures { IsTrue result ↔ IsComplex query }
 {
-    matches!(query, 1 | 2 | 7 | 8 | 9 | 11 | 13)
+    ReadKind::of_number(query).is_some()
 }
 
 /// The place of a complex query among the seven, in the order of their numbers: 0 to 6. Any other
@@ -122,14 +124,22 @@ pub fn is_complex(query: u32) -> bool
 pub fn place_of(query: u32) -> usize
     ensures { result ≡ place_of query }
 {
-    match query {
-        1 => 0,
-        2 => 1,
-        7 => 2,
-        8 => 3,
-        9 => 4,
-        11 => 5,
-        13 => 6,
-        _ => 7,
+    index_in(&COMPLEX_READS, query)
+}
+
+// The place of the first of the kinds that has this number; their count where none has it.
+fn index_in(kinds: &[ReadKind], query: u32) -> usize
+    ensures place { result ≡ index_in (map number_of_kind kinds.now) query }
+    ensures bounded { result ≤ length kinds.now }
+{
+    match kinds {
+        [] => 0,
+        [kind, kinds @ ..] => {
+            if query == kind.number() {
+                0
+            } else {
+                1 + index_in(kinds, query)
+            }
+        }
     }
 }

@@ -1,16 +1,21 @@
-//! The kinds of the reads.
+//! The kinds of the reads, and the table of what is fixed of each.
 
 ghost use Rattle.std.specs.Prelude.{◌≡◌, MatchOption};
-ghost use Rattle.snb_schema.specs.ReadKinds.{read_kind_of, parameter_columns, read_word};
+ghost use Rattle.std.specs.List.{AllByRecursion};
+ghost use Rattle.snb_schema.specs.CodeLayouts.{IsReadLayoutOf};
+ghost use Rattle.snb_schema.specs.Queries.{complex_kind, numbered};
+ghost use Rattle.snb_schema.specs.ReadKinds.{number_of_kind, parameter_columns, read_kind_of, read_word};
 ghost use Rattle.snb_schema.specs.declared.read_kind.ReadKind.{ReadKind as AnyKind};
 
 use crate::column::Column;
 use crate::limits::{MAX_ID, MAX_YEAR};
 use crate::query::Query;
+use CellKind::{Flag, Number, Stays, Texts, Words};
+use TargetColumn::{MessageAt, PersonAt};
 
 /// Which of the fourteen reads a read is: the short reads are IS1 to IS7, and the complex ones are
 /// named IC.
-#[derive(Clone, Copy)]
+#[derive(Clone, Copy, PartialEq, Eq)]
 pub enum ReadKind {
     Is1,
     Is2,
@@ -28,6 +33,71 @@ pub enum ReadKind {
     Ic13,
 }
 
+/// The complex reads, in the order of their numbers.
+pub const COMPLEX_READS: [ReadKind; 7] = [
+    ReadKind::Ic1,
+    ReadKind::Ic2,
+    ReadKind::Ic7,
+    ReadKind::Ic8,
+    ReadKind::Ic9,
+    ReadKind::Ic11,
+    ReadKind::Ic13,
+];
+
+/// All reads: the short ones, then the complex ones.
+pub const READ_KINDS: [ReadKind; 14] = [
+    ReadKind::Is1,
+    ReadKind::Is2,
+    ReadKind::Is3,
+    ReadKind::Is4,
+    ReadKind::Is5,
+    ReadKind::Is6,
+    ReadKind::Is7,
+    ReadKind::Ic1,
+    ReadKind::Ic2,
+    ReadKind::Ic7,
+    ReadKind::Ic8,
+    ReadKind::Ic9,
+    ReadKind::Ic11,
+    ReadKind::Ic13,
+];
+
+/// What stands in a column of a read's rows.
+#[derive(Clone, Copy)]
+pub enum CellKind {
+    /// A number, as an id is too.
+    Number,
+    Flag,
+    /// A text.
+    Words,
+    Texts,
+    Stays,
+}
+
+/// A column, counted from 1, that has the id of a person, or that of a message.
+#[derive(Clone, Copy)]
+pub enum TargetColumn {
+    PersonAt { at: usize },
+    MessageAt { at: usize },
+}
+
+/// What is fixed of a kind of read.
+#[derive(Clone, Copy)]
+pub struct ReadLayout {
+    /// The word that names it, as `IS1` and `IC13`.
+    pub word: &'static str,
+    /// The number of a complex read; a short one has 0.
+    pub number: u32,
+    /// The columns of its parameters, in the order of its parameter file.
+    pub parameters: &'static [Column],
+    /// What stands in the columns of its rows.
+    pub cells: &'static [CellKind],
+    /// The columns from whose ids further reads may go on, by rising column.
+    pub targets: &'static [TargetColumn],
+    /// Whether the short reads of the targets in the first row of its answer follow it in a reply.
+    pub is_followed: bool,
+}
+
 const ID: Column = Column::Number { most: MAX_ID };
 
 const ALONE: [Column; 1] = [ID];
@@ -40,64 +110,174 @@ const PLACED: [Column; 3] = [ID, Column::Words, Column::Small { most: MAX_YEAR }
 
 const PAIRED: [Column; 2] = [ID, ID];
 
+const NOWHERE: [TargetColumn; 0] = [];
+
+const PERSON: [TargetColumn; 1] = [PersonAt { at: 1 }];
+
+const MODERATOR: [TargetColumn; 1] = [PersonAt { at: 3 }];
+
+const SENDER: [TargetColumn; 2] = [PersonAt { at: 1 }, MessageAt { at: 4 }];
+
+const ACTOR: [TargetColumn; 2] = [PersonAt { at: 1 }, MessageAt { at: 5 }];
+
+const ANSWER: [TargetColumn; 2] = [MessageAt { at: 1 }, PersonAt { at: 4 }];
+
+const RECENT: [TargetColumn; 3] = [MessageAt { at: 1 }, MessageAt { at: 4 }, PersonAt { at: 5 }];
+
+const IS1: [CellKind; 8] = [Words, Words, Number, Words, Words, Number, Words, Number];
+
+const IS2: [CellKind; 7] = [Number, Words, Number, Number, Number, Words, Words];
+
+const IS3: [CellKind; 4] = [Number, Words, Words, Number];
+
+const IS4: [CellKind; 2] = [Number, Words];
+
+const IS5: [CellKind; 3] = [Number, Words, Words];
+
+const IS6: [CellKind; 5] = [Number, Words, Number, Words, Words];
+
+const IS7: [CellKind; 7] = [Number, Words, Number, Number, Words, Words, Flag];
+
+const IC1: [CellKind; 13] = [
+    Number, Words, Number, Number, Number, Words, Words, Words, Texts, Texts, Words, Stays, Stays,
+];
+
+const IC2: [CellKind; 6] = [Number, Words, Words, Number, Words, Number];
+
+const IC7: [CellKind; 8] = [Number, Words, Words, Number, Number, Words, Number, Flag];
+
+const IC8: [CellKind; 6] = [Number, Words, Words, Number, Number, Words];
+
+const IC11: [CellKind; 5] = [Number, Words, Words, Words, Number];
+
+const IC13: [CellKind; 1] = [Number];
+
+// A kind of read: its word and number, its parameters, its cells and its targets, and whether reads
+// follow its answer.
+fn read(
+    word: &'static str,
+    number: u32,
+    parameters: &'static [Column],
+    cells: &'static [CellKind],
+    targets: &'static [TargetColumn],
+    is_followed: bool,
+) -> ReadLayout
+    ensures { result ≡ record {
+      word = word.entry;
+      number = number;
+      parameters = parameters.entry;
+      cells = cells.entry;
+      targets = targets.entry;
+      is_followed = is_followed;
+    } }
+{
+    ReadLayout {
+        word,
+        number,
+        parameters,
+        cells,
+        targets,
+        is_followed,
+    }
+}
+
+/// What is fixed of the kind.
+pub fn read_layout_of(kind: ReadKind) -> ReadLayout
+    ensures { IsReadLayoutOf kind result }
+{
+    match kind {
+        ReadKind::Is1 => read("IS1", 0, &ALONE, &IS1, &NOWHERE, false),
+        ReadKind::Is2 => read("IS2", 0, &ALONE, &IS2, &RECENT, false),
+        ReadKind::Is3 => read("IS3", 0, &ALONE, &IS3, &PERSON, false),
+        ReadKind::Is4 => read("IS4", 0, &ALONE, &IS4, &NOWHERE, false),
+        ReadKind::Is5 => read("IS5", 0, &ALONE, &IS5, &PERSON, false),
+        ReadKind::Is6 => read("IS6", 0, &ALONE, &IS6, &MODERATOR, false),
+        ReadKind::Is7 => read("IS7", 0, &ALONE, &IS7, &ANSWER, false),
+        ReadKind::Ic1 => read("IC1", 1, &NAMED, &IC1, &PERSON, true),
+        ReadKind::Ic2 => read("IC2", 2, &DATED, &IC2, &SENDER, true),
+        ReadKind::Ic7 => read("IC7", 7, &ALONE, &IC7, &ACTOR, true),
+        ReadKind::Ic8 => read("IC8", 8, &ALONE, &IC8, &ACTOR, true),
+        ReadKind::Ic9 => read("IC9", 9, &DATED, &IC2, &SENDER, true),
+        ReadKind::Ic11 => read("IC11", 11, &PLACED, &IC11, &PERSON, true),
+        ReadKind::Ic13 => read("IC13", 13, &PAIRED, &IC13, &NOWHERE, false),
+    }
+}
+
+/// What is fixed of the kind of a read.
+pub fn layout_of_query(query: &Query) -> ReadLayout
+    ensures { IsReadLayoutOf (read_kind_of query.now) result }
+{
+    read_layout_of(query.kind())
+}
+
+// The first of the kinds that the word names.
+fn named(kinds: &[ReadKind], word: &str) -> Option<ReadKind>
+    ensures { MatchOption result (AllByRecursion (λ kind. ¬ (word.now ≡ read_word kind)) kinds.now)
+        (λ kind. word.now ≡ read_word kind) }
+{
+    match kinds {
+        [] => None,
+        [kind, kinds @ ..] => {
+            if kind.word() == word {
+                Some(*kind)
+            } else {
+                named(kinds, word)
+            }
+        }
+    }
+}
+
+// The first of the kinds that has this number.
+fn numbered(kinds: &[ReadKind], number: u32) -> Option<ReadKind>
+    ensures { result ≡ numbered kinds.now number }
+{
+    match kinds {
+        [] => None,
+        [kind, kinds @ ..] => {
+            if kind.number() == number {
+                Some(*kind)
+            } else {
+                numbered(kinds, number)
+            }
+        }
+    }
+}
+
 impl ReadKind {
     /// The kind that the word names, as in `IS1` and `IC13`; None exactly where it names none.
     pub fn of_word(word: &str) -> Option<ReadKind>
         ensures { MatchOption result ((kind : AnyKind) → ¬ (word.now ≡ read_word kind))
             (λ kind. word.now ≡ read_word kind) }
     {
-        match word {
-            "IS1" => Some(ReadKind::Is1),
-            "IS2" => Some(ReadKind::Is2),
-            "IS3" => Some(ReadKind::Is3),
-            "IS4" => Some(ReadKind::Is4),
-            "IS5" => Some(ReadKind::Is5),
-            "IS6" => Some(ReadKind::Is6),
-            "IS7" => Some(ReadKind::Is7),
-            "IC1" => Some(ReadKind::Ic1),
-            "IC2" => Some(ReadKind::Ic2),
-            "IC7" => Some(ReadKind::Ic7),
-            "IC8" => Some(ReadKind::Ic8),
-            "IC9" => Some(ReadKind::Ic9),
-            "IC11" => Some(ReadKind::Ic11),
-            "IC13" => Some(ReadKind::Ic13),
-            _ => None,
-        }
+        named(&READ_KINDS, word)
+    }
+
+    /// The kind of the complex read of this number; None exactly where no complex read has it.
+    pub fn of_number(number: u32) -> Option<ReadKind>
+        ensures { result ≡ complex_kind number }
+    {
+        numbered(&COMPLEX_READS, number)
     }
 
     /// The word that names it.
     pub fn word(self) -> &'static str
         ensures { result.now ≡ read_word self }
     {
-        match self {
-            ReadKind::Is1 => "IS1",
-            ReadKind::Is2 => "IS2",
-            ReadKind::Is3 => "IS3",
-            ReadKind::Is4 => "IS4",
-            ReadKind::Is5 => "IS5",
-            ReadKind::Is6 => "IS6",
-            ReadKind::Is7 => "IS7",
-            ReadKind::Ic1 => "IC1",
-            ReadKind::Ic2 => "IC2",
-            ReadKind::Ic7 => "IC7",
-            ReadKind::Ic8 => "IC8",
-            ReadKind::Ic9 => "IC9",
-            ReadKind::Ic11 => "IC11",
-            ReadKind::Ic13 => "IC13",
-        }
+        read_layout_of(self).word
+    }
+
+    /// The number of a complex read, and 0 for a short one.
+    pub fn number(self) -> u32
+        ensures { result ≡ number_of_kind self }
+    {
+        read_layout_of(self).number
     }
 
     /// The columns of its parameters.
     pub fn columns(self) -> &'static [Column]
         ensures { result.now ≡ parameter_columns self }
     {
-        match self {
-            ReadKind::Ic1 => &NAMED,
-            ReadKind::Ic2 | ReadKind::Ic9 => &DATED,
-            ReadKind::Ic11 => &PLACED,
-            ReadKind::Ic13 => &PAIRED,
-            _ => &ALONE,
-        }
+        read_layout_of(self).parameters
     }
 }
 

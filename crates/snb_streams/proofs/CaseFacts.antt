@@ -8,7 +8,7 @@ use Rattle.snb_schema.specs.declared.op.InsertKind.{InsertKind}
 use Rattle.snb_schema.specs.Columns.{StopsAfter}
 use Rattle.snb_schema.specs.Lines.{HasNoEnd, begins_with_mark, fields}
 use Rattle.snb_schema.specs.ParameterLines.{IsBadQuery, query_columns}
-use Rattle.snb_schema.specs.Queries.{IsComplex}
+use Rattle.snb_schema.specs.Queries.{IsComplex, IsOneOf, complex_queries}
 use Rattle.snb_schema.specs.UpdateLines.{Clashes, IsBadField, IsBadInsert, IsBadLine, IsFirstBad, IsFirstOfThree, NamesInsert, all_inserts}
 use Rattle.snb_schema.specs.InsertLines.{line_columns}
 use Rattle.snb_input_fields.proofs.Laws.{one_stop}
@@ -148,17 +148,18 @@ pub params_from_case : (q : ℕ) (fs : List (List ℕ)) (column : ℕ) → IsPar
 params_from_case q fs column (inl p) = inr (λ c r. r.0 p.0, inl p.1)
 params_from_case q fs column (inr p) = inl p
 
-complex_or_not : (q : ℕ) → IsComplex q ⊎ ¬ IsComplex q
-complex_or_not q = or_else 1 (or_else 2 (or_else 7 (or_else 8 (or_else 9 (or_else 11 (cases_eq q 13))))))
+one_or_not : (xs : List ℕ) (q : ℕ) → IsOneOf q xs ⊎ ¬ IsOneOf q xs
+one_or_not [] q = inr (λ h. h)
+one_or_not (x ∷ xs) q = or_else (one_or_not xs q)
   where
-    or_else : {B : Type 0} (k : ℕ) → B ⊎ ¬ B → ((q ≡ k) ⊎ B) ⊎ ¬ ((q ≡ k) ⊎ B)
-    or_else k (inl b) = inl (inr b)
-    or_else k (inr none) = elim (cases_eq q k) [
+    or_else : IsOneOf q xs ⊎ ¬ IsOneOf q xs → IsOneOf q (x ∷ xs) ⊎ ¬ IsOneOf q (x ∷ xs)
+    or_else (inl there) = inl (inr there)
+    or_else (inr none) = elim (cases_eq q x) [
       | inl same ↦ inl (inl same)
-      | inr other ↦ inr (λ h. elim h [ inl same ↦ other same | inr b ↦ none b ])
+      | inr other ↦ inr (λ h. elim h [ inl same ↦ other same | inr there ↦ none there ])
     ]
 
 pub params_to_case : (q : ℕ) (fs : List (List ℕ)) (column : ℕ) → IsBadParams q fs column → IsParamsCase q fs column
 params_to_case q fs column (inl p) = inr p
-params_to_case q fs column (inr (short, inl p)) = inl (elim (complex_or_not q) [ inl is ↦ is | inr other ↦ absurd (short 0 (other, refl)) ], p)
+params_to_case q fs column (inr (short, inl p)) = inl (elim (one_or_not complex_queries q) [ inl is ↦ is | inr other ↦ absurd (short 0 (other, refl)) ], p)
 params_to_case q fs column (inr (short, inr p)) = absurd p.1

@@ -18,7 +18,7 @@ use Rattle.snb_streams.specs.Spelled.{SpellsInsert}
 use Rattle.snb_streams.proofs.KindFacts.{third_names}
 use Rattle.snb_schema.specs.InsertLines.{insert_columns, kind_number, kind_of, line_columns, line_values, op_values, parent_comment, parent_post}
 use Rattle.snb_input_fields.specs.Reading.{optional_value}
-use Rattle.snb_input_fields.proofs.TypedRows.{TypedRow, row_of, row_values}
+use Rattle.snb_input_fields.proofs.Laws.{TypedRow, row_of, row_values}
 use Rattle.snb_columns.proofs.Laws.{number_some}
 use Rattle.snb_streams.proofs.ClashFacts.{NoneOrBoth}
 use Rattle.snb_streams.proofs.PlaceFacts.{spells_at}

@@ -16,7 +16,7 @@ use Rattle.snb_schema.specs.Faults.{OnBadColumn}
 use Rattle.snb_schema.specs.InsertLines.{kind_number, kind_of, line_columns, line_values}
 use Rattle.snb_schema.specs.UpdateLines.{Clashes, IsFirstBad, NamesInsert}
 use Rattle.snb_input_fields.specs.Reading.{IsBadIn, IsBadNext, Reading, SpellsFrom, text_at}
-use Rattle.snb_input_fields.proofs.Readings.{at, spells_from}
+use Rattle.snb_input_fields.proofs.Laws.{at, spells_from}
 use Rattle.snb_streams.specs.Make.{IsMade, IsMadeLine, IsThird}
 use Rattle.snb_streams.specs.Spelled.{SpellsInsert}
 use Rattle.snb_streams.proofs.FaultFacts.{clash_first, stop_first}

@@ -1,28 +1,13 @@
 -- What the lines of a parameter file say.
-use Rattle.std.specs.Prelude.{◌≡◌, ◌≢◌, ◌==◌, ℕ, List, [], ◌∷◌, length, true, None, if◌then◌else◌}
+use Rattle.std.specs.Prelude.{◌≡◌, ◌≢◌, ℕ, List, [], ◌∷◌, length, true, None}
 use Rattle.snb_base.specs.FirstOf.{FirstOf}
 use Rattle.snb_schema.specs.declared.file.FileId.{FileId}
 use Rattle.snb_schema.specs.declared.file.FileKind.TheVariants.{Params}
 use Rattle.snb_schema.specs.declared.query.Query.{Query}
-use Rattle.snb_schema.specs.declared.read_kind.ReadKind.{ReadKind}
-use Rattle.snb_schema.specs.declared.read_kind.ReadKind.TheVariants.{Is1, Ic1, Ic2, Ic7, Ic8, Ic9, Ic11, Ic13}
 use Rattle.snb_schema.specs.Lines.{fields}
 use Rattle.snb_schema.specs.ParameterLines.{IsBadQuery, SpellsQuery, query_columns}
 use Rattle.snb_schema.specs.Queries.{IsComplex}
 use Rattle.snb_input_lines.specs.Language.{Language}
-
--- the kind of the query of this number, for each of the seven complex queries; any other number
--- gives that of a short read
-abbrev pub complex_kind : ℕ → ReadKind
-complex_kind q =
-    if q == 1 then Ic1 else
-    if q == 2 then Ic2 else
-    if q == 7 then Ic7 else
-    if q == 8 then Ic8 else
-    if q == 9 then Ic9 else
-    if q == 11 then Ic11 else
-    if q == 13 then Ic13 else
-    Is1
 
 -- the file of the parameters of the query of this number
 abbrev pub params_file : ℕ → FileId

@@ -1,10 +1,9 @@
 //! The reader of a parameter file.
 
-ghost use Rattle.std.specs.Prelude.{◌≡◌, All, IfOk, IsUtf8, MatchOption};
+ghost use Rattle.std.specs.Prelude.{◌≡◌, All, IfOk, IsUtf8};
 ghost use Rattle.snb_schema.specs.Faults.{OnBadColumn};
 ghost use Rattle.snb_schema.specs.ParameterLines.{IsBadQuery, SpellsQuery, query_columns};
 ghost use Rattle.snb_schema.specs.Queries.{IsComplex};
-ghost use Rattle.snb_streams.specs.Parameters.{complex_kind};
 
 use snb_input_fields::{FieldReader, read_query};
 use snb_input_lines::{Grammar, LineReader, Open, Record};
@@ -13,27 +12,11 @@ use snb_schema::{Column, FileId, FileKind, LineFault, Query, ReadKind};
 use std::alloc::Global;
 use std::marker::Model;
 
-// The kind of the complex query of this number; None exactly where it isn't one of the seven.
-fn complex_kind(query: u32) -> Option<ReadKind>
-    ensures { MatchOption result (¬ IsComplex query) (λ kind. IsComplex query × (kind ≡ complex_kind query)) }
-{
-    match query {
-        1 => Some(ReadKind::Ic1),
-        2 => Some(ReadKind::Ic2),
-        7 => Some(ReadKind::Ic7),
-        8 => Some(ReadKind::Ic8),
-        9 => Some(ReadKind::Ic9),
-        11 => Some(ReadKind::Ic11),
-        13 => Some(ReadKind::Ic13),
-        _ => None,
-    }
-}
-
 /// The columns of the parameters of the query of this number: none, where it isn't one of the seven.
 pub fn columns_of(query: u32) -> &'static [Column]
     ensures { result.now ≡ query_columns query }
 {
-    match complex_kind(query) {
+    match ReadKind::of_number(query) {
         Some(kind) => kind.columns(),
         None => &[],
     }
@@ -50,7 +33,7 @@ pub fn read_parameters(alloc: Global, query: u32, fields: &Record) -> Result<Que
     ensures ok { IfOk result (SpellsQuery query fields.now) }
     ensures bad { OnBadColumn result (IsBadQuery query fields.now) }
 {
-    let Some(kind) = complex_kind(query) else {
+    let Some(kind) = ReadKind::of_number(query) else {
         unreachable!()
     };
     let columns = kind.columns();

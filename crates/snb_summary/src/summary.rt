@@ -2,10 +2,10 @@
 
 ghost use Rattle.std.specs.Prelude.{◌≡◌, ◌∷◌, ◌++◌, [], ℕ, ◌<◌, ◌≤◌, List, IfOk, OnOk, length, map, nat_lt};
 ghost use Rattle.snb_summary.specs.Hearing.{AreTimes, moments_in};
-ghost use Rattle.snb_summary.specs.Kinds.{all_entries, op_kinds, all_whats, entries_of, Entry};
+ghost use Rattle.snb_summary.specs.Kinds.{all_entries, all_whats, entries_of, Entry};
 ghost use Rattle.snb_summary.specs.Summaries.{AreMeasures, IsMeasure, IsPercentile, IsSummary};
 
-use crate::kind::{OpKind, What};
+use crate::kind::{OpKind, What, all_kinds};
 use crate::rank::rank;
 use crate::times::Times;
 use snb_base::{OwnedList, TryCopy};
@@ -36,24 +36,6 @@ impl TryCopy for Measure {
 
 /// The summary of a run: its measures in order.
 pub type Summary = OwnedList<Measure>;
-
-const KINDS: [OpKind; 15] = [
-    OpKind::AddPerson,
-    OpKind::LikePost,
-    OpKind::LikeComment,
-    OpKind::AddForum,
-    OpKind::AddMember,
-    OpKind::AddPost,
-    OpKind::AddComment,
-    OpKind::AddFriend,
-    OpKind::Ic1,
-    OpKind::Ic2,
-    OpKind::Ic7,
-    OpKind::Ic8,
-    OpKind::Ic9,
-    OpKind::Ic11,
-    OpKind::Ic13,
-];
 
 // The percentile p of the values, of which there are some.
 fn percentile(values: &[u64], p: u32) -> u64
@@ -156,7 +138,7 @@ pub(crate) fn measures_of(
         all_entries measures) }
 {
     let mut measures = Summary::new(alloc);
-    for kind in &KINDS {
+    for kind in &all_kinds(alloc)? {
         put_kind(alloc, schedule, kinds, times, *kind, &mut measures)?;
     }
     Ok(measures)

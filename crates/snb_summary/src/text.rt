@@ -1,33 +1,37 @@
 //! Summaries as text.
 
 ghost use Rattle.std.specs.Prelude.{◌≡◌, ◌++◌, OnErr, OnOk};
-ghost use Rattle.snb_summary.specs.SummaryTexts.{cells_text, op_kind_text, measure_line, measures_text as summary_text, measure_numbers, what_text};
+ghost use Rattle.snb_summary.specs.SummaryTexts.{cells_text, insert_text, op_kind_text, measure_line, measures_text as summary_text, measure_numbers, what_text};
 
 use crate::kind::{OpKind, What};
 use crate::summary::{Measure, Summary};
 use snb_base::put_number;
+use snb_schema::InsertKind;
 use std::alloc::AllocError;
+
+// The word of an insert.
+fn insert_word(kind: InsertKind) -> &'static str
+    ensures { result.now ≡ insert_text kind }
+{
+    match kind {
+        InsertKind::AddPerson => "AddPerson",
+        InsertKind::LikePost => "LikePost",
+        InsertKind::LikeComment => "LikeComment",
+        InsertKind::AddForum => "AddForum",
+        InsertKind::AddMember => "AddMember",
+        InsertKind::AddPost => "AddPost",
+        InsertKind::AddComment => "AddComment",
+        InsertKind::AddFriend => "AddFriend",
+    }
+}
 
 // The word of a kind.
 fn kind_word(kind: OpKind) -> &'static str
     ensures { result.now ≡ op_kind_text kind }
 {
     match kind {
-        OpKind::AddPerson => "AddPerson",
-        OpKind::LikePost => "LikePost",
-        OpKind::LikeComment => "LikeComment",
-        OpKind::AddForum => "AddForum",
-        OpKind::AddMember => "AddMember",
-        OpKind::AddPost => "AddPost",
-        OpKind::AddComment => "AddComment",
-        OpKind::AddFriend => "AddFriend",
-        OpKind::Ic1 => "IC1",
-        OpKind::Ic2 => "IC2",
-        OpKind::Ic7 => "IC7",
-        OpKind::Ic8 => "IC8",
-        OpKind::Ic9 => "IC9",
-        OpKind::Ic11 => "IC11",
-        OpKind::Ic13 => "IC13",
+        OpKind::Insert { kind } => insert_word(kind),
+        OpKind::Read { kind } => kind.word(),
     }
 }
 

@@ -1,5 +1,6 @@
 //! The call that copies a summary.
 
+use snb_schema::{InsertKind, ReadKind};
 use snb_summary::{Measure, OpKind, Summary, What, measures_text};
 use snb_test_script::escape::shown_lines;
 use snb_test_script::words::number_of;
@@ -8,11 +9,14 @@ use std::alloc::Global;
 
 // The kind of operation of this name, of those that the cases have.
 fn kind_of(word: &str) -> Result<OpKind, Flaw> {
+    let inserted = |kind| OpKind::Insert { kind };
     match word {
-        "AddPerson" => Ok(OpKind::AddPerson),
-        "AddFriend" => Ok(OpKind::AddFriend),
-        "IC13" => Ok(OpKind::Ic13),
-        _ => Err(Flaw::NoName),
+        "AddPerson" => Ok(inserted(InsertKind::AddPerson)),
+        "AddFriend" => Ok(inserted(InsertKind::AddFriend)),
+        _ => match ReadKind::of_word(word) {
+            Some(kind) => Ok(OpKind::Read { kind }),
+            None => Err(Flaw::NoName),
+        },
     }
 }
 

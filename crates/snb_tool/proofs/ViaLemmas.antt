@@ -1,12 +1,12 @@
 -- A validation by a table of handlers.
-use Rattle.std.specs.Prelude.{IsSome, MatchOption}
+use Rattle.std.specs.Prelude.{Contains, IsSome, MatchOption}
 use Rattle.snb_base.specs.Moments.{Moments}
 use Rattle.std.specs.Option.{IsSomeAnd}
 use Rattle.std.proofs.Common.{◌≡◌, ◌∙◌, ℕ, ◌⊎◌, ◌++◌, List, [], ◌∷◌, Option, Some, None, inl, inr, refl, sym, ap, subst}
 use Rattle.snb_base.specs.FirstOf.{FirstOf, NoneOf}
 use Rattle.snb_base.specs.Outbox.{Written}
 use Rattle.snb_base.specs.Shelf.{Files}
-use Rattle.snb_handlers.specs.Table.{HasAll, IsFirstUnhandled}
+use Rattle.snb_handlers.specs.Table.{HasAll, IsFirstUnhandled, IsFirstWithout}
 use Rattle.snb_input_files.specs.Files.{held_in}
 use Rattle.snb_input_files.specs.Walk.{Held}
 use Rattle.snb_loader.specs.Dataset.{dataset_checks}
@@ -14,6 +14,7 @@ use Rattle.snb_loader.specs.Laws.{DatasetIsOne}
 use Rattle.snb_schema.specs.declared.read_kind.ReadKind.{ReadKind}
 use Rattle.snb_schema.specs.declared.refusal.Refusal.{Refusal}
 use Rattle.snb_schema.specs.declared.row.Row.{Row}
+use Rattle.snb_schema.specs.ReadKinds.{every_read}
 use Rattle.snb_schema.specs.ScreenTexts.{refusal_text}
 use Rattle.snb_tool_words.specs.declared.command.Command.{Command}
 use Rattle.snb_tool_words.specs.declared.command.Command.TheVariants.{Validate}
@@ -42,10 +43,16 @@ validated_one one tally_one held beside s t texts shown v w =
     let same : w.tally ≡ v.tally = tally_one v.graph beside w.tally v.tally found v.found in
     (w.status_is ∙ ap tally_status same ∙ sym v.status_is, w.shown ∙ ap (λ (x : Tally). on_screen (tally_text x)) same ∙ sym v.shown)
 
+-- the first kind without a handler has none
+first_lacks : (ks there : List ReadKind) (kind : ReadKind) → IsFirstWithout ks there kind → ¬ Contains there kind
+first_lacks [] there kind first = absurd first
+first_lacks (k ∷ ks) there kind (inl here) = subst (λ (one : ReadKind). ¬ Contains there one) (sym here.0) here.1
+first_lacks (k ∷ ks) there kind (inr later) = first_lacks ks there kind later.1
+
 -- where each kind has a handler, none is refused for having none
 no_missing : (missing : Option ReadKind) (kinds : List ReadKind) → HasAll kinds → MatchOption missing (HasAll kinds) (IsFirstUnhandled kinds) → (r : Refusal) → ¬ IsUnregistered missing r
 no_missing None kinds all m r u = u
-no_missing (Some kind) kinds all m r u = m.lacking (all kind)
+no_missing (Some kind) kinds all m r u = first_lacks every_read kinds kind m (all kind)
 
 given_there : (given : Given) → IsSomeAnd given (λ c. HasAll c.kinds) → IsSome given
 given_there None all = absurd all

@@ -1,19 +1,23 @@
 -- Facts on the command `expect`: words spell the parameters of the queries of a plan that is read from files.
-use Rattle.std.proofs.Common.{◌≡◌, ◌<◌, ◌+◌, ◌∙◌, ℕ, zero, suc, ◌⊎◌, List, [], ◌∷◌, length, Option, Some, None, Ok, inl, inr, refl, sym, ap, subst, arith}
+use Rattle.std.proofs.Common.{◌≡◌, ◌≢◌, ◌<◌, ◌+◌, ◌∙◌, ℕ, zero, suc, ◌⊎◌, rules, List, [], ◌∷◌, length, Option, Some, None, Ok, inl, inr, refl, sym, ap, subst, arith}
 use Rattle.snb_base.specs.Moments.{Moments}
 use Rattle.std.specs.List.{All}
+use Rattle.std.specs.Option.{option_map_or}
+use Rattle.snb_schema.proofs.Laws.{frequent_complex, numbered_is, numbered_some, of_one, one_number}
 use Rattle.std.proofs.lemmas.List.Elements.{All-cons, All-contains, All-contains_itself, All-nil}
 use Rattle.std.proofs.lemmas.Option.{get_or_from_slice_get, same_Some, slice_get_within}
 use Rattle.snb_base.specs.Outbox.{Written}
 use Rattle.snb_base.specs.Shelf.{Files}
+use Rattle.snb_schema.specs.declared.column.Column.{Column}
 use Rattle.snb_schema.specs.declared.query.Query.{Query}
-use Rattle.snb_schema.specs.declared.query.Query.TheVariants as queries
+use Rattle.snb_schema.specs.declared.read_kind.ReadKind.{ReadKind}
 use Rattle.snb_schema.specs.declared.row.Row.{Row}
 use Rattle.snb_schema.specs.Columns.{SpellsAll}
 use Rattle.snb_schema.specs.Frequencies.{FrequencyTable, frequency_at}
 use Rattle.snb_schema.specs.Lines.{fields}
-use Rattle.snb_schema.specs.ParameterLines.{IsParams, query_columns, query_values}
-use Rattle.snb_schema.specs.Queries.{number_of_query}
+use Rattle.snb_schema.specs.ParameterLines.{IsParams, SpellsQuery, query_columns}
+use Rattle.snb_schema.specs.ReadKinds.{parameter_columns, parameter_values, read_kind_of}
+use Rattle.snb_schema.specs.Queries.{IsComplex, complex_queries, number_of_query}
 use Rattle.snb_schema.specs.QueryLists.{QueryLists, list_of}
 use Rattle.snb_input_lines.specs.Files.{AreEach}
 use Rattle.snb_streams.specs.FileLaws.{ParamsFiles}
@@ -34,36 +38,31 @@ use Rattle.snb_base.proofs.Laws.{given_by}
 
 -- ---- a parameter file
 
--- the fields of a line are words of its query, which is a complex one
-complex_words : (q : ℕ) (fs : List (List ℕ)) (one : Query) → 0 < q → number_of_query one ≡ q → SpellsAll (query_columns q) fs (query_values one) → HasWords one
-complex_words q fs (queries.Ic1 person first_name) some is s = (fs, subst (λ (n : ℕ). SpellsAll (query_columns n) fs (query_values (queries.Ic1 person first_name))) (sym is) s)
-complex_words q fs (queries.Ic2 person max_date) some is s = (fs, subst (λ (n : ℕ). SpellsAll (query_columns n) fs (query_values (queries.Ic2 person max_date))) (sym is) s)
-complex_words q fs (queries.Ic7 person) some is s = (fs, subst (λ (n : ℕ). SpellsAll (query_columns n) fs (query_values (queries.Ic7 person))) (sym is) s)
-complex_words q fs (queries.Ic8 person) some is s = (fs, subst (λ (n : ℕ). SpellsAll (query_columns n) fs (query_values (queries.Ic8 person))) (sym is) s)
-complex_words q fs (queries.Ic9 person max_date) some is s = (fs, subst (λ (n : ℕ). SpellsAll (query_columns n) fs (query_values (queries.Ic9 person max_date))) (sym is) s)
-complex_words q fs (queries.Ic11 person country year) some is s = (fs, subst (λ (n : ℕ). SpellsAll (query_columns n) fs (query_values (queries.Ic11 person country year))) (sym is) s)
-complex_words q fs (queries.Ic13 from to) some is s = (fs, subst (λ (n : ℕ). SpellsAll (query_columns n) fs (query_values (queries.Ic13 from to))) (sym is) s)
-complex_words q fs one some is s = absurd (omega (arith, some, is))
+-- the columns of a complex query are those of its kind, so the fields of its line are its words
+own_columns : (q : ℕ) (one : Query) → IsComplex q → number_of_query one ≡ q → query_columns q ≡ parameter_columns (read_kind_of one)
+own_columns q one complex number =
+    let (kind, is) = numbered_some q complex in
+    let some : 0 ≢ q = of_one (λ n. 0 ≢ n) complex_queries q complex (search rules) in
+    let own = numbered_is q kind is in
+    ap (λ (o : Option ReadKind). option_map_or parameter_columns o []) is ∙ ap parameter_columns (one_number kind (read_kind_of one) (λ none. some (none ∙ own)) (own ∙ sym number))
 
-each_words : (q n : ℕ) (ls : List (List ℕ)) (list : List Query) → 0 < q → AreEach (λ number line one. IsParams q line one) n ls list → All HasWords list
+complex_words : (q : ℕ) (fs : List (List ℕ)) (one : Query) → IsComplex q → SpellsQuery q fs one → HasWords one
+complex_words q fs one complex s = (fs, subst (λ (cs : List Column). SpellsAll cs fs (parameter_values one)) (own_columns q one complex s.0) s.1)
+
+each_words : (q n : ℕ) (ls : List (List ℕ)) (list : List Query) → IsComplex q → AreEach (λ number line one. IsParams q line one) n ls list → All HasWords list
 each_words q n [] [] some each = All-nil HasWords
 each_words q n [] (x ∷ xs) some each = absurd each
 each_words q n ([] ∷ ls) list some each = each_words q (n + 1) ls list some each
 each_words q n ((b ∷ bs) ∷ ls) [] some each = absurd each
 each_words q n ((b ∷ bs) ∷ ls) (x ∷ xs) some each =
-    All-cons HasWords x xs (complex_words q (fields (b ∷ bs)) x some each.0.spelled.0 each.0.spelled.1) (each_words q (n + 1) ls xs some each.1)
-
--- a query with a frequency is a complex one
-some_number : (table : FrequencyTable) (q : ℕ) → 0 < frequency_at table q → 0 < q
-some_number table zero f = absurd (omega (arith, f))
-some_number table (suc q) f = omega arith
+    All-cons HasWords x xs (complex_words q (fields (b ∷ bs)) x some each.0.spelled) (each_words q (n + 1) ls xs some each.1)
 
 module _ (files : ParamsFiles) where
   lists_words : (at : Before) (held : Held) (table : FrequencyTable) (lists : QueryLists) (q : ℕ) → AreParams at held table lists → 0 < frequency_at table q → All HasWords (list_of lists q)
   lists_words at held table lists q params f =
       let (bytes, here, (k, says)) = params.said q f in
       let file = files q bytes (list_of lists q) says in
-      each_words q (length file.before + 1) file.after (list_of lists q) (some_number table q f) file.each
+      each_words q (length file.before + 1) file.after (list_of lists q) (frequent_complex table q f) file.each
 
   -- ---- a plan
 

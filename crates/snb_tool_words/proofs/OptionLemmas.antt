@@ -6,6 +6,7 @@ use Rattle.std.specs.Option.{IfSome, MatchOption, is_some, option_map}
 use Rattle.std.specs.Str.{bytes_eq}
 use Rattle.snb_base.specs.Spellings.{EachSpells, SpellsId}
 use Rattle.snb_schema.specs.declared.limits.TheConstants.{MAX_WORKERS}
+use Rattle.snb_schema.proofs.Laws.{same_values}
 use Rattle.snb_schema.specs.Frequencies.{FrequencyTable, FrequenciesAreOne, HasFrequencies, frequency_at}
 use Rattle.snb_tool_words.specs.declared.options.OptionName.{OptionName}
 use Rattle.snb_tool_words.specs.declared.options.OptionName.TheVariants.{Workers, Ratio, Frequencies, Via, Chance, Words}
@@ -36,10 +37,7 @@ one_word o p e = one_name o p cc
 
 -- a list of frequencies is that of one table
 table_one : (pairs : List (ℕ × ℕ)) (a b : FrequencyTable) → HasFrequencies a pairs → HasFrequencies b pairs → a ≡ b
-table_one pairs a b p q = λ i. (same 1 i, (same 2 i, (same 7 i, (same 8 i, (same 9 i, (same 11 i, (same 13 i, tt)))))))
-  where
-    same : (query : ℕ) → frequency_at a query ≡ frequency_at b query
-    same query = p query ∙ sym (q query)
+table_one pairs a b p q = same_values 0 a b (λ query. p query ∙ sym (q query))
 
 -- a word says the frequencies of one table
 pub frequencies_one : FrequenciesAreOne → (word : List ℕ) (a b : FrequencyTable) → SaysFrequencies word a → SaysFrequencies word b → a ≡ b

@@ -2,8 +2,7 @@
 use Rattle.std.proofs.Common.{◌≡◌, ◌↔◌, ◌<◌, ◌≤◌, Bool, false, IsTrue, Option, Some, None, List, [], ◌∷◌, length, refl, sym, subst, ap, ◌∙◌, inl, inr, arith, rules, ℕ}
 use Rattle.std.specs.Option.{MatchOption, is_some}
 use Rattle.snb_base.specs.Spellings.{Date, Num}
-use Rattle.snb_input_fields.proofs.Laws.{spelled_long}
-use Rattle.snb_input_fields.proofs.TypedRows.{TypedRow, row_of, row_values}
+use Rattle.snb_input_fields.proofs.Laws.{one_query, row_of, spelled_long, typed_query}
 use Rattle.snb_input_fields.specs.Fields.{Expects, ReadsAll, StopsIn}
 use Rattle.snb_columns.specs.Laws.{OneList, OneValue}
 use Rattle.snb_schema.specs.declared.column.Column.{Column}
@@ -12,9 +11,7 @@ use Rattle.snb_schema.specs.declared.column.Column.TheVariants.{Number, Small}
 use Rattle.snb_schema.specs.declared.column.Value.{Value}
 use Rattle.snb_schema.specs.declared.column.Value.TheVariants.{Digits, SmallDigits}
 use Rattle.snb_schema.specs.declared.query.Query.{Query}
-use Rattle.snb_schema.specs.declared.query.Query.TheVariants as queries
 use Rattle.snb_schema.specs.declared.read_kind.ReadKind.{ReadKind}
-use Rattle.snb_schema.specs.declared.read_kind.ReadKind.TheVariants.{Is1, Is2, Is3, Is4, Is5, Is6, Is7, Ic1, Ic2, Ic7, Ic8, Ic9, Ic11, Ic13}
 use Rattle.snb_schema.specs.Columns.{Spells, SpellsAll}
 use Rattle.snb_schema.specs.ReadKinds.{read_kind_of, parameter_columns, parameter_values, read_word}
 use Rattle.snb_tool_words.specs.Commands.{IsReadOf}
@@ -73,33 +70,12 @@ module _ (c : Column) (cs all : List Column) (x : List ℕ) (xs words : List (Li
 
 -- ---- a read by its kind and its values
 
--- a read is one by its kind and its values
-pub one_query : (a b : Query) → read_kind_of a ≡ read_kind_of b → parameter_values a ≡ parameter_values b → a ≡ b
-one_query a b kinds values = search rules
-
 -- words name one read
 pub one_read : OneList → (kind : List ℕ) (parameters : List (List ℕ)) (a b : Query) → IsReadOf kind parameters a → IsReadOf kind parameters b → a ≡ b
 one_read list kind parameters a b x y =
     let alike = one_kind (read_kind_of a) (read_kind_of b) (sym x.0 ∙ y.0) in
     one_query a b alike (list (parameter_columns (read_kind_of a)) parameters (parameter_values a) (parameter_values b) x.1
     (subst (λ (k : ReadKind). SpellsAll (parameter_columns k) parameters (parameter_values b)) (sym alike) y.1))
-
--- what the columns of a kind hold is what a read has
-typed_query : (kind : ReadKind) (row : TypedRow (parameter_columns kind)) → (query : Query) × (read_kind_of query ≡ kind) × (parameter_values query ≡ row_values (parameter_columns kind) row)
-typed_query Is1 row = (queries.Is1 row.0, refl, refl)
-typed_query Is2 row = (queries.Is2 row.0, refl, refl)
-typed_query Is3 row = (queries.Is3 row.0, refl, refl)
-typed_query Is4 row = (queries.Is4 row.0, refl, refl)
-typed_query Is5 row = (queries.Is5 row.0, refl, refl)
-typed_query Is6 row = (queries.Is6 row.0, refl, refl)
-typed_query Is7 row = (queries.Is7 row.0, refl, refl)
-typed_query Ic1 row = (queries.Ic1 row.0 row.1.0, refl, refl)
-typed_query Ic2 row = (queries.Ic2 row.0 row.1.0, refl, refl)
-typed_query Ic7 row = (queries.Ic7 row.0, refl, refl)
-typed_query Ic8 row = (queries.Ic8 row.0, refl, refl)
-typed_query Ic9 row = (queries.Ic9 row.0 row.1.0, refl, refl)
-typed_query Ic11 row = (queries.Ic11 row.0 row.1.0 row.1.1.0, refl, refl)
-typed_query Ic13 row = (queries.Ic13 row.0 row.1.0, refl, refl)
 
 -- words that spell values of the columns of a kind name a read of this kind, and no other words do
 pub read_is : (kind : ReadKind) (word : List ℕ) (words : List (List ℕ)) (columns : List Column) (r : Bool) → word ≡ read_word kind → columns ≡ parameter_columns kind

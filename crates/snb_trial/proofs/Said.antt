@@ -29,7 +29,7 @@ thirteen = record {
   splits = refl;
   numbered = record { digits = ((omega arith, omega arith), ((omega arith, omega arith), tt)); some = omega arith; few = omega arith; no_lead = λ e. absurd (omega (arith, e)); value = refl; small = omega arith };
   counted = record { digits = ((omega arith, omega arith), tt); some = omega arith; few = omega arith; no_lead = λ e. refl; value = refl; small = omega arith };
-  complex = inr (inr (inr (inr (inr (inr refl)))));
+  complex = inr (inr (inr (inr (inr (inr (inl refl))))));
   positive = omega arith;
 }
 
@@ -77,7 +77,8 @@ of_seven q lt (inr (inr (inl e))) = absurd (let some = subst (λ (n : ℕ). 0 < 
 of_seven q lt (inr (inr (inr (inl e)))) = absurd (let some = subst (λ (n : ℕ). 0 < frequency_at read_frequencies n) e lt in omega (arith, some))
 of_seven q lt (inr (inr (inr (inr (inl e))))) = absurd (let some = subst (λ (n : ℕ). 0 < frequency_at read_frequencies n) e lt in omega (arith, some))
 of_seven q lt (inr (inr (inr (inr (inr (inl e)))))) = absurd (let some = subst (λ (n : ℕ). 0 < frequency_at read_frequencies n) e lt in omega (arith, some))
-of_seven q lt (inr (inr (inr (inr (inr (inr e)))))) = inr e
+of_seven q lt (inr (inr (inr (inr (inr (inr (inl e))))))) = inr e
+of_seven q lt (inr (inr (inr (inr (inr (inr (inr none))))))) = absurd none
 
 -- no query but 2 and 13 has a frequency
 pub names_two : NamesTwo read_frequencies

@@ -8,6 +8,7 @@ use Rattle.snb_schema.specs.declared.column.Value.{Value}
 use Rattle.snb_schema.specs.declared.query.Query.{Query}
 use Rattle.snb_schema.specs.declared.read_kind.ReadKind.{ReadKind}
 use Rattle.snb_schema.specs.ReadKinds.{read_kind_of, parameter_columns, parameter_values}
+use Rattle.snb_input_fields.proofs.Laws.{one_query}
 use Rattle.snb_input_fields.specs.Fields.{StopsIn}
 use Rattle.snb_validation_cases.specs.Parameters.{AreParameters, IsParameter, JsonReading, json_meaning}
 use Rattle.snb_validation_cases.specs.Values.{AreAlong, IsArray}
@@ -23,14 +24,10 @@ stops_along (c ∷ cs) (d ∷ ds) s number e (inr (w, next, (a, is, read, p), r)
     stops_along cs ds next number others r vs h.1
 stops_along cs ds s number e r vs h = h
 
--- queries of one kind with the same values are one
-same_query : (a b : Query) → read_kind_of a ≡ read_kind_of b → parameter_values a ≡ parameter_values b → a ≡ b
-same_query a b e f = search rules
-
 -- parameters are those of one query of a kind
 query_of_one : (ds : List Data) (a b : Query) → read_kind_of a ≡ read_kind_of b → AreParameters ds a → AreParameters ds b → a ≡ b
 query_of_one ds a b alike x y =
-    same_query a b alike
+    one_query a b alike
     (along_one IsParameter parameter_one (parameter_columns (read_kind_of a)) ds (parameter_values a) (parameter_values b) x
     (subst (λ (k : ReadKind). AreAlong IsParameter (parameter_columns k) ds (parameter_values b)) (sym alike) y))
 

@@ -7,8 +7,8 @@ use Rattle.serde_json.specs.Data.{Data}
 use Rattle.snb_schema.specs.declared.query.Query.{Query}
 use Rattle.snb_read_model.specs.Cells.{ByteCell}
 use Rattle.snb_read_model.specs.declared.cell.Cell.TheVariants as cell
-use Rattle.snb_read_model.specs.declared.layout.CellKind.{CellKind}
-use Rattle.snb_read_model.specs.declared.layout.CellKind.TheVariants.{Texts, Stays}
+use Rattle.snb_schema.specs.declared.read_kind.CellKind.{CellKind}
+use Rattle.snb_schema.specs.declared.read_kind.CellKind.TheVariants.{Texts, Stays}
 use Rattle.snb_read_model.specs.Columns.{HasColumns, HaveColumns, IsOfColumn, columns_of}
 use Rattle.snb_validation_cases.specs.Replies.{IsCellIn, IsRow, IsStayData}
 use Rattle.snb_validation_cases.specs.Values.{AreAlong, IsArray, IsString}

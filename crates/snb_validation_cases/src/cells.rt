@@ -4,7 +4,7 @@ ghost use Rattle.std.specs.Prelude.{◌≡◌, ℕ, List, IfOk, MatchOption, map
 ghost use Rattle.std.specs.List.{AllZip};
 ghost use Rattle.serde_json.specs.View.{view};
 ghost use Rattle.snb_read_model.specs.Cells.{ByteCell as AnyCell};
-ghost use Rattle.snb_read_model.specs.declared.layout.CellKind.TheVariants.{Number, Flag, Words as WordsColumn, Texts as TextsColumn, Stays as StaysColumn};
+ghost use Rattle.snb_schema.specs.declared.read_kind.CellKind.TheVariants.{Number, Flag, Words as WordsColumn, Texts as TextsColumn, Stays as StaysColumn};
 ghost use Rattle.snb_validation_cases.specs.Replies.{AreStay, IsCellIn, IsStayData, IsStayOf};
 ghost use Rattle.snb_validation_cases.specs.Values.{IsArray};
 

@@ -22,7 +22,7 @@ use Rattle.snb_graph_model.specs.Graphs.{IsGraph}
 use Rattle.snb_read_model.specs.Cells.{ByteCell}
 use Rattle.snb_read_model.specs.declared.cell.Cell.TheVariants as cell
 use Rattle.snb_read_model.specs.Replies.{IsAnswer, IsReply, tail_reads}
-use Rattle.snb_read_model.specs.declared.layout.CellKind.{CellKind}
+use Rattle.snb_schema.specs.declared.read_kind.CellKind.{CellKind}
 use Rattle.snb_read_model.specs.Columns.{HasColumns, HaveColumns, IsOfColumn, columns_of}
 use Rattle.snb_read_laws.specs.Laws.{AnswersHaveColumns, AnswersHaveYears, HasYears}
 use Rattle.snb_validation.specs.Laws.{AreOfTypes, IsOfType}

@@ -2,7 +2,7 @@ use Rattle.std.proofs.Common.{refl}
 use Rattle.snb_schema.specs.declared.column.Column.TheVariants as columns
 use Rattle.snb_schema.specs.declared.column.Value.TheVariants.{Digits, Letters, SmallDigits}
 use Rattle.snb_schema.specs.declared.limits.TheConstants.{MAX_ID, MAX_LENGTH}
-use Rattle.snb_input_fields.proofs.Readings.{moved, spelled}
+use Rattle.snb_input_fields.proofs.Laws.{moved, spelled}
 use Rattle.snb_csv.proofs.make.comment.Goals as goal
 
 pub returns-clause-ok : goal.returns-clause-ok

@@ -3,7 +3,7 @@ use Rattle.snb_schema.specs.declared.column.Column.TheVariants as columns
 use Rattle.snb_schema.specs.declared.column.Value.TheVariants.{Digits}
 use Rattle.snb_schema.specs.declared.limits.TheConstants.{MAX_ID}
 use Rattle.snb_csv.proofs.RowFacts.{no_friends}
-use Rattle.snb_input_fields.proofs.Readings.{moved, spelled}
+use Rattle.snb_input_fields.proofs.Laws.{moved, spelled}
 use Rattle.snb_csv.proofs.make.make_friends.Goals as goal
 
 pub returns-in_err-one-clause-bad : goal.returns-in_err-one-clause-bad

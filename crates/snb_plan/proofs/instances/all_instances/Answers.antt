@@ -1,8 +1,7 @@
 use Rattle.std.proofs.Common.{◌∙◌, ◌++◌, ℕ, List, [], ap, get_or, sym, take}
-use Rattle.std.proofs.lemmas.List.{flat_map_more}
-use Rattle.std.proofs.lemmas.List.{take_more}
+use Rattle.std.proofs.lemmas.List.{flat_map_more, take_more}
 use Rattle.std.specs.List.{flat_map}
-use Rattle.snb_schema.specs.QueryPlaces.{complex_queries}
+use Rattle.snb_schema.specs.Queries.{complex_queries}
 use Rattle.snb_plan.specs.declared.instances.Instance.{Instance}
 use Rattle.snb_plan.specs.Instances.{instances_of}
 use Rattle.snb_plan.proofs.instances.all_instances.Goals as goal

@@ -2,7 +2,7 @@
 use Rattle.std.proofs.Common.{◌≡◌, ◌*◌, ◌^◌, ◌≤◌, take}
 use Rattle.std.specs.List.{sum_by}
 use Rattle.snb_schema.specs.Frequencies.{frequency_at}
-use Rattle.snb_schema.specs.QueryPlaces.{complex_queries}
+use Rattle.snb_schema.specs.Queries.{complex_queries}
 use Rattle.snb_plan.specs.Merging.{share}
 use Rattle.snb_plan.proofs.instances.read_count.Given as goal
 

@@ -1,4 +1,4 @@
-use Rattle.snb_streams.proofs.ParameterFacts.{no_bad_query, one_bad_query, one_query}
+use Rattle.snb_streams.proofs.ParameterFacts.{no_bad_query, one_bad_query, one_params}
 use Rattle.snb_streams.proofs.SomeFacts.{query_or_column}
 use Rattle.snb_streams.proofs.law.one_query.Goals as goal
 
@@ -6,7 +6,7 @@ pub returns-clause-some : goal.returns-clause-some
 returns-clause-some c = query_or_column c.spelled_or_not.ensures.line
 
 pub returns-clause-one : goal.returns-clause-one
-returns-clause-one c = one_query c.one_value.ensures.list
+returns-clause-one c = one_params c.one_value.ensures.list
 
 pub returns-clause-none : goal.returns-clause-none
 returns-clause-none c = no_bad_query

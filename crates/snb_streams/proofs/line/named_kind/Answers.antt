@@ -5,7 +5,7 @@ use Rattle.snb_schema.specs.declared.limits.TheConstants.{MAX_TIME}
 use Rattle.snb_schema.specs.Faults.{OnBadColumn}
 use Rattle.snb_schema.specs.UpdateLines.{IsBadInsert}
 use Rattle.snb_input_fields.specs.Reading.{IsBadIn, Reading}
-use Rattle.snb_input_fields.proofs.Readings.{moved, spelled, spells_from}
+use Rattle.snb_input_fields.proofs.Laws.{moved, spelled, spells_from}
 use Rattle.snb_streams.proofs.FaultFacts.{third_bad, time_bad, times}
 use Rattle.snb_streams.proofs.KindFacts.{field_none, field_there, third_named, third_unnamed}
 use Rattle.snb_streams.proofs.MakeFacts.{on_bad}

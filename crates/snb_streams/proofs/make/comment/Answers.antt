@@ -5,7 +5,7 @@ use Rattle.snb_schema.specs.declared.op.InsertKind.TheVariants as kinds
 use Rattle.snb_schema.specs.InsertLines.{insert_columns, parent_comment, parent_post}
 use Rattle.snb_schema.specs.UpdateLines.{IsFirstBad}
 use Rattle.snb_input_fields.specs.Reading.{IsBadNext}
-use Rattle.snb_input_fields.proofs.Readings.{spelled}
+use Rattle.snb_input_fields.proofs.Laws.{spelled}
 use Rattle.snb_streams.specs.Make.{head_values}
 use Rattle.snb_streams.proofs.MakeFacts.{next_bad, on_bad, spells_both}
 use Rattle.snb_streams.proofs.make.comment.Goals as goal

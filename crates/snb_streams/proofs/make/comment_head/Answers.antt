@@ -4,7 +4,7 @@ use Rattle.snb_schema.specs.declared.column.Value.TheVariants.{Digits, Letters, 
 use Rattle.snb_schema.specs.declared.limits.TheConstants.{MAX_ID, MAX_LENGTH}
 use Rattle.snb_schema.specs.declared.op.InsertKind.TheVariants as kinds
 use Rattle.snb_input_fields.specs.Reading.{IsBadNext}
-use Rattle.snb_input_fields.proofs.Readings.{moved, spelled}
+use Rattle.snb_input_fields.proofs.Laws.{moved, spelled}
 use Rattle.snb_streams.proofs.MakeFacts.{next_bad, on_bad}
 use Rattle.snb_streams.proofs.make.comment_head.Goals as goal
 

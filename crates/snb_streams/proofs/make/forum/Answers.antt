@@ -2,7 +2,7 @@ use Rattle.std.proofs.Common.{refl}
 use Rattle.snb_schema.specs.declared.column.Column.TheVariants as columns
 use Rattle.snb_schema.specs.declared.column.Value.TheVariants.{Digits, Ids, Letters}
 use Rattle.snb_schema.specs.declared.limits.TheConstants.{MAX_ID}
-use Rattle.snb_input_fields.proofs.Readings.{moved, spelled}
+use Rattle.snb_input_fields.proofs.Laws.{moved, spelled}
 use Rattle.snb_streams.proofs.make.forum.Goals as goal
 
 pub returns-clause-ok : goal.returns-clause-ok

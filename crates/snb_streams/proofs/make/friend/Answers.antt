@@ -6,7 +6,7 @@ use Rattle.snb_schema.specs.declared.limits.TheConstants.{MAX_ID}
 use Rattle.snb_schema.specs.declared.op.InsertKind.TheVariants as kinds
 use Rattle.snb_schema.specs.declared.op.Op.{Op}
 use Rattle.snb_schema.specs.UpdateLines.{field}
-use Rattle.snb_input_fields.proofs.Readings.{moved, spelled}
+use Rattle.snb_input_fields.proofs.Laws.{moved, spelled}
 use Rattle.snb_streams.proofs.MakeFacts.{clash_here}
 use Rattle.snb_streams.proofs.PlaceFacts.{same_field}
 use Rattle.snb_streams.proofs.make.friend.Goals as goal

@@ -4,7 +4,7 @@ use Rattle.snb_schema.specs.declared.column.Value.TheVariants.{Digits}
 use Rattle.snb_schema.specs.declared.limits.TheConstants.{MAX_TIME}
 use Rattle.snb_schema.specs.InsertLines.{kind_number}
 use Rattle.snb_input_fields.specs.Reading.{Reading, SpellsNext}
-use Rattle.snb_input_fields.proofs.Readings.{moved, spelled}
+use Rattle.snb_input_fields.proofs.Laws.{moved, spelled}
 use Rattle.snb_streams.specs.Make.{IsMade}
 use Rattle.snb_streams.proofs.MakeFacts.{line_made}
 use Rattle.snb_streams.proofs.make.make_line.Goals as goal

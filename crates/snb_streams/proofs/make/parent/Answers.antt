@@ -6,7 +6,7 @@ use Rattle.snb_schema.specs.declared.op.Parent.{Parent}
 use Rattle.snb_schema.specs.Columns.{Spells, no_id}
 use Rattle.snb_schema.specs.UpdateLines.{IsFirstBad, field}
 use Rattle.snb_input_fields.specs.Reading.{IsBadNext, optional_value, text_at}
-use Rattle.snb_input_fields.proofs.Readings.{moved, spelled}
+use Rattle.snb_input_fields.proofs.Laws.{moved, spelled}
 use Rattle.snb_streams.proofs.MakeFacts.{clash_here, next_bad, on_bad}
 use Rattle.snb_streams.proofs.PlaceFacts.{same_field}
 use Rattle.snb_streams.proofs.make.parent.Goals as goal

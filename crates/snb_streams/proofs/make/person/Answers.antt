@@ -4,7 +4,7 @@ use Rattle.snb_schema.specs.declared.column.Value.TheVariants.{Digits, Ids, Lett
 use Rattle.snb_schema.specs.declared.limits.TheConstants.{MAX_ID}
 use Rattle.snb_schema.specs.Faults.{OnBadColumn}
 use Rattle.snb_input_fields.specs.Reading.{IsBadIn, Reading}
-use Rattle.snb_input_fields.proofs.Readings.{moved, spelled}
+use Rattle.snb_input_fields.proofs.Laws.{moved, spelled}
 use Rattle.snb_streams.proofs.make.person.Goals as goal
 
 pub returns-clause-ok : goal.returns-clause-ok
