@@ -1,6 +1,6 @@
 //! What the reads of a run were replied, as it is kept: the text of each reply, and what is logged of it.
 #![tactic(auto)]
 
-pub mod done;
+mod done;
 
 pub use done::{Answered, Done};

@@ -2,10 +2,10 @@
 //! verdict.
 #![tactic(auto)]
 
-pub mod audited;
-pub mod log;
-pub mod miscount;
-pub mod verdict;
+mod audited;
+mod log;
+mod miscount;
+mod verdict;
 
 pub use audited::Audited;
 pub use log::Log;

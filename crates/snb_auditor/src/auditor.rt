@@ -14,7 +14,7 @@ ghost use Rattle.snb_auditor.specs.Judging.{AreBegun, AreStopped, Finds, IsStart
 use crate::verdict::{Verdict, Violation};
 use snb_book::Book;
 use snb_history::{Event, Schedule};
-use snb_schema::limits::{MAX_AT, MAX_WORKERS};
+use snb_schema::{MAX_AT, MAX_WORKERS};
 use std::alloc::{AllocError, Global};
 use std::marker::Model;
 

@@ -1,9 +1,10 @@
 //! An auditor of runs: it is told the events of a history one by one, and gives a verdict.
 #![tactic(auto)]
 
-pub mod auditor;
-pub mod law;
-pub mod verdict;
+mod auditor;
+mod law;
+mod verdict;
 
-pub use auditor::audit_all;
-pub use verdict::Verdict;
+pub use auditor::{Auditor, audit_all};
+pub use law::{accepted_exactly, verdict_exists, verdict_is_one};
+pub use verdict::{Verdict, Violation};

@@ -17,8 +17,7 @@ ghost use Rattle.snb_audit_model.specs.LogFiles.{IsAuditable};
 
 use crate::log::load_log;
 use snb_audit_model::{AuditVerdict, Audited, Log};
-use snb_auditor::Verdict;
-use snb_auditor::auditor::Auditor;
+use snb_auditor::{Auditor, Verdict};
 use snb_base::Shelf;
 use snb_graph::Graph;
 use snb_history::{Logged, Schedule};

@@ -3,9 +3,9 @@
 ghost use Rattle.snb_auditor_log.specs.Laws.{AcceptedInOrder, AuditVerdictIsOne, LogSaysOne, OneLogRefusal, RefusedOrNot, SaidLogIsClean, WholeExactly};
 
 use crate::file_sink::log_is_lawful;
-use snb_auditor::law::{accepted_exactly, verdict_is_one};
-use snb_miscount::law::one_count;
-use snb_runlog::law::log_is_exact;
+use snb_auditor::{accepted_exactly, verdict_is_one};
+use snb_miscount::one_count;
+use snb_runlog::log_is_exact;
 
 /// Something is wrong with a log in one first way, or nothing is, and it says one header and one list of
 /// events with their counts.

@@ -10,8 +10,7 @@ use snb_audit_model::Log;
 use snb_base::Shelf;
 use snb_input_files::{Found, Load, Used, load_known};
 use snb_input_lines::LineReader;
-use snb_runlog::LogLines;
-use snb_runlog::law::counts_are_in_version_2;
+use snb_runlog::{LogLines, counts_are_in_version_2};
 use snb_schema::{FileId, FileKind, Refusal};
 use std::alloc::Global;
 

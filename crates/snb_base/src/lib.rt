@@ -2,27 +2,29 @@
 //! owned lists and texts; and the spelling of numbers.
 #![tactic(auto)]
 
-pub mod bounds;
+mod bounds;
 mod calls;
-pub mod clock;
-pub mod gate;
-pub mod memory_outbox;
-pub mod memory_shelf;
-pub mod null_outbox;
-pub mod number;
-pub mod outbox;
-pub mod owned_list;
-pub mod pairs;
-pub mod shelf;
-pub mod steady_shelf;
-pub mod text;
-pub mod try_copy;
+mod clock;
+mod gate;
+mod memory_outbox;
+mod memory_shelf;
+mod null_outbox;
+mod number;
+mod outbox;
+mod owned_list;
+mod pairs;
+mod shelf;
+mod steady_shelf;
+mod text;
+mod try_copy;
 
+pub use bounds::{LAST_AT, LAST_ID, LAST_TIME, LAST_YEAR};
 pub use clock::{Clock, FarClock, StepClock};
 pub use gate::{Gate, OpenGate, Phase};
 pub use memory_outbox::MemoryOutbox;
 pub use memory_shelf::MemoryShelf;
-pub use number::{put_number, read_number};
+pub use null_outbox::NullOutbox;
+pub use number::{one_spelling, put_number, read_number};
 pub use outbox::{Channel, Outbox, Put};
 pub use owned_list::{Numbers, OwnedList, Texts, list_of};
 pub use pairs::Pairs;

@@ -1,10 +1,10 @@
 //! The real world behind the traits of what the harness asks of it: files, standard output and time.
 #![tactic(auto)]
 
-pub mod folder_outbox;
-pub mod folder_shelf;
-pub mod host_clock;
-pub mod standard_streams;
+mod folder_outbox;
+mod folder_shelf;
+mod host_clock;
+mod standard_streams;
 #[cfg(test)]
 mod tests;
 

@@ -3,9 +3,9 @@
 //! the new completion time, puts the book back and passes the turn.
 #![tactic(auto)]
 
-pub mod board;
+mod board;
 mod plays;
-pub mod seat;
+mod seat;
 mod steps;
 mod view;
 

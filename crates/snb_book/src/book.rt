@@ -18,7 +18,7 @@ ghost use Rattle.snb_book.specs.Asked.{AllFinished, IsFirstUnfinished, IsFirstUn
 use crate::claim::{Claim, Ticket};
 use snb_completion::Times;
 use snb_history::{Event, LaneKind, Schedule, Step};
-use snb_schema::limits::{MAX_AT, MAX_TIME, MAX_WORKERS};
+use snb_schema::{MAX_AT, MAX_TIME, MAX_WORKERS};
 use std::alloc::{AllocError, Global};
 use std::marker::Model;
 

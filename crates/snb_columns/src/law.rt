@@ -3,7 +3,7 @@
 ghost use Rattle.std.specs.Prelude.{ℕ, List};
 ghost use Rattle.snb_columns.specs.Laws.{HasPlainFields, OwnLineOfValues};
 
-use snb_base::number::one_spelling;
+use snb_base::one_spelling;
 
 /// The fields of a line have no bar, and are texts without line ends where the line is one.
 pub fn plain_fields()

@@ -1,4 +1,6 @@
 //! Laws of the fields of lines and of the values that they spell in their columns.
 #![tactic(auto)]
 
-pub mod law;
+mod law;
+
+pub use law::{own_line, plain_fields};

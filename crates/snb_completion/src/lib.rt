@@ -1,7 +1,8 @@
 //! The completion time of a run, kept while its operations start and finish.
 #![tactic(auto)]
 
-pub mod law;
-pub mod times;
+mod law;
+mod times;
 
+pub use law::times_decide;
 pub use times::Times;

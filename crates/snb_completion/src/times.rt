@@ -7,7 +7,7 @@ ghost use Rattle.snb_history.specs.Completion.{least_t, time_before, time_left, 
 ghost use Rattle.snb_completion.specs.Progress.{flag, nothing_started, IsNextInLane, IsOpen};
 
 use snb_history::Schedule;
-use snb_schema::limits::MAX_TIME;
+use snb_schema::MAX_TIME;
 use std::alloc::{AllocError, Global};
 use std::collections::BTreeSet;
 use std::marker::Model;

@@ -10,8 +10,8 @@ ghost use Rattle.snb_graph_model.specs.Soundness.{Sound};
 
 use snb_base::list_of;
 use snb_graph::Graph;
-use snb_graph_integrity::law::sound_graphs;
-use snb_read_lookups::lookups::{author_id, known, words};
+use snb_graph_integrity::sound_graphs;
+use snb_read_lookups::{author_id, known, words};
 use snb_read_model::{Answer, AnswerRow, Cell, CowText};
 use snb_read_order::first_of;
 use std::alloc::{AllocError, Global};

@@ -12,8 +12,8 @@ ghost use Rattle.snb_graph_model.specs.Soundness.{Sound};
 
 use snb_base::list_of;
 use snb_graph::Graph;
-use snb_graph_integrity::law::sound_graphs;
-use snb_read_lookups::lookups::{are_friends, known, shown, words};
+use snb_graph_integrity::sound_graphs;
+use snb_read_lookups::{are_friends, known, shown, words};
 use snb_read_model::{Answer, AnswerRow, Cell, CowText, Like};
 use snb_read_order::{first_of, in_order};
 use std::alloc::{AllocError, Global};

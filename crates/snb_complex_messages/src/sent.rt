@@ -10,9 +10,9 @@ ghost use Rattle.snb_graph_model.specs.Soundness.{Sound};
 
 use snb_base::list_of;
 use snb_graph::Graph;
-use snb_graph_integrity::law::sound_graphs;
-use snb_reach::reach::within;
-use snb_read_lookups::lookups::{known, shown, words};
+use snb_graph_integrity::sound_graphs;
+use snb_reach::within;
+use snb_read_lookups::{known, shown, words};
 use snb_read_model::{Answer, AnswerRow, Cell, CowText, Sent};
 use snb_read_order::TopK;
 use std::alloc::{AllocError, Global};

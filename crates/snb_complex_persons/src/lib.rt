@@ -1,7 +1,10 @@
 //! The complex reads of persons, of LDBC's Social Network Benchmark, Interactive workload v1.
 #![tactic(auto)]
 
-pub mod jobs;
-pub mod namesakes;
+mod jobs;
+mod namesakes;
 mod places;
 mod scan;
+
+pub use jobs::ic11;
+pub use namesakes::ic1;

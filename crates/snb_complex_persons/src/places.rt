@@ -9,7 +9,7 @@ ghost use Rattle.snb_graph_model.specs.Graphs.{HasKey};
 ghost use Rattle.snb_graph_model.specs.Soundness.{Sound};
 
 use snb_graph::Graph;
-use snb_graph_integrity::law::sound_graphs;
+use snb_graph_integrity::sound_graphs;
 use snb_schema::{Organisation, Place, Table};
 
 // The place of this id.

@@ -9,7 +9,7 @@ ghost use Rattle.snb_reach.specs.Distances.{AreDistances};
 ghost use Rattle.snb_read_lookups.specs.Lookups.{IsOnlyPerson};
 
 use snb_graph::Graph;
-use snb_graph_integrity::law::sound_graphs;
+use snb_graph_integrity::sound_graphs;
 use snb_schema::Person;
 use std::alloc::{AllocError, Global};
 use std::collections::HashMap;

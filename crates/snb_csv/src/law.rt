@@ -3,8 +3,8 @@
 ghost use Rattle.snb_schema.specs.TableRows.{TableRowsAreOfLines};
 ghost use Rattle.snb_csv.specs.Laws.{OneColumn, OneRow, OwnRowLine, RowOrColumn, RowsAreRight, RowsOfFieldsFit};
 
-use snb_columns::law::{own_line as own_line_of_values, plain_fields};
-use snb_input_fields::law::{one_value, spelled_or_not};
+use snb_columns::{own_line as own_line_of_values, plain_fields};
+use snb_input_fields::{one_value, spelled_or_not};
 
 /// The fields of a line spell one row of a table at most.
 pub fn one_row()

@@ -1,12 +1,15 @@
 //! The rows of the tables: read out of the pieces of a file, and written as lines.
 #![tactic(auto)]
 
-pub mod files_law;
-pub mod law;
+mod files_law;
+mod law;
 mod make;
-pub mod read;
-pub mod rows;
-pub mod write;
+mod read;
+mod rows;
+mod write;
 
+pub use files_law::{one_table_reading, table_files};
+pub use law::{one_column, one_row, own_line, rows_of_fields_fit, table_rows_are_of_lines};
+pub use read::read_row;
 pub use rows::{Rows, TableLines};
 pub use write::write_row;

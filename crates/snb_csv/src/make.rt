@@ -11,10 +11,9 @@ ghost use Rattle.snb_input_fields.specs.Reading.{IsBadIn, SpellsFrom, at_first};
 ghost use Rattle.snb_csv.specs.Make.{AreFriends, AreNoFriends, IsMadeOf};
 
 use snb_input_fields::FieldReader;
-use snb_schema::layout::shape_of;
-use snb_schema::limits::{MAX_ID, MAX_LENGTH, MAX_YEAR};
 use snb_schema::{
-    Comment, Forum, LineFault, Named, Organisation, Person, Place, Placed, Post, Row, Shape, Table,
+    Comment, Forum, LineFault, MAX_ID, MAX_LENGTH, MAX_YEAR, Named, Organisation, Person, Place,
+    Placed, Post, Row, Shape, Table, shape_of,
 };
 
 fn place(table: Table, fields: &mut FieldReader<'_>) -> Result<Row, LineFault>

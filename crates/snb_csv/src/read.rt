@@ -5,11 +5,9 @@ ghost use Rattle.snb_schema.specs.Faults.{OnBadColumn};
 ghost use Rattle.snb_schema.specs.RowLines.{IsBadColumn, SpellsRow};
 
 use crate::make::{make_friends, make_row};
-use snb_input_fields::FieldReader;
-use snb_input_fields::wide::is_wide;
+use snb_input_fields::{FieldReader, is_wide};
 use snb_input_lines::Record;
-use snb_schema::layout::{columns_of, is_undirected};
-use snb_schema::{LineFault, Placed, Table};
+use snb_schema::{LineFault, Placed, Table, columns_of, is_undirected};
 use std::alloc::Global;
 
 /// The row of the table that the fields of the line of this number spell. That of a friendship has the

@@ -3,10 +3,9 @@
 ghost use Rattle.std.specs.Prelude.{◌≡◌};
 
 use crate::read::read_row;
-use snb_input_fields::wide::is_wide;
+use snb_input_fields::is_wide;
 use snb_input_lines::{Grammar, LineReader, Open, Record};
-use snb_schema::layout::columns_of;
-use snb_schema::{FileId, FileKind, LineFault, Placed, Table};
+use snb_schema::{FileId, FileKind, LineFault, Placed, Table, columns_of};
 use std::alloc::Global;
 use std::marker::Model;
 

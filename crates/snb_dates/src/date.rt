@@ -6,8 +6,7 @@ ghost use Rattle.snb_base.specs.Calendar.{IsDigit, IsRealDay, SpellsDay, SpellsM
 ghost use Rattle.snb_base.specs.Spellings.{Date, Day};
 
 use jiff::civil::Date as CivilDate;
-use snb_base::bounds::LAST_TIME;
-use snb_base::read_number;
+use snb_base::{LAST_TIME, read_number};
 
 /// The milliseconds from 1970-01-01T00:00:00 UTC to the moment that the text spells, at most
 /// `LAST_TIME`: either in words, `YYYY-MM-DDThh:mm:ss.mmm+0000` as LDBC SNB's

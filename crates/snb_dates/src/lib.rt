@@ -1,7 +1,8 @@
 //! The reading of dates and days.
 #![tactic(auto)]
 
-pub mod date;
-pub mod law;
+mod date;
+mod law;
 
 pub use date::{read_date, read_day};
+pub use law::one_moment;

@@ -9,7 +9,7 @@ use Rattle.snb_base.specs.declared.outbox.Outbox.{Ghosts as Outboxes}
 use Rattle.snb_base.specs.declared.shelf.Shelf.{Ghosts as Shelves}
 use Rattle.snb_base.specs.Moments.{Moments}
 use Rattle.snb_base.specs.Shelf.{Names}
-use Rattle.snb_schema.specs.declared.read_kind.ReadKind.{ReadKind}
+use Rattle.snb_schema.specs.declared.query.ReadKind.{ReadKind}
 use Rattle.snb_tool_outcome.specs.Names.{MayAskFor}
 use Rattle.snb_tool_outcome.specs.Outcome.{Asked, with}
 use Rattle.snb_tool_outcome.specs.Served.{HasServed}

@@ -1,9 +1,9 @@
 //! The edge of the program: the words that it is started with, and its one call.
 #![tactic(auto)]
 
-pub mod host;
-pub mod program;
-pub mod words;
+mod host;
+mod program;
+mod words;
 
 pub use host::HostWords;
 pub use program::serve;

@@ -4,7 +4,7 @@ ghost use Rattle.std.specs.Prelude.{◌≡◌, ◌++◌, ◌<◌, ℕ, IfOk, Lis
 ghost use Rattle.std.specs.Option.{option_map};
 ghost use Rattle.std.specs.Process.{exit_status};
 ghost use Rattle.snb_graph_model.specs.Soundness.{Sound};
-ghost use Rattle.snb_read_model.specs.Replies.{IsAnswer};
+ghost use Rattle.snb_read_model.specs.ComplexReads.{IsAnswer};
 ghost use Rattle.snb_tool_outcome.specs.Names.{MayAskFor};
 ghost use Rattle.snb_tool_words.specs.Words.{texts_of};
 ghost use Rattle.snb_walk.specs.declared.target.Pick.TheVariants as picks;
@@ -18,7 +18,7 @@ use snb_ending::{ErrorLines, Fault, ending};
 use snb_graph::Graph;
 use snb_handlers::{Call, Handler, Handlers, KINDS};
 use snb_read_model::{Answer, copy_answer};
-use snb_read_replies::reply::own_answer;
+use snb_read_replies::own_answer;
 use snb_schema::Query;
 use snb_tool::snb_with;
 use snb_walk::{Call as PickCall, Pick, Policy, Target};

@@ -1,10 +1,10 @@
 //! How the program ends: its status, and the line that standard error then shows.
 #![tactic(auto)]
 
-pub mod error_lines;
-pub mod exit;
-pub mod fault;
-pub mod host;
+mod error_lines;
+mod exit;
+mod fault;
+mod host;
 #[cfg(test)]
 mod tests;
 

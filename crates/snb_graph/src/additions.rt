@@ -12,11 +12,9 @@ ghost use Rattle.snb_graph_tables.specs.Entries.{IsEntry, row_of};
 ghost use Rattle.snb_graph.specs.declared.additions.Noted.{Noted};
 ghost use Rattle.snb_graph.specs.Additions.{AreNew, HasClash, IsFirstAlone, HasMoved, HasNote, HasTaken, HoldsAll, IsKept, IsNoteOf, Lead};
 
-use snb_graph_adjacency::Indexes;
-use snb_graph_adjacency::link::LinkDelta;
-use snb_graph_adjacency::link_delta::{delta_of, lone_delta};
+use snb_graph_adjacency::{Indexes, LinkDelta, delta_of, lone_delta};
 use snb_graph_maps::Layer;
-use snb_graph_model::law::graphs_are_their_rows;
+use snb_graph_model::graphs_are_their_rows;
 use snb_graph_tables::{Entry, Insert, RowName, Tables};
 use snb_schema::Row;
 use std::alloc::AllocError;

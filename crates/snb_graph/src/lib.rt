@@ -2,8 +2,8 @@
 #![tactic(auto)]
 
 mod additions;
-pub mod graph;
-pub mod walk;
+mod graph;
+mod walk;
 
 pub use graph::Graph;
 pub use walk::Links;

@@ -1,3 +1,3 @@
 //! Walks over pairs.
 
-pub use snb_graph_links::links::Links;
+pub use snb_graph_links::Links;

@@ -5,7 +5,7 @@ ghost use Rattle.snb_graph_integrity.specs.Counts.{AreFull, IsFull, edge_count};
 ghost use Rattle.snb_graph_model.specs.Graphs.{count};
 
 use crate::edges::required_of;
-use snb_graph_model::order::tables_in_order;
+use snb_graph_model::tables_in_order;
 use snb_graph_tables::Tables;
 use snb_schema::Table;
 

@@ -10,8 +10,7 @@ ghost use Rattle.snb_graph_model.specs.Soundness.{edges_of, needs, needs_of};
 
 use crate::unsound::Unsound;
 use snb_graph_tables::{Entry, Tables};
-use snb_schema::layout::key_columns_of;
-use snb_schema::{KeyColumns, Row, Table};
+use snb_schema::{KeyColumns, Row, Table, key_columns_of};
 
 const NONE: [Table; 0] = [];
 

@@ -4,10 +4,12 @@
 mod chains;
 mod counts;
 mod edges;
-pub mod law;
+mod law;
 mod mark;
 mod rising;
-pub mod sound;
-pub mod unsound;
+mod soundness;
+mod unsound;
 
+pub use law::{one_outcome, sound_graphs};
+pub use soundness::sound;
 pub use unsound::Unsound;

@@ -1,8 +1,8 @@
 //! Links from a number to ids with dates, in two parts: a frozen one, in arrays that copies share, and an added one.
 #![tactic(auto)]
 
-pub mod adjacency_map;
-pub mod links;
+mod adjacency_map;
+mod links;
 mod runs;
 mod search;
 

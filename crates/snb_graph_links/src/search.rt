@@ -5,8 +5,7 @@ ghost use Rattle.std.specs.Option.{option_copied};
 ghost use Rattle.std.specs.Ordering.{nat_cmp};
 ghost use Rattle.snb_graph_maps.specs.Merged.{Rises, value_at};
 
-use snb_graph_maps::Apart;
-use snb_graph_maps::hints::{REACH, first_slot, leave, slots_for};
+use snb_graph_maps::{Apart, REACH, first_slot, leave, slots_for};
 use std::alloc::Global;
 
 // What is kept under a key.

@@ -2,15 +2,16 @@
 #![tactic(auto)]
 
 mod added;
-pub mod hints;
-pub mod kept;
-pub mod layer;
-pub mod layered_map;
+mod hints;
+mod kept;
+mod layer;
+mod layered_map;
 mod pending;
 mod search;
 mod sorted;
-pub mod walk;
+mod walk;
 
+pub use hints::{REACH, first_slot, leave, slots_for};
 pub use kept::Apart;
 pub use layer::Layer;
 pub use layered_map::LayeredMap;

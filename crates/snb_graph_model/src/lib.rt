@@ -2,6 +2,10 @@
 //! worked facts of them.
 #![tactic(auto)]
 
-pub mod law;
-pub mod order;
-pub mod worked;
+mod law;
+mod order;
+mod worked;
+
+pub use law::{graphs_are_their_rows, new_rows_are_gained};
+pub use order::tables_in_order;
+pub use worked::{a_place_is_lacking, below_a_circle, network_rows};

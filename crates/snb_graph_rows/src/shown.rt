@@ -7,9 +7,9 @@ ghost use Rattle.snb_graph_rows.specs.Edges.{link_of};
 use crate::keys::{EdgeKey, WordKey};
 use crate::nodes::{Class, Mark};
 use crate::rows::Shown;
-use snb_schema::layout::{key_columns_of, shape_of};
 use snb_schema::{
     Comment, Forum, KeyColumns, Named, Organisation, Person, Place, Post, Row, Shape,
+    key_columns_of, shape_of,
 };
 use std::alloc::AllocError;
 

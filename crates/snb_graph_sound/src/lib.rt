@@ -1,6 +1,6 @@
 //! Whether a graph is sound.
 #![tactic(auto)]
 
-pub mod soundness;
+mod soundness;
 
 pub use soundness::Soundness;

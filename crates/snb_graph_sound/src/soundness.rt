@@ -6,8 +6,7 @@ ghost use Rattle.snb_graph_integrity.specs.Outcomes.{IsWrong};
 ghost use Rattle.snb_graph_model.specs.Soundness.{HoldsRefs, Sound};
 
 use snb_graph::Graph;
-use snb_graph_integrity::Unsound;
-use snb_graph_integrity::sound::sound;
+use snb_graph_integrity::{Unsound, sound};
 
 /// What can tell whether it is sound.
 pub trait Soundness {

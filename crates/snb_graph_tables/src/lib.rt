@@ -1,12 +1,12 @@
 //! The rows of all tables in ten ordered maps.
 #![tactic(auto)]
 
-pub mod each;
-pub mod entry;
-pub mod insert;
+mod each;
+mod entry;
+mod insert;
 mod links;
-pub mod tables;
-pub mod words;
+mod tables;
+mod words;
 
 pub use each::TableRows;
 pub use entry::{Entry, RowName};

@@ -11,8 +11,7 @@ ghost use Rattle.snb_graph_rows.specs.KeysApart.{edge_name};
 ghost use Rattle.snb_graph_model.specs.Graphs.{IsOfEdges};
 
 use snb_graph_rows::EdgeKey;
-use snb_schema::layout::{key_columns_of, shape_of};
-use snb_schema::{KeyColumns, Shape, Table};
+use snb_schema::{KeyColumns, Shape, Table, key_columns_of, shape_of};
 
 /// The key of a link, and its other end, 0 where both ends are the key.
 pub fn link_entry(table: Table, from: u64, to: u64) -> (EdgeKey, u64)

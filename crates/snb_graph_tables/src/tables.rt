@@ -12,9 +12,8 @@ mod walks;
 mod words;
 
 use snb_graph_rows::{Class, EdgeKey, Mark, RowMap, WordKey};
-use snb_schema::layout::shape_of;
 use snb_schema::{
-    Comment, Forum, Held, Key, Named, Organisation, Person, Place, Post, Shape, Table,
+    Comment, Forum, Held, Key, Named, Organisation, Person, Place, Post, Shape, Table, shape_of,
 };
 use std::alloc::{AllocError, Global};
 use std::marker::Model;

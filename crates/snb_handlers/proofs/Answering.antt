@@ -7,7 +7,7 @@ use Rattle.snb_schema.specs.declared.row.Row.{Row}
 use Rattle.snb_graph_model.specs.Graphs.{IsGraph}
 use Rattle.snb_graph_model.specs.Soundness.{Sound}
 use Rattle.snb_read_model.specs.Cells.{ByteCell}
-use Rattle.snb_read_model.specs.Replies.{IsAnswer}
+use Rattle.snb_read_model.specs.ComplexReads.{IsAnswer}
 use Rattle.snb_read_laws.specs.Laws.{OneAnswer, SomeReply}
 
 module _ (one : OneAnswer) (some : SomeReply) (g : List Row) (graph : IsGraph g) (sound : Sound g) (q : Query) where

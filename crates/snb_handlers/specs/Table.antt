@@ -1,6 +1,6 @@
 -- A table of handlers, and the kinds of reads that have one.
 use Rattle.std.specs.Prelude.{◌≡◌, ◌⊎◌, List, [], ◌∷◌, Contains, map}
-use Rattle.snb_schema.specs.declared.read_kind.ReadKind.{ReadKind}
+use Rattle.snb_schema.specs.declared.query.ReadKind.{ReadKind}
 use Rattle.snb_schema.specs.ReadKinds.{every_read}
 use Rattle.snb_handlers.specs.declared.handler.Handler.{Handler}
 use Rattle.snb_handlers.specs.declared.handlers.Handlers.{Handlers}

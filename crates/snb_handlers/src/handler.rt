@@ -4,11 +4,11 @@ ghost use Rattle.std.specs.Prelude.{◌≡◌, IfOk};
 ghost use Rattle.std.specs.Result.{ForOk};
 ghost use Rattle.snb_schema.specs.ReadKinds.{read_kind_of};
 ghost use Rattle.snb_graph_model.specs.Soundness.{Sound};
-ghost use Rattle.snb_read_model.specs.Replies.{IsAnswer};
+ghost use Rattle.snb_read_model.specs.ComplexReads.{IsAnswer};
 
 use snb_base::Text;
 use snb_graph::Graph;
-use snb_read_laws::law::{one_reply, some_reply};
+use snb_read_laws::{one_reply, some_reply};
 use snb_read_model::Answer;
 use snb_schema::{Query, ReadKind};
 use std::alloc::AllocError;

@@ -2,9 +2,9 @@
 //! answers the reads in place of the graph's own, as a connector to a database does.
 #![tactic(auto)]
 
-pub mod handler;
-pub mod handlers;
-pub mod table;
+mod handler;
+mod handlers;
+mod table;
 
 pub use handler::{Call, Handler};
 pub use handlers::Handlers;

@@ -4,7 +4,8 @@ ghost use Rattle.std.specs.Prelude.{◌≡◌, ◌↔◌, ◌∷◌, ◌++◌, [
 ghost use Rattle.std.specs.List.{AllByRecursion, AllZip};
 ghost use Rattle.snb_schema.specs.ReadKinds.{read_kind_of};
 ghost use Rattle.snb_graph_model.specs.Soundness.{Sound};
-ghost use Rattle.snb_read_model.specs.Replies.{IsAnswer, IsReply};
+ghost use Rattle.snb_read_model.specs.ComplexReads.{IsAnswer};
+ghost use Rattle.snb_read_model.specs.Replies.{IsReply};
 ghost use Rattle.snb_handlers.specs.Table.{HasAll, IsFirstUnhandled, IsFirstWithout, handlers_of, kinds, handled_kinds};
 ghost use Rattle.snb_handlers.specs.Table.{kinds as kinds_of};
 
@@ -12,8 +13,9 @@ use crate::handler::Handler;
 use crate::handlers::Handlers;
 use snb_base::Text;
 use snb_graph::Graph;
-use snb_read_model::tail::tail_of;
-use snb_read_model::{Answer, CowText, Reply, cow_answer, cow_reply, lend_answer, reply_with_tail};
+use snb_read_model::{
+    Answer, CowText, Reply, cow_answer, cow_reply, lend_answer, reply_with_tail, tail_of,
+};
 use snb_replies::Replies;
 use snb_schema::{Query, READ_KINDS, ReadKind};
 use std::alloc::{AllocError, Global};

@@ -2,8 +2,8 @@
 use Rattle.std.proofs.Common.{◌≡◌, refl, rules}
 use Rattle.snb_schema.specs.declared.query.Query.{Query}
 use Rattle.snb_schema.specs.declared.query.Query.TheVariants as queries
-use Rattle.snb_schema.specs.declared.read_kind.ReadKind.{ReadKind}
-use Rattle.snb_schema.specs.declared.read_kind.ReadKind.TheVariants.{Is1, Is2, Is3, Is4, Is5, Is6, Is7, Ic1, Ic2, Ic7, Ic8, Ic9, Ic11, Ic13}
+use Rattle.snb_schema.specs.declared.query.ReadKind.{ReadKind}
+use Rattle.snb_schema.specs.declared.query.ReadKind.TheVariants.{Is1, Is2, Is3, Is4, Is5, Is6, Is7, Ic1, Ic2, Ic7, Ic8, Ic9, Ic11, Ic13}
 use Rattle.snb_schema.specs.ReadKinds.{read_kind_of, parameter_columns, parameter_values}
 use Rattle.snb_input_fields.proofs.TypedRows.{TypedRow, row_values}
 

@@ -16,8 +16,7 @@ use crate::wide::COLUMNS_END;
 use snb_base::{Numbers, Pairs, Text, Texts, read_number};
 use snb_dates::{read_date, read_day};
 use snb_input_lines::Record;
-use snb_schema::limits::MAX_ID;
-use snb_schema::{Column, LineFault};
+use snb_schema::{Column, LineFault, MAX_ID};
 use std::alloc::Global;
 use std::marker::Model;
 

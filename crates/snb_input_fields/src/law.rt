@@ -3,8 +3,8 @@
 ghost use Rattle.snb_columns.specs.Laws.{OneList, OneValue};
 ghost use Rattle.snb_input_fields.specs.Laws.{EachIsSpelled, EachLineIsRead};
 
-use snb_base::number::one_spelling;
-use snb_dates::law::one_moment;
+use snb_base::one_spelling;
+use snb_dates::one_moment;
 
 /// A text spells one value of a column at most.
 pub fn one_value()

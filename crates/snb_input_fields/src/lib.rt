@@ -2,15 +2,17 @@
 //! that they make; and the line of values, written from them.
 #![tactic(auto)]
 
-pub mod field_reader;
-pub mod fields;
-pub mod law;
+mod field_reader;
+mod fields;
+mod law;
 mod lists;
-pub mod query;
-pub mod wide;
-pub mod write;
+mod query;
+mod wide;
+mod write;
 
 pub use field_reader::FieldReader;
 pub use fields::Fields;
+pub use law::{one_value, spelled_or_not};
 pub use query::{parameters_of, read_query};
+pub use wide::{COLUMNS_END, is_wide};
 pub use write::{Cell, put_fields, put_line};

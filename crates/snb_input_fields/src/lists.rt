@@ -7,9 +7,8 @@ ghost use Rattle.std.specs.Ordering.{nat_cmp};
 ghost use Rattle.std.specs.Str.{bytes_eq};
 ghost use Rattle.snb_base.specs.Spellings.{HasOneYear, IdList, PairList, SpellsPair, WordList, elements, pair_eq};
 
-use snb_base::number::one_spelling;
-use snb_base::{Numbers, Pairs, Text, Texts, read_number};
-use snb_schema::limits::{MAX_ID, MAX_YEAR};
+use snb_base::{Numbers, Pairs, Text, Texts, one_spelling, read_number};
+use snb_schema::{MAX_ID, MAX_YEAR};
 use std::alloc::{AllocError, Global};
 use std::collections::{BTreeMap, BTreeSet};
 use std::str;

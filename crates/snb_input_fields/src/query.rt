@@ -10,8 +10,7 @@ ghost use Rattle.snb_input_fields.specs.Fields.{Expects, ReadsAll, StopsIn};
 
 use crate::fields::Fields;
 use crate::write::Cell;
-use snb_schema::limits::{MAX_ID, MAX_YEAR};
-use snb_schema::{LineFault, Query, ReadKind};
+use snb_schema::{LineFault, MAX_ID, MAX_YEAR, Query, ReadKind};
 use std::alloc::{AllocError, Global};
 
 /// The read of this kind whose parameters the next fields spell. The error is the first column in

@@ -17,8 +17,7 @@ use crate::load::{Load, Used};
 use crate::pieces::{Step, read_piece};
 use snb_base::Shelf;
 use snb_input_lines::{Grammar, LineReader, RowCount};
-use snb_schema::FileId;
-use snb_schema::limits::MAX_BYTES;
+use snb_schema::{FileId, MAX_BYTES};
 use std::alloc::{AllocError, Global};
 
 // How many bytes are asked for at once.

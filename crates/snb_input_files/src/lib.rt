@@ -3,18 +3,19 @@
 //! the same for all.
 #![tactic(auto)]
 
-pub mod file;
-pub mod file_sink;
-pub mod found;
-pub mod law;
-pub mod load;
+mod file;
+mod file_sink;
+mod found;
+mod law;
+mod load;
 mod pieces;
-pub mod series;
-pub mod walk;
+mod series;
+mod walk;
 
 pub use file::{load_file, load_known};
 pub use file_sink::FileSink;
 pub use found::Found;
+pub use law::{one_refusal, one_saying, stages_join};
 pub use load::{Load, Used};
 pub use series::Series;
 pub use walk::{Walk, walk_stage};

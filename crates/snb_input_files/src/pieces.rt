@@ -11,8 +11,7 @@ use crate::file_sink::FileSink;
 use crate::load::Load;
 use snb_base::{Got, Shelf};
 use snb_input_lines::{Grammar, LineReader, RowCount};
-use snb_schema::limits::MAX_BYTES;
-use snb_schema::{FileId, Refusal};
+use snb_schema::{FileId, MAX_BYTES, Refusal};
 
 /// What a read of a file was.
 #[derive(Clone, Copy)]

@@ -19,8 +19,7 @@ use crate::load::{Load, Used};
 use crate::series::Series;
 use snb_base::{Got, Shelf};
 use snb_input_lines::{Grammar, LineReader};
-use snb_schema::file::name_text;
-use snb_schema::{FileId, Refusal};
+use snb_schema::{FileId, Refusal, name_text};
 use std::alloc::{AllocError, Global};
 
 /// How far an input is read.

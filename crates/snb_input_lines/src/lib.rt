@@ -2,22 +2,25 @@
 //! grammar's, and what takes that is a sink.
 #![tactic(auto)]
 
-pub mod counted;
+mod counted;
 mod ended;
-pub mod grammar;
-pub mod law;
-pub mod line_reader;
-pub mod lists;
-pub mod open;
+mod grammar;
+mod law;
+mod line_reader;
+mod lists;
+mod open;
 mod progress;
-pub mod record;
-pub mod sink;
-pub mod split;
+mod record;
+mod sink;
+mod split;
 
 pub use counted::RowCount;
 pub use grammar::Grammar;
+pub use law::{
+    cut_anywhere, end_joins, lines_are_whole, lines_have_no_end, one_reading, pieces_join,
+};
 pub use line_reader::LineReader;
 pub use open::Open;
 pub use record::Record;
 pub use sink::Sink;
-pub use split::split_line;
+pub use split::{cut_at_end, is_marked, split_line};

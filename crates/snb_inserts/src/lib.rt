@@ -1,12 +1,14 @@
 //! The eight inserts, applied to a graph.
 #![tactic(auto)]
 
-pub mod applied;
-pub mod apply;
-pub mod law;
+mod applied;
+mod applying;
+mod law;
 mod missing;
-pub mod rows;
+mod rows;
 mod taken;
 
 pub use applied::Applied;
-pub use apply::apply_welcome;
+pub use applying::{apply, apply_welcome};
+pub use law::inserts_are_kept;
+pub use rows::{first_row, rows_of};

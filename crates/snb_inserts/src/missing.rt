@@ -4,8 +4,7 @@ ghost use Rattle.snb_schema.specs.References.{refs_of};
 ghost use Rattle.snb_inserts.specs.Applying.{FindsMissing};
 
 use snb_graph::Graph;
-use snb_schema::references::refs_of;
-use snb_schema::{Held, Key, Missing, Op};
+use snb_schema::{Held, Key, Missing, Op, refs_of};
 
 /// The first node that the insert refers to, in the order of its fields, and that isn't held.
 pub fn first_missing(graph: &Graph, op: &Op) -> Option<Missing>

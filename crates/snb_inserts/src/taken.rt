@@ -5,8 +5,7 @@ ghost use Rattle.snb_schema.specs.Inserts.{keys_of};
 ghost use Rattle.snb_inserts.specs.Applying.{IsAnyHeld};
 
 use snb_graph::Graph;
-use snb_schema::references::keys_of;
-use snb_schema::{Held, Op};
+use snb_schema::{Held, Op, keys_of};
 
 /// Whether a key that the insert takes is held: that of its node or of its edge, and for a post or a
 /// comment that of either with its id.

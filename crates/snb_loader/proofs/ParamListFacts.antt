@@ -3,7 +3,9 @@ use Rattle.std.proofs.Common.{◌≡◌, ◌≢◌, ◌∙◌, ◌<◌, Global, 
 use Rattle.std.specs.List.{AllByRecursion}
 use Rattle.std.proofs.lemmas.Bool.{cases_eq, lt-ltb}
 use Rattle.std.proofs.Math.Seq.{drop-cons}
+use Rattle.snb_schema.proofs.Laws.{AreApart, complex_apart}
 use Rattle.snb_schema.specs.declared.query.Query.{Query}
+use Rattle.snb_schema.specs.declared.query.TheConstants.{COMPLEX_COUNT}
 use Rattle.snb_schema.specs.Frequencies.{FrequencyTable, frequency_at}
 use Rattle.snb_schema.specs.QueryLists.{AreOf, QueryLists, list_of}
 use Rattle.snb_schema.specs.Queries.{complex_queries}
@@ -19,18 +21,13 @@ gain f [] xss = f
 gain f (q ∷ qs) [] = f
 gain f (q ∷ qs) (xs ∷ xss) = gain (with_list f q xs) qs xss
 
--- the queries with a frequency that are left after so many of the seven
+-- the queries with a frequency that are left after so many of all
 unfoldable pub left_of : FrequencyTable → ℕ → List ℕ
 left_of table i = filter (λ q. ltb 0 (frequency_at table q)) (drop i complex_queries)
 
 -- it holds of each
 abbrev pub Each : (ℕ → Type 0) → List ℕ → Type 0
 Each P qs = AllByRecursion P qs
-
--- none of these is repeated
-abbrev pub AreApart : List ℕ → Type 0
-AreApart [] = Unit {0}
-AreApart (q ∷ qs) = Each (λ p. p ≢ q) qs × AreApart qs
 
 each_one : (P : ℕ → Type 0) (b : Bool) (q : ℕ) (qs : List ℕ) → Each P (cond b (q ∷ qs) qs) → (b ≡ true → P q) × Each P qs
 each_one P true q qs h = ((λ _. h.0), h.1)
@@ -70,11 +67,8 @@ apart_kept : (p : ℕ → Bool) (qs : List ℕ) → AreApart qs → AreApart (fi
 apart_kept p [] h = tt
 apart_kept p (q ∷ qs) h = apart_one (p q) q (filter p qs) (each_kept (λ x. x ≢ q) p qs (each_from (λ x. x ≢ q) (λ x. p x ≡ true → x ≢ q) qs (λ x n _. n) h.0)) (apart_kept p qs h.1)
 
-seven_apart : AreApart complex_queries
-seven_apart = search rules
-
 asked_apart : (table : FrequencyTable) → AreApart (asked table)
-asked_apart table = apart_kept (λ q. ltb 0 (frequency_at table q)) complex_queries seven_apart
+asked_apart table = apart_kept (λ q. ltb 0 (frequency_at table q)) complex_queries complex_apart
 
 here : (f : ℕ → List Query) (q : ℕ) (xs : List Query) → with_list f q xs q ≡ f q ++ xs
 here f q xs = search rules
@@ -113,12 +107,12 @@ others_empty table xss q e =
     (each_any (λ p. ltb 0 (frequency_at table p) ≡ true → p ≢ q) complex_queries
     (λ p t same. let l = above (frequency_at table p) t in let z = ap (λ (x : ℕ). frequency_at table x) same in omega (arith, l, z, e))))
 
--- none of the seven is passed by at first, and none is left after all seven
+-- none is passed by at first, and none is left after all
 pub left_first : (table : FrequencyTable) → left_of table 0 ≡ asked table
 unfolding left_of
 left_first table = refl
 
-pub left_last : (table : FrequencyTable) → left_of table 7 ≡ []
+pub left_last : (table : FrequencyTable) → left_of table COMPLEX_COUNT ≡ []
 unfolding left_of
 left_last table = refl
 
@@ -132,16 +126,16 @@ falls : (p : ℕ → Bool) (q : ℕ) (qs : List ℕ) → p q ≡ false → filte
 falls p q qs e = ap (λ (b : Bool). cond b (q ∷ filter p qs) (filter p qs)) e
 
 -- a query with a frequency is the next that is left
-pub left_in : (table : FrequencyTable) (i : ℕ) → i < 7 → 0 < frequency_at table (slice_index_or complex_queries i 0) → left_of table i ≡ slice_index_or complex_queries i 0 ∷ left_of table (i + 1)
+pub left_in : (table : FrequencyTable) (i : ℕ) → i < COMPLEX_COUNT → 0 < frequency_at table (slice_index_or complex_queries i 0) → left_of table i ≡ slice_index_or complex_queries i 0 ∷ left_of table (i + 1)
 unfolding left_of
 left_in table i l h = ap (λ (qs : List ℕ). filter (λ q. ltb 0 (frequency_at table q)) qs) (drop-cons complex_queries i 0 l ∙ ap (λ (n : ℕ). slice_index_or complex_queries i 0 ∷ drop n complex_queries) (after i)) ∙ passes (λ q. ltb 0 (frequency_at table q)) (slice_index_or complex_queries i 0) (drop (i + 1) complex_queries) (lt-ltb 0 _ h)
 
 -- one without is passed by
-pub left_out : (table : FrequencyTable) (i : ℕ) → i < 7 → frequency_at table (slice_index_or complex_queries i 0) ≡ 0 → left_of table i ≡ left_of table (i + 1)
+pub left_out : (table : FrequencyTable) (i : ℕ) → i < COMPLEX_COUNT → frequency_at table (slice_index_or complex_queries i 0) ≡ 0 → left_of table i ≡ left_of table (i + 1)
 unfolding left_of
 left_out table i l h = ap (λ (qs : List ℕ). filter (λ q. ltb 0 (frequency_at table q)) qs) (drop-cons complex_queries i 0 l ∙ ap (λ (n : ℕ). slice_index_or complex_queries i 0 ∷ drop n complex_queries) (after i)) ∙ falls (λ q. ltb 0 (frequency_at table q)) (slice_index_or complex_queries i 0) (drop (i + 1) complex_queries) (ap (λ (n : ℕ). ltb 0 n) h)
 
--- so many of the seven are passed by, and with the lists that are left these lists are complete
+-- so many of all are passed by, and with the lists that are left these lists are complete
 abbrev pub AreSoFar : FrequencyTable → List (List Query) → ℕ → (ℕ → List Query) → List (List Query) → Type 0
 AreSoFar table done i f xss = AreOfEach (left_of table i) xss × (gain f (left_of table i) xss ≡ gain (λ q. []) (asked table) done)
 
@@ -153,10 +147,10 @@ module _ (table : FrequencyTable) (done : List (List Query)) where
       subst (λ (z : (ℕ → List Query) × List ℕ). AreOfEach z.1 done × (gain z.0 z.1 done ≡ gain (λ q. []) (asked table) done)) (λ i. (sym same i, sym (left_first table) i)) (h, refl)
 
   -- a query without a frequency is passed by
-  pub so_far_out : (i : ℕ) (f : ℕ → List Query) (xss : List (List Query)) → i < 7 → frequency_at table (slice_index_or complex_queries i 0) ≡ 0 → AreSoFar table done i f xss → AreSoFar table done (i + 1) f xss
+  pub so_far_out : (i : ℕ) (f : ℕ → List Query) (xss : List (List Query)) → i < COMPLEX_COUNT → frequency_at table (slice_index_or complex_queries i 0) ≡ 0 → AreSoFar table done i f xss → AreSoFar table done (i + 1) f xss
   so_far_out i f xss l e h = subst (λ (qs : List ℕ). AreOfEach qs xss × (gain f qs xss ≡ gain (λ q. []) (asked table) done)) (left_out table i l e) h
 
-  module _ (i : ℕ) (l : i < 7) (some : 0 < frequency_at table (slice_index_or complex_queries i 0)) (f : ℕ → List Query) (xss : List (List Query)) (h : AreSoFar table done i f xss) where
+  module _ (i : ℕ) (l : i < COMPLEX_COUNT) (some : 0 < frequency_at table (slice_index_or complex_queries i 0)) (f : ℕ → List Query) (xss : List (List Query)) (h : AreSoFar table done i f xss) where
     begun : AreOfEach (slice_index_or complex_queries i 0 ∷ left_of table (i + 1)) xss × (gain f (slice_index_or complex_queries i 0 ∷ left_of table (i + 1)) xss ≡ gain (λ q. []) (asked table) done)
     begun = subst (λ (qs : List ℕ). AreOfEach qs xss × (gain f qs xss ≡ gain (λ q. []) (asked table) done)) (left_in table i l some) h
 
@@ -180,12 +174,12 @@ module _ (table : FrequencyTable) (done : List (List Query)) where
           (next.0.1, subst (λ (k : ℕ → List Query). gain k (left_of table (i + 1)) yss ≡ gain (λ q. []) (asked table) done) (λ j p. each p j) next.1)
 
   -- then the lists are those that were appended
-  pub so_far_last : (f : ℕ → List Query) (xss : List (List Query)) → AreSoFar table done 7 f xss → f ≡ gain (λ q. []) (asked table) done
+  pub so_far_last : (f : ℕ → List Query) (xss : List (List Query)) → AreSoFar table done COMPLEX_COUNT f xss → f ≡ gain (λ q. []) (asked table) done
   so_far_last f xss h = subst (λ (qs : List ℕ). gain f qs xss ≡ gain (λ q. []) (asked table) done) (left_last table) h.1
 
   -- over the lists as they are held, where the next query has a frequency, and where it has none
-  pub held_in : (i : ℕ) → i < 7 → 0 < frequency_at table (slice_index_or complex_queries i 0) → (old new : QueryLists) (left rest : List (Vec Query Global)) (one : Vec Query Global) → AreSoFar table done i (λ q. list_of old q) (map (λ v. v.items) left) → left ≡ one ∷ rest → list_of new (slice_index_or complex_queries i 0) ≡ list_of old (slice_index_or complex_queries i 0) ++ one.items → ((p : ℕ) → p ≢ slice_index_or complex_queries i 0 → list_of new p ≡ list_of old p) → AreSoFar table done (i + 1) (λ q. list_of new q) (map (λ v. v.items) rest)
+  pub held_in : (i : ℕ) → i < COMPLEX_COUNT → 0 < frequency_at table (slice_index_or complex_queries i 0) → (old new : QueryLists) (left rest : List (Vec Query Global)) (one : Vec Query Global) → AreSoFar table done i (λ q. list_of old q) (map (λ v. v.items) left) → left ≡ one ∷ rest → list_of new (slice_index_or complex_queries i 0) ≡ list_of old (slice_index_or complex_queries i 0) ++ one.items → ((p : ℕ) → p ≢ slice_index_or complex_queries i 0 → list_of new p ≡ list_of old p) → AreSoFar table done (i + 1) (λ q. list_of new q) (map (λ v. v.items) rest)
   held_in i l some old new left rest one h e at others = so_far_in i l some (λ q. list_of old q) (map (λ v. v.items) left) h one.items (map (λ v. v.items) rest) (ap (λ (vs : List (Vec Query Global)). map (λ v. v.items) vs) e) (λ q. list_of new q) at others
 
-  pub held_out : (i : ℕ) → i < 7 → frequency_at table (slice_index_or complex_queries i 0) ≡ 0 → (old new : QueryLists) (left rest : List (Vec Query Global)) → AreSoFar table done i (λ q. list_of old q) (map (λ v. v.items) left) → new ≡ old → rest ≡ left → AreSoFar table done (i + 1) (λ q. list_of new q) (map (λ v. v.items) rest)
+  pub held_out : (i : ℕ) → i < COMPLEX_COUNT → frequency_at table (slice_index_or complex_queries i 0) ≡ 0 → (old new : QueryLists) (left rest : List (Vec Query Global)) → AreSoFar table done i (λ q. list_of old q) (map (λ v. v.items) left) → new ≡ old → rest ≡ left → AreSoFar table done (i + 1) (λ q. list_of new q) (map (λ v. v.items) rest)
   held_out i l none old new left rest h e f = subst (λ (z : QueryLists × List (Vec Query Global)). AreSoFar table done (i + 1) (λ q. list_of z.0 q) (map (λ v. v.items) z.1)) (λ j. (sym e j, sym f j)) (so_far_out i (λ q. list_of old q) (map (λ v. v.items) left) l none h)

@@ -14,10 +14,9 @@ use snb_base::Shelf;
 use snb_csv::TableLines;
 use snb_graph::Graph;
 use snb_graph_integrity::Unsound;
-use snb_graph_model::law::graphs_are_their_rows;
+use snb_graph_model::graphs_are_their_rows;
 use snb_graph_sound::Soundness;
-use snb_input_files::law::one_saying;
-use snb_input_files::{Load, Used};
+use snb_input_files::{Load, Used, one_saying};
 use snb_schema::Refusal;
 use std::alloc::Global;
 

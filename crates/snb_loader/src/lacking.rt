@@ -5,8 +5,7 @@ ghost use Rattle.snb_schema.specs.References.{edge_refs, end_ref, from_kind, ref
 ghost use Rattle.snb_loader.specs.Tables.{FindsLacking, may_repeat};
 
 use snb_graph_tables::Tables;
-use snb_schema::layout::layout_of;
-use snb_schema::{Held, Key, Kind, Row, Table};
+use snb_schema::{Held, Key, Kind, Row, Table, layout_of};
 
 // The kind of node that the first id of a table's rows refers to.
 fn from_kind(table: Table) -> Option<Kind>

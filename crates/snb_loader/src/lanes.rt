@@ -13,8 +13,7 @@ ghost use Rattle.snb_loader.specs.Order.{stream_series};
 use crate::order::{FORUM_STREAMS, PERSON_STREAMS};
 use crate::streams::{StreamFileSink, load_stage};
 use snb_base::Shelf;
-use snb_input_files::law::stages_join;
-use snb_input_files::{Load, Used};
+use snb_input_files::{Load, Used, stages_join};
 use snb_schema::Lanes;
 use std::alloc::{AllocError, Global};
 

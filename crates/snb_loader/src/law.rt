@@ -6,8 +6,8 @@ use crate::params::{ParamFileSink, params_are_lawful};
 use crate::streams::{StreamFileSink, streams_are_lawful};
 use crate::tables::{TableGraph, tables_are_lawful};
 use snb_csv::TableLines;
-use snb_graph_model::law::graphs_are_their_rows;
-use snb_input_files::law::{one_refusal, one_saying};
+use snb_graph_model::graphs_are_their_rows;
+use snb_input_files::{one_refusal, one_saying};
 use snb_streams::{QueryLines, StreamLines};
 
 /// Something is wrong with the tables of a folder in one first way, or nothing is, and they have one

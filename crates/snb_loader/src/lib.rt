@@ -2,15 +2,18 @@
 //! parameter files.
 #![tactic(auto)]
 
-pub mod dataset;
+mod dataset;
 mod lacking;
-pub mod lanes;
-pub mod law;
-pub mod order;
-pub mod params;
+mod lanes;
+mod law;
+mod order;
+mod params;
 mod streams;
-pub mod tables;
+mod tables;
 
 pub use dataset::load_dataset;
 pub use lanes::load_lanes;
+pub use law::{one_dataset, one_lanes, one_params};
+pub use order::{FORUM_STREAMS, PERSON_STREAMS, table_series};
 pub use params::load_params;
+pub use tables::{TableGraph, load_tables};

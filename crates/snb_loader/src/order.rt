@@ -3,11 +3,9 @@
 ghost use Rattle.std.specs.Prelude.{◌≡◌, IfOk};
 ghost use Rattle.snb_loader.specs.Order.{parts_of, table_series};
 
-use snb_graph_model::order::tables_in_order;
+use snb_graph_model::tables_in_order;
 use snb_input_files::Series;
-use snb_schema::layout::layout_of;
-use snb_schema::limits::{MAX_LANES, MAX_PARTS};
-use snb_schema::{Counted, FileKind, Table};
+use snb_schema::{Counted, FileKind, MAX_LANES, MAX_PARTS, Table, layout_of};
 use std::alloc::{AllocError, Global};
 
 // The parts of a table.

@@ -15,10 +15,10 @@ ghost use Rattle.snb_loader.specs.Params.{AreOfEach, HasHeard, IsParamFileSink, 
 use snb_base::Shelf;
 use snb_input_files::{FileSink, Load, Series, Used, Walk, walk_stage};
 use snb_input_lines::Sink;
-use snb_schema::limits::MAX_ROWS;
-use snb_schema::{COMPLEX_QUERIES, Fault, FileId, FileKind, Frequencies, Lists, Query, Refusal};
-use snb_streams::QueryLines;
-use snb_streams::law::one_query;
+use snb_schema::{
+    COMPLEX_QUERIES, Fault, FileId, FileKind, Frequencies, Lists, MAX_ROWS, Query, Refusal,
+};
+use snb_streams::{QueryLines, one_query};
 use std::alloc::{AllocError, Global};
 use std::marker::Model;
 use std::mem;

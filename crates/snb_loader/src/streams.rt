@@ -10,13 +10,11 @@ ghost use Rattle.snb_input_files.specs.Stages.{AreRising, IsStage, IsWalkWithin,
 ghost use Rattle.snb_loader.specs.Lanes.{AreTaken, InsertsOfFieldsFit, IsHeard, IsStreamFileSink, stream_format};
 
 use snb_base::Shelf;
-use snb_columns::law::own_line;
+use snb_columns::own_line;
 use snb_input_files::{FileSink, Load, Series, Used, Walk, walk_stage};
 use snb_input_lines::Sink;
-use snb_schema::limits::MAX_ROWS;
-use snb_schema::{Fault, FileId, Line, Refusal};
-use snb_streams::law::{one_fault, one_insert_of_fields};
-use snb_streams::{InOrder, StreamLines};
+use snb_schema::{Fault, FileId, Line, MAX_ROWS, Refusal};
+use snb_streams::{InOrder, StreamLines, one_fault, one_insert_of_fields};
 use std::alloc::{AllocError, Global};
 use std::marker::Model;
 use std::mem;

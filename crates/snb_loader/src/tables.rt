@@ -15,15 +15,13 @@ ghost use Rattle.snb_loader.specs.Tables.{HasTaken, IsHeard, IsSecond, IsTableFi
 use crate::lacking::{first_lacking, may_repeat};
 use crate::order::table_series;
 use snb_base::Shelf;
-use snb_csv::TableLines;
-use snb_csv::law::{one_column, one_row, rows_of_fields_fit};
+use snb_csv::{TableLines, one_column, one_row, rows_of_fields_fit};
 use snb_graph::Graph;
 use snb_graph_maps::Layer;
 use snb_graph_tables::{Entry, Tables};
 use snb_input_files::{FileSink, Load, Used, Walk, walk_stage};
 use snb_input_lines::Sink;
-use snb_schema::limits::MAX_ROWS;
-use snb_schema::{Fault, FileId, Placed, Refusal, Row};
+use snb_schema::{Fault, FileId, MAX_ROWS, Placed, Refusal, Row};
 use std::alloc::{AllocError, Global};
 use std::marker::Model;
 

@@ -8,7 +8,8 @@ use Rattle.std.proofs.lemmas.List.Elements.{Contains-push_cases}
 use Rattle.std.proofs.lemmas.List.Sorted.{IsPermutation-refl}
 use Rattle.std.proofs.lemmas.Option.{same_Some}
 use Rattle.snb_read_model.specs.Cells.{ByteCell}
-use Rattle.snb_read_model.specs.Replies.{IsAnswer, IsReply}
+use Rattle.snb_read_model.specs.ComplexReads.{IsAnswer}
+use Rattle.snb_read_model.specs.Replies.{IsReply}
 use Rattle.snb_history.specs.declared.event.Event.{Event}
 use Rattle.snb_history.specs.declared.event.Event.TheVariants.{Start, Finish, Halt}
 use Rattle.snb_history.specs.declared.logged.Logged.{Logged}

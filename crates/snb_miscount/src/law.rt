@@ -3,9 +3,9 @@
 
 ghost use Rattle.snb_miscount.specs.Laws.{OneCount};
 
-use snb_graph_model::law::graphs_are_their_rows;
-use snb_read_laws::law::one_reply;
-use snb_workers_replay::law::replay_is_welcome;
+use snb_graph_model::graphs_are_their_rows;
+use snb_read_laws::one_reply;
+use snb_workers_replay::replay_is_welcome;
 
 /// In a legal history of a plan whose updates are closed over a sound base, a Finish has one count.
 pub fn one_count()

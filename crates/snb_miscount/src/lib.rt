@@ -1,9 +1,10 @@
 //! The counts of rows that a log states, and the first that isn't right.
 #![tactic(auto)]
 
-pub mod law;
-pub mod miscount;
+mod law;
+mod miscount;
 mod tally;
 
+pub use law::one_count;
 pub use miscount::first_miscount_via;
 pub use snb_audit_model::Miscount;

@@ -15,15 +15,13 @@ ghost use Rattle.snb_miscount.specs.Tallies.{CountsRows, HasGone, IsAlong, IsEar
 use crate::tally::{Tally, tallies_by_front};
 use snb_audit_model::Miscount;
 use snb_graph::Graph;
-use snb_graph_model::law::graphs_are_their_rows;
-use snb_history::law::prefix_is_legal;
-use snb_history::{Event, Logged};
+use snb_graph_model::graphs_are_their_rows;
+use snb_history::{Event, Logged, prefix_is_legal};
 use snb_plan::{Plan, Task};
-use snb_read_laws::law::{one_reply, some_reply};
-use snb_replica::Replica;
-use snb_replica::replica::count_rows;
+use snb_read_laws::{one_reply, some_reply};
+use snb_replica::{Replica, count_rows};
 use snb_replies::Replies;
-use snb_workers_replay::law::replay_is_welcome;
+use snb_workers_replay::replay_is_welcome;
 use std::alloc::{AllocError, Global};
 
 // How many rows the first answer of a read has on the graph, and 0 for an insert. The operation is in the

@@ -13,8 +13,7 @@ use snb_graph::Graph;
 use snb_input_files::Load;
 use snb_read_replies::OwnReads;
 use snb_validation_cases::Case;
-use snb_validation_check::checker::{Checker, StepFault};
-use snb_validation_check::{Tally, check_cases_via};
+use snb_validation_check::{Checker, StepFault, Tally, check_cases_via};
 use std::alloc::Global;
 
 /// A checker whose reads are answered by the graph's own.

@@ -2,11 +2,11 @@
 //! cases of a plan, and the check of cases.
 #![tactic(auto)]
 
-pub mod checker;
-pub mod expected;
-pub mod miscount;
-pub mod replica;
-pub mod run;
+mod checker;
+mod expected;
+mod miscount;
+mod replica;
+mod run;
 
 pub use checker::{OwnChecker, check_cases};
 pub use expected::expect;

@@ -6,8 +6,7 @@ ghost use Rattle.snb_schema.specs.RowKeys.{kind_table};
 ghost use Rattle.snb_schema.specs.Inserts.{listed};
 ghost use Rattle.snb_plan.specs.Added.{mark_at, slot_of, HasAdded, HasMore, HasPut};
 
-use snb_schema::references::{added_node, keys_of};
-use snb_schema::{Key, Keys, Kind, Line, Missing, Table};
+use snb_schema::{Key, Keys, Kind, Line, Missing, Table, added_node, keys_of};
 use std::alloc::{AllocError, Global};
 use std::collections::BTreeMap;
 

@@ -9,8 +9,7 @@ ghost use Rattle.snb_plan.specs.Added.{update_of, HasAdded, IsFine, IsKeyTaken, 
 
 use crate::added::{Added, Mark};
 use crate::plan::waits;
-use snb_schema::references::{keys_of, refs_of};
-use snb_schema::{Fault, FileId, Held, Key, Kind, Line, Missing, Refusal};
+use snb_schema::{Fault, FileId, Held, Key, Kind, Line, Missing, Refusal, keys_of, refs_of};
 
 // Whether inserts wait for nodes of this kind.
 fn is_awaited(kind: Kind) -> bool

@@ -4,9 +4,10 @@
 mod added;
 mod closed;
 mod instances;
-pub mod law;
-pub mod plan;
+mod law;
+mod plan;
 mod positions;
 
-pub use plan::{Plan, Task};
+pub use law::{closed_is_one, closed_plan_is_not_stuck, plan_is_one};
+pub use plan::{Plan, Source, Task, adds_awaited, waits};
 pub use snb_schema::PlanFault;

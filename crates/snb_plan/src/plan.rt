@@ -24,9 +24,9 @@ use crate::positions::{
 };
 use snb_history::{LaneKind, Schedule, Step};
 use snb_ratio::Ratio;
-use snb_schema::limits::MAX_READS;
 use snb_schema::{
-    Counted, Fault, FileId, Frequencies, Held, Lanes, Line, Lists, Op, PlanFault, Query, Refusal,
+    Counted, Fault, FileId, Frequencies, Held, Lanes, Line, Lists, MAX_READS, Op, PlanFault, Query,
+    Refusal,
 };
 use std::alloc::{AllocError, Global};
 use std::marker::Model;

@@ -2,9 +2,10 @@
 //! millionths.
 #![tactic(auto)]
 
-pub mod chance;
-pub mod law;
-pub mod ratio;
+mod chance;
+mod law;
+mod ratio;
 
-pub use chance::Chance;
-pub use ratio::Ratio;
+pub use chance::{CERTAIN, Chance};
+pub use law::{due_rises, one_chance, one_ratio};
+pub use ratio::{MOST_MILLIONTHS, MOST_UNITS, Ratio};

@@ -5,8 +5,7 @@ ghost use Rattle.std.specs.List.{All};
 ghost use Rattle.snb_base.specs.Spellings.{last_time};
 ghost use Rattle.snb_ratio.specs.Ratios.{SpellsPart, SpellsMillionths, SpellsRatio, due_of, most_millionths, real_time};
 
-use snb_base::bounds::LAST_AT;
-use snb_base::read_number;
+use snb_base::{LAST_AT, read_number};
 use std::marker::Model;
 
 /// The greatest whole part of a text that is tried as a ratio.

@@ -5,8 +5,9 @@ mod few;
 mod ids;
 mod leveled;
 mod levels;
-pub mod near;
-pub mod reach;
+mod near;
+mod reach;
 mod sides;
 
 pub use near::Near;
+pub use reach::{distances, ic13, listed, shortest, within};

@@ -17,16 +17,16 @@ use Rattle.snb_graph_model.specs.Graphs.{IsGraph, rows}
 use Rattle.snb_read_model.specs.Cells.{ByteCell}
 use Rattle.snb_read_model.specs.declared.cell.Cell.TheVariants as cell
 use Rattle.snb_graph_model.specs.RowParts.{stay_in}
-use Rattle.snb_read_model.specs.ComplexReads.{AreStays, IsNamesake, IsStay, Stay, stay_cmp}
+use Rattle.snb_read_model.specs.ComplexReads.{AreStays, IsAnswer, IsNamesake, IsStay, Stay, stay_cmp}
 use Rattle.snb_read_model.specs.Order.{AllRows}
-use Rattle.snb_read_model.specs.Replies.{IsAnswer}
 use Rattle.snb_graph_model.proofs.Laws.{in_rows}
 use Rattle.snb_read_order.proofs.Laws.{chosen}
-use Rattle.snb_schema.specs.declared.read_kind.CellKind.{CellKind}
-use Rattle.snb_schema.specs.declared.read_kind.CellKind.TheVariants.{Stays}
+use Rattle.snb_schema.specs.declared.query.CellKind.{CellKind}
+use Rattle.snb_schema.specs.declared.query.CellKind.TheVariants.{Stays}
 use Rattle.snb_read_model.specs.Columns.{IsOfColumn, columns_of}
 use Rattle.snb_read_laws.specs.Laws.{AnswersHaveYears, HasYears}
-use Rattle.snb_read_laws.proofs.ColumnFacts.{columns_of_answer, rows_have}
+use Rattle.snb_read_laws.proofs.ColumnFacts.{rows_have}
+use Rattle.snb_read_laws.proofs.EachRead.{columns_of_answer}
 use Rattle.snb_base.proofs.Laws.{given_by}
 
 -- ---- rows without stays

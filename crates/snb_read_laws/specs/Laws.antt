@@ -8,7 +8,8 @@ use Rattle.snb_graph_model.specs.Graphs.{IsGraph}
 use Rattle.snb_graph_model.specs.Soundness.{Sound}
 use Rattle.snb_read_model.specs.Cells.{ByteCell}
 use Rattle.snb_read_model.specs.declared.cell.Cell.TheVariants.{Stays}
-use Rattle.snb_read_model.specs.Replies.{IsAnswer, IsReply}
+use Rattle.snb_read_model.specs.ComplexReads.{IsAnswer}
+use Rattle.snb_read_model.specs.Replies.{IsReply}
 use Rattle.snb_read_model.specs.Columns.{HaveColumns}
 
 -- on a sound graph a query has a reply

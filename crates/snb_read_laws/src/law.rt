@@ -3,9 +3,9 @@
 ghost use Rattle.snb_read_laws.specs.Laws.{AnswersHaveColumns, AnswersHaveYears, OneAnswer, OneReply, SomeReply};
 
 use snb_base::Text;
-use snb_graph_integrity::law::sound_graphs;
+use snb_graph_integrity::sound_graphs;
 use snb_read_model::AnswerRow;
-use snb_read_order::law::{first_is_one, first_is_some};
+use snb_read_order::{first_is_one, first_is_some};
 
 /// On a sound graph each query has a reply. That it has no second is `one_reply`.
 pub fn some_reply()

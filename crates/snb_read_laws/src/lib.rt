@@ -1,4 +1,6 @@
 //! That each read of LDBC's Social Network Benchmark, Interactive workload v1, has one reply, and what stands in it.
 #![tactic(auto)]
 
-pub mod law;
+mod law;
+
+pub use law::{answers_have_columns, one_reply, some_reply};

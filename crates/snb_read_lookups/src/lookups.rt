@@ -15,7 +15,7 @@ ghost use Rattle.snb_graph_model.specs.Soundness.{Sound};
 
 use snb_base::Text;
 use snb_graph::{Graph, Links};
-use snb_graph_integrity::law::sound_graphs;
+use snb_graph_integrity::sound_graphs;
 use snb_read_model::{Cell, CowText};
 use snb_schema::{Forum, Held, Key, Person, Post, Table};
 use std::alloc::{AllocError, Global};

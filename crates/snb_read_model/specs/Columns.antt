@@ -4,9 +4,9 @@ use Rattle.std.specs.List.{All, AllZip}
 use Rattle.snb_schema.specs.declared.query.Query.{Query}
 use Rattle.snb_read_model.specs.Cells.{ByteCell}
 use Rattle.snb_read_model.specs.declared.cell.Cell.TheVariants as cells
-use Rattle.snb_schema.specs.declared.read_kind.CellKind.{CellKind}
-use Rattle.snb_schema.specs.declared.read_kind.CellKind.TheVariants.{Number, Flag, Words, Texts, Stays}
-use Rattle.snb_schema.specs.declared.read_kind.TargetColumn.{TargetColumn}
+use Rattle.snb_schema.specs.declared.query.CellKind.{CellKind}
+use Rattle.snb_schema.specs.declared.query.CellKind.TheVariants.{Number, Flag, Words, Texts, Stays}
+use Rattle.snb_schema.specs.declared.query.TargetColumn.{TargetColumn}
 use Rattle.snb_schema.specs.ReadKinds.{layout_of}
 
 -- the columns of each read

@@ -1,4 +1,5 @@
--- The seven complex reads: the things that count, what each shows, in which order, and how many.
+-- What the complex reads IC1, IC11 and IC13 answer: the things that count, what each shows, in which
+-- order, and how many. And then what any read answers.
 use Rattle.std.specs.Prelude.{◌≡◌, ℕ, ◌&&◌, nat_lt, ℤ, Bool, List, [], ◌∷◌, filter, map}
 use Rattle.std.specs.Cmp.Lexicographic.{slice_cmp}
 use Rattle.std.specs.List.{AllZip, flat_map, list_any}
@@ -8,11 +9,15 @@ use Rattle.std.specs.declared.cmp.Ordering.{Ordering}
 use Rattle.snb_schema.specs.declared.nodes.Organisation.{Organisation}
 use Rattle.snb_schema.specs.declared.nodes.Place.{Place}
 use Rattle.snb_schema.specs.declared.person.Person.{Person}
+use Rattle.snb_schema.specs.declared.query.Query.{Query}
+use Rattle.snb_schema.specs.declared.query.Query.TheVariants as query
 use Rattle.snb_schema.specs.declared.row.Row.{Row}
 use Rattle.snb_schema.specs.declared.table.Table.TheVariants as table
 use Rattle.snb_read_model.specs.declared.cell.Cell.TheVariants as cell
 use Rattle.snb_read_model.specs.Cells.{ByteCell, number_cell}
 use Rattle.snb_read_model.specs.Distance.{IsLength, IsWithin}
+use Rattle.snb_read_model.specs.MessageReads.{Ic2Answer, Ic7Answer, Ic8Answer, Ic9Answer}
+use Rattle.snb_read_model.specs.ShortReads.{Is1Answer, Is2Answer, Is3Answer, Is4Answer, Is5Answer, Is6Answer, Is7Answer}
 use Rattle.snb_read_model.specs.Order.{ReadAnswers, SortedAndCut, AllRows, FirstRows, Rising, Falling}
 use Rattle.snb_graph_model.specs.Around.{ends, organisations, persons, places, study, words, work}
 
@@ -117,3 +122,20 @@ module _ (g : List Row) where
   -- IC13: the length of a shortest walk from one person to another, or -1
   abbrev pub Ic13Answer : ℕ → ℕ → List (List ByteCell) → Type 0
   Ic13Answer a b answer = (z : ℤ) × IsLength g a b z × (answer ≡ (cell.Number z ∷ []) ∷ [])
+
+  -- the answer to a query, without those of the reads that follow
+  abbrev pub IsAnswer : Query → List (List ByteCell) → Type 0
+  IsAnswer (query.Is1 person) = Is1Answer g person
+  IsAnswer (query.Is2 person) = Is2Answer g person
+  IsAnswer (query.Is3 person) = Is3Answer g person
+  IsAnswer (query.Is4 message) = Is4Answer g message
+  IsAnswer (query.Is5 message) = Is5Answer g message
+  IsAnswer (query.Is6 message) = Is6Answer g message
+  IsAnswer (query.Is7 message) = Is7Answer g message
+  IsAnswer (query.Ic1 person first_name) = Ic1Answer person first_name
+  IsAnswer (query.Ic2 person max_date) = Ic2Answer g person max_date
+  IsAnswer (query.Ic7 person) = Ic7Answer g person
+  IsAnswer (query.Ic8 person) = Ic8Answer g person
+  IsAnswer (query.Ic9 person max_date) = Ic9Answer g person max_date
+  IsAnswer (query.Ic11 person country year) = Ic11Answer person country year
+  IsAnswer (query.Ic13 from to) = Ic13Answer from to

@@ -1,16 +1,14 @@
--- A query's own answer, and the answers that follow it.
+-- A query's reply: its own answer, and the answers that follow it.
 use Rattle.std.specs.Prelude.{◌≡◌, ℕ, ℤ, pos, negsuc, List, [], ◌∷◌, cond}
 use Rattle.std.specs.List.{AllZip, flat_map}
 use Rattle.snb_schema.specs.declared.query.Query.{Query}
 use Rattle.snb_schema.specs.declared.query.Query.TheVariants as query
 use Rattle.snb_schema.specs.declared.row.Row.{Row}
-use Rattle.snb_read_model.specs.ComplexReads.{Ic1Answer, Ic11Answer, Ic13Answer}
-use Rattle.snb_read_model.specs.MessageReads.{Ic2Answer, Ic7Answer, Ic8Answer, Ic9Answer}
+use Rattle.snb_read_model.specs.ComplexReads.{IsAnswer}
 use Rattle.snb_read_model.specs.Cells.{ByteCell, column, number_in}
-use Rattle.snb_schema.specs.declared.read_kind.TargetColumn.{TargetColumn}
-use Rattle.snb_schema.specs.declared.read_kind.TargetColumn.TheVariants.{PersonAt, MessageAt}
+use Rattle.snb_schema.specs.declared.query.TargetColumn.{TargetColumn}
+use Rattle.snb_schema.specs.declared.query.TargetColumn.TheVariants.{PersonAt, MessageAt}
 use Rattle.snb_schema.specs.ReadKinds.{layout_of}
-use Rattle.snb_read_model.specs.ShortReads.{Is1Answer, Is2Answer, Is3Answer, Is4Answer, Is5Answer, Is6Answer, Is7Answer}
 
 -- the id that a number is; below 0 it is 0
 abbrev pub id_of : ℤ → ℕ
@@ -45,28 +43,10 @@ abbrev pub tail_reads : Query → List (List ByteCell) → List Query
 tail_reads q [] = []
 tail_reads q (row ∷ rows) = followers q row
 
-module _ (g : List Row) where
-  -- the answer to a query, without those of the reads that follow
-  abbrev pub IsAnswer : Query → List (List ByteCell) → Type 0
-  IsAnswer (query.Is1 person) = Is1Answer g person
-  IsAnswer (query.Is2 person) = Is2Answer g person
-  IsAnswer (query.Is3 person) = Is3Answer g person
-  IsAnswer (query.Is4 message) = Is4Answer g message
-  IsAnswer (query.Is5 message) = Is5Answer g message
-  IsAnswer (query.Is6 message) = Is6Answer g message
-  IsAnswer (query.Is7 message) = Is7Answer g message
-  IsAnswer (query.Ic1 person first_name) = Ic1Answer g person first_name
-  IsAnswer (query.Ic2 person max_date) = Ic2Answer g person max_date
-  IsAnswer (query.Ic7 person) = Ic7Answer g person
-  IsAnswer (query.Ic8 person) = Ic8Answer g person
-  IsAnswer (query.Ic9 person max_date) = Ic9Answer g person max_date
-  IsAnswer (query.Ic11 person country year) = Ic11Answer g person country year
-  IsAnswer (query.Ic13 from to) = Ic13Answer g from to
-
-  -- the query's own answer, and then those of its tail
-  pub record IsReply (q : Query) (reply : List (List (List ByteCell))) : Type 0 where
-    pub own : List (List ByteCell)
-    pub tail : List (List (List ByteCell))
-    pub is : reply ≡ own ∷ tail
-    pub answer : IsAnswer q own
-    pub follow : AllZip IsAnswer (tail_reads q own) tail
+-- the query's own answer, and then those of its tail
+pub record IsReply (g : List Row) (q : Query) (reply : List (List (List ByteCell))) : Type 0 where
+  pub own : List (List ByteCell)
+  pub tail : List (List (List ByteCell))
+  pub is : reply ≡ own ∷ tail
+  pub answer : IsAnswer g q own
+  pub follow : AllZip (IsAnswer g) (tail_reads q own) tail

@@ -4,9 +4,9 @@ use Rattle.snb_schema.specs.declared.query.Query.{Query}
 use Rattle.snb_read_model.specs.Cells.{ByteCell, column}
 use Rattle.snb_read_model.specs.Columns.{IsOfColumn}
 use Rattle.snb_read_model.specs.Replies.{id_at, message_reads, person_reads}
-use Rattle.snb_schema.specs.declared.read_kind.CellKind.TheVariants.{Number}
-use Rattle.snb_schema.specs.declared.read_kind.TargetColumn.{TargetColumn}
-use Rattle.snb_schema.specs.declared.read_kind.TargetColumn.TheVariants.{PersonAt, MessageAt}
+use Rattle.snb_schema.specs.declared.query.CellKind.TheVariants.{Number}
+use Rattle.snb_schema.specs.declared.query.TargetColumn.{TargetColumn}
+use Rattle.snb_schema.specs.declared.query.TargetColumn.TheVariants.{PersonAt, MessageAt}
 use Rattle.snb_read_model.specs.declared.tail.Tail.{Tail}
 
 -- the short reads of a tail: those of its person, and those of its message

@@ -2,13 +2,13 @@
 //! answers over the rows of a graph: definitions, the types of answers, and worked rows.
 #![tactic(auto)]
 
-pub mod answer;
-pub mod cell;
-pub mod cow_text;
-pub mod like;
-pub mod sent;
-pub mod tail;
-pub mod worked;
+mod answer;
+mod cell;
+mod cow_text;
+mod like;
+mod sent;
+mod tail;
+mod worked;
 
 pub use answer::{
     Answer, AnswerRow, Reply, copy_answer, copy_reply, cow_answer, cow_reply, lend_answer,
@@ -19,4 +19,5 @@ pub use cow_text::CowText;
 pub use like::Like;
 pub use sent::Sent;
 pub use snb_schema::{CellKind, ReadLayout, TargetColumn, layout_of_query, read_layout_of};
-pub use tail::Tail;
+pub use tail::{Tail, id_of, tail_of};
+pub use worked::{distances_on_a_ring, likes_of_two_posts, short_reads_of_the_network};

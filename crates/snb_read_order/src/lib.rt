@@ -1,9 +1,10 @@
 //! The first rows in an order.
 #![tactic(auto)]
 
-pub mod first;
-pub mod law;
-pub mod top_k;
+mod first;
+mod law;
+mod top_k;
 
 pub use first::{first_of, in_order};
+pub use law::{first_is_one, first_is_some};
 pub use top_k::TopK;

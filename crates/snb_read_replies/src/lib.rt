@@ -2,6 +2,6 @@
 //! the answers of the short reads that follow it.
 #![tactic(auto)]
 
-pub mod reply;
+mod reply;
 
-pub use reply::OwnReads;
+pub use reply::{OwnReads, answer, own_answer};

@@ -2,22 +2,18 @@
 
 ghost use Rattle.std.specs.Prelude.{IfOk};
 ghost use Rattle.std.specs.List.{AllZip};
-ghost use Rattle.snb_read_model.specs.Replies.{IsAnswer, IsReply};
+ghost use Rattle.snb_read_model.specs.ComplexReads.{IsAnswer};
+ghost use Rattle.snb_read_model.specs.Replies.{IsReply};
 ghost use Rattle.snb_graph_model.specs.Soundness.{Sound};
 
-use snb_complex_messages::answered::ic8;
-use snb_complex_messages::liked::ic7;
-use snb_complex_messages::sent::{ic2, ic9};
-use snb_complex_persons::jobs::ic11;
-use snb_complex_persons::namesakes::ic1;
+use snb_complex_messages::{ic2, ic7, ic8, ic9};
+use snb_complex_persons::{ic1, ic11};
 use snb_graph::Graph;
-use snb_reach::reach::ic13;
-use snb_read_model::tail::tail_of;
-use snb_read_model::{Answer, CowText, Reply, reply_with_tail};
+use snb_reach::ic13;
+use snb_read_model::{Answer, CowText, Reply, reply_with_tail, tail_of};
 use snb_replies::Replies;
 use snb_schema::Query;
-use snb_short_reads::messages::{is4, is5, is6, is7};
-use snb_short_reads::persons::{is1, is2, is3};
+use snb_short_reads::{is1, is2, is3, is4, is5, is6, is7};
 use std::alloc::{AllocError, Global};
 
 /// The query's own answer, without those of the reads that follow it.

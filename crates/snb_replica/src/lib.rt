@@ -2,8 +2,8 @@
 //! run leaves.
 #![tactic(auto)]
 
-pub mod outcome;
-pub mod replica;
+mod outcome;
+mod replica;
 
 pub use outcome::{Events, Outcome};
-pub use replica::{Replica, ReplyText};
+pub use replica::{Replica, ReplyText, count_first_rows, count_rows};

@@ -16,15 +16,14 @@ ghost use Rattle.snb_replica.specs.ReplyTexts.{IsReplied};
 use snb_board::Seat;
 use snb_book::Ticket;
 use snb_graph::Graph;
-use snb_history::Event;
-use snb_history::law::{legal_is_short, prefix_is_legal};
+use snb_history::{Event, legal_is_short, prefix_is_legal};
 use snb_inserts::apply_welcome;
 use snb_plan::{Plan, Task};
 use snb_read_model::{Answer, CowText, Reply};
 use snb_replies::Replies;
 use snb_schema::{Line, Query};
 use snb_validation::reply_text;
-use snb_workers_replay::law::replay_is_welcome;
+use snb_workers_replay::replay_is_welcome;
 use std::alloc::{AllocError, Global};
 use std::marker::Model;
 

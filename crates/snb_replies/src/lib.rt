@@ -2,6 +2,6 @@
 //! table of handlers. Whoever asks names neither.
 #![tactic(auto)]
 
-pub mod replies;
+mod replies;
 
 pub use replies::Replies;

@@ -2,7 +2,8 @@
 
 ghost use Rattle.std.specs.Prelude.{IfOk};
 ghost use Rattle.snb_graph_model.specs.Soundness.{Sound};
-ghost use Rattle.snb_read_model.specs.Replies.{IsAnswer, IsReply};
+ghost use Rattle.snb_read_model.specs.ComplexReads.{IsAnswer};
+ghost use Rattle.snb_read_model.specs.Replies.{IsReply};
 
 use snb_graph::Graph;
 use snb_read_model::{Answer, CowText, Reply};

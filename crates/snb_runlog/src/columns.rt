@@ -3,7 +3,7 @@
 ghost use Rattle.std.specs.Prelude.{◌≡◌, ◌==◌, ◌∷◌, []};
 ghost use Rattle.snb_runlog.specs.Columns.{event_columns, header_columns};
 
-use snb_schema::limits::{MAX_AT, MAX_WORKERS};
+use snb_schema::{MAX_AT, MAX_WORKERS};
 
 /// What a line after the header tells of.
 #[derive(Clone, Copy)]

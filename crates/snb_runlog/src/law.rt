@@ -5,7 +5,7 @@ ghost use Rattle.std.specs.Prelude.{ℕ, List};
 ghost use Rattle.snb_runlog.specs.Laws.{EventOrColumn, HeaderOrColumn, LogIsExact, LogIsOfOneHistory, LogReadsBack, OneEvent, OneHeader, OwnHeader, OwnLine, TextIsOfOneLog};
 ghost use Rattle.snb_runlog.specs.WriteLaws.{FirstIsWrittenAgain, FirstLacksCounts, LastIsWrittenAgain, LogIsWrittenAgain, LogLimits, RunReadsBack, WhereCountsAre};
 
-use snb_base::number::one_spelling;
+use snb_base::one_spelling;
 
 /// A log is the text of one history alone, with one count of rows at each Finish (`last`); and, in whatever
 /// version, of one header and one list of what its lines tell (`text`).

@@ -1,9 +1,8 @@
 -- Facts on the numbers of the complex reads.
-use Rattle.std.proofs.Common.{◌≡◌, ◌≢◌, ◌==◌, ◌∷◌, ◌∙◌, [], ℕ, List, Bool, true, false, inl, inr, refl, sym, ap, map, Some, if◌then◌else◌}
+use Rattle.std.proofs.Common.{◌≡◌, ◌≢◌, ◌==◌, ◌∷◌, ◌∙◌, [], ℕ, List, Bool, true, false, inl, inr, refl, rules, sym, ap, map, Some, if◌then◌else◌}
 use Rattle.std.proofs.lemmas.Bool.{eqb-true, eqb-false}
 use Rattle.std.proofs.lemmas.Option.{same_Some}
-use Rattle.snb_schema.specs.declared.read_kind.ReadKind.{ReadKind}
-use Rattle.snb_schema.specs.declared.read_kind.ReadKind.TheVariants.{Ic1, Ic2, Ic7, Ic8, Ic9, Ic11, Ic13}
+use Rattle.snb_schema.specs.declared.query.ReadKind.{ReadKind}
 use Rattle.snb_schema.specs.Queries.{IsComplex, IsOneOf, complex_kind, numbered}
 use Rattle.snb_schema.specs.ReadKinds.{complex_reads, number_of_kind}
 
@@ -36,14 +35,7 @@ numbered_some q complex = some_of complex_reads q complex
 
 -- a complex read is the one that is found by its number
 own : (kind : ReadKind) → 0 ≢ number_of_kind kind → complex_kind (number_of_kind kind) ≡ Some kind
-own Ic1 some = refl
-own Ic2 some = refl
-own Ic7 some = refl
-own Ic8 some = refl
-own Ic9 some = refl
-own Ic11 some = refl
-own Ic13 some = refl
-own kind some = absurd (some refl)
+own kind some = search rules
 
 -- complex reads of one number are of one kind
 pub one_number : (a b : ReadKind) → 0 ≢ number_of_kind a → number_of_kind a ≡ number_of_kind b → a ≡ b

@@ -1,8 +1,8 @@
 -- What the code keeps of a table, and of a kind of read.
 use Rattle.std.specs.Prelude.{◌≡◌, codes}
 use Rattle.snb_schema.specs.declared.layout.Layout.{Layout as CodeLayout}
-use Rattle.snb_schema.specs.declared.read_kind.ReadKind.{ReadKind}
-use Rattle.snb_schema.specs.declared.read_kind.ReadLayout.{ReadLayout as CodeReadLayout}
+use Rattle.snb_schema.specs.declared.query.ReadKind.{ReadKind}
+use Rattle.snb_schema.specs.declared.query.ReadLayout.{ReadLayout as CodeReadLayout}
 use Rattle.snb_schema.specs.declared.table.Table.{Table}
 use Rattle.snb_schema.specs.Layouts.{layout}
 use Rattle.snb_schema.specs.ReadKinds.{read_layout}

@@ -5,15 +5,16 @@ use Rattle.std.specs.List.Sorted.{IsStrictlyIncreasing}
 use Rattle.snb_base.specs.Spellings.{Num, EachSpells}
 use Rattle.snb_schema.specs.declared.limits.TheConstants.{MAX_FREQUENCY}
 use Rattle.snb_schema.specs.Queries.{IsComplex}
+use Rattle.snb_schema.specs.declared.query.TheConstants.{COMPLEX_COUNT}
 use Rattle.snb_schema.specs.QueryPlaces.{Values, place_of, value_at}
 
 -- the frequency of each of the seven queries at its place, 0 where it has none
 abbrev pub FrequencyTable : Type 0
-FrequencyTable = Values 7 ℕ
+FrequencyTable = Values COMPLEX_COUNT ℕ
 
 -- the frequency of the query of this number; any other number has none
 abbrev pub frequency_at : FrequencyTable → ℕ → ℕ
-frequency_at table q = value_at 7 table (place_of q) 0
+frequency_at table q = value_at COMPLEX_COUNT table (place_of q) 0
 
 -- no frequency is above the greatest
 abbrev pub AreBounded : FrequencyTable → Type 0

@@ -1,7 +1,7 @@
 -- The reads, and the numbers of the complex ones.
 use Rattle.std.specs.Prelude.{◌≡◌, ◌==◌, ℕ, ◌⊎◌, List, [], ◌∷◌, map, Option, Some, None, if◌then◌else◌}
 use Rattle.snb_schema.specs.declared.query.Query.{Query}
-use Rattle.snb_schema.specs.declared.read_kind.ReadKind.{ReadKind}
+use Rattle.snb_schema.specs.declared.query.ReadKind.{ReadKind}
 use Rattle.snb_schema.specs.ReadKinds.{complex_reads, number_of_kind, read_kind_of}
 
 -- the numbers of the seven complex queries, in order

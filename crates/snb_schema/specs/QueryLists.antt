@@ -4,15 +4,16 @@ use Rattle.std.specs.List.{All}
 use Rattle.snb_schema.specs.declared.query.Query.{Query}
 use Rattle.snb_schema.specs.Frequencies.{FrequencyTable, frequency_at}
 use Rattle.snb_schema.specs.Queries.{number_of_query}
+use Rattle.snb_schema.specs.declared.query.TheConstants.{COMPLEX_COUNT}
 use Rattle.snb_schema.specs.QueryPlaces.{Values, place_of, value_at}
 
 -- the list of each of the seven queries, at its place
 abbrev pub QueryLists : Type 0
-QueryLists = Values 7 (List Query)
+QueryLists = Values COMPLEX_COUNT (List Query)
 
 -- the list of the query of this number; any other number has none
 abbrev pub list_of : QueryLists → ℕ → List Query
-list_of lists q = value_at 7 lists (place_of q) []
+list_of lists q = value_at COMPLEX_COUNT lists (place_of q) []
 
 -- each query with a frequency has a parameter
 abbrev pub HaveParameters : QueryLists → FrequencyTable → Type 0

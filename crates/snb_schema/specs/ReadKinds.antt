@@ -9,12 +9,12 @@ use Rattle.snb_schema.specs.declared.column.Value.TheVariants.{Digits, SmallDigi
 use Rattle.snb_schema.specs.declared.limits.TheConstants.{MAX_YEAR}
 use Rattle.snb_schema.specs.declared.query.Query.{Query}
 use Rattle.snb_schema.specs.declared.query.Query.TheVariants as queries
-use Rattle.snb_schema.specs.declared.read_kind.CellKind.{CellKind}
-use Rattle.snb_schema.specs.declared.read_kind.CellKind.TheVariants.{Number, Flag, Words, Texts, Stays}
-use Rattle.snb_schema.specs.declared.read_kind.ReadKind.{ReadKind}
-use Rattle.snb_schema.specs.declared.read_kind.ReadKind.TheVariants.{Is1, Is2, Is3, Is4, Is5, Is6, Is7, Ic1, Ic2, Ic7, Ic8, Ic9, Ic11, Ic13}
-use Rattle.snb_schema.specs.declared.read_kind.TargetColumn.{TargetColumn}
-use Rattle.snb_schema.specs.declared.read_kind.TargetColumn.TheVariants.{PersonAt, MessageAt}
+use Rattle.snb_schema.specs.declared.query.CellKind.{CellKind}
+use Rattle.snb_schema.specs.declared.query.CellKind.TheVariants.{Number, Flag, Words, Texts, Stays}
+use Rattle.snb_schema.specs.declared.query.ReadKind.{ReadKind}
+use Rattle.snb_schema.specs.declared.query.ReadKind.TheVariants.{Is1, Is2, Is3, Is4, Is5, Is6, Is7, Ic1, Ic2, Ic7, Ic8, Ic9, Ic11, Ic13}
+use Rattle.snb_schema.specs.declared.query.TargetColumn.{TargetColumn}
+use Rattle.snb_schema.specs.declared.query.TargetColumn.TheVariants.{PersonAt, MessageAt}
 use Rattle.snb_schema.specs.TableColumns.{id_column}
 
 -- what is fixed of a kind of read

@@ -7,7 +7,7 @@ ghost use Rattle.snb_schema.specs.FrequencyPieces.{IsCutAtFirst, SpellsAfter};
 ghost use Rattle.snb_schema.specs.Lines.{HasNo};
 
 use crate::limits::MAX_FREQUENCY;
-use crate::query::{is_complex, place_of};
+use crate::query::{COMPLEX_COUNT, is_complex, place_of};
 use snb_base::read_number;
 use std::marker::Model;
 
@@ -17,23 +17,24 @@ use std::marker::Model;
 /// A contract sees the seven frequencies, of which 0 stands for none; none is above `MAX_FREQUENCY`.
 #[derive(Clone, Copy)]
 pub struct Frequencies {
-    by_place: [u32; 7],
+    by_place: [u32; COMPLEX_COUNT],
 }
 
 impl Model for Frequencies {
     ghost use Rattle.std.specs.Prelude.{◌≡◌, length};
     ghost use Rattle.snb_schema.specs.Frequencies.{AreBounded, FrequencyTable};
     ghost use Rattle.snb_schema.specs.QueryPlaces.{as_list, listed_back, values_of};
+    ghost use Rattle.snb_schema.specs.declared.query.TheConstants.{COMPLEX_COUNT};
 
     ghost Value = { FrequencyTable };
 
-    ghost view = { λ f. values_of 7 f.by_place 0 };
+    ghost view = { λ f. values_of COMPLEX_COUNT f.by_place 0 };
 
-    ghost invariant = { λ f. (length f.by_place ≡ 7) × AreBounded (values_of 7 f.by_place 0) };
+    ghost invariant = { λ f. (length f.by_place ≡ COMPLEX_COUNT) × AreBounded (values_of COMPLEX_COUNT f.by_place 0) };
 
-    ghost inverse = { λ t. record { by_place = as_list 7 t } };
+    ghost inverse = { λ t. record { by_place = as_list COMPLEX_COUNT t } };
 
-    ghost inverse_ok = { λ f h i. record { by_place = listed_back 7 f.by_place 0 h.0 i } };
+    ghost inverse_ok = { λ f h i. record { by_place = listed_back COMPLEX_COUNT f.by_place 0 h.0 i } };
 }
 
 impl Frequencies {
@@ -41,7 +42,9 @@ impl Frequencies {
     pub fn none() -> Frequencies
         ensures { (query : ℕ) → frequency_at result query ≡ 0 }
     {
-        Frequencies { by_place: [0; 7] }
+        Frequencies {
+            by_place: [0; COMPLEX_COUNT],
+        }
     }
 
     /// The frequency of the query of this number: 0 where it has none, and at any number that isn't
@@ -51,7 +54,11 @@ impl Frequencies {
         ensures bounded { result ≤ MAX_FREQUENCY }
     {
         let place = place_of(query);
-        if place < 7 { self.by_place[place] } else { 0 }
+        if place < COMPLEX_COUNT {
+            self.by_place[place]
+        } else {
+            0
+        }
     }
 
     /// The frequencies that the text says: one or more pairs `query:frequency`, separated by commas.

@@ -2,44 +2,53 @@
 //! lines, refusals, the layouts of tables, lanes, lists and frequencies, and the limits.
 #![tactic(auto)]
 
-pub mod column;
-pub mod fault;
-pub mod file;
-pub mod frequencies;
-pub mod key;
-pub mod lanes;
-pub mod law;
-pub mod layout;
-pub mod limits;
-pub mod lists;
-pub mod nodes;
-pub mod op;
-pub mod person;
-pub mod query;
-pub mod read_kind;
-pub mod references;
-pub mod refusal;
-pub mod row;
-pub mod table;
-pub mod worked_inserts;
+mod column;
+mod fault;
+mod file;
+mod frequencies;
+mod key;
+mod lanes;
+mod law;
+mod layout;
+mod limits;
+mod lists;
+mod nodes;
+mod op;
+mod person;
+mod query;
+mod references;
+mod refusal;
+mod row;
+mod table;
+mod worked_inserts;
 
 pub use column::{Column, Value};
 pub use fault::{Fault, LineFault, PlanFault};
-pub use file::{FileId, FileKind};
+pub use file::{FileId, FileKind, file_name, name_text, table_name};
 pub use frequencies::Frequencies;
 pub use key::{Held, Key};
 pub use lanes::Lanes;
-pub use layout::{KeyColumns, Shape};
+pub use law::{frequencies_are_one, limits_are_these};
+pub use layout::{
+    KeyColumns, Layout, Shape, columns_of, is_undirected, key_columns_of, layout_of, shape_of,
+};
+pub use limits::{
+    MAX_AT, MAX_BYTES, MAX_FREQUENCY, MAX_ID, MAX_LANES, MAX_LENGTH, MAX_PARTS, MAX_READS,
+    MAX_ROWS, MAX_TIME, MAX_TRIAL, MAX_WORDS, MAX_WORKERS, MAX_YEAR,
+};
 pub use lists::Lists;
 pub use nodes::{Comment, Forum, Named, Organisation, Place, Post};
 pub use op::{InsertKind, Line, Op, Parent};
 pub use person::Person;
-pub use query::{COMPLEX_QUERIES, Query};
-pub use read_kind::{
-    COMPLEX_READS, CellKind, READ_KINDS, ReadKind, ReadLayout, TargetColumn, layout_of_query,
-    read_layout_of,
+pub use query::{
+    COMPLEX_COUNT, COMPLEX_QUERIES, COMPLEX_READS, CellKind, Query, READ_KINDS, ReadKind,
+    ReadLayout, TargetColumn, is_complex, layout_of_query, place_of, read_layout_of,
 };
-pub use references::Keys;
+pub use references::{Keys, Refs, added_node, keys_of, refs_of};
 pub use refusal::{Counted, Missing, Refusal};
 pub use row::{Placed, Row};
 pub use table::{Kind, Table};
+pub use worked_inserts::{
+    comment_rows, edge_rows, forum_rows, insert_keys, keys_are_the_columns, person_rows, post_rows,
+    row_references, slots, waiting,
+};

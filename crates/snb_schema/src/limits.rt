@@ -1,6 +1,6 @@
 //! The limits of the profile.
 
-use snb_base::bounds::{LAST_AT, LAST_ID, LAST_TIME, LAST_YEAR};
+use snb_base::{LAST_AT, LAST_ID, LAST_TIME, LAST_YEAR};
 
 /// The greatest date and time, in milliseconds since 1970-01-01 UTC.
 pub const MAX_TIME: u64 = LAST_TIME;

@@ -4,8 +4,9 @@ ghost use Rattle.std.specs.Prelude.{◌≡◌, ◌≢◌, ℕ, ◌++◌, ◌∷�
 ghost use Rattle.snb_schema.specs.Queries.{IsComplex, number_of_query};
 ghost use Rattle.snb_schema.specs.QueryLists.{list_of, AreOf};
 
-use crate::query::{Query, place_of};
+use crate::query::{COMPLEX_COUNT, Query, place_of};
 use std::alloc::{AllocError, Global};
+use std::array::from_fn;
 use std::marker::Model;
 
 /// A list of parameters for each of the complex queries 1, 2, 7, 8, 9, 11 and 13.
@@ -33,7 +34,7 @@ impl Model for Lists {
 
 // Seven lists, of any queries.
 struct Parts {
-    by_place: [Vec<Query>; 7],
+    by_place: [Vec<Query>; COMPLEX_COUNT],
 }
 
 impl Drop for Parts {
@@ -46,12 +47,13 @@ impl Model for Parts {
     ghost use Rattle.std.specs.Prelude.{◌≡◌, length, map, []};
     ghost use Rattle.snb_schema.specs.QueryLists.{QueryLists};
     ghost use Rattle.snb_schema.specs.QueryPlaces.{values_of};
+    ghost use Rattle.snb_schema.specs.declared.query.TheConstants.{COMPLEX_COUNT};
 
     ghost Value = { QueryLists };
 
-    ghost view = { λ l. values_of 7 (map (λ v. v.items) l.by_place) [] };
+    ghost view = { λ l. values_of COMPLEX_COUNT (map (λ v. v.items) l.by_place) [] };
 
-    ghost invariant = { λ l. length l.by_place ≡ 7 };
+    ghost invariant = { λ l. length l.by_place ≡ COMPLEX_COUNT };
 }
 
 // Appends a query to a list. Want of memory leaves the list as it was.
@@ -90,15 +92,7 @@ impl Lists {
     {
         Lists {
             parts: Parts {
-                by_place: [
-                    Vec::new(alloc),
-                    Vec::new(alloc),
-                    Vec::new(alloc),
-                    Vec::new(alloc),
-                    Vec::new(alloc),
-                    Vec::new(alloc),
-                    Vec::new(alloc),
-                ],
+                by_place: from_fn(|_| Vec::new(alloc)),
             },
         }
     }

@@ -1,7 +1,7 @@
 //! Why an input is refused.
 
 use crate::file::FileId;
-use crate::read_kind::ReadKind;
+use crate::query::ReadKind;
 use crate::table::{Kind, Table};
 
 /// A node that is referred to and isn't there.

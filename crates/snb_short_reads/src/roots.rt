@@ -10,7 +10,7 @@ ghost use Rattle.snb_graph_model.specs.Messages.{HasMessage};
 ghost use Rattle.snb_graph_model.specs.Soundness.{Sound};
 
 use snb_graph::Graph;
-use snb_graph_integrity::law::sound_graphs;
+use snb_graph_integrity::sound_graphs;
 use snb_schema::{Parent, Table};
 
 // The message to which a comment replies.

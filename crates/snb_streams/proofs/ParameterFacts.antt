@@ -7,7 +7,7 @@ use Rattle.snb_schema.specs.declared.fault.LineFault.{LineFault}
 use Rattle.snb_schema.specs.declared.column.Column.{Column}
 use Rattle.snb_schema.specs.declared.column.Value.{Value}
 use Rattle.snb_schema.specs.declared.query.Query.{Query}
-use Rattle.snb_schema.specs.declared.read_kind.ReadKind.{ReadKind}
+use Rattle.snb_schema.specs.declared.query.ReadKind.{ReadKind}
 use Rattle.snb_schema.specs.Columns.{SpellsAll, StopsAfter}
 use Rattle.snb_schema.specs.ParameterLines.{IsBadQuery, SpellsQuery, query_columns}
 use Rattle.snb_schema.specs.ReadKinds.{number_of_kind, parameter_columns, parameter_values, read_kind_of}

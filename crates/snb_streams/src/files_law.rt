@@ -3,7 +3,7 @@
 ghost use Rattle.snb_streams.specs.FileLaws.{OneParamsReading, OneStreamReading, ParamsFiles, StreamFiles};
 
 use crate::law::{one_fault, one_query};
-use snb_input_fields::law::one_value;
+use snb_input_fields::one_value;
 
 /// The inserts that a stream says are those of its lines with a byte, in order, each with the number of
 /// its line and of a kind that the stream has.

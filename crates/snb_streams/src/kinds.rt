@@ -4,8 +4,7 @@ ghost use Rattle.std.specs.Prelude.{◌≡◌, ◌≢◌, Contains, MatchOption}
 ghost use Rattle.snb_schema.specs.declared.op.InsertKind.{InsertKind as Kind};
 ghost use Rattle.snb_schema.specs.InsertLines.{kind_number, line_columns};
 
-use snb_schema::limits::{MAX_ID, MAX_LENGTH, MAX_TIME};
-use snb_schema::{Column, InsertKind};
+use snb_schema::{Column, InsertKind, MAX_ID, MAX_LENGTH, MAX_TIME};
 
 const TIME: Column = Column::Number { most: MAX_TIME };
 

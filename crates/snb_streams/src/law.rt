@@ -2,8 +2,8 @@
 
 ghost use Rattle.snb_streams.specs.Laws.{InsertOrColumn, InsertsAreRight, LineOrColumn, LinesAreRight, NoBadQuery, OneBadLine, OneBadQuery, OneFault, OneInsert, OneInsertOfFields, OneQuery, OwnInsertLine, QueryOrColumn};
 
-use snb_columns::law::{own_line as own_fields, plain_fields};
-use snb_input_fields::law::{one_value, spelled_or_not};
+use snb_columns::{own_line as own_fields, plain_fields};
+use snb_input_fields::{one_value, spelled_or_not};
 
 /// A text is the line of one insert at most, at one pair of times.
 pub fn one_insert()

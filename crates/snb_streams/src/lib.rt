@@ -1,20 +1,24 @@
 //! The lines of the update streams: read out of their fields or out of one line, and written.
 #![tactic(auto)]
 
-pub mod files_law;
+mod files_law;
 mod kinds;
-pub mod law;
-pub mod line;
-pub mod lines;
+mod law;
+mod line;
+mod lines;
 mod make;
-pub mod order;
-pub mod params;
-pub mod text;
-pub mod updates;
-pub mod write;
+mod order;
+mod params;
+mod text;
+mod updates;
+mod write;
 
-pub use line::read_line;
+pub use files_law::{one_params_reading, one_stream_reading, params_files, stream_files};
+pub use law::{one_bad_line, one_fault, one_insert, one_insert_of_fields, one_query, own_line};
+pub use line::{ALL_INSERTS, FORUM_INSERTS, PERSON_INSERTS, read_insert, read_line};
 pub use lines::StreamLines;
 pub use order::InOrder;
-pub use params::QueryLines;
+pub use params::{Params, QueryLines, columns_of, read_parameters};
+pub use text::fields_in;
+pub use updates::{Updates, inserts_of};
 pub use write::write_line;

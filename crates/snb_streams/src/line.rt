@@ -14,8 +14,7 @@ use crate::text::fields_in;
 use snb_base::read_number;
 use snb_input_fields::FieldReader;
 use snb_input_lines::Record;
-use snb_schema::limits::MAX_TIME;
-use snb_schema::{InsertKind, Line, LineFault};
+use snb_schema::{InsertKind, Line, LineFault, MAX_TIME};
 use std::alloc::Global;
 
 /// The inserts of a person stream.

@@ -10,8 +10,7 @@ ghost use Rattle.snb_streams.specs.Make.{IsMade, IsMadeLine, IsParent, IsThird, 
 
 use snb_base::Text;
 use snb_input_fields::FieldReader;
-use snb_schema::limits::{MAX_ID, MAX_LENGTH, MAX_TIME};
-use snb_schema::{InsertKind, Line, LineFault, Op, Parent};
+use snb_schema::{InsertKind, Line, LineFault, MAX_ID, MAX_LENGTH, MAX_TIME, Op, Parent};
 
 fn person(fields: &mut FieldReader<'_>) -> Result<Op, LineFault>
     requires { fields.old ≡ at_field kinds.AddPerson fields.old.fields 3 }
@@ -215,7 +214,9 @@ fn make_op(kind: InsertKind, fields: &mut FieldReader<'_>) -> Result<Op, LineFau
 }
 
 /// The line of this number with an insert of this kind, as its fields spell it. The error is the first
-/// that isn't in its grammar, or doesn't go with one before it. The third field is the kind's number.
+/// that isn't in its grammar, or doesn't go with one before it.
+/// The conditions: no field was taken yet (`begins`), there is one for each of the kind's columns
+/// (`long`), and the third is the kind's number (`third`).
 pub fn make_line(
     kind: InsertKind,
     number: u32,

@@ -7,8 +7,7 @@ ghost use Rattle.snb_schema.specs.Queries.{IsComplex};
 
 use snb_input_fields::{FieldReader, read_query};
 use snb_input_lines::{Grammar, LineReader, Open, Record};
-use snb_schema::query::is_complex;
-use snb_schema::{Column, FileId, FileKind, LineFault, Query, ReadKind};
+use snb_schema::{Column, FileId, FileKind, LineFault, Query, ReadKind, is_complex};
 use std::alloc::Global;
 use std::marker::Model;
 

@@ -6,9 +6,8 @@ ghost use Rattle.snb_schema.specs.Lines.{HasNoEnd};
 ghost use Rattle.snb_schema.specs.UpdateLines.{IsBadLine};
 ghost use Rattle.snb_streams.specs.Split.{IsSplit};
 
-use snb_columns::law::plain_fields;
-use snb_input_lines::split::{cut_at_end, is_marked};
-use snb_input_lines::{Record, split_line};
+use snb_columns::plain_fields;
+use snb_input_lines::{Record, cut_at_end, is_marked, split_line};
 use snb_schema::LineFault;
 use std::alloc::Global;
 use std::str;

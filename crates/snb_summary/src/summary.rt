@@ -6,7 +6,7 @@ ghost use Rattle.snb_summary.specs.Kinds.{all_entries, all_whats, entries_of, En
 ghost use Rattle.snb_summary.specs.Summaries.{AreMeasures, IsMeasure, IsPercentile, IsSummary};
 
 use crate::kind::{OpKind, What, all_kinds};
-use crate::rank::rank;
+use crate::ranks::rank;
 use crate::times::Times;
 use snb_base::{OwnedList, TryCopy};
 use snb_history::Schedule;

@@ -14,8 +14,7 @@ use snb_board::{Board, Seat};
 use snb_book::Claim;
 use snb_history::Schedule;
 use snb_test_book::State;
-use snb_test_script::words::{first_word, number_of, small_number_of};
-use snb_test_script::{Flaw, Lines};
+use snb_test_script::{Flaw, Lines, first_word, number_of, small_number_of};
 use std::alloc::Global;
 use std::sync::Wait;
 

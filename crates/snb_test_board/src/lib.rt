@@ -2,6 +2,11 @@
 //! makes a call.
 #![tactic(auto)]
 
-pub mod answer;
-pub mod boards;
+mod answers;
+mod boards;
 mod halts;
+
+pub use answers::answer;
+pub use boards::{
+    board_of_two, closed_by_all, completeness, crew, fresh_word, is_insert, two_seats, verdict,
+};

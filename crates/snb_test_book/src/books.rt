@@ -4,15 +4,14 @@ ghost use Rattle.std.specs.Prelude.{◌≡◌, IsTrue};
 ghost use Rattle.snb_history.specs.Rules.{IsFront, MayAct};
 ghost use Rattle.snb_book.specs.Kept.{IsInHand};
 
-use crate::events::{has_halted, is_finished, starts_at};
+use crate::event_words::{has_halted, is_finished, starts_at};
 use crate::state::State;
 use snb_book::{Book, Claim, Ticket};
-use snb_history::Event;
-use snb_history::law::hand_is_theirs;
-use snb_schema::limits::MAX_WORKERS;
-use snb_test_script::told::{told, told_whether};
-use snb_test_script::words::{first_word, nothing, number_of, small_number_of};
-use snb_test_script::{Flaw, List};
+use snb_history::{Event, hand_is_theirs};
+use snb_schema::MAX_WORKERS;
+use snb_test_script::{
+    Flaw, List, first_word, nothing, number_of, small_number_of, told, told_whether,
+};
 use std::alloc::{AllocError, Global};
 
 /// `book WORKERS`

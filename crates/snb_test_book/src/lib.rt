@@ -2,12 +2,17 @@
 //! answers. `answer` makes a call.
 #![tactic(auto)]
 
-pub mod answer;
-pub mod books;
-mod events;
-pub mod plans;
+mod answers;
+mod books;
+mod event_words;
+mod plans;
 mod sources;
-pub mod state;
+mod state;
 mod times;
 
+pub use answers::answer;
+pub use books::{
+    claim, complete, completion, events, finish, halt, make_book, told_claim, told_events,
+};
+pub use plans::{FOLDER, Terms, flaw_of, load_plan, plan, terms_of};
 pub use state::State;

@@ -14,8 +14,7 @@ use snb_loader::{load_lanes, load_params};
 use snb_plan::{Plan, PlanFault};
 use snb_ratio::Ratio;
 use snb_schema::{Frequencies, Lanes, Lists};
-use snb_test_script::words::first_word;
-use snb_test_script::{Files, Flaw};
+use snb_test_script::{Files, Flaw, first_word};
 use std::alloc::Global;
 
 /// The folder in which the files stand.

@@ -4,7 +4,7 @@ ghost use Rattle.std.specs.Prelude.{◌≡◌, ◌<◌, length};
 
 use crate::plans::{FOLDER, load_plan, terms_of};
 use snb_plan::Plan;
-use snb_schema::file::name_text;
+use snb_schema::name_text;
 use snb_test_script::{Files, Flaw, List};
 use std::alloc::{AllocError, Global};
 

@@ -7,9 +7,7 @@ ghost use Rattle.snb_completion.specs.Progress.{IsNextInLane, IsOpen, flag};
 use crate::state::State;
 use snb_completion::Times;
 use snb_history::Step;
-use snb_test_script::told::told;
-use snb_test_script::words::{nothing, small_number_of};
-use snb_test_script::{Flaw, List};
+use snb_test_script::{Flaw, List, nothing, small_number_of, told};
 use std::alloc::Global;
 
 /// `times`

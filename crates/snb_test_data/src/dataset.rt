@@ -5,14 +5,11 @@ ghost use Rattle.snb_graph_model.specs.Soundness.{Sound};
 
 use snb_base::MemoryShelf;
 use snb_graph::Graph;
-use snb_graph_model::order::tables_in_order;
+use snb_graph_model::tables_in_order;
 use snb_input_files::{Load, Used};
 use snb_loader::load_dataset;
-use snb_schema::Table;
-use snb_schema::file::table_name;
-use snb_schema::layout::columns_of;
-use snb_test_script::Flaw;
-use snb_test_script::files::add_file;
+use snb_schema::{Table, columns_of, table_name};
+use snb_test_script::{Flaw, add_file};
 use std::alloc::{AllocError, Global};
 
 // The folder of the dataset on its shelf.

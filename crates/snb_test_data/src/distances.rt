@@ -4,9 +4,9 @@ use crate::dataset::Dataset;
 use crate::loaded::Loaded;
 use crate::state::State;
 use snb_reach::Near;
-use snb_test_script::told::told_number;
-use snb_test_script::words::{first_word, number_of, small_number_of, two_numbers};
-use snb_test_script::{Flaw, List};
+use snb_test_script::{
+    Flaw, List, first_word, number_of, small_number_of, told_number, two_numbers,
+};
 use std::alloc::{AllocError, Global};
 
 // `persons M N`

@@ -6,11 +6,10 @@ ghost use Rattle.snb_schema.specs.TableRows.{IsTableRow};
 use snb_base::Text;
 use snb_graph::{Graph, Links};
 use snb_graph_tables::Insert;
-use snb_schema::limits::{MAX_ID, MAX_TIME};
-use snb_schema::{Forum, Row, Table};
-use snb_test_script::told::{told, told_number, told_whether};
-use snb_test_script::words::{first_word, nothing, number_of, two_numbers};
-use snb_test_script::{Flaw, List};
+use snb_schema::{Forum, MAX_ID, MAX_TIME, Row, Table};
+use snb_test_script::{
+    Flaw, List, first_word, nothing, number_of, told, told_number, told_whether, two_numbers,
+};
 use std::alloc::{AllocError, Global};
 use std::mem;
 

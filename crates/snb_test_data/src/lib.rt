@@ -2,11 +2,14 @@
 //! frozen and the added rows of a graph, and on the distances between persons. `answer` makes a call.
 #![tactic(auto)]
 
-pub mod answer;
+mod answers;
 mod dataset;
 mod distances;
 mod graphs;
 mod limits;
 mod loaded;
 mod posts;
-pub mod state;
+mod state;
+
+pub use answers::answer;
+pub use state::State;

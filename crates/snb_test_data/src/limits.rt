@@ -6,11 +6,8 @@ ghost use Rattle.snb_schema.specs.declared.limits.TheConstants.{MAX_BYTES, MAX_R
 
 use snb_input_files::{Load, Used};
 use snb_loader::{load_dataset, load_lanes, load_params};
-use snb_schema::file::name_text;
-use snb_schema::limits::{MAX_BYTES, MAX_ROWS};
-use snb_schema::{Counted, Frequencies, Refusal};
-use snb_test_script::words::{first_word, two_numbers};
-use snb_test_script::{Files, Flaw};
+use snb_schema::{Counted, Frequencies, MAX_BYTES, MAX_ROWS, Refusal, name_text};
+use snb_test_script::{Files, Flaw, first_word, two_numbers};
 use std::alloc::{AllocError, Global};
 
 // The folder in which the files stand.

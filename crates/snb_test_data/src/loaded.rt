@@ -2,8 +2,7 @@
 
 use crate::dataset::{Dataset, graph_of};
 use snb_graph::Graph;
-use snb_reach::Near;
-use snb_reach::reach::{ic13, shortest, within};
+use snb_reach::{Near, ic13, shortest, within};
 use snb_read_model::{Cell, CowText};
 use snb_test_script::{Flaw, List};
 use std::alloc::{AllocError, Global};

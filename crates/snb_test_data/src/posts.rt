@@ -4,10 +4,8 @@ ghost use Rattle.std.specs.Prelude.{◌+◌, ◌≤◌, length};
 ghost use Rattle.snb_schema.specs.declared.limits.TheConstants.{MAX_BYTES};
 
 use snb_csv::Rows;
-use snb_schema::limits::MAX_BYTES;
-use snb_schema::{Fault, FileId, FileKind, Placed, Row, Table};
-use snb_test_script::escape::shown;
-use snb_test_script::{Files, Flaw, Lines};
+use snb_schema::{Fault, FileId, FileKind, MAX_BYTES, Placed, Row, Table};
+use snb_test_script::{Files, Flaw, Lines, shown};
 use std::alloc::Global;
 
 // Why there are no posts.

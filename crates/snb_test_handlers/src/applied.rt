@@ -2,13 +2,10 @@
 
 use crate::cases::graph_of;
 use snb_graph::{Graph, Links};
-use snb_inserts::Applied;
-use snb_inserts::apply::apply;
-use snb_schema::file::table_name;
-use snb_schema::{Kind, LineFault, Missing, Table};
+use snb_inserts::{Applied, apply};
+use snb_schema::{Kind, LineFault, Missing, Table, table_name};
 use snb_streams::read_line;
-use snb_test_script::words::{first_word, number_of};
-use snb_test_script::{Files, Flaw, Lines, List};
+use snb_test_script::{Files, Flaw, Lines, List, first_word, number_of};
 use std::alloc::{AllocError, Global};
 
 // The table of the nodes of this kind.

@@ -9,9 +9,8 @@ use snb_handlers::Handlers;
 use snb_input_files::{Load, Used};
 use snb_loader::load_dataset;
 use snb_test_script::{Files, Flaw};
-use snb_validation_cases::case::CaseFault;
-use snb_validation_cases::read::read_case;
-use snb_validation_check::checker::{Checker, StepFault};
+use snb_validation_cases::{CaseFault, read_case};
+use snb_validation_check::{Checker, StepFault};
 use std::alloc::Global;
 
 /// The graph of the dataset in a folder.

@@ -1,10 +1,10 @@
 //! Connectors whose handlers answer from the graph. docs/CONNECTORS.md explains them.
 
 ghost use Rattle.std.specs.Prelude.{◌≡◌, IfOk};
-ghost use Rattle.snb_schema.specs.declared.read_kind.ReadKind.TheVariants.{Is3};
+ghost use Rattle.snb_schema.specs.declared.query.ReadKind.TheVariants.{Is3};
 ghost use Rattle.snb_schema.specs.ReadKinds.{read_kind_of};
 ghost use Rattle.snb_graph_model.specs.Soundness.{Sound};
-ghost use Rattle.snb_read_model.specs.Replies.{IsAnswer};
+ghost use Rattle.snb_read_model.specs.ComplexReads.{IsAnswer};
 
 use crate::cases::check;
 use crate::told::{flaw_of, told_counts, told_rows};
@@ -12,9 +12,9 @@ use snb_base::Text;
 use snb_graph::Graph;
 use snb_handlers::{Call, Handler, Handlers, KINDS};
 use snb_read_model::{Answer, copy_answer};
-use snb_read_replies::reply::own_answer;
+use snb_read_replies::own_answer;
 use snb_schema::{Query, ReadKind};
-use snb_short_reads::persons::is3;
+use snb_short_reads::is3;
 use snb_test_script::Flaw;
 use std::alloc::{AllocError, Global};
 use std::cell::Cell;

@@ -2,7 +2,7 @@
 //! call.
 #![tactic(auto)]
 
-pub mod answer;
+mod answers;
 mod applied;
 mod cases;
 mod connector;
@@ -10,3 +10,5 @@ mod steps;
 mod summaries;
 mod told;
 mod walks;
+
+pub use answers::answer;

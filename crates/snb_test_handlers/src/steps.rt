@@ -6,13 +6,10 @@ use snb_graph::Graph;
 use snb_own_reads::OwnChecker;
 use snb_read_model::lend_reply;
 use snb_schema::{Kind, Missing};
-use snb_test_script::escape::shown;
-use snb_test_script::{Flaw, Lines};
+use snb_test_script::{Flaw, Lines, shown};
 use snb_validation::reply_text;
-use snb_validation_cases::case::CaseFault;
-use snb_validation_cases::read::read_case;
-use snb_validation_check::Difference;
-use snb_validation_check::checker::{Checker, StepFault};
+use snb_validation_cases::{CaseFault, read_case};
+use snb_validation_check::{Checker, Difference, StepFault};
 use std::alloc::{AllocError, Global};
 
 // A node that an insert refers to and that isn't held.

@@ -2,9 +2,7 @@
 
 use snb_schema::{InsertKind, ReadKind};
 use snb_summary::{Measure, OpKind, Summary, What, measures_text};
-use snb_test_script::escape::shown_lines;
-use snb_test_script::words::number_of;
-use snb_test_script::{Files, Flaw};
+use snb_test_script::{Files, Flaw, number_of, shown_lines};
 use std::alloc::Global;
 
 // The kind of operation of this name, of those that the cases have.

@@ -2,7 +2,7 @@
 
 ghost use Rattle.std.specs.Prelude.{◌≡◌, ◌<◌, IfOk, length};
 ghost use Rattle.snb_graph_model.specs.Soundness.{Sound};
-ghost use Rattle.snb_read_model.specs.Replies.{IsAnswer};
+ghost use Rattle.snb_read_model.specs.ComplexReads.{IsAnswer};
 ghost use Rattle.snb_walk.specs.declared.target.Pick.TheVariants.{Modulo};
 ghost use Rattle.snb_walk.specs.Picks.{index_of};
 
@@ -11,11 +11,9 @@ use snb_base::Text;
 use snb_graph::Graph;
 use snb_handlers::{Call, Handler, Handlers, KINDS};
 use snb_read_model::{Answer, copy_answer, lend_reply};
-use snb_read_replies::reply::own_answer;
+use snb_read_replies::own_answer;
 use snb_schema::Query;
-use snb_test_script::escape::shown;
-use snb_test_script::words::{first_word, number_of};
-use snb_test_script::{Flaw, Lines};
+use snb_test_script::{Flaw, Lines, first_word, number_of, shown};
 use snb_validation::reply_text;
 use snb_walk::{Call as PickCall, Chance, Pick, Policy, Steps, Target, walk};
 use std::alloc::{AllocError, Global};

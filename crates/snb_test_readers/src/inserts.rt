@@ -2,8 +2,7 @@
 
 use snb_schema::{Line, LineFault};
 use snb_streams::{read_line, write_line};
-use snb_test_script::Flaw;
-use snb_test_script::escape::{put_plain, shown};
+use snb_test_script::{Flaw, put_plain, shown};
 use std::alloc::Global;
 
 /// What the line is written as.

@@ -2,7 +2,7 @@
 //! keeps nothing. `answer` makes a call.
 #![tactic(auto)]
 
-pub mod answer;
+mod answers;
 mod feeding;
 mod inserts;
 mod logs;
@@ -12,3 +12,5 @@ mod pieces;
 mod streams;
 mod tables;
 mod told;
+
+pub use answers::answer;

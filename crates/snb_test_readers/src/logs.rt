@@ -11,10 +11,8 @@ use crate::feeding::{Feeds, told_fed};
 use crate::pieces::{Reads, told_cut};
 use snb_history::{Event, Header, Logged};
 use snb_runlog::{LogReader, write_log};
-use snb_schema::Fault;
-use snb_schema::limits::{MAX_AT, MAX_BYTES, MAX_WORKERS};
-use snb_test_script::escape::shown_lines;
-use snb_test_script::{Files, Flaw};
+use snb_schema::{Fault, MAX_AT, MAX_BYTES, MAX_WORKERS};
+use snb_test_script::{Files, Flaw, shown_lines};
 use std::alloc::{AllocError, Global};
 
 // A reader of a log, and what the header said, once the log has ended.

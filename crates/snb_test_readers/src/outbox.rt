@@ -1,9 +1,7 @@
 //! The call of the outbox that keeps nothing.
 
-use snb_base::null_outbox::NullOutbox;
-use snb_base::{Channel, Outbox, Put};
-use snb_test_script::escape::put_plain;
-use snb_test_script::{Flaw, List};
+use snb_base::{Channel, NullOutbox, Outbox, Put};
+use snb_test_script::{Flaw, List, put_plain};
 use std::alloc::{AllocError, Global};
 
 // What writing the piece to the channel answers.

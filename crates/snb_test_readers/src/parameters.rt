@@ -5,11 +5,9 @@ ghost use Rattle.snb_schema.specs.declared.limits.TheConstants.{MAX_BYTES};
 
 use crate::feeding::{Feeds, told_fed};
 use crate::pieces::{Reads, told_cut};
-use snb_schema::query::is_complex;
-use snb_schema::{Fault, Query};
-use snb_streams::params::Params;
-use snb_test_script::words::{first_word, small_number_of};
-use snb_test_script::{Files, Flaw};
+use snb_schema::{Fault, Query, is_complex};
+use snb_streams::Params;
+use snb_test_script::{Files, Flaw, first_word, small_number_of};
 use std::alloc::{AllocError, Global};
 
 // The query and its parameters.

@@ -8,9 +8,8 @@ use crate::feeding::{Feeds, told_fed};
 use crate::inserts::told_line;
 use crate::pieces::{Reads, told_cut};
 use snb_schema::{Fault, FileId, FileKind, Line};
-use snb_streams::updates::Updates;
-use snb_test_script::words::first_word;
-use snb_test_script::{Files, Flaw};
+use snb_streams::Updates;
+use snb_test_script::{Files, Flaw, first_word};
 use std::alloc::{AllocError, Global};
 
 impl Feeds for Updates {

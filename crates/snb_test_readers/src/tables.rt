@@ -5,14 +5,10 @@ ghost use Rattle.snb_schema.specs.declared.limits.TheConstants.{MAX_BYTES};
 
 use crate::feeding::{Feeds, told_fed};
 use crate::pieces::{Reads, told_cut};
-use snb_csv::Rows;
-use snb_csv::write::write_row;
-use snb_graph_model::order::tables_in_order;
-use snb_schema::file::table_name;
-use snb_schema::{Fault, FileId, FileKind, Placed, Table};
-use snb_test_script::escape::shown;
-use snb_test_script::words::first_word;
-use snb_test_script::{Files, Flaw};
+use snb_csv::{Rows, write_row};
+use snb_graph_model::tables_in_order;
+use snb_schema::{Fault, FileId, FileKind, Placed, Table, table_name};
+use snb_test_script::{Files, Flaw, first_word, shown};
 use std::alloc::{AllocError, Global};
 
 impl Feeds for Rows {

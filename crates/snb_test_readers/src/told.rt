@@ -1,7 +1,6 @@
 //! Refusals as texts.
 
-use snb_schema::file::name_text;
-use snb_schema::{FileId, Refusal};
+use snb_schema::{FileId, Refusal, name_text};
 use std::alloc::{AllocError, Global};
 
 // What is wrong with a line of a file.

@@ -6,16 +6,18 @@
 mod answer;
 mod case;
 mod change;
-pub mod escape;
-pub mod files;
-pub mod flaw;
-pub mod given;
-pub mod play;
-pub mod told;
-pub mod words;
+mod escape;
+mod files;
+mod flaw;
+mod given;
+mod play;
+mod telling;
+mod words;
 
-pub use files::Files;
+pub use escape::{LineEnd, put_plain, shown, shown_lines};
+pub use files::{Files, add_file};
 pub use flaw::{Flaw, Stop};
 pub use given::Given;
-pub use play::{Player, Step};
-pub use told::{Lines, List};
+pub use play::{Player, Report, Step};
+pub use telling::{Lines, List, told, told_number, told_whether};
+pub use words::{first_word, nothing, number_of, small_number_of, two_numbers};

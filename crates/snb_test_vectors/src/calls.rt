@@ -2,7 +2,7 @@
 
 ghost use Rattle.std.specs.Prelude.{◌≡◌, ◌-◌, ◌<◌, IfOk, length};
 ghost use Rattle.snb_graph_model.specs.Soundness.{Sound};
-ghost use Rattle.snb_read_model.specs.Replies.{IsAnswer};
+ghost use Rattle.snb_read_model.specs.ComplexReads.{IsAnswer};
 ghost use Rattle.snb_walk.specs.declared.target.Pick.TheVariants as picks;
 ghost use Rattle.snb_walk.specs.Picks.{index_of};
 
@@ -10,13 +10,10 @@ use snb_base::{Channel, MemoryOutbox, MemoryShelf, Text};
 use snb_graph::Graph;
 use snb_handlers::{Call, Handler, Handlers, KINDS};
 use snb_read_model::{Answer, copy_answer};
-use snb_read_replies::reply::own_answer;
+use snb_read_replies::own_answer;
 use snb_schema::Query;
-use snb_test_script::files::add_file;
-use snb_test_script::{Files, Flaw, Given};
-use snb_test_whole::case_shelf::{CaseShelf, Long};
-use snb_test_whole::state::State;
-use snb_test_whole::words::{LOG_PATH, audit_words, deeper_words, words_of};
+use snb_test_script::{Files, Flaw, Given, add_file};
+use snb_test_whole::{CaseShelf, LOG_PATH, Long, State, audit_words, deeper_words, words_of};
 use snb_tool::{snb, snb_with};
 use snb_walk::{Call as PickCall, Pick, Policy, Target};
 use std::alloc::{AllocError, Global};

@@ -16,9 +16,9 @@ use std::{env, fs, io};
 
 // What the calls of a case are made on, for each crate of calls that keeps something.
 struct Every {
-    whole: snb_test_whole::state::State,
-    data: snb_test_data::state::State,
-    book: snb_test_book::state::State,
+    whole: snb_test_whole::State,
+    data: snb_test_data::State,
+    book: snb_test_book::State,
 }
 
 impl Drop for Every {
@@ -35,9 +35,9 @@ impl Every {
     // As a case begins.
     fn new(alloc: Global) -> Every {
         Every {
-            whole: snb_test_whole::state::State::new(alloc),
-            data: snb_test_data::state::State::new(alloc),
-            book: snb_test_book::state::State::new(),
+            whole: snb_test_whole::State::new(alloc),
+            data: snb_test_data::State::new(alloc),
+            book: snb_test_book::State::new(),
         }
     }
 
@@ -54,37 +54,25 @@ impl Every {
         if let Some(answer) = calls::answer(rt, alloc, &mut self.whole, files, word, rest)? {
             return Ok(Some(answer));
         }
-        if let Some(answer) = snb_test_whole::answer::answer(alloc, &mut self.whole, word, rest)? {
+        if let Some(answer) = snb_test_whole::answer(alloc, &mut self.whole, word, rest)? {
             return Ok(Some(answer));
         }
-        if let Some(answer) = snb_test_data::answer::answer(
-            alloc,
-            &mut self.data,
-            files,
-            word,
-            rest,
-        )? {
+        if let Some(answer) = snb_test_data::answer(alloc, &mut self.data, files, word, rest)? {
             return Ok(Some(answer));
         }
-        if let Some(answer) = snb_test_readers::answer::answer(alloc, files, word, rest)? {
+        if let Some(answer) = snb_test_readers::answer(alloc, files, word, rest)? {
             return Ok(Some(answer));
         }
-        if let Some(answer) = snb_test_handlers::answer::answer(alloc, files, word, rest)? {
+        if let Some(answer) = snb_test_handlers::answer(alloc, files, word, rest)? {
             return Ok(Some(answer));
         }
-        if let Some(answer) = snb_test_book::answer::answer(
-            alloc,
-            &mut self.book,
-            files,
-            word,
-            rest,
-        )? {
+        if let Some(answer) = snb_test_book::answer(alloc, &mut self.book, files, word, rest)? {
             return Ok(Some(answer));
         }
-        if let Some(answer) = snb_test_board::answer::answer(rt, alloc, &self.book, word, rest)? {
+        if let Some(answer) = snb_test_board::answer(rt, alloc, &self.book, word, rest)? {
             return Ok(Some(answer));
         }
-        snb_test_workers::answer::answer(rt, alloc, files, word, rest)
+        snb_test_workers::answer(rt, alloc, files, word, rest)
     }
 }
 

@@ -2,7 +2,12 @@
 //! given moments; and what came of them.
 #![tactic(auto)]
 
-pub mod answer;
-pub mod case_shelf;
-pub mod state;
-pub mod words;
+mod answers;
+mod case_shelf;
+mod state;
+mod words;
+
+pub use answers::answer;
+pub use case_shelf::{CaseShelf, Kept, Long};
+pub use state::State;
+pub use words::{LOG_PATH, audit_words, deeper, deeper_words, words_of};

@@ -6,9 +6,7 @@ use crate::case_shelf::Long;
 use crate::words::deeper;
 use snb_base::{Channel, MemoryOutbox, MemoryShelf, read_number};
 use snb_schema::ReadKind;
-use snb_test_script::escape::shown_lines;
-use snb_test_script::words::{first_word, number_of};
-use snb_test_script::{Files, Flaw};
+use snb_test_script::{Files, Flaw, first_word, number_of, shown_lines};
 use std::alloc::Global;
 
 // How many bytes each channel takes, where a case says nothing else.

@@ -1,7 +1,6 @@
 //! The words of a call of the program.
 
-use snb_test_script::Flaw;
-use snb_test_script::escape::put_plain;
+use snb_test_script::{Flaw, put_plain};
 use std::alloc::{AllocError, Global};
 
 /// The path of the log that a call left, for the audit of it.

@@ -6,10 +6,9 @@ use crate::closed::{Planned, load_closed};
 use crate::pair::work_seat;
 use snb_history::Event;
 use snb_own_reads::run_alone;
-use snb_test_board::boards::board_of_two;
-use snb_test_book::books::told_events;
-use snb_test_script::words::{first_word, number_of};
-use snb_test_script::{Files, Flaw, Given, Lines};
+use snb_test_board::board_of_two;
+use snb_test_book::told_events;
+use snb_test_script::{Files, Flaw, Given, Lines, first_word, number_of};
 use std::alloc::Global;
 use std::sync::Wait;
 

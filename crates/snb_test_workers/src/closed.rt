@@ -9,7 +9,7 @@ use snb_graph::Graph;
 use snb_input_files::Used;
 use snb_loader::load_dataset;
 use snb_plan::{Plan, PlanFault};
-use snb_test_book::plans::{FOLDER, flaw_of, load_plan, terms_of};
+use snb_test_book::{FOLDER, flaw_of, load_plan, terms_of};
 use snb_test_script::{Files, Flaw};
 use std::alloc::Global;
 

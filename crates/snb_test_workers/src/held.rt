@@ -8,9 +8,8 @@ use crate::holder::{End, Holder};
 use crate::pair::replies_of_seat;
 use snb_answered::Answered;
 use snb_base::{Gate, Phase};
-use snb_test_board::boards::board_of_two;
-use snb_test_script::words::{first_word, number_of, small_number_of};
-use snb_test_script::{Files, Flaw, Given, Lines};
+use snb_test_board::board_of_two;
+use snb_test_script::{Files, Flaw, Given, Lines, first_word, number_of, small_number_of};
 use std::alloc::Global;
 use std::sync::{Mutex, Wait};
 

@@ -5,7 +5,7 @@ ghost use Rattle.std.specs.Prelude.{◌≡◌};
 use snb_board::{Board, Seat};
 use snb_book::{Claim, Ticket};
 use snb_history::Schedule;
-use snb_test_board::boards::is_insert;
+use snb_test_board::is_insert;
 use std::marker::Model;
 use std::sync::Wait;
 

@@ -3,7 +3,7 @@
 #![tactic(auto)]
 
 mod alone;
-pub mod answer;
+mod answers;
 mod asked;
 mod behind;
 mod closed;
@@ -14,3 +14,5 @@ mod meeting;
 mod own;
 mod pair;
 mod steps;
+
+pub use answers::answer;

@@ -1,8 +1,7 @@
 //! The call of a clock that counts how often it is asked.
 
 use snb_base::{Clock, StepClock};
-use snb_test_script::Flaw;
-use snb_test_script::words::number_of;
+use snb_test_script::{Flaw, number_of};
 use std::alloc::Global;
 use std::sync::Wait;
 

@@ -21,7 +21,7 @@ use Rattle.snb_validation_check.specs.Laws.{CasesRefuseOnce}
 use Rattle.snb_tool_outcome.specs.Inputs.{AreBadCases, AreTooMany, IsNotClosed, IsUnregistered, after_dataset, after_streams, at_first, checks_of, plan_checks, read_checks, table_checks}
 use Rattle.snb_tool_outcome.specs.Found.{Found}
 use Rattle.snb_tool_words.specs.CommandFacts.{needs_table}
-use Rattle.snb_schema.specs.declared.read_kind.ReadKind.{ReadKind}
+use Rattle.snb_schema.specs.declared.query.ReadKind.{ReadKind}
 use Rattle.snb_tool_outcome.proofs.Laws.{AreOne, lane_tail, last_checks, param_tail, wrong_of}
 
 -- each stage of what is read is refused in one way at most

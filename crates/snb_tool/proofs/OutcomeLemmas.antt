@@ -14,12 +14,12 @@ use Rattle.snb_tool_words.specs.declared.command.Command.{Command}
 use Rattle.snb_tool_words.specs.declared.command.Command.TheVariants.{Validate, Walk}
 use Rattle.snb_tool_words.specs.declared.options.Via.TheVariants as via
 use Rattle.snb_handlers.specs.Table.{IsFirstUnhandled}
-use Rattle.snb_schema.specs.declared.read_kind.ReadKind.{ReadKind}
+use Rattle.snb_schema.specs.declared.query.ReadKind.{ReadKind}
 use Rattle.snb_schema.specs.declared.refusal.Refusal.{Refusal}
 use Rattle.snb_schema.specs.declared.refusal.Refusal.TheVariants.{Unregistered}
 use Rattle.snb_tool_outcome.specs.Found.{Connector, Given}
 use Rattle.snb_ratio.specs.Chances.{ChanceFall}
-use Rattle.snb_tool_outcome.specs.declared.deliver.Finished.{Finished}
+use Rattle.snb_tool_outcome.specs.declared.delivery.Finished.{Finished}
 use Rattle.snb_tool_outcome.specs.Endings.{Delivers, Finishes, IsFinished, bytes_of}
 use Rattle.snb_tool_outcome.specs.Outcome.{IsCommandAnswer}
 use Rattle.snb_tool_outcome.specs.Output.{HasBegun, on_screen}

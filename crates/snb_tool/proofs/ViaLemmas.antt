@@ -11,7 +11,7 @@ use Rattle.snb_input_files.specs.Files.{held_in}
 use Rattle.snb_input_files.specs.Walk.{Held}
 use Rattle.snb_loader.specs.Dataset.{dataset_checks}
 use Rattle.snb_loader.specs.Laws.{DatasetIsOne}
-use Rattle.snb_schema.specs.declared.read_kind.ReadKind.{ReadKind}
+use Rattle.snb_schema.specs.declared.query.ReadKind.{ReadKind}
 use Rattle.snb_schema.specs.declared.refusal.Refusal.{Refusal}
 use Rattle.snb_schema.specs.declared.row.Row.{Row}
 use Rattle.snb_schema.specs.ReadKinds.{every_read}

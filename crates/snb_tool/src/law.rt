@@ -6,13 +6,13 @@ ghost use Rattle.snb_tool.specs.CaseLaws.{ExpectInShort, ExpectedIsValid, Valida
 ghost use Rattle.snb_tool.specs.Shorts.{AuditInShort, LatencyInShort, RunInShort};
 ghost use Rattle.snb_tool.specs.WholeLaws.{RunIsWhole};
 
-use snb_auditor_log::law::{accepted_in_order, one_log_refusal, said_log_is_clean, whole_exactly};
-use snb_loader::law::{one_dataset, one_lanes, one_params};
-use snb_plan::law::plan_is_one;
-use snb_tool_words::law::one_command;
-use snb_validation_check::law::one_cases_refusal;
-use snb_validation_expect::law::expected_cases_are_right;
-use snb_workers::law::counts_of_a_run;
+use snb_auditor_log::{accepted_in_order, one_log_refusal, said_log_is_clean, whole_exactly};
+use snb_loader::{one_dataset, one_lanes, one_params};
+use snb_plan::plan_is_one;
+use snb_tool_words::one_command;
+use snb_validation_check::one_cases_refusal;
+use snb_validation_expect::expected_cases_are_right;
+use snb_workers::counts_of_a_run;
 
 /// What a command finds is refused for one thing at most, and then something is wrong with it.
 pub fn refusal_is_one()

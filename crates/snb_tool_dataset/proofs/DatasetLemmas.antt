@@ -17,7 +17,7 @@ use Rattle.snb_tool_outcome.specs.Inputs.{AreBadCases, at_first}
 use Rattle.snb_tool_outcome.specs.Found.{Connector, Given}
 use Rattle.snb_ratio.specs.Chances.{ChanceFall}
 use Rattle.snb_walk.specs.declared.target.Pick.TheVariants.{Modulo}
-use Rattle.snb_tool_outcome.specs.declared.deliver.Finished.{Finished}
+use Rattle.snb_tool_outcome.specs.declared.delivery.Finished.{Finished}
 use Rattle.snb_tool_outcome.specs.declared.input.Input.{Input}
 use Rattle.snb_validation_model.specs.declared.tally.Tally.{Tally}
 use Rattle.snb_tool_outcome.specs.Endings.{IsDoneWith, IsFinished}

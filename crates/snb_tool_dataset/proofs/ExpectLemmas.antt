@@ -10,7 +10,7 @@ use Rattle.snb_base.specs.Outbox.{Written}
 use Rattle.snb_base.specs.Shelf.{Files}
 use Rattle.snb_schema.specs.declared.column.Column.{Column}
 use Rattle.snb_schema.specs.declared.query.Query.{Query}
-use Rattle.snb_schema.specs.declared.read_kind.ReadKind.{ReadKind}
+use Rattle.snb_schema.specs.declared.query.ReadKind.{ReadKind}
 use Rattle.snb_schema.specs.declared.row.Row.{Row}
 use Rattle.snb_schema.specs.Columns.{SpellsAll}
 use Rattle.snb_schema.specs.Frequencies.{FrequencyTable, frequency_at}

@@ -2,8 +2,14 @@
 //! their reads is handed in.
 #![tactic(auto)]
 
-pub mod check;
-pub mod expect;
-pub mod read;
-pub mod validate;
-pub mod walk;
+mod check_command;
+mod expect_command;
+mod read_command;
+mod validate_command;
+mod walk_command;
+
+pub use check_command::check;
+pub use expect_command::expect;
+pub use read_command::read;
+pub use validate_command::validate;
+pub use walk_command::walk;

@@ -16,7 +16,7 @@ use Rattle.snb_schema.specs.declared.query.Query.{Query}
 use Rattle.snb_schema.specs.declared.refusal.Refusal.{Refusal}
 use Rattle.snb_schema.specs.declared.row.Row.{Row}
 use Rattle.snb_plan.specs.Plans.{IsOfStreams, queries_in}
-use Rattle.snb_tool_outcome.specs.declared.deliver.Finished.{Finished}
+use Rattle.snb_tool_outcome.specs.declared.delivery.Finished.{Finished}
 use Rattle.snb_tool_outcome.specs.declared.input.Input.{Input}
 use Rattle.snb_validation_cases.specs.declared.case.Case.{Case}
 use Rattle.snb_validation_model.specs.declared.tally.Tally.{Tally}

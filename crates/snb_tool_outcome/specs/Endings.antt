@@ -13,8 +13,8 @@ use Rattle.snb_schema.specs.ScreenTexts.{refusal_text}
 use Rattle.snb_tool_texts.specs.Answers.{bytes_in}
 use Rattle.snb_tool_words.specs.declared.command.Command.{Command}
 use Rattle.snb_tool_words.specs.Words.{texts_of}
-use Rattle.snb_tool_outcome.specs.declared.deliver.Finished.{Finished}
-use Rattle.snb_tool_outcome.specs.declared.deliver.Output.{Output}
+use Rattle.snb_tool_outcome.specs.declared.delivery.Finished.{Finished}
+use Rattle.snb_tool_outcome.specs.declared.delivery.Output.{Output}
 use Rattle.snb_tool_outcome.specs.Inputs.{checks_of}
 use Rattle.snb_tool_outcome.specs.Found.{Found, Given, IsFoundTold}
 use Rattle.snb_tool_outcome.specs.Outcome.{Asked}

@@ -2,7 +2,7 @@
 use Rattle.std.specs.Prelude.{◌≡◌, ℕ, Bool, true, false, List, Option, IfSome, MatchOption}
 use Rattle.snb_base.specs.Shelf.{Files}
 use Rattle.snb_input_files.specs.Walk.{Held, IsHeldTold}
-use Rattle.snb_schema.specs.declared.read_kind.ReadKind.{ReadKind}
+use Rattle.snb_schema.specs.declared.query.ReadKind.{ReadKind}
 use Rattle.snb_tool_words.specs.declared.command.Command.{Command}
 use Rattle.snb_handlers.specs.Table.{HasAll, IsFirstUnhandled}
 use Rattle.snb_tool_words.specs.CommandFacts.{beside_of, folder_of, needs_table}

@@ -12,7 +12,7 @@ use Rattle.snb_plan.specs.Closed.{IsClosed, IsFirstWrong}
 use Rattle.snb_plan.specs.Plans.{IsPlan, Plan, updates_in}
 use Rattle.snb_plan.specs.Merging.{read_count}
 use Rattle.snb_schema.specs.declared.limits.TheConstants.{MAX_READS}
-use Rattle.snb_schema.specs.declared.read_kind.ReadKind.{ReadKind}
+use Rattle.snb_schema.specs.declared.query.ReadKind.{ReadKind}
 use Rattle.snb_schema.specs.declared.refusal.Counted.TheVariants.{Reads}
 use Rattle.snb_schema.specs.declared.refusal.Refusal.{Refusal}
 use Rattle.snb_schema.specs.declared.refusal.Refusal.TheVariants.{TooMany, Unregistered}

@@ -5,7 +5,7 @@ use Rattle.std.specs.Borrow.{Bor}
 use Rattle.snb_base.specs.Outbox.{Written}
 use Rattle.snb_base.specs.Shelf.{Files}
 use Rattle.snb_base.specs.FirstOf.{FirstOf, NoneOf}
-use Rattle.snb_schema.specs.declared.read_kind.ReadKind.{ReadKind}
+use Rattle.snb_schema.specs.declared.query.ReadKind.{ReadKind}
 use Rattle.snb_schema.specs.declared.refusal.Refusal.{Refusal}
 use Rattle.snb_schema.specs.ScreenTexts.{refusal_text}
 use Rattle.snb_tool_words.specs.declared.command.Command.{Command}

@@ -17,12 +17,9 @@ ghost use Rattle.snb_tool_outcome.specs.Names.{plan_series};
 
 use snb_base::Shelf;
 use snb_graph::Graph;
-use snb_input_files::law::stages_join;
-use snb_input_files::{Load, Used};
-use snb_loader::law::{one_dataset, one_lanes, one_params};
-use snb_loader::{load_dataset, load_lanes, load_params};
-use snb_plan::Plan;
-use snb_plan::law::plan_is_one;
+use snb_input_files::{Load, Used, stages_join};
+use snb_loader::{load_dataset, load_lanes, load_params, one_dataset, one_lanes, one_params};
+use snb_plan::{Plan, plan_is_one};
 use snb_ratio::Ratio;
 use snb_schema::{Frequencies, Lanes, Lists};
 use std::alloc::Global;

@@ -2,11 +2,12 @@
 //! share, which are the input of a folder, the texts that they leave, and their delivery.
 #![tactic(auto)]
 
-pub mod deliver;
-pub mod finish;
-pub mod input;
-pub mod judged;
+mod delivery;
+mod finishing;
+mod input;
+mod judged;
 
-pub use deliver::{Finished, Output};
+pub use delivery::{Finished, Output, WriteFault, deliver, show};
+pub use finishing::{finish, show_as};
 pub use input::{Input, load_input};
 pub use judged::Judged;

@@ -2,8 +2,14 @@
 //! is handed in.
 #![tactic(auto)]
 
-pub mod audit;
-pub mod latency;
-pub mod run;
-pub mod trial;
-pub mod waiting;
+mod audit_command;
+mod latency_command;
+mod run_command;
+mod trial_command;
+mod waiting;
+
+pub use audit_command::{audit, judge};
+pub use latency_command::latency;
+pub use run_command::{run, run_output};
+pub use trial_command::trial;
+pub use waiting::obey_waiting;

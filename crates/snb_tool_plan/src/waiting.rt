@@ -9,8 +9,8 @@ ghost use Rattle.snb_tool_outcome.specs.Endings.{IsFinished};
 ghost use Rattle.snb_tool_outcome.specs.Found.{Given};
 ghost use Rattle.snb_tool_outcome.specs.Names.{IsNameOf};
 
-use crate::run::run;
-use crate::trial::trial;
+use crate::run_command::run;
+use crate::trial_command::trial;
 use snb_base::{Clock, Gate, Shelf};
 use snb_input_files::Load;
 use snb_replies::Replies;

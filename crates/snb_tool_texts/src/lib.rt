@@ -1,7 +1,12 @@
 //! The texts that the program writes: of a run, of a count, and of a refusal.
 #![tactic(auto)]
 
-pub mod answers;
-pub mod counts;
-pub mod final_lines;
-pub mod refusal_text;
+mod answers;
+mod counts;
+mod final_text;
+mod refusal_text;
+
+pub use answers::answer_pieces;
+pub use counts::{check_lines, summary_lines};
+pub use final_text::final_lines;
+pub use refusal_text::refusal_line;

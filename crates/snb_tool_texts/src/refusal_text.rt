@@ -5,8 +5,7 @@ ghost use Rattle.std.specs.Fmt.{decimal};
 ghost use Rattle.snb_schema.specs.FileNames.{name_of};
 ghost use Rattle.snb_schema.specs.ScreenTexts.{refusal_text, cause_text, kind_text, counted_text};
 
-use snb_schema::file::{file_name, table_name};
-use snb_schema::{Counted, FileId, Kind, Refusal};
+use snb_schema::{Counted, FileId, Kind, Refusal, file_name, table_name};
 use std::alloc::{AllocError, Global};
 
 // The name of a node's kind.

@@ -6,7 +6,9 @@ use Rattle.std.specs.Option.{IfSome, MatchOption, is_some, option_map}
 use Rattle.std.specs.Str.{bytes_eq}
 use Rattle.snb_base.specs.Spellings.{EachSpells, SpellsId}
 use Rattle.snb_schema.specs.declared.limits.TheConstants.{MAX_WORKERS}
-use Rattle.snb_schema.proofs.Laws.{same_values}
+use Rattle.snb_schema.proofs.Laws.{none_given, same_values}
+use Rattle.snb_schema.specs.declared.query.TheConstants.{COMPLEX_COUNT}
+use Rattle.snb_schema.specs.QueryPlaces.{place_of}
 use Rattle.snb_schema.specs.Frequencies.{FrequencyTable, FrequenciesAreOne, HasFrequencies, frequency_at}
 use Rattle.snb_tool_words.specs.declared.options.OptionName.{OptionName}
 use Rattle.snb_tool_words.specs.declared.options.OptionName.TheVariants.{Workers, Ratio, Frequencies, Via, Chance, Words}
@@ -45,7 +47,7 @@ frequencies_one law word a b p q = table_one p.0 a b p.2 (subst (HasFrequencies 
 
 -- a table in which no query has a frequency is the one of none
 pub no_table : (table : FrequencyTable) → ((q : ℕ) → frequency_at table q ≡ 0) → table ≡ no_frequencies
-no_table table p = λ i. (p 1 i, (p 2 i, (p 7 i, (p 8 i, (p 9 i, (p 11 i, (p 13 i, tt)))))))
+no_table table p = same_values 0 table no_frequencies (λ q. p q ∙ sym (none_given COMPLEX_COUNT 0 (place_of q)))
 
 -- and one number of workers, and by one thing reads are answered
 pub workers_one : (word : List ℕ) (a b : ℕ) → SaysWorkers word a → SaysWorkers word b → a ≡ b

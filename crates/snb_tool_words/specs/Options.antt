@@ -6,6 +6,7 @@ use Rattle.snb_base.specs.Spellings.{EachSpells, Num, SpellsId}
 use Rattle.snb_ratio.specs.Chances.{ChanceFall, SpellsChance}
 use Rattle.snb_ratio.specs.Ratios.{SpellsRatio}
 use Rattle.snb_schema.specs.declared.limits.TheConstants.{MAX_WORKERS}
+use Rattle.snb_schema.specs.declared.query.TheConstants.{COMPLEX_COUNT}
 use Rattle.snb_schema.specs.QueryPlaces.{values_of}
 use Rattle.snb_schema.specs.Frequencies.{FrequencyTable, HasFrequencies, SpellsFrequencies}
 use Rattle.snb_schema.specs.declared.limits.TheConstants.{MAX_WORDS}
@@ -109,4 +110,4 @@ MustSay Spells (Some word) a = Spells word a
 
 -- no query has a frequency
 abbrev pub no_frequencies : FrequencyTable
-no_frequencies = values_of 7 [] 0
+no_frequencies = values_of COMPLEX_COUNT [] 0

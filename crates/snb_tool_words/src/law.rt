@@ -2,9 +2,9 @@
 
 ghost use Rattle.snb_tool_words.specs.Laws.{WordsAreOne};
 
-use snb_input_fields::law::one_value;
-use snb_ratio::law::{one_chance, one_ratio};
-use snb_schema::law::frequencies_are_one;
+use snb_input_fields::one_value;
+use snb_ratio::{one_chance, one_ratio};
+use snb_schema::frequencies_are_one;
 
 /// Words are the line of one command at most.
 pub fn one_command()

@@ -5,7 +5,7 @@ ghost use Rattle.snb_base.specs.Spellings.{SpellsId};
 ghost use Rattle.snb_tool_words.specs.Options.{SpellsWords};
 
 use snb_base::{Numbers, read_number};
-use snb_schema::limits::{MAX_ID, MAX_WORDS};
+use snb_schema::{MAX_ID, MAX_WORDS};
 use std::alloc::{AllocError, Global};
 
 // What stands before the first comma, and what after it.

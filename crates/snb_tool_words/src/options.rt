@@ -15,8 +15,7 @@ ghost use Rattle.snb_tool_words.specs.Words.{texts_of};
 use crate::number_words::are_words;
 use snb_base::read_number;
 use snb_ratio::{Chance, Ratio};
-use snb_schema::Frequencies;
-use snb_schema::limits::{MAX_TRIAL, MAX_WORKERS};
+use snb_schema::{Frequencies, MAX_TRIAL, MAX_WORKERS};
 
 /// The options that there are.
 #[derive(Clone, Copy, PartialEq, Eq)]

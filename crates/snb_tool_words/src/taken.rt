@@ -6,7 +6,7 @@ ghost use Rattle.clap.specs.Words.{app_of, first_of, first_value, found_of, matc
 ghost use Rattle.snb_ratio.specs.Chances.{ChanceFall, SpellsChance};
 ghost use Rattle.snb_ratio.specs.Ratios.{SpellsRatio, real_time};
 ghost use Rattle.snb_schema.specs.declared.query.Query.{Query as AnyQuery};
-ghost use Rattle.snb_schema.specs.declared.read_kind.ReadKind.{ReadKind as AnyKind};
+ghost use Rattle.snb_schema.specs.declared.query.ReadKind.{ReadKind as AnyKind};
 ghost use Rattle.snb_schema.specs.Frequencies.{FrequencyTable};
 ghost use Rattle.snb_tool_words.specs.declared.options.Via.{Via as AnyVia};
 ghost use Rattle.snb_tool_words.specs.Options.{MustSay, OptionSays, SaysFrequencies, SaysVia, SaysWorkers, SpellsWords, no_frequencies};
@@ -19,8 +19,7 @@ use clap::error::ErrorKind;
 use clap::{Arg, ArgMatches, Command};
 use snb_base::{Numbers, Text, read_number};
 use snb_dates::read_date;
-use snb_input_fields::law::one_value;
-use snb_input_fields::{Fields, read_query};
+use snb_input_fields::{Fields, one_value, read_query};
 use snb_ratio::{Chance, Ratio};
 use snb_schema::{Frequencies, LineFault, Query, ReadKind};
 use std::alloc::{AllocError, Global};

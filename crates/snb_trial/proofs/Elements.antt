@@ -4,7 +4,7 @@ use Rattle.std.specs.List.{AllPairs, Contains, cons_option, filter_map, flat_map
 use Rattle.std.proofs.lemmas.List.Elements.{All-contains, Contains-append_cases, Contains-append_left, Contains-append_right}
 use Rattle.std.proofs.lemmas.List.Kept.{AllPairs-cons}
 use Rattle.std.proofs.lemmas.Bool.{cases_lt}
-use Rattle.snb_base.proofs.Laws.{all_of, contains_cases, contains_here, contains_there, given_by, gives, none_in, pairs_append, pairs_head, pairs_none, pairs_tail}
+use Rattle.snb_base.proofs.Laws.{all_of, contains_cases, contains_here, contains_there, given_by, none_in, pairs_append, pairs_head, pairs_none, pairs_tail}
 
 -- ---- lists in order
 

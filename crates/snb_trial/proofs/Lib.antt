@@ -1,8 +1,9 @@
+pub mod ByQuery
+pub mod Closed
+pub mod Counts
 pub mod Elements
 pub mod Numbered
-pub mod Counts
+pub mod Said
 pub mod Seven
 pub mod Spelled
-pub mod Closed
 pub mod TenRows
-pub mod Said

@@ -1,12 +1,13 @@
 -- The texts of the frequencies and of the ratio, and that they are said so.
-use Rattle.std.proofs.Common.{◌≡◌, ◌<◌, ℕ, zero, suc, List, [], ◌∷◌, ◌⊎◌, inl, inr, refl, arith, subst, codes}
+use Rattle.std.proofs.Common.{◌≡◌, ◌≢◌, ◌∙◌, ℕ, ◌<◌, zero, suc, List, [], ◌∷◌, inl, inr, refl, rules, sym, arith, codes}
+use Rattle.std.proofs.lemmas.Bool.{cases_eq}
 use Rattle.std.specs.List.Sorted.{IsStrictlyIncreasing}
 use Rattle.snb_ratio.specs.Ratios.{SpellsRatio}
 use Rattle.snb_schema.specs.Frequencies.{FrequencyTable, HasFrequencies, frequency_at, SpellsFrequencies, SpellsFrequency}
-use Rattle.snb_schema.specs.Queries.{IsComplex}
-use Rattle.snb_schema.proofs.Laws.{frequent_complex}
+use Rattle.snb_schema.proofs.Laws.{same_values}
 use Rattle.snb_trial.specs.Laws.{NamesTwo}
-use Rattle.snb_trial.specs.Trial.{least_ratio, read_frequencies}
+use Rattle.snb_trial.specs.Trial.{least_ratio, read_frequencies, trial_frequency}
+use Rattle.snb_trial.proofs.ByQuery.{at_query}
 
 abbrev pub pairs : List (ℕ × ℕ)
 pairs = (2, 10) ∷ (13, 7) ∷ []
@@ -18,7 +19,7 @@ two = record {
   splits = refl;
   numbered = record { digits = ((omega arith, omega arith), tt); some = omega arith; few = omega arith; no_lead = λ e. refl; value = refl; small = omega arith };
   counted = record { digits = ((omega arith, omega arith), ((omega arith, omega arith), tt)); some = omega arith; few = omega arith; no_lead = λ e. absurd (omega (arith, e)); value = refl; small = omega arith };
-  complex = inr (inl refl);
+  complex = search rules;
   positive = omega arith;
 }
 
@@ -29,7 +30,7 @@ thirteen = record {
   splits = refl;
   numbered = record { digits = ((omega arith, omega arith), ((omega arith, omega arith), tt)); some = omega arith; few = omega arith; no_lead = λ e. absurd (omega (arith, e)); value = refl; small = omega arith };
   counted = record { digits = ((omega arith, omega arith), tt); some = omega arith; few = omega arith; no_lead = λ e. refl; value = refl; small = omega arith };
-  complex = inr (inr (inr (inr (inr (inr (inl refl))))));
+  complex = search rules;
   positive = omega arith;
 }
 
@@ -41,9 +42,16 @@ two_rise a b less (suc k) lt = absurd (omega (arith, lt))
 pub frequencies_said : SpellsFrequencies (codes "2:10,13:7") pairs
 frequencies_said = record { spelled = (two, (thirteen, tt)); rising = two_rise 2 13 (omega arith) }
 
+-- each query but these two has no frequency
+not_asked : (q : ℕ) → q ≢ 2 → q ≢ 13 → trial_frequency q ≡ 0
+not_asked q not_two not_thirteen = search rules
+
+asked_at : (q : ℕ) → frequency_at read_frequencies q ≡ trial_frequency q
+asked_at q = at_query trial_frequency 0 not_asked q
+
 -- a table that has just these is the workload's
 pub table_is : (table : FrequencyTable) → HasFrequencies table pairs → table ≡ read_frequencies
-table_is table p = λ i. (p 1 i, (p 2 i, (p 7 i, (p 8 i, (p 9 i, (p 11 i, (p 13 i, tt)))))))
+table_is table p = same_values 0 table read_frequencies (λ q. p q ∙ sym (asked_at q))
 
 -- and the ratio's text
 pub ratio_said : SpellsRatio (codes "0.000001") least_ratio
@@ -69,17 +77,12 @@ ratio_said = (
   ),
 )
 
--- of the seven queries two have a frequency
-of_seven : (q : ℕ) → 0 < frequency_at read_frequencies q → IsComplex q → (q ≡ 2) ⊎ (q ≡ 13)
-of_seven q lt (inl e) = absurd (let some = subst (λ (n : ℕ). 0 < frequency_at read_frequencies n) e lt in omega (arith, some))
-of_seven q lt (inr (inl e)) = inl e
-of_seven q lt (inr (inr (inl e))) = absurd (let some = subst (λ (n : ℕ). 0 < frequency_at read_frequencies n) e lt in omega (arith, some))
-of_seven q lt (inr (inr (inr (inl e)))) = absurd (let some = subst (λ (n : ℕ). 0 < frequency_at read_frequencies n) e lt in omega (arith, some))
-of_seven q lt (inr (inr (inr (inr (inl e))))) = absurd (let some = subst (λ (n : ℕ). 0 < frequency_at read_frequencies n) e lt in omega (arith, some))
-of_seven q lt (inr (inr (inr (inr (inr (inl e)))))) = absurd (let some = subst (λ (n : ℕ). 0 < frequency_at read_frequencies n) e lt in omega (arith, some))
-of_seven q lt (inr (inr (inr (inr (inr (inr (inl e))))))) = inr e
-of_seven q lt (inr (inr (inr (inr (inr (inr (inr none))))))) = absurd none
-
 -- no query but 2 and 13 has a frequency
 pub names_two : NamesTwo read_frequencies
-names_two q lt = of_seven q lt (frequent_complex read_frequencies q lt)
+names_two q lt = elim (cases_eq q 2) [
+  | inl two ↦ inl two
+  | inr not_two ↦ elim (cases_eq q 13) [
+    | inl thirteen ↦ inr thirteen
+    | inr not_thirteen ↦ absurd (let none = asked_at q ∙ not_asked q not_two not_thirteen in omega (arith, lt, none))
+  ]
+]

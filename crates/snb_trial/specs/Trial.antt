@@ -6,12 +6,15 @@ use Rattle.snb_schema.specs.declared.op.Line.{Line}
 use Rattle.snb_schema.specs.declared.op.Op.{Op}
 use Rattle.snb_schema.specs.declared.op.Op.TheVariants.{AddPerson, LikePost, AddForum, AddMember, AddPost, AddComment, AddFriend}
 use Rattle.snb_schema.specs.declared.op.Parent.TheVariants as parents
+use Rattle.snb_schema.specs.declared.query.Query.{Query}
 use Rattle.snb_schema.specs.declared.query.Query.TheVariants.{Ic2, Ic13}
+use Rattle.snb_schema.specs.declared.query.TheConstants.{COMPLEX_COUNT}
 use Rattle.snb_schema.specs.declared.row.Row.{Row}
 use Rattle.snb_schema.specs.declared.row.Row.TheVariants as row
 use Rattle.snb_schema.specs.declared.table.Table.TheVariants as table
 use Rattle.snb_schema.specs.Frequencies.{FrequencyTable}
 use Rattle.snb_schema.specs.LineLanes.{LineLanes}
+use Rattle.snb_schema.specs.Queries.{complex_queries}
 use Rattle.snb_schema.specs.QueryPlaces.{values_of}
 use Rattle.snb_schema.specs.QueryLists.{QueryLists}
 
@@ -133,14 +136,23 @@ lanes n = record {
 -- ---- parameters
 
 -- query 2 is asked of person 0 up to the last moment, query 13 of persons 0 and n
+abbrev pub trial_parameters : ℕ → ℕ → List Query
+trial_parameters n q =
+    if q == 2 then Ic2 0 MAX_TIME ∷ [] else if q == 13 then Ic13 0 n ∷ [] else []
+
+-- the list of each query
 abbrev pub lists : ℕ → QueryLists
-lists n = values_of 7 ([] ∷ (Ic2 0 MAX_TIME ∷ []) ∷ [] ∷ [] ∷ [] ∷ [] ∷ (Ic13 0 n ∷ []) ∷ []) []
+lists n = values_of COMPLEX_COUNT (map (trial_parameters n) complex_queries) []
 
 -- ---- the plan
 
 -- a read of query 2 goes with every tenth update, and one of query 13 with every seventh
+abbrev pub trial_frequency : ℕ → ℕ
+trial_frequency q = if q == 2 then 10 else if q == 13 then 7 else 0
+
+-- the frequency of each query
 abbrev pub read_frequencies : FrequencyTable
-read_frequencies = values_of 7 (0 ∷ 10 ∷ 0 ∷ 0 ∷ 0 ∷ 0 ∷ 7 ∷ []) 0
+read_frequencies = values_of COMPLEX_COUNT (map trial_frequency complex_queries) 0
 
 -- the ratio, in millionths: the least
 abbrev pub least_ratio : ℕ

@@ -2,7 +2,7 @@
 
 ghost use Rattle.snb_trial.specs.Laws.{LanesAreOfStreams, ListsAreEnough, SevenOfEach, UpdatesAreClosed, UpdatesAreFew};
 
-use snb_columns::law::own_line;
+use snb_columns::own_line;
 
 /// The lanes are those of streams: some text has each line.
 pub fn lanes_are_of_streams()

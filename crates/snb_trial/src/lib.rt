@@ -4,9 +4,11 @@
 mod dataset;
 mod entries;
 mod lanes;
-pub mod law;
+mod law;
 mod lists;
-pub mod terms;
-pub mod trial;
+mod terms;
+mod trial;
 
+pub use law::{lanes_are_of_streams, lists_are_enough, seven_updates, updates_are_closed};
+pub use terms::{trial_frequencies, trial_ratio};
 pub use trial::trial_input;

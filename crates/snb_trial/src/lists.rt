@@ -3,8 +3,7 @@
 ghost use Rattle.std.specs.Prelude.{◌≡◌, IfOk};
 ghost use Rattle.snb_trial.specs.Trial.{lists};
 
-use snb_schema::limits::MAX_TIME;
-use snb_schema::{Lists, Query};
+use snb_schema::{Lists, MAX_TIME, Query};
 use std::alloc::{AllocError, Global};
 
 /// One parameter of query 2, and one of query 13.

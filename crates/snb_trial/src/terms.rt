@@ -4,10 +4,8 @@ ghost use Rattle.std.specs.Prelude.{◌≡◌};
 ghost use Rattle.snb_trial.specs.Laws.{NamesTwo};
 ghost use Rattle.snb_trial.specs.Trial.{least_ratio, read_frequencies};
 
-use snb_ratio::Ratio;
-use snb_ratio::law::one_ratio;
-use snb_schema::Frequencies;
-use snb_schema::law::frequencies_are_one;
+use snb_ratio::{Ratio, one_ratio};
+use snb_schema::{Frequencies, frequencies_are_one};
 
 /// A read of query 2 goes with every tenth update, and one of query 13 with every seventh.
 pub fn trial_frequencies() -> Frequencies

@@ -1,8 +1,9 @@
 //! Replies as JSON.
 #![tactic(auto)]
 
-pub mod law;
-pub mod reply;
+mod law;
+mod reply;
 mod written;
 
+pub use law::text_tells_reply;
 pub use reply::{reply_text, reply_value};

@@ -2,7 +2,7 @@
 use Rattle.std.proofs.Common.{◌≡◌, ◌∙◌, sym, subst, List}
 use Rattle.serde_json.specs.Data.{Data}
 use Rattle.snb_schema.specs.declared.query.Query.{Query}
-use Rattle.snb_schema.specs.declared.read_kind.ReadKind.{ReadKind}
+use Rattle.snb_schema.specs.declared.query.ReadKind.{ReadKind}
 use Rattle.snb_schema.specs.ReadKinds.{read_kind_of, read_word}
 use Rattle.snb_read_model.specs.Cells.{ByteCell}
 use Rattle.snb_validation_cases.specs.Cases.{IsAskOf}

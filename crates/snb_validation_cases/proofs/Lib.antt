@@ -5,3 +5,4 @@ mod KindFacts
 mod AskFacts
 mod CaseFacts
 mod LawFacts
+mod TakeFacts

@@ -13,8 +13,8 @@ use Rattle.snb_schema.specs.declared.query.Query.{Query}
 use Rattle.snb_read_model.specs.Cells.{ByteCell}
 use Rattle.snb_read_model.specs.declared.cell.Cell.TheVariants as cell
 use Rattle.snb_read_model.specs.Replies.{tail_reads}
-use Rattle.snb_schema.specs.declared.read_kind.CellKind.{CellKind}
-use Rattle.snb_schema.specs.declared.read_kind.CellKind.TheVariants.{Number, Flag, Words, Texts, Stays}
+use Rattle.snb_schema.specs.declared.query.CellKind.{CellKind}
+use Rattle.snb_schema.specs.declared.query.CellKind.TheVariants.{Number, Flag, Words, Texts, Stays}
 use Rattle.snb_read_model.specs.Columns.{IsOfColumn, columns_of}
 use Rattle.snb_validation_cases.specs.Parameters.{IsParameter}
 use Rattle.snb_validation_cases.specs.Replies.{AreReply, AreStay, IsAnswerTo, IsCellIn, IsCellValue, IsReplyData, IsRow, IsStayData, IsStayOf}

@@ -7,8 +7,8 @@ use Rattle.serde_json.specs.Data.{Data}
 use Rattle.snb_schema.specs.declared.query.Query.{Query}
 use Rattle.snb_read_model.specs.Cells.{ByteCell}
 use Rattle.snb_read_model.specs.declared.cell.Cell.TheVariants as cell
-use Rattle.snb_schema.specs.declared.read_kind.CellKind.{CellKind}
-use Rattle.snb_schema.specs.declared.read_kind.CellKind.TheVariants.{Texts, Stays}
+use Rattle.snb_schema.specs.declared.query.CellKind.{CellKind}
+use Rattle.snb_schema.specs.declared.query.CellKind.TheVariants.{Texts, Stays}
 use Rattle.snb_read_model.specs.Columns.{HasColumns, HaveColumns, IsOfColumn, columns_of}
 use Rattle.snb_validation_cases.specs.Replies.{IsCellIn, IsRow, IsStayData}
 use Rattle.snb_validation_cases.specs.Values.{AreAlong, IsArray, IsString}
@@ -31,7 +31,7 @@ cells_columns (c ∷ cs) [] (x ∷ xs) h = absurd h
 cells_columns (c ∷ cs) (d ∷ ds) [] h = absurd h
 cells_columns (c ∷ cs) (d ∷ ds) (x ∷ xs) h = (h.0.0, cells_columns cs ds xs h.1)
 
-have_columns : (query : Query) (ds : List Data) (rows : List (List ByteCell)) → AllZip (IsRow query) ds rows → HaveColumns query rows
+pub have_columns : (query : Query) (ds : List Data) (rows : List (List ByteCell)) → AllZip (IsRow query) ds rows → HaveColumns query rows
 have_columns query [] [] h = λ k d lt. absurd (omega (arith, lt))
 have_columns query [] (row ∷ rows) h = absurd h
 have_columns query (d ∷ ds) [] h = absurd h

@@ -4,3 +4,4 @@ pub mod Replies
 pub mod Cases
 pub mod CaseFile
 pub mod Laws
+pub mod Takes

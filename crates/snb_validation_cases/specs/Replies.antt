@@ -9,7 +9,7 @@ use Rattle.snb_schema.specs.declared.query.Query.{Query}
 use Rattle.snb_read_model.specs.Cells.{ByteCell}
 use Rattle.snb_read_model.specs.declared.cell.Cell.TheVariants as cell
 use Rattle.snb_read_model.specs.Replies.{tail_reads}
-use Rattle.snb_schema.specs.declared.read_kind.CellKind.{CellKind}
+use Rattle.snb_schema.specs.declared.query.CellKind.{CellKind}
 use Rattle.snb_read_model.specs.Columns.{IsOfColumn, columns_of}
 use Rattle.snb_validation_cases.specs.Values.{AreAlong, IsArray, IsNumberTo, IsString}
 

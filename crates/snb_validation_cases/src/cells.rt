@@ -4,7 +4,7 @@ ghost use Rattle.std.specs.Prelude.{◌≡◌, ℕ, List, IfOk, MatchOption, map
 ghost use Rattle.std.specs.List.{AllZip};
 ghost use Rattle.serde_json.specs.View.{view};
 ghost use Rattle.snb_read_model.specs.Cells.{ByteCell as AnyCell};
-ghost use Rattle.snb_schema.specs.declared.read_kind.CellKind.TheVariants.{Number, Flag, Words as WordsColumn, Texts as TextsColumn, Stays as StaysColumn};
+ghost use Rattle.snb_schema.specs.declared.query.CellKind.TheVariants.{Number, Flag, Words as WordsColumn, Texts as TextsColumn, Stays as StaysColumn};
 ghost use Rattle.snb_validation_cases.specs.Replies.{AreStay, IsCellIn, IsStayData, IsStayOf};
 ghost use Rattle.snb_validation_cases.specs.Values.{IsArray};
 
@@ -12,7 +12,7 @@ use crate::values::{items_in, number_in, text_in, texts_in};
 use serde_json::Value;
 use snb_base::Text;
 use snb_read_model::{Cell, CellKind, Stays};
-use snb_schema::limits::MAX_YEAR;
+use snb_schema::MAX_YEAR;
 use std::alloc::{AllocError, Global};
 
 // The number that a value is.

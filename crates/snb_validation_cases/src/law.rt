@@ -2,7 +2,7 @@
 
 ghost use Rattle.snb_validation_cases.specs.Laws.{OneCase, OneCaseColumn, OneCaseLine, OneHeaderColumn};
 
-use snb_streams::law::one_insert;
+use snb_streams::one_insert;
 
 /// A text spells one case at most.
 pub fn one_case()

@@ -2,15 +2,18 @@
 //! read with the reply that is due, as one JSON object.
 #![tactic(auto)]
 
-pub mod case;
+mod case;
 mod cells;
-pub mod law;
-pub mod lines;
+mod law;
+mod lines;
 mod members;
 mod parameters;
-pub mod read;
+mod read;
 mod replies;
+mod taken;
 mod values;
 
-pub use case::{Case, CaseAt};
+pub use case::{Case, CaseAt, CaseFault};
+pub use law::{one_case, one_case_line};
 pub use lines::CaseLines;
+pub use read::read_case;

@@ -7,12 +7,14 @@ ghost use Rattle.snb_validation_cases.specs.CaseFile.{header_data};
 
 use crate::case::{CaseAt, CaseFault};
 use crate::members::held_alone;
-use crate::read::{read_case, value_of};
+use crate::read::{read_case_with, value_of};
 use crate::values::number_in;
+use json::Scratch;
 use serde_json::Value;
 use snb_input_lines::{Grammar, Record};
 use snb_schema::LineFault;
 use std::alloc::{AllocError, Global};
+use std::cell::Cell;
 use std::marker::Model;
 
 /// What the lines of a file of cases say: the first with a byte is the header, the object
@@ -20,11 +22,16 @@ use std::marker::Model;
 /// column 0.
 pub struct CaseLines {
     alloc: Global,
+    // Kept from line to line, in a box: it has 16 KB, which no line moves.
+    scratch: Cell<Option<Box<Scratch>>>,
 }
 
 impl Drop for CaseLines {
     fn drop(self) {
-        let CaseLines { alloc: _ } = self;
+        let CaseLines {
+            alloc: _,
+            scratch: _,
+        } = self;
     }
 }
 
@@ -37,7 +44,10 @@ impl Model for CaseLines {
 impl CaseLines {
     /// Those of any such file.
     pub fn new(alloc: Global) -> CaseLines {
-        CaseLines { alloc }
+        CaseLines {
+            alloc,
+            scratch: Cell::new(None),
+        }
     }
 }
 
@@ -60,6 +70,12 @@ fn heads(alloc: Global, text: &[u8]) -> Result<bool, AllocError>
         Some(value) => Ok(is_header(&value)),
         None => Ok(false),
     }
+}
+
+// Memory for the tokens of lines.
+#[inline(never)]
+fn new_scratch(alloc: Global) -> Result<Box<Scratch>, AllocError> {
+    Ok(Box::new(alloc, Scratch::new(alloc))?)
 }
 
 impl Grammar for CaseLines {
@@ -94,7 +110,16 @@ impl Grammar for CaseLines {
         line: &[u8],
         _fields: &Record,
     ) -> Result<CaseAt, LineFault> {
-        match read_case(self.alloc, line) {
+        let mut scratch = match self.scratch.take() {
+            Some(scratch) => scratch,
+            None => match new_scratch(self.alloc) {
+                Ok(scratch) => scratch,
+                Err(_) => return Err(LineFault::Memory),
+            },
+        };
+        let case = read_case_with(self.alloc, &mut scratch, line);
+        self.scratch.set(Some(scratch));
+        match case {
             Ok(case) => Ok(CaseAt { line: number, case }),
             Err(CaseFault::Bad) => Err(LineFault::Bad { column: 0 }),
             Err(CaseFault::Memory) => Err(LineFault::Memory),

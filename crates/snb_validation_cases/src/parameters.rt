@@ -11,8 +11,7 @@ use crate::values::{items_in, number_in, text_in};
 use serde_json::Value as Json;
 use snb_base::Text;
 use snb_input_fields::{Fields, read_query};
-use snb_schema::limits::MAX_TIME;
-use snb_schema::{LineFault, Query, ReadKind};
+use snb_schema::{LineFault, MAX_TIME, Query, ReadKind};
 use std::alloc::{AllocError, Global};
 use std::marker::Model;
 
@@ -91,8 +90,12 @@ impl<'a> Fields for JsonFields<'a> {
     }
 }
 
-// The query of this kind that has these parameters.
-fn query_with(alloc: Global, kind: ReadKind, items: &[Json]) -> Result<Option<Query>, AllocError>
+/// The query of this kind that has these parameters.
+pub fn query_with(
+    alloc: Global,
+    kind: ReadKind,
+    items: &[Json],
+) -> Result<Option<Query>, AllocError>
     ensures { IfOk result (λ found. MatchOption found
         ((query : AnyQuery) → ¬ AreOfKind kind (map view items.now) query)
         (AreOfKind kind (map view items.now))) }

@@ -5,7 +5,7 @@ ghost use Rattle.serde_json.specs.Read.{read};
 ghost use Rattle.serde_json.specs.View.{view};
 ghost use Rattle.snb_schema.specs.declared.op.Line.{Line as AnyLine};
 ghost use Rattle.snb_schema.specs.declared.query.Query.{Query as AnyQuery};
-ghost use Rattle.snb_schema.specs.declared.read_kind.ReadKind.{ReadKind as AnyKind};
+ghost use Rattle.snb_schema.specs.declared.query.ReadKind.{ReadKind as AnyKind};
 ghost use Rattle.snb_schema.specs.ReadKinds.{read_word};
 ghost use Rattle.snb_schema.specs.UpdateLines.{IsLine};
 ghost use Rattle.snb_read_model.specs.Cells.{ByteCell as AnyCell};
@@ -17,12 +17,13 @@ use crate::case::{Case, CaseFault};
 use crate::members::{asked_parts, held_alone};
 use crate::parameters::query_in;
 use crate::replies::reply_in;
+use crate::taken::taken_case;
+use json::Scratch;
 use serde_json::Value;
 use snb_base::Text;
 use snb_read_model::Reply;
 use snb_schema::{Line, LineFault, Query, ReadKind};
-use snb_streams::law::one_bad_line;
-use snb_streams::read_line;
+use snb_streams::{one_bad_line, read_line};
 use std::alloc::{AllocError, Global};
 
 /// The value that `serde_json` reads from a text of UTF-8.
@@ -42,8 +43,8 @@ pub(crate) fn value_of(alloc: Global, text: &[u8]) -> Result<Option<Value>, Allo
     }
 }
 
-// The insert of the line that a text is.
-fn line_of(alloc: Global, text: &str) -> Result<Option<Line>, AllocError>
+/// The insert of the line that a text is.
+pub(crate) fn line_of(alloc: Global, text: &str) -> Result<Option<Line>, AllocError>
     ensures { IfOk result (λ found. MatchOption found
         ((line : AnyLine) → ¬ IsLine text.now line.t line.t_d line.op)
         (λ line. IsLine text.now line.t line.t_d line.op × (line.number ≡ 1))) }
@@ -152,6 +153,32 @@ fn case_of(alloc: Global, text: &[u8]) -> Result<Option<Case>, AllocError>
     }
 }
 
+// The case that a text spells, off its tokens where it can be, and else through the tree of its values.
+fn case_by(alloc: Global, scratch: &mut Scratch, text: &[u8]) -> Result<Option<Case>, AllocError>
+    ensures { IfOk result (λ found. MatchOption found (SpellsNone text.now) (SpellsCase text.now)) }
+{
+    if let Some(case) = taken_case(alloc, scratch, text)? {
+        return Ok(Some(case));
+    }
+    case_of(alloc, text)
+}
+
+/// What `read_case` says, with memory that is kept from text to text.
+pub(crate) fn read_case_with(
+    alloc: Global,
+    scratch: &mut Scratch,
+    text: &[u8],
+) -> Result<Case, CaseFault>
+    ensures ok { IfOk result (SpellsCase text.now) }
+    ensures bad { OnBadCase result (SpellsNone text.now) }
+{
+    match case_by(alloc, scratch, text) {
+        Ok(Some(case)) => Ok(case),
+        Ok(None) => Err(CaseFault::Bad),
+        Err(_) => Err(CaseFault::Memory),
+    }
+}
+
 /// The case that a text spells, as one JSON object in any spelling. `Bad` says that it spells none.
 ///
 /// The object of an insert has the key `insert` alone, which holds a line of an update stream of LDBC
@@ -165,9 +192,5 @@ pub fn read_case(alloc: Global, text: &[u8]) -> Result<Case, CaseFault>
     ensures ok { IfOk result (SpellsCase text.now) }
     ensures bad { OnBadCase result (SpellsNone text.now) }
 {
-    match case_of(alloc, text) {
-        Ok(Some(case)) => Ok(case),
-        Ok(None) => Err(CaseFault::Bad),
-        Err(_) => Err(CaseFault::Memory),
-    }
+    read_case_with(alloc, &mut Scratch::new(alloc), text)
 }

@@ -13,9 +13,8 @@ use crate::cells::cell_in;
 use crate::values::items_in;
 use serde_json::Value;
 use snb_base::Text;
-use snb_read_model::tail::tail_of;
 use snb_read_model::{
-    Answer, AnswerRow, CellKind, Reply, layout_of_query, lend_answer, reply_with_tail,
+    Answer, AnswerRow, CellKind, Reply, layout_of_query, lend_answer, reply_with_tail, tail_of,
 };
 use snb_schema::Query;
 use std::alloc::{AllocError, Global};

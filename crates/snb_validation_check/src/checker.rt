@@ -12,8 +12,7 @@ ghost use Rattle.snb_validation_model.specs.Steps.{HasCompared, HasText, CaseRep
 
 use snb_base::Text;
 use snb_graph::Graph;
-use snb_inserts::Applied;
-use snb_inserts::apply::apply;
+use snb_inserts::{Applied, apply};
 use snb_read_model::{Reply, copy_reply};
 use snb_read_same::same_reply;
 use snb_replies::Replies;

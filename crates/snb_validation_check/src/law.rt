@@ -3,8 +3,8 @@
 ghost use Rattle.snb_validation_check.specs.Laws.{CasesRefuseOnce, CasesRefusedOrNot, FindingIsOne, RightOnEach, TallyIsOne};
 
 use crate::file::cases_are_lawful;
-use snb_graph_model::law::graphs_are_their_rows;
-use snb_read_laws::law::one_reply;
+use snb_graph_model::graphs_are_their_rows;
+use snb_read_laws::one_reply;
 
 /// Over one base a file of cases is refused for one thing at most, and then something is wrong with it;
 /// and what is found over its cases is one.

@@ -1,5 +1,5 @@
 -- A case is read from its text.
-use Rattle.std.proofs.Common.{◌≡◌, ℕ, pos, negsuc, Bool, true, false, ◌&&◌, ◌++◌, List, [], ◌∷◌, map, refl, subst, sym, arith, Result, Ok, Err}
+use Rattle.std.proofs.Common.{◌≡◌, ℕ, pos, negsuc, Bool, true, false, ◌&&◌, ◌++◌, List, [], ◌∷◌, map, refl, rules, subst, sym, arith, Result, Ok, Err}
 use Rattle.std.specs.Prelude.{OnOk}
 use Rattle.std.specs.declared.alloc.AllocError.{AllocError}
 use Rattle.std.specs.List.{AllByRecursion, AllZip}
@@ -13,7 +13,7 @@ use Rattle.snb_schema.specs.declared.column.Value.{Value}
 use Rattle.snb_schema.specs.declared.column.Value.TheVariants as value
 use Rattle.snb_schema.specs.declared.op.Line.{Line}
 use Rattle.snb_schema.specs.declared.query.Query.{Query}
-use Rattle.snb_schema.specs.declared.query.Query.TheVariants as queries
+use Rattle.snb_schema.specs.declared.query.ReadKind.{ReadKind}
 use Rattle.snb_schema.specs.declared.row.Row.{Row}
 use Rattle.snb_schema.specs.Columns.{Spells, SpellsAll}
 use Rattle.snb_schema.specs.ReadKinds.{read_kind_of, parameter_columns, parameter_values}
@@ -21,8 +21,9 @@ use Rattle.snb_schema.specs.UpdateLines.{IsLine, canonical_line}
 use Rattle.snb_graph_model.specs.Graphs.{IsGraph}
 use Rattle.snb_read_model.specs.Cells.{ByteCell}
 use Rattle.snb_read_model.specs.declared.cell.Cell.TheVariants as cell
-use Rattle.snb_read_model.specs.Replies.{IsAnswer, IsReply, tail_reads}
-use Rattle.snb_schema.specs.declared.read_kind.CellKind.{CellKind}
+use Rattle.snb_read_model.specs.ComplexReads.{IsAnswer}
+use Rattle.snb_read_model.specs.Replies.{IsReply, tail_reads}
+use Rattle.snb_schema.specs.declared.query.CellKind.{CellKind}
 use Rattle.snb_read_model.specs.Columns.{HasColumns, HaveColumns, IsOfColumn, columns_of}
 use Rattle.snb_read_laws.specs.Laws.{AnswersHaveColumns, AnswersHaveYears, HasYears}
 use Rattle.snb_validation.specs.Laws.{AreOfTypes, IsOfType}
@@ -66,21 +67,8 @@ all_back [] [] [] plain s = tt
 all_back (c ∷ cs) (x ∷ xs) (v ∷ vs) plain s = (one_back c x v (grind arith) s.0, all_back cs xs vs (grind arith) s.1)
 all_back cs xs vs plain s = absurd s
 
-every_query : (q : Query) → are_parameters (parameter_columns (read_kind_of q)) ≡ true
-every_query (queries.Is1 person) = refl
-every_query (queries.Is2 person) = refl
-every_query (queries.Is3 person) = refl
-every_query (queries.Is4 message) = refl
-every_query (queries.Is5 message) = refl
-every_query (queries.Is6 message) = refl
-every_query (queries.Is7 message) = refl
-every_query (queries.Ic1 person first_name) = refl
-every_query (queries.Ic2 person max_date) = refl
-every_query (queries.Ic7 person) = refl
-every_query (queries.Ic8 person) = refl
-every_query (queries.Ic9 person max_date) = refl
-every_query (queries.Ic11 person country year) = refl
-every_query (queries.Ic13 from to) = refl
+every_kind : (kind : ReadKind) → are_parameters (parameter_columns kind) ≡ true
+every_kind kind = search rules
 
 -- ---- replies
 
@@ -146,7 +134,7 @@ module _ (columns : AnswersHaveColumns) (bounded : AnswersHaveYears) (g : List R
       word = _;
       held = reply_data reply;
       keys = refl;
-      asks = (refl, (map parameter_data (parameter_values q), refl, all_back (parameter_columns (read_kind_of q)) words.0 (parameter_values q) (every_query q) words.1), reply_back q reply r types);
+      asks = (refl, (map parameter_data (parameter_values q), refl, all_back (parameter_columns (read_kind_of q)) words.0 (parameter_values q) (every_kind (read_kind_of q)) words.1), reply_back q reply r types);
     },
   )
 

@@ -17,10 +17,10 @@ use crate::lines::{put_ask, put_insert};
 use snb_graph::Graph;
 use snb_inserts::apply_welcome;
 use snb_plan::{Plan, Task};
-use snb_read_laws::law::answers_have_columns;
+use snb_read_laws::answers_have_columns;
 use snb_replies::Replies;
 use snb_schema::{Line, Query};
-use snb_workers_replay::law::order_is_welcome;
+use snb_workers_replay::order_is_welcome;
 use std::alloc::{AllocError, Global};
 
 // Appends the case of an insert, which is welcome in the graph, and adds its rows.

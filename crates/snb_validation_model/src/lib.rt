@@ -2,8 +2,8 @@
 //! types.
 #![tactic(auto)]
 
-pub mod difference;
-pub mod tally;
+mod difference;
+mod tally;
 
 pub use difference::Difference;
 pub use tally::Tally;

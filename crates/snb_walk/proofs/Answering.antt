@@ -4,7 +4,7 @@ use Rattle.std.proofs.lemmas.List.{take_all, take_more}
 use Rattle.std.specs.List.{AllZip}
 use Rattle.snb_schema.specs.declared.query.Query.{Query}
 use Rattle.snb_schema.specs.declared.row.Row.{Row}
-use Rattle.snb_read_model.specs.Replies.{IsAnswer}
+use Rattle.snb_read_model.specs.ComplexReads.{IsAnswer}
 use Rattle.snb_read_order.proofs.Laws.{zip_more}
 use Rattle.snb_walk.specs.declared.target.Target.{Target}
 use Rattle.snb_walk.specs.Targets.{HaveAnswers, AnswerRows, targets_in, targets_of}

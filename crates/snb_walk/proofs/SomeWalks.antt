@@ -6,7 +6,7 @@ use Rattle.snb_schema.specs.declared.row.Row.{Row}
 use Rattle.snb_ratio.specs.Chances.{ChanceFall}
 use Rattle.snb_graph_model.specs.Graphs.{IsGraph}
 use Rattle.snb_graph_model.specs.Soundness.{Sound}
-use Rattle.snb_read_model.specs.Replies.{IsAnswer}
+use Rattle.snb_read_model.specs.ComplexReads.{IsAnswer}
 use Rattle.snb_read_laws.proofs.Laws.{some_zip}
 use Rattle.snb_read_laws.specs.Laws.{SomeReply}
 use Rattle.snb_walk.specs.declared.target.Target.{Target}

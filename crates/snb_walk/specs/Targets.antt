@@ -4,10 +4,11 @@ use Rattle.std.specs.List.{AllZip, flat_map}
 use Rattle.snb_schema.specs.declared.query.Query.{Query}
 use Rattle.snb_schema.specs.declared.row.Row.{Row}
 use Rattle.snb_read_model.specs.Cells.{ByteCell}
-use Rattle.snb_schema.specs.declared.read_kind.TargetColumn.{TargetColumn}
-use Rattle.snb_schema.specs.declared.read_kind.TargetColumn.TheVariants.{PersonAt, MessageAt}
+use Rattle.snb_schema.specs.declared.query.TargetColumn.{TargetColumn}
+use Rattle.snb_schema.specs.declared.query.TargetColumn.TheVariants.{PersonAt, MessageAt}
 use Rattle.snb_read_model.specs.Columns.{target_columns}
-use Rattle.snb_read_model.specs.Replies.{IsAnswer, id_at, message_reads, person_reads}
+use Rattle.snb_read_model.specs.ComplexReads.{IsAnswer}
+use Rattle.snb_read_model.specs.Replies.{id_at, message_reads, person_reads}
 use Rattle.snb_walk.specs.declared.target.Target.{Target}
 use Rattle.snb_walk.specs.declared.target.Target.TheVariants.{Person, Message}
 

@@ -7,7 +7,7 @@ use Rattle.snb_ratio.specs.Chances.{ChanceFall}
 use Rattle.snb_ratio.specs.declared.chance.TheConstants.{CERTAIN}
 use Rattle.snb_graph_model.specs.Graphs.{IsGraph}
 use Rattle.snb_graph_model.specs.Soundness.{Sound}
-use Rattle.snb_read_model.specs.Replies.{IsAnswer}
+use Rattle.snb_read_model.specs.ComplexReads.{IsAnswer}
 use Rattle.snb_walk.specs.declared.target.Target.{Target}
 use Rattle.snb_walk.specs.declared.target.Pick.{Pick}
 use Rattle.snb_walk.specs.declared.target.Stop.{Stop}

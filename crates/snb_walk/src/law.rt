@@ -2,7 +2,7 @@
 
 ghost use Rattle.snb_walk.specs.Walks.{OneWalk, SomeWalk, TargetsStood, WalksAreShort};
 
-use snb_read_laws::law::{one_reply, some_reply};
+use snb_read_laws::{one_reply, some_reply};
 
 /// In every walk each target stood among the targets of the answers just before it, and a walk has at most as many
 /// steps as the chance has falls: the first chance divided by what it falls by, rounded up.

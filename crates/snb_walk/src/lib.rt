@@ -2,14 +2,15 @@
 //! with a falling chance, over words that are handed in.
 #![tactic(auto)]
 
-pub mod law;
-pub mod policy;
+mod law;
+mod policy;
 mod reading;
-pub mod target;
+mod target;
 mod targets;
-pub mod trace;
-pub mod walking;
+mod trace;
+mod walking;
 
+pub use law::{there_is_one_walk, walks_are_lawful};
 pub use policy::{Call, Policy};
 pub use snb_ratio::Chance;
 pub use target::{Pick, Stop, Target};

@@ -2,14 +2,14 @@
 
 ghost use Rattle.std.specs.Prelude.{◌≡◌, IfOk};
 ghost use Rattle.snb_graph_model.specs.Soundness.{Sound};
-ghost use Rattle.snb_read_model.specs.Replies.{IsAnswer};
+ghost use Rattle.snb_read_model.specs.ComplexReads.{IsAnswer};
 ghost use Rattle.snb_walk.specs.Targets.{HaveAnswers, reads_of};
 
 use crate::target::Target;
 use crate::targets::push_targets;
 use snb_base::Text;
 use snb_graph::Graph;
-use snb_read_laws::law::answers_have_columns;
+use snb_read_laws::answers_have_columns;
 use snb_read_model::{Answer, Reply, copy_answer};
 use snb_replies::Replies;
 use snb_schema::Query;

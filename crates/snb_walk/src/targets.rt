@@ -9,8 +9,7 @@ ghost use Rattle.snb_walk.specs.Targets.{row_targets, target_at, targets_of};
 
 use crate::target::Target;
 use snb_base::Text;
-use snb_read_model::tail::id_of;
-use snb_read_model::{Answer, AnswerRow, Cell, TargetColumn, layout_of_query};
+use snb_read_model::{Answer, AnswerRow, Cell, TargetColumn, id_of, layout_of_query};
 use snb_schema::Query;
 use std::alloc::AllocError;
 

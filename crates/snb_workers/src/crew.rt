@@ -18,11 +18,11 @@ use snb_base::{Clock, Gate};
 use snb_board::{Board, Seat};
 use snb_book::Book;
 use snb_graph::Graph;
-use snb_history::law::{hand_is_own, prefix_is_legal};
+use snb_history::{hand_is_own, prefix_is_legal};
 use snb_plan::Plan;
 use snb_replica::{Events, Outcome, Replica};
 use snb_replies::Replies;
-use snb_workers_replay::law::{replay_is_welcome, runs_wait};
+use snb_workers_replay::{replay_is_welcome, runs_wait};
 use std::alloc::{AllocError, Global};
 use std::sync::Wait;
 

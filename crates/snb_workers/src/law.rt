@@ -3,8 +3,8 @@
 
 ghost use Rattle.snb_workers.specs.Laws.{CountsOfARun, FinishesAreOfOperations, OneEntry, OneMoment};
 
-use snb_history::law::once_each;
-use snb_read_laws::law::one_reply;
+use snb_history::once_each;
+use snb_read_laws::one_reply;
 
 /// In a legal history of a plan, the operation of each Finish is one of the plan.
 pub fn finishes_are_of_operations()

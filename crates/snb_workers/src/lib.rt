@@ -2,14 +2,16 @@
 //! graph.
 #![tactic(auto)]
 
-pub mod counts;
+mod counts;
 mod crew;
-pub mod law;
-pub mod run;
-pub mod threads;
-pub mod work;
+mod law;
+mod run;
+mod threads;
+mod work;
 
 pub use counts::Counts;
+pub use law::{counts_of_a_run, finishes_are_of_operations, one_entry, one_moment};
 pub use run::run_alone_via;
 pub use snb_replica::{Events, Outcome};
 pub use threads::run_workers_via;
+pub use work::{Served, work_via};

@@ -15,7 +15,7 @@ use snb_answered::{Answered, Done};
 use snb_base::{Clock, Gate, OwnedList, Phase};
 use snb_board::{Board, Seat};
 use snb_book::{Claim, Ticket};
-use snb_history::law::{hand_is_own, prefix_is_legal};
+use snb_history::{hand_is_own, prefix_is_legal};
 use snb_plan::{Plan, Task};
 use snb_replica::Replica;
 use snb_replies::Replies;

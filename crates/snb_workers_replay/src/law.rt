@@ -3,9 +3,9 @@
 ghost use Rattle.snb_workers_replay.specs.Laws.{CompleteIsFinal, HistoriesAgree, PrefixesAreSound, WelcomeInOrder, WelcomeInTurn};
 ghost use Rattle.snb_workers_replay.specs.Waiting.{RunsWait};
 
-use snb_graph_model::law::{graphs_are_their_rows, new_rows_are_gained};
-use snb_history::law::{completion_waits, once_each, prefix_is_legal};
-use snb_inserts::law::inserts_are_kept;
+use snb_graph_model::{graphs_are_their_rows, new_rows_are_gained};
+use snb_history::{completion_waits, once_each, prefix_is_legal};
+use snb_inserts::inserts_are_kept;
 
 /// In a legal history of a plan whose updates are closed over a base, each insert finds all that it refers to
 /// in the graph that has the base and the inserts that have finished before it, and its keys are new there

@@ -8,7 +8,7 @@ use super::Tables;
 use crate::links::link_entry;
 use crate::words::Words;
 use snb_base::Text;
-use snb_graph_rows::kept::Exact;
+use snb_graph_rows::Exact;
 use snb_schema::Row;
 
 // Whether a node is the one that is held under its id.

@@ -7,8 +7,7 @@ ghost use Rattle.snb_graph_tables.specs.Left.{left_rows};
 
 use super::Tables;
 use crate::each::{Left, TableRows};
-use snb_graph_rows::kept::Kept;
-use snb_graph_rows::{MappedRows, RowMap};
+use snb_graph_rows::{Kept, MappedRows, RowMap};
 use snb_schema::Table;
 
 // The rows of a kind of node.

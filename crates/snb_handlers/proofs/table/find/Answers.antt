@@ -1,6 +1,6 @@
 use Rattle.std.proofs.Common.{◌∙◌, sym, below_more}
 use denote.Enum.Bare.{same_false}
-use Rattle.snb_schema.specs.contracts.read_kind.ReadKind.{the_type}
+use Rattle.snb_schema.specs.contracts.query.ReadKind.{the_type}
 use Rattle.snb_handlers.proofs.Images.{image_at}
 use Rattle.snb_handlers.proofs.table.find.Goals as goal
 

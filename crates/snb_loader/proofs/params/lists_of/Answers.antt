@@ -1,5 +1,6 @@
 use Rattle.std.proofs.Common.{rules, arith, ◌≡◌, ◌∙◌, ◌<◌, ℕ, [], map, List, Global, Vec, ap, subst}
 use Rattle.snb_schema.specs.declared.query.Query.{Query}
+use Rattle.snb_schema.specs.declared.query.TheConstants.{COMPLEX_COUNT}
 use Rattle.snb_schema.specs.QueryLists.{list_of}
 use Rattle.snb_loader.specs.Params.{asked}
 use Rattle.snb_loader.proofs.ParamListFacts.{AreSoFar, asked_filled, held_in, held_out, list_left, next_kind, others_empty, so_far_first, so_far_last}
@@ -29,12 +30,12 @@ loop-query-preserved c = elim c.if-of-gt0.branch [
 
 pub returns-clause-lists : goal.returns-clause-lists
 returns-clause-lists c =
-    let seven : c.loop-query.query-index ≡ 7 = search rules in
-    let same = so_far_last c.args.frequencies.now c.args.file_sink.done (λ q. list_of c.loop-query.lists q) (map (λ v. v.items) c.loop-query.left.rest.items) (subst (λ (n : ℕ). AreSoFar c.args.frequencies.now c.args.file_sink.done n (λ q. list_of c.loop-query.lists q) (map (λ v. v.items) c.loop-query.left.rest.items)) seven c.loop-query.invariant) in
+    let last : c.loop-query.query-index ≡ COMPLEX_COUNT = search rules in
+    let same = so_far_last c.args.frequencies.now c.args.file_sink.done (λ q. list_of c.loop-query.lists q) (map (λ v. v.items) c.loop-query.left.rest.items) (subst (λ (n : ℕ). AreSoFar c.args.frequencies.now c.args.file_sink.done n (λ q. list_of c.loop-query.lists q) (map (λ v. v.items) c.loop-query.left.rest.items)) last c.loop-query.invariant) in
     ap (λ (f : ℕ → List Query). map f (asked c.args.frequencies.now)) same ∙ asked_filled c.args.frequencies.now c.args.file_sink.done c.requires.kinds
 
 pub returns-clause-others : goal.returns-clause-others
 returns-clause-others c q e =
-    let seven : c.loop-query.query-index ≡ 7 = search rules in
-    let same = so_far_last c.args.frequencies.now c.args.file_sink.done (λ q. list_of c.loop-query.lists q) (map (λ v. v.items) c.loop-query.left.rest.items) (subst (λ (n : ℕ). AreSoFar c.args.frequencies.now c.args.file_sink.done n (λ q. list_of c.loop-query.lists q) (map (λ v. v.items) c.loop-query.left.rest.items)) seven c.loop-query.invariant) in
+    let last : c.loop-query.query-index ≡ COMPLEX_COUNT = search rules in
+    let same = so_far_last c.args.frequencies.now c.args.file_sink.done (λ q. list_of c.loop-query.lists q) (map (λ v. v.items) c.loop-query.left.rest.items) (subst (λ (n : ℕ). AreSoFar c.args.frequencies.now c.args.file_sink.done n (λ q. list_of c.loop-query.lists q) (map (λ v. v.items) c.loop-query.left.rest.items)) last c.loop-query.invariant) in
     ap (λ (f : ℕ → List Query). f q) same ∙ others_empty c.args.frequencies.now c.args.file_sink.done q e

@@ -1,4 +1,4 @@
-use Rattle.snb_read_laws.proofs.ColumnFacts.{columns_of_answer}
+use Rattle.snb_read_laws.proofs.EachRead.{columns_of_answer}
 use Rattle.snb_read_laws.proofs.YearFacts.{answers_have_years}
 use Rattle.snb_read_laws.proofs.law.answers_have_columns.Goals as goal
 

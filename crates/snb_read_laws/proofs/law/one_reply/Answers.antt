@@ -1,4 +1,5 @@
-use Rattle.snb_read_laws.proofs.OneReply.{one_answer, one_reply}
+use Rattle.snb_read_laws.proofs.EachRead.{one_answer}
+use Rattle.snb_read_laws.proofs.ReplyFacts.{one_reply}
 use Rattle.snb_read_laws.proofs.law.one_reply.Goals as goal
 
 pub returns-clause-answer : goal.returns-clause-answer

@@ -1,4 +1,4 @@
-use Rattle.snb_read_laws.proofs.SomeReply.{some_reply}
+use Rattle.snb_read_laws.proofs.ReplyFacts.{some_reply}
 use Rattle.snb_read_laws.proofs.law.some_reply.Goals as goal
 
 pub returns : goal.returns

@@ -1,7 +1,7 @@
 use Rattle.std.proofs.Common.{refl, subst}
 use Rattle.snb_schema.specs.declared.query.Query.{Query}
 use Rattle.snb_read_order.proofs.Laws.{zip_all, zip_more}
-use Rattle.snb_read_model.specs.Replies.{IsAnswer}
+use Rattle.snb_read_model.specs.ComplexReads.{IsAnswer}
 use Rattle.snb_read_replies.proofs.reply.own_answers.Goals as goal
 
 pub loop-query-preserved : goal.loop-query-preserved

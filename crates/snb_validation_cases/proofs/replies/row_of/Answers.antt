@@ -2,7 +2,7 @@ use Rattle.std.proofs.Common.{List, MatchOption, map, subst}
 use Rattle.std.specs.Prelude.{IfOk}
 use Rattle.serde_json.specs.View.{view}
 use Rattle.snb_read_model.specs.Cells.{ByteCell}
-use Rattle.snb_schema.specs.declared.read_kind.CellKind.{CellKind}
+use Rattle.snb_schema.specs.declared.query.CellKind.{CellKind}
 use Rattle.snb_validation_cases.specs.Replies.{IsCellIn}
 use Rattle.snb_validation_cases.specs.Values.{AreAlong}
 use Rattle.snb_validation_cases.proofs.replies.row_of.Goals as goal

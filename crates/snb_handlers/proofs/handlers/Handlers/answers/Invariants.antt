@@ -1,6 +1,6 @@
 use Rattle.std.proofs.Common.{take}
 use Rattle.std.specs.List.{AllZip}
-use Rattle.snb_read_model.specs.Replies.{IsAnswer}
+use Rattle.snb_read_model.specs.ComplexReads.{IsAnswer}
 use Rattle.snb_handlers.proofs.handlers.Handlers.answers.Given as goal
 
 abbrev pub invariant-loop-query : goal.invariant-loop-query

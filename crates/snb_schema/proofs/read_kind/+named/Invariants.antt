@@ -1,5 +1,0 @@
-use Rattle.std.proofs.Common.{length}
-use Rattle.snb_schema.proofs.read_kind.+named.Given as goal
-
-abbrev pub decreases-named : goal.decreases-named
-decreases-named l = length l.kinds.now
