@@ -12,4 +12,4 @@ pub use files_law::{one_table_reading, table_files};
 pub use law::{one_column, one_row, own_line, rows_of_fields_fit, table_rows_are_of_lines};
 pub use read::read_row;
 pub use rows::{Rows, TableLines};
-pub use write::write_row;
+pub use write::{write_lent, write_row};

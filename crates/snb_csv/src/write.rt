@@ -2,10 +2,11 @@
 
 ghost use Rattle.std.specs.Prelude.{◌≡◌, ◌++◌, ◌∷◌, [], OnOk, OnErr};
 ghost use Rattle.snb_schema.specs.declared.row.Row.TheVariants as rows;
+ghost use Rattle.snb_schema.specs.LentRows.{lent_row};
 ghost use Rattle.snb_schema.specs.RowLines.{canonical};
 
 use snb_input_fields::{Cell, put_line};
-use snb_schema::{Comment, Forum, Named, Organisation, Person, Place, Post, Row};
+use snb_schema::{Comment, Forum, LentRow, Named, Organisation, Person, Place, Post, Row};
 use std::alloc::AllocError;
 
 fn put_place(place: &Place, to: &mut Vec<u8>) -> Result<(), AllocError>
@@ -133,40 +134,51 @@ pub fn write_row(row: &Row, to: &mut Vec<u8>) -> Result<(), AllocError>
     ensures ok { OnOk result (to.new.items ≡ to.old.items ++ (canonical row.now ++ 10 ∷ [])) }
     ensures err { OnErr result (to.new.items ≡ to.old.items) }
 {
+    write_lent(row.lend(), to)
+}
+
+/// Appends the line and line end of a row that is lent, as `write_row` does.
+pub fn write_lent(row: LentRow<'_>, to: &mut Vec<u8>) -> Result<(), AllocError>
+    ensures ok { OnOk result (to.new.items ≡ to.old.items ++ (canonical (lent_row row.entry) ++ 10 ∷ [])) }
+    ensures err { OnErr result (to.new.items ≡ to.old.items) }
+{
     match row {
-        Row::Place { place } => put_place(place, to),
-        Row::TagClass { named } => put_named(named, to),
-        Row::Tag { named } => put_named(named, to),
-        Row::Organisation { organisation } => put_organisation(organisation, to),
-        Row::Person { person } => put_person(person, to),
-        Row::Forum { forum } => put_forum(forum, to),
-        Row::Post { post } => put_post(post, to),
-        Row::Comment { comment } => put_comment(comment, to),
-        Row::Link { from, to: end, .. } => put_line(&[Cell::Digits(*from), Cell::Digits(*end)], to),
-        Row::Dated {
+        LentRow::Place { place } => put_place(place, to),
+        LentRow::TagClass { named } => put_named(named, to),
+        LentRow::Tag { named } => put_named(named, to),
+        LentRow::Organisation { organisation } => put_organisation(organisation, to),
+        LentRow::Person { person } => put_person(person, to),
+        LentRow::Forum { forum } => put_forum(forum, to),
+        LentRow::Post { post } => put_post(post, to),
+        LentRow::Comment { comment } => put_comment(comment, to),
+        LentRow::Link { from, to: end, .. } => put_line(
+            &[Cell::Digits(from), Cell::Digits(end)],
+            to,
+        ),
+        LentRow::Dated {
             from,
             to: end,
             date,
             ..
         } => put_line(
-            &[Cell::Digits(*from), Cell::Digits(*end), Cell::Digits(*date)],
+            &[Cell::Digits(from), Cell::Digits(end), Cell::Digits(date)],
             to,
         ),
-        Row::Yeared {
+        LentRow::Yeared {
             from,
             to: end,
             year,
             ..
         } => put_line(
             &[
-                Cell::Digits(*from),
-                Cell::Digits(*end),
-                Cell::SmallDigits(*year),
+                Cell::Digits(from),
+                Cell::Digits(end),
+                Cell::SmallDigits(year),
             ],
             to,
         ),
-        Row::Word { person, text, .. } => {
-            put_line(&[Cell::Digits(*person), Cell::Letters(text.as_str())], to)
+        LentRow::Word { person, text, .. } => {
+            put_line(&[Cell::Digits(person), Cell::Letters(text.as_str())], to)
         }
     }
 }

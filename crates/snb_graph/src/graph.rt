@@ -24,7 +24,7 @@ use crate::additions::{insert, insert_each, move_each, take_all};
 use snb_graph_adjacency::{Indexes, Walk};
 use snb_graph_links::Links;
 use snb_graph_maps::{Layer, Walk as Entries};
-use snb_graph_tables::{Insert, TableRows, Tables, Words};
+use snb_graph_tables::{Insert, LentRows, TableRows, Tables, Words};
 use snb_schema::{Comment, Forum, Held, Key, Named, Organisation, Person, Place, Post, Row, Table};
 use std::alloc::{AllocError, Global};
 use std::marker::Model;
@@ -192,6 +192,13 @@ impl Graph {
         ensures { result ≡ rows self.now table }
     {
         self.tables.each(table)
+    }
+
+    /// The rows of a table, in the order of their keys. Takes no memory.
+    pub fn lent(&self, table: Table) -> LentRows<'_>
+        ensures { result ≡ rows self.now table }
+    {
+        self.tables.lent(table)
     }
 
     /// The persons, each with their id, by rising id. Takes no memory.

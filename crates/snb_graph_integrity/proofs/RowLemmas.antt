@@ -1,5 +1,5 @@
 -- The rows of a table, and their order.
-use Rattle.std.proofs.Common.{◌≡◌, ◌≤◌, ℕ, List, [], ◌∷◌, map, Some, Result, Ok, sym, ap, ◌∙◌, subst}
+use Rattle.std.proofs.Common.{◌≡◌, ◌≤◌, ℕ, List, [], ◌∷◌, map, sym, ap, ◌∙◌, subst}
 use Rattle.std.proofs.lemmas.List.Elements.{All-contains, All-contains_itself, All-from_recursion, All-weaker}
 use Rattle.std.proofs.lemmas.List.Kept.{IsStrictlySortedBy-filter}
 use Rattle.std.specs.Cmp.{tied_itself}
@@ -19,7 +19,6 @@ use Rattle.snb_schema.specs.RowValues.{table_of, values}
 use Rattle.snb_schema.specs.TableOrder.{same_table}
 use Rattle.snb_schema.specs.TableRows.{AreWithin, IsTableRow}
 use Rattle.snb_graph_rows.specs.Keyed.{key_table}
-use Rattle.snb_graph_rows.specs.Rows.{GivesRow}
 use Rattle.snb_graph_integrity.proofs.Laws.{table_decides}
 use Rattle.snb_graph_model.proofs.Laws.{row_total}
 use Rattle.snb_graph_model.specs.Graphs.{HasKey, IsGraph, row_order, rows}
@@ -77,10 +76,6 @@ pub among_ids : (g : List Row) (t : Table) (id : ℕ) → HasKey g (t, id, 0, []
 among_ids g t id has =
     subst (Contains (row_ids g t)) (ap (λ (k : RowKey). k.1) has.keyed)
     (contains_map id_of (rows g t) has.it (among_rows g t has.it (sym (key_table has.it) ∙ ap (λ (k : RowKey). k.0) has.keyed) has.held))
-
--- a row that a walk gave was the first of those that were left
-pub given_row : {E : Type 0} (left rest : List Row) (item : Result Row E) (r : Row) → item ≡ Ok r → GivesRow left (Some item) rest → left ≡ r ∷ rest
-given_row left rest item r was steps = subst (λ x. GivesRow left (Some x) rest) was steps
 
 -- the ids of keys aren't above the greatest id
 edge_id : (columns : KeyColumns) (t : Table) (from to : ℕ) → from ≤ 9223372036854775807 → to ≤ 9223372036854775807 → (edge_key columns t from to).1 ≤ 9223372036854775807

@@ -3,6 +3,7 @@
 ghost use Rattle.std.specs.Prelude.{◌≡◌, IfOk};
 ghost use Rattle.snb_schema.specs.declared.layout.Shape.TheVariants as shapes;
 ghost use Rattle.snb_schema.specs.declared.row.Row.TheVariants as row;
+ghost use Rattle.snb_schema.specs.LentRows.{lent_row};
 ghost use Rattle.snb_schema.specs.RowValues.{row_shape, table_of};
 ghost use Rattle.snb_graph_integrity.specs.Chains.{AreReplies, AreRoots, FindsCycle, MarksRooted};
 
@@ -11,16 +12,16 @@ use crate::mark::reached;
 use crate::unsound::Unsound;
 use snb_graph_rows::Index;
 use snb_graph_tables::Tables;
-use snb_schema::{Row, Table};
+use snb_schema::{LentRow, Table};
 use std::alloc::{AllocError, Global};
 
 // The two ends of a link.
-fn ends(link: Row) -> (u64, u64)
-    requires { row_shape link ≡ shapes.Link }
-    ensures { link ≡ row.Link (table_of link) result.0 result.1 }
+fn ends(link: LentRow<'_>) -> (u64, u64)
+    requires { row_shape (lent_row link) ≡ shapes.Link }
+    ensures { lent_row link.entry ≡ row.Link (table_of (lent_row link.entry)) result.0 result.1 }
 {
     match link {
-        Row::Link { from, to, .. } => (from, to),
+        LentRow::Link { from, to, .. } => (from, to),
         _ => unreachable!(),
     }
 }
@@ -31,8 +32,7 @@ fn roots(alloc: Global, tables: &Tables) -> Result<Vec<u64>, AllocError>
 {
     tables.known();
     let mut ids = Vec::new(alloc);
-    for item in tables.each(Table::CommentReplyOfPost) {
-        let row = item?;
+    for row in tables.lent(Table::CommentReplyOfPost) {
         let (comment, _post) = ends(row);
         ids.push(comment)?;
     }
@@ -45,8 +45,7 @@ fn replies(alloc: Global, tables: &Tables) -> Result<Index, AllocError>
 {
     tables.known();
     let mut pairs = Index::empty(alloc);
-    for item in tables.each(Table::CommentReplyOfComment) {
-        let row = item?;
+    for row in tables.lent(Table::CommentReplyOfComment) {
         let (comment, parent) = ends(row);
         pairs.add(parent, comment, 0)?;
     }
@@ -68,8 +67,7 @@ pub(crate) fn check_chains(alloc: Global, tables: &Tables) -> Result<(), Unsound
 {
     let marks = rooted(alloc, tables)?;
     tables.known();
-    for item in tables.each(Table::Comment) {
-        let row = item?;
+    for row in tables.lent(Table::Comment) {
         let id = first_id(row);
         if !marks.has(id, 0) {
             return Err(Unsound::Cycle { comment: id });

@@ -3,6 +3,7 @@
 ghost use Rattle.std.specs.Prelude.{◌≡◌, ◌≤◌, []};
 ghost use Rattle.std.specs.List.{flat_map};
 ghost use Rattle.snb_schema.specs.declared.limits.TheConstants.{MAX_ID};
+ghost use Rattle.snb_schema.specs.LentRows.{lent_row};
 ghost use Rattle.snb_schema.specs.RowKeys.{row_key, slot};
 ghost use Rattle.snb_graph_integrity.specs.Edges.{Finds, IsEndEdge, needs_at};
 ghost use Rattle.snb_graph_model.specs.Graphs.{fills, rows};
@@ -10,7 +11,7 @@ ghost use Rattle.snb_graph_model.specs.Soundness.{edges_of, needs, needs_of};
 
 use crate::unsound::Unsound;
 use snb_graph_tables::{Entry, Tables};
-use snb_schema::{KeyColumns, Row, Table, key_columns_of};
+use snb_schema::{KeyColumns, LentRow, Row, Table, key_columns_of};
 
 const NONE: [Table; 0] = [];
 
@@ -61,26 +62,26 @@ pub(crate) fn required_of(node: Table) -> &'static [Table]
 }
 
 // The first id of a row's key.
-pub(crate) fn first_id(row: Row) -> u64
-    ensures { result ≡ (row_key row).1 }
+pub(crate) fn first_id(row: LentRow<'_>) -> u64
+    ensures { result ≡ (row_key (lent_row row.entry)).1 }
 {
     match row {
-        Row::Place { place } => place.id,
-        Row::TagClass { named } => named.id,
-        Row::Tag { named } => named.id,
-        Row::Organisation { organisation } => organisation.id,
-        Row::Person { person } => person.id,
-        Row::Forum { forum } => forum.id,
-        Row::Post { post } => post.id,
-        Row::Comment { comment } => comment.id,
-        Row::Link { table, from, to } => match key_columns_of(table) {
+        LentRow::Place { place } => place.id,
+        LentRow::TagClass { named } => named.id,
+        LentRow::Tag { named } => named.id,
+        LentRow::Organisation { organisation } => organisation.id,
+        LentRow::Person { person } => person.id,
+        LentRow::Forum { forum } => forum.id,
+        LentRow::Post { post } => post.id,
+        LentRow::Comment { comment } => comment.id,
+        LentRow::Link { table, from, to } => match key_columns_of(table) {
             KeyColumns::First => from,
             KeyColumns::Second => to,
             KeyColumns::FirstTwo => from,
         },
-        Row::Dated { from, .. } => from,
-        Row::Yeared { from, .. } => from,
-        Row::Word { person, .. } => person,
+        LentRow::Dated { from, .. } => from,
+        LentRow::Yeared { from, .. } => from,
+        LentRow::Word { person, .. } => person,
     }
 }
 
@@ -121,8 +122,7 @@ fn check_nodes(tables: &Tables, node: Table) -> Result<(), Unsound>
     ensures { Finds tables.now.rows (flat_map needs_of (rows tables.now.rows node)) result }
 {
     tables.known();
-    for item in tables.each(node) {
-        let row = item?;
+    for row in tables.lent(node) {
         check_node(tables, node, first_id(row))?;
     }
     Ok(())

@@ -2,97 +2,81 @@
 
 ghost use Rattle.std.specs.Prelude.{◌≡◌};
 ghost use Rattle.snb_schema.specs.Layouts.{key_columns};
+ghost use Rattle.snb_schema.specs.LentRows.{lent_row};
 ghost use Rattle.snb_graph_rows.specs.Edges.{link_of};
 
 use crate::keys::{EdgeKey, WordKey};
 use crate::nodes::{Class, Mark};
 use crate::rows::Shown;
 use snb_schema::{
-    Comment, Forum, KeyColumns, Named, Organisation, Person, Place, Post, Row, Shape,
+    Comment, Forum, KeyColumns, LentRow, Named, Organisation, Person, Place, Post, Shape,
     key_columns_of, shape_of,
 };
-use std::alloc::AllocError;
 
 impl Shown<u64> for Place {
-    fn show(_key: &u64, kept: &Self) -> Result<Row, AllocError> {
-        Ok(Row::Place {
-            place: kept.clone()?,
-        })
+    fn show<'a>(_key: &'a u64, kept: &'a Self) -> LentRow<'a> {
+        LentRow::Place { place: kept }
     }
 }
 
 impl Shown<u64> for Class {
-    fn show(_key: &u64, kept: &Self) -> Result<Row, AllocError> {
-        Ok(Row::TagClass {
-            named: kept.named.clone()?,
-        })
+    fn show<'a>(_key: &'a u64, kept: &'a Self) -> LentRow<'a> {
+        LentRow::TagClass { named: &kept.named }
     }
 }
 
 impl Shown<u64> for Named {
-    fn show(_key: &u64, kept: &Self) -> Result<Row, AllocError> {
-        Ok(Row::Tag {
-            named: kept.clone()?,
-        })
+    fn show<'a>(_key: &'a u64, kept: &'a Self) -> LentRow<'a> {
+        LentRow::Tag { named: kept }
     }
 }
 
 impl Shown<u64> for Organisation {
-    fn show(_key: &u64, kept: &Self) -> Result<Row, AllocError> {
-        Ok(Row::Organisation {
-            organisation: kept.clone()?,
-        })
+    fn show<'a>(_key: &'a u64, kept: &'a Self) -> LentRow<'a> {
+        LentRow::Organisation { organisation: kept }
     }
 }
 
 impl Shown<u64> for Person {
-    fn show(_key: &u64, kept: &Self) -> Result<Row, AllocError> {
-        Ok(Row::Person {
-            person: kept.clone()?,
-        })
+    fn show<'a>(_key: &'a u64, kept: &'a Self) -> LentRow<'a> {
+        LentRow::Person { person: kept }
     }
 }
 
 impl Shown<u64> for Forum {
-    fn show(_key: &u64, kept: &Self) -> Result<Row, AllocError> {
-        Ok(Row::Forum {
-            forum: kept.clone()?,
-        })
+    fn show<'a>(_key: &'a u64, kept: &'a Self) -> LentRow<'a> {
+        LentRow::Forum { forum: kept }
     }
 }
 
 impl Shown<u64> for Post {
-    fn show(_key: &u64, kept: &Self) -> Result<Row, AllocError> {
-        Ok(Row::Post {
-            post: kept.clone()?,
-        })
+    fn show<'a>(_key: &'a u64, kept: &'a Self) -> LentRow<'a> {
+        LentRow::Post { post: kept }
     }
 }
 
 impl Shown<u64> for Comment {
-    fn show(_key: &u64, kept: &Self) -> Result<Row, AllocError> {
-        Ok(Row::Comment {
-            comment: kept.clone()?,
-        })
+    fn show<'a>(_key: &'a u64, kept: &'a Self) -> LentRow<'a> {
+        LentRow::Comment { comment: kept }
     }
 }
 
 // The link of a key and the other end.
-fn link_row(key: &EdgeKey, other: u64) -> Row
-    ensures { result ≡ link_of (key_columns key.now.table) key.now.table key.now.first key.now.second other }
+fn link_row<'a>(key: &EdgeKey, other: u64) -> LentRow<'a>
+    ensures { lent_row result ≡ link_of (key_columns key.now.table) key.now.table key.now.first key.now.second other }
 {
     match key_columns_of(key.table) {
-        KeyColumns::First => Row::Link {
+        KeyColumns::First => LentRow::Link {
             table: key.table,
             from: key.first,
             to: other,
         },
-        KeyColumns::Second => Row::Link {
+        KeyColumns::Second => LentRow::Link {
             table: key.table,
             from: other,
             to: key.first,
         },
-        KeyColumns::FirstTwo => Row::Link {
+        KeyColumns::FirstTwo => LentRow::Link {
             table: key.table,
             from: key.first,
             to: key.second,
@@ -101,40 +85,40 @@ fn link_row(key: &EdgeKey, other: u64) -> Row
 }
 
 impl Shown<EdgeKey> for u64 {
-    fn show(key: &EdgeKey, kept: &Self) -> Result<Row, AllocError> {
+    fn show<'a>(key: &'a EdgeKey, kept: &'a Self) -> LentRow<'a> {
         match shape_of(key.table) {
-            Shape::Dated => Ok(Row::Dated {
+            Shape::Dated => LentRow::Dated {
                 table: key.table,
                 from: key.first,
                 to: key.second,
                 date: *kept,
-            }),
-            Shape::Yeared => Ok(Row::Yeared {
+            },
+            Shape::Yeared => LentRow::Yeared {
                 table: key.table,
                 from: key.first,
                 to: key.second,
                 year: *kept as u32,
-            }),
-            Shape::Place => Ok(link_row(key, *kept)),
-            Shape::TagClass => Ok(link_row(key, *kept)),
-            Shape::Tag => Ok(link_row(key, *kept)),
-            Shape::Organisation => Ok(link_row(key, *kept)),
-            Shape::Person => Ok(link_row(key, *kept)),
-            Shape::Forum => Ok(link_row(key, *kept)),
-            Shape::Post => Ok(link_row(key, *kept)),
-            Shape::Comment => Ok(link_row(key, *kept)),
-            Shape::Link => Ok(link_row(key, *kept)),
-            Shape::Word => Ok(link_row(key, *kept)),
+            },
+            Shape::Place => link_row(key, *kept),
+            Shape::TagClass => link_row(key, *kept),
+            Shape::Tag => link_row(key, *kept),
+            Shape::Organisation => link_row(key, *kept),
+            Shape::Person => link_row(key, *kept),
+            Shape::Forum => link_row(key, *kept),
+            Shape::Post => link_row(key, *kept),
+            Shape::Comment => link_row(key, *kept),
+            Shape::Link => link_row(key, *kept),
+            Shape::Word => link_row(key, *kept),
         }
     }
 }
 
 impl Shown<WordKey> for Mark {
-    fn show(key: &WordKey, _kept: &Self) -> Result<Row, AllocError> {
-        Ok(Row::Word {
+    fn show<'a>(key: &'a WordKey, _kept: &'a Self) -> LentRow<'a> {
+        LentRow::Word {
             table: key.table,
             person: key.person,
-            text: key.text.clone()?,
-        })
+            text: &key.text,
+        }
     }
 }

@@ -8,7 +8,7 @@ mod links;
 mod tables;
 mod words;
 
-pub use each::TableRows;
+pub use each::{LentRows, TableRows};
 pub use entry::{Entry, RowName};
 pub use insert::Insert;
 pub use tables::Tables;

@@ -29,15 +29,15 @@ no_pair x h pair s =
     h (length s.query) 0 within (ap (λ (t : List ℕ). get_or t (length s.query) 0) s.splits ∙ get_or-append_seam s.query 58 s.frequency 0)
 
 -- a piece spells what its parts before and after the colon spell
-pub parts_spell : (x before after : List ℕ) (pair : ℕ × ℕ) → IsCutAtFirst 58 x before after → SpellsFrequency x pair → Num before pair.0 13 × Num after pair.1 MAX_FREQUENCY
+pub parts_spell : (x before after : List ℕ) (pair : ℕ × ℕ) → IsCutAtFirst 58 x before after → SpellsFrequency x pair → Num before pair.0 MAX_FREQUENCY × Num after pair.1 MAX_FREQUENCY
 parts_spell x before after pair h s =
     let same = one_cut 58 before after s.query s.frequency h.first (no_colon s.query s.numbered.digits) (sym h.joined ∙ s.splits) in (
-      subst (λ (t : List ℕ). Num t pair.0 13) (sym same.0) s.numbered,
+      subst (λ (t : List ℕ). Num t pair.0 MAX_FREQUENCY) (sym same.0) s.numbered,
       subst (λ (t : List ℕ). Num t pair.1 MAX_FREQUENCY) (sym same.1) s.counted,
     )
 
 -- a piece spells one pair
-pub one_pair : (x before after : List ℕ) (q f : ℕ) (pair : ℕ × ℕ) → IsCutAtFirst 58 x before after → Num before q 13 → Num after f MAX_FREQUENCY → SpellsFrequency x pair → (q ≡ pair.0) × (f ≡ pair.1)
+pub one_pair : (x before after : List ℕ) (q f : ℕ) (pair : ℕ × ℕ) → IsCutAtFirst 58 x before after → Num before q MAX_FREQUENCY → Num after f MAX_FREQUENCY → SpellsFrequency x pair → (q ≡ pair.0) × (f ≡ pair.1)
 one_pair x before after q f pair h n m s =
     let parts = parts_spell x before after pair h s in
     (n.value ∙ sym parts.0.value, m.value ∙ sym parts.1.value)

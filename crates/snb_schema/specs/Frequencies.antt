@@ -25,7 +25,7 @@ pub record SpellsFrequency (x : List ℕ) (pair : ℕ × ℕ) : Type 0 where
   pub query : List ℕ
   pub frequency : List ℕ
   pub splits : x ≡ query ++ 58 ∷ frequency
-  pub numbered : Num query pair.0 13
+  pub numbered : Num query pair.0 MAX_FREQUENCY
   pub counted : Num frequency pair.1 MAX_FREQUENCY
   pub complex : IsComplex pair.0
   pub positive : 0 < pair.1

@@ -7,6 +7,7 @@ pub mod Layouts
 pub mod TableColumns
 pub mod CodeLayouts
 pub mod Limits
+pub mod LentRows
 pub mod LineFaults
 pub mod LineLanes
 pub mod Lines

@@ -1,6 +1,6 @@
 -- The table of reads: the word and the number of each kind, its parameters, what the rows of its
 -- answer hold, and what may follow them.
-use Rattle.std.specs.Prelude.{Bool, true, false, List, ℕ, [], ◌∷◌, codes}
+use Rattle.std.specs.Prelude.{Bool, true, false, List, ℕ, [], ◌∷◌, Option, None, Some, codes}
 use Rattle.snb_schema.specs.declared.column.Column.{Column}
 use Rattle.snb_schema.specs.declared.column.Column.TheVariants.{Small, Date}
 use Rattle.snb_schema.specs.declared.column.Column.TheVariants as columns
@@ -144,3 +144,22 @@ parameter_values (queries.Ic9 person max_date) = Digits person ∷ Digits max_da
 parameter_values (queries.Ic11 person country year) =
     Digits person ∷ Letters country ∷ SmallDigits year ∷ []
 parameter_values (queries.Ic13 from to) = Digits from ∷ Digits to ∷ []
+
+-- the read of a kind with these values, which are those of its parameters, if there is one
+abbrev pub query_with : ReadKind → List Value → Option Query
+query_with Is1 (Digits person ∷ []) = Some (queries.Is1 person)
+query_with Is2 (Digits person ∷ []) = Some (queries.Is2 person)
+query_with Is3 (Digits person ∷ []) = Some (queries.Is3 person)
+query_with Is4 (Digits message ∷ []) = Some (queries.Is4 message)
+query_with Is5 (Digits message ∷ []) = Some (queries.Is5 message)
+query_with Is6 (Digits message ∷ []) = Some (queries.Is6 message)
+query_with Is7 (Digits message ∷ []) = Some (queries.Is7 message)
+query_with Ic1 (Digits person ∷ Letters first_name ∷ []) = Some (queries.Ic1 person first_name)
+query_with Ic2 (Digits person ∷ Digits max_date ∷ []) = Some (queries.Ic2 person max_date)
+query_with Ic7 (Digits person ∷ []) = Some (queries.Ic7 person)
+query_with Ic8 (Digits person ∷ []) = Some (queries.Ic8 person)
+query_with Ic9 (Digits person ∷ Digits max_date ∷ []) = Some (queries.Ic9 person max_date)
+query_with Ic11 (Digits person ∷ Letters country ∷ SmallDigits year ∷ []) =
+    Some (queries.Ic11 person country year)
+query_with Ic13 (Digits from ∷ Digits to ∷ []) = Some (queries.Ic13 from to)
+query_with kind values = None

@@ -100,8 +100,9 @@ fn read_pair(piece: &[u8], last: u32) -> Option<(u32, u32)>
         (λ pair. SpellsFrequency piece.now pair × (last < pair.0) × (pair.1 ≤ MAX_FREQUENCY)) }
 {
     let (before, after) = cut(piece, b':')?;
-    let query = read_number(before, 13)? as u32;
-    let frequency = read_number(after, u64::from(MAX_FREQUENCY))? as u32;
+    let most = u64::from(MAX_FREQUENCY);
+    let query = read_number(before, most)? as u32;
+    let frequency = read_number(after, most)? as u32;
     if query <= last || !is_complex(query) || frequency == 0 {
         return None;
     }

@@ -46,7 +46,7 @@ pub use query::{
 };
 pub use references::{Keys, Refs, added_node, keys_of, refs_of};
 pub use refusal::{Counted, Missing, Refusal};
-pub use row::{Placed, Row};
+pub use row::{LentRow, Placed, Row};
 pub use table::{Kind, Table};
 pub use worked_inserts::{
     comment_rows, edge_rows, forum_rows, insert_keys, keys_are_the_columns, person_rows, post_rows,

@@ -5,7 +5,7 @@ ghost use Rattle.snb_schema.specs.TableRows.{IsTableRow};
 
 use snb_base::Text;
 use snb_graph::{Graph, Links};
-use snb_graph_tables::Insert;
+use snb_graph_tables::{Insert, TableRows};
 use snb_schema::{Forum, MAX_ID, MAX_TIME, Row, Table};
 use snb_test_script::{
     Flaw, List, first_word, nothing, number_of, told, told_number, told_whether, two_numbers,
@@ -90,6 +90,28 @@ fn told_pairs(alloc: Global, pairs: &[(u64, u64)]) -> Result<String, Flaw> {
     list.told(alloc)
 }
 
+// Rows of friendships and of forums as a list: ends, or id and date.
+fn told_rows(alloc: Global, rows: TableRows<'_>) -> Result<String, Flaw> {
+    let mut list = List::new(alloc);
+    for row in rows {
+        let added = match row? {
+            Row::Dated {
+                table: _,
+                from,
+                to,
+                date: _,
+            } => add_pair(alloc, &mut list, from, to),
+            Row::Forum { forum } => add_pair(alloc, &mut list, forum.id, forum.creation_date),
+            _ => return Err(Flaw::OtherValue),
+        };
+        match added {
+            Ok(()) => {}
+            Err(_) => return Err(Flaw::Memory),
+        }
+    }
+    list.told(alloc)
+}
+
 impl Graphs {
     /// Two graphs without rows.
     pub fn new(alloc: Global) -> Graphs {
@@ -149,6 +171,8 @@ impl Graphs {
             "copy" => self.copy(alloc, rest)?,
             "other" => self.change(alloc, rest)?,
             "rows" => told_number(alloc, self.graph.rows())?,
+            "forums" => told_rows(alloc, self.graph.each(Table::Forum))?,
+            "friendships" => told_rows(alloc, self.graph.each(Table::PersonKnowsPerson))?,
             "friends" => told_links(alloc, self.graph.friends(number_of(rest)?))?,
             "frozen" => told_pairs(alloc, self.graph.friends(number_of(rest)?).frozen())?,
             "added" => told_pairs(alloc, self.graph.friends(number_of(rest)?).added())?,

@@ -4,26 +4,26 @@ ghost use Rattle.std.specs.Prelude.{◌≡◌, ◌++◌, IfOk, OnOk};
 ghost use Rattle.std.specs.List.{flat_map};
 ghost use Rattle.snb_graph_model.specs.FinalText.{final_text, row_line, section};
 ghost use Rattle.snb_graph_model.specs.Graphs.{rows};
+ghost use Rattle.snb_schema.specs.LentRows.{lent_row};
 
-use snb_csv::write_row;
+use snb_csv::write_lent;
 use snb_graph::Graph;
 use snb_graph_model::tables_in_order;
-use snb_schema::{Row, Table, table_name};
+use snb_schema::{LentRow, Table, table_name};
 use std::alloc::{AllocError, Global};
 
-// Appends a row's line, and lets the row go.
-fn put_row(row: Row, to: &mut Vec<u8>) -> Result<(), AllocError>
-    ensures { OnOk result (to.new.items ≡ to.old.items ++ row_line row) }
+// Appends a row's line.
+fn put_row(row: LentRow<'_>, to: &mut Vec<u8>) -> Result<(), AllocError>
+    ensures { OnOk result (to.new.items ≡ to.old.items ++ row_line (lent_row row.entry)) }
 {
-    write_row(&row, to)
+    write_lent(row, to)
 }
 
 // Appends the lines of a table's rows.
 fn put_rows(graph: &Graph, table: Table, to: &mut Vec<u8>) -> Result<(), AllocError>
     ensures { OnOk result (to.new.items ≡ to.old.items ++ flat_map row_line (rows graph.now table)) }
 {
-    for row in graph.each(table) {
-        let row = row?;
+    for row in graph.lent(table) {
         put_row(row, to)?;
     }
     Ok(())

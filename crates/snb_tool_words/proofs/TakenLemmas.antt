@@ -36,7 +36,7 @@ ratio_plain x n (least, most, (whole, units, number, inl p)) = subst IsPlainWord
 ratio_plain x n (least, most, (whole, units, number, inr p)) = subst IsPlainWord (sym p.2) (plain_before whole _ (number_plain whole units _ number))
 
 frequency_plain : (x : Text) (pair : ℕ × ℕ) → SpellsFrequency x pair → IsPlainWord x
-frequency_plain x pair s = subst IsPlainWord (sym s.splits) (plain_before s.query _ (number_plain s.query pair.0 13 s.numbered))
+frequency_plain x pair s = subst IsPlainWord (sym s.splits) (plain_before s.query _ (number_plain s.query pair.0 _ s.numbered))
 
 -- elements between commas, each of which is plain, are plain together
 module _ {A : Type 0} (Spells : Text → A → Type 0) (plain : (x : Text) (a : A) → Spells x a → IsPlainWord x) where

@@ -6,7 +6,7 @@ ghost use Rattle.snb_graph_model.specs.Graphs.{rows};
 ghost use Rattle.snb_graph_tables.specs.Left.{left_rows};
 
 use super::Tables;
-use crate::each::{Left, TableRows};
+use crate::each::{Left, LentRows, TableRows};
 use snb_graph_rows::{Kept, MappedRows, RowMap};
 use snb_schema::Table;
 
@@ -23,7 +23,14 @@ impl Tables {
     pub fn each(&self, table: Table) -> TableRows<'_>
         ensures { result ≡ rows self.now.rows table }
     {
-        TableRows::over(self.left(table))
+        TableRows::of(self.lent(table))
+    }
+
+    /// The rows of a table, in the order of their keys.
+    pub fn lent(&self, table: Table) -> LentRows<'_>
+        ensures { result ≡ rows self.now.rows table }
+    {
+        LentRows::over(self.left(table))
     }
 
     // The rows of a table.

@@ -12,17 +12,18 @@ returns-in_err-before c = rw c.from_residual.ensures (λ pair above s. no_pair c
 pub returns-in_err-query : goal.returns-in_err-query
 returns-in_err-query c = rw c.from_residual-in_err-query.ensures (λ pair above s.
     let parts = parts_spell c.args.piece.now c.in_ok-before.before.now c.in_ok-before.after.now pair c.in_ok-before.ensures s in
-    c.in_err-query.ensures pair.0 parts.0)
+    c.in_err-query.ensures pair.0 (subst (λ (most : ℕ). Num c.in_ok-before.before.now pair.0 most) (sym c.from-most.ensures) parts.0))
 
 pub returns-in_err-frequency : goal.returns-in_err-frequency
 returns-in_err-frequency c = rw c.from_residual-in_err-frequency.ensures (λ pair above s.
     let parts = parts_spell c.args.piece.now c.in_ok-before.before.now c.in_ok-before.after.now pair c.in_ok-before.ensures s in
-    c.in_err-frequency.ensures pair.1 (subst (λ (most : ℕ). Num c.in_ok-before.after.now pair.1 most) (sym c.from.ensures) parts.1))
+    c.in_err-frequency.ensures pair.1 (subst (λ (most : ℕ). Num c.in_ok-before.after.now pair.1 most) (sym c.from-most.ensures) parts.1))
 
 pub returns-then-query-last : goal.returns-then-query-last
 returns-then-query-last c = λ pair above s.
-    let counted = subst (λ (most : ℕ). Num c.in_ok-before.after.now c.in_ok-frequency.field-0 most) c.from.ensures c.in_ok-frequency.ensures in
-    let same = one_pair c.args.piece.now c.in_ok-before.before.now c.in_ok-before.after.now c.in_ok-query.field-0 c.in_ok-frequency.field-0 pair c.in_ok-before.ensures c.in_ok-query.ensures counted s in
+    let asked = subst (λ (most : ℕ). Num c.in_ok-before.before.now c.in_ok-query.field-0 most) c.from-most.ensures c.in_ok-query.ensures in
+    let counted = subst (λ (most : ℕ). Num c.in_ok-before.after.now c.in_ok-frequency.field-0 most) c.from-most.ensures c.in_ok-frequency.ensures in
+    let same = one_pair c.args.piece.now c.in_ok-before.before.now c.in_ok-before.after.now c.in_ok-query.field-0 c.in_ok-frequency.field-0 pair c.in_ok-before.ensures asked counted s in
     let positive = s.positive in
     let complex = subst IsComplex (sym same.0) s.complex in
     elim c.then-query-last.branch [
