@@ -1,4 +1,5 @@
 pub mod FileFacts
+pub mod MadeFacts
 pub mod OneFacts
 pub mod RowFacts
 mod RowsByValues

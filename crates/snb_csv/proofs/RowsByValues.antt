@@ -15,7 +15,8 @@ use Rattle.snb_schema.specs.declared.table.Table.{Table}
 use Rattle.snb_schema.specs.declared.table.Table.TheVariants as table
 use Rattle.snb_schema.specs.Columns.{SpellsAll}
 use Rattle.snb_schema.specs.Layouts.{has_no_direction, shape}
-use Rattle.snb_schema.specs.TableColumns.{columns, id_column}
+use Rattle.snb_schema.specs.Nodes.{comment_by, forum_by, id_column, person_by, post_by}
+use Rattle.snb_schema.specs.TableColumns.{columns}
 use Rattle.snb_schema.specs.RowLines.{IsLoop, SpellsRow}
 use Rattle.snb_schema.specs.RowValues.{Differ, IsWide, in_order, is_turned, row_shape, table_of, values}
 use Rattle.snb_input_fields.proofs.Laws.{TypedRow, row_of, row_values}
@@ -26,13 +27,10 @@ row_by shapes.Place t (Digits id ∷ Letters name ∷ Letters url ∷ Letters ki
 row_by shapes.TagClass t (Digits id ∷ Letters name ∷ Letters url ∷ []) = row.TagClass (record { id = id; name = name; url = url })
 row_by shapes.Tag t (Digits id ∷ Letters name ∷ Letters url ∷ []) = row.Tag (record { id = id; name = name; url = url })
 row_by shapes.Organisation t (Digits id ∷ Letters kind ∷ Letters name ∷ Letters url ∷ []) = row.Organisation (record { id = id; kind = kind; name = name; url = url })
-row_by shapes.Person t (Digits id ∷ Letters first ∷ Letters last ∷ Letters gender ∷ Digits birthday ∷ Digits date ∷ Letters ip ∷ Letters browser ∷ []) =
-    row.Person (record { id = id; first_name = first; last_name = last; gender = gender; birthday = birthday; creation_date = date; location_ip = ip; browser_used = browser })
-row_by shapes.Forum t (Digits id ∷ Letters title ∷ Digits date ∷ []) = row.Forum (record { id = id; title = title; creation_date = date })
-row_by shapes.Post t (Digits id ∷ Letters image ∷ Digits date ∷ Letters ip ∷ Letters browser ∷ Letters language ∷ Letters content ∷ SmallDigits size ∷ []) =
-    row.Post (record { id = id; image_file = image; creation_date = date; location_ip = ip; browser_used = browser; language = language; content = content; length = size })
-row_by shapes.Comment t (Digits id ∷ Digits date ∷ Letters ip ∷ Letters browser ∷ Letters content ∷ SmallDigits size ∷ []) =
-    row.Comment (record { id = id; creation_date = date; location_ip = ip; browser_used = browser; content = content; length = size })
+row_by shapes.Person t vs = row.Person (person_by vs)
+row_by shapes.Forum t vs = row.Forum (forum_by vs)
+row_by shapes.Post t vs = row.Post (post_by vs)
+row_by shapes.Comment t vs = row.Comment (comment_by vs)
 row_by shapes.Dated t (Digits from ∷ Digits to ∷ Digits date ∷ []) = row.Dated t from to date
 row_by shapes.Yeared t (Digits from ∷ Digits to ∷ SmallDigits year ∷ []) = row.Yeared t from to year
 row_by shapes.Word t (Digits person ∷ Letters text ∷ []) = row.Word t person text

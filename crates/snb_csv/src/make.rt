@@ -11,9 +11,9 @@ ghost use Rattle.snb_input_fields.specs.Reading.{IsBadIn, SpellsFrom, at_first};
 ghost use Rattle.snb_csv.specs.Make.{AreFriends, AreNoFriends, IsMadeOf};
 
 use snb_input_fields::FieldReader;
+use snb_node_fields::{read_comment, read_forum, read_person, read_post};
 use snb_schema::{
-    Comment, Forum, LineFault, MAX_ID, MAX_LENGTH, MAX_YEAR, Named, Organisation, Person, Place,
-    Placed, Post, Row, Shape, Table, shape_of,
+    LineFault, MAX_ID, MAX_YEAR, Named, Organisation, Place, Placed, Row, Shape, Table, shape_of,
 };
 
 fn place(table: Table, fields: &mut FieldReader<'_>) -> Result<Row, LineFault>
@@ -86,16 +86,7 @@ fn person(table: Table, fields: &mut FieldReader<'_>) -> Result<Row, LineFault>
     ensures bad { OnBadColumn result (IsBadIn (shape_columns shapes.Person) fields.old.fields) }
 {
     Ok(Row::Person {
-        person: Person {
-            id: fields.number(MAX_ID)?,
-            first_name: fields.text()?,
-            last_name: fields.text()?,
-            gender: fields.text()?,
-            birthday: fields.day()?,
-            creation_date: fields.date()?,
-            location_ip: fields.text()?,
-            browser_used: fields.text()?,
-        },
+        person: read_person(fields)?,
     })
 }
 
@@ -105,11 +96,7 @@ fn forum(table: Table, fields: &mut FieldReader<'_>) -> Result<Row, LineFault>
     ensures bad { OnBadColumn result (IsBadIn (shape_columns shapes.Forum) fields.old.fields) }
 {
     Ok(Row::Forum {
-        forum: Forum {
-            id: fields.number(MAX_ID)?,
-            title: fields.text()?,
-            creation_date: fields.date()?,
-        },
+        forum: read_forum(fields)?,
     })
 }
 
@@ -119,16 +106,7 @@ fn post(table: Table, fields: &mut FieldReader<'_>) -> Result<Row, LineFault>
     ensures bad { OnBadColumn result (IsBadIn (shape_columns shapes.Post) fields.old.fields) }
 {
     Ok(Row::Post {
-        post: Post {
-            id: fields.number(MAX_ID)?,
-            image_file: fields.text()?,
-            creation_date: fields.date()?,
-            location_ip: fields.text()?,
-            browser_used: fields.text()?,
-            language: fields.text()?,
-            content: fields.text()?,
-            length: fields.small(MAX_LENGTH)?,
-        },
+        post: read_post(fields)?,
     })
 }
 
@@ -138,14 +116,7 @@ fn comment(table: Table, fields: &mut FieldReader<'_>) -> Result<Row, LineFault>
     ensures bad { OnBadColumn result (IsBadIn (shape_columns shapes.Comment) fields.old.fields) }
 {
     Ok(Row::Comment {
-        comment: Comment {
-            id: fields.number(MAX_ID)?,
-            creation_date: fields.date()?,
-            location_ip: fields.text()?,
-            browser_used: fields.text()?,
-            content: fields.text()?,
-            length: fields.small(MAX_LENGTH)?,
-        },
+        comment: read_comment(fields)?,
     })
 }
 

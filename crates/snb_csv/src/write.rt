@@ -6,7 +6,8 @@ ghost use Rattle.snb_schema.specs.LentRows.{lent_row};
 ghost use Rattle.snb_schema.specs.RowLines.{canonical};
 
 use snb_input_fields::{Cell, put_line};
-use snb_schema::{Comment, Forum, LentRow, Named, Organisation, Person, Place, Post, Row};
+use snb_node_fields::{put_comment, put_forum, put_person, put_post};
+use snb_schema::{LentRow, Named, Organisation, Place, Row};
 use std::alloc::AllocError;
 
 fn put_place(place: &Place, to: &mut Vec<u8>) -> Result<(), AllocError>
@@ -51,75 +52,6 @@ fn put_organisation(organisation: &Organisation, to: &mut Vec<u8>) -> Result<(),
             Cell::Letters(organisation.kind.as_str()),
             Cell::Letters(organisation.name.as_str()),
             Cell::Letters(organisation.url.as_str()),
-        ],
-        to,
-    )
-}
-
-fn put_person(person: &Person, to: &mut Vec<u8>) -> Result<(), AllocError>
-    ensures ok { OnOk result (to.new.items ≡ to.old.items ++ (canonical (rows.Person person.now) ++ 10 ∷ [])) }
-    ensures err { OnErr result (to.new.items ≡ to.old.items) }
-{
-    put_line(
-        &[
-            Cell::Digits(person.id),
-            Cell::Letters(person.first_name.as_str()),
-            Cell::Letters(person.last_name.as_str()),
-            Cell::Letters(person.gender.as_str()),
-            Cell::Digits(person.birthday),
-            Cell::Digits(person.creation_date),
-            Cell::Letters(person.location_ip.as_str()),
-            Cell::Letters(person.browser_used.as_str()),
-        ],
-        to,
-    )
-}
-
-fn put_forum(forum: &Forum, to: &mut Vec<u8>) -> Result<(), AllocError>
-    ensures ok { OnOk result (to.new.items ≡ to.old.items ++ (canonical (rows.Forum forum.now) ++ 10 ∷ [])) }
-    ensures err { OnErr result (to.new.items ≡ to.old.items) }
-{
-    put_line(
-        &[
-            Cell::Digits(forum.id),
-            Cell::Letters(forum.title.as_str()),
-            Cell::Digits(forum.creation_date),
-        ],
-        to,
-    )
-}
-
-fn put_post(post: &Post, to: &mut Vec<u8>) -> Result<(), AllocError>
-    ensures ok { OnOk result (to.new.items ≡ to.old.items ++ (canonical (rows.Post post.now) ++ 10 ∷ [])) }
-    ensures err { OnErr result (to.new.items ≡ to.old.items) }
-{
-    put_line(
-        &[
-            Cell::Digits(post.id),
-            Cell::Letters(post.image_file.as_str()),
-            Cell::Digits(post.creation_date),
-            Cell::Letters(post.location_ip.as_str()),
-            Cell::Letters(post.browser_used.as_str()),
-            Cell::Letters(post.language.as_str()),
-            Cell::Letters(post.content.as_str()),
-            Cell::SmallDigits(post.length),
-        ],
-        to,
-    )
-}
-
-fn put_comment(comment: &Comment, to: &mut Vec<u8>) -> Result<(), AllocError>
-    ensures ok { OnOk result (to.new.items ≡ to.old.items ++ (canonical (rows.Comment comment.now) ++ 10 ∷ [])) }
-    ensures err { OnErr result (to.new.items ≡ to.old.items) }
-{
-    put_line(
-        &[
-            Cell::Digits(comment.id),
-            Cell::Digits(comment.creation_date),
-            Cell::Letters(comment.location_ip.as_str()),
-            Cell::Letters(comment.browser_used.as_str()),
-            Cell::Letters(comment.content.as_str()),
-            Cell::SmallDigits(comment.length),
         ],
         to,
     )

@@ -4,6 +4,7 @@ use Rattle.snb_schema.specs.declared.person.Person.{Person}
 use Rattle.snb_schema.specs.declared.row.Row.{Row}
 use Rattle.snb_schema.specs.declared.row.Row.TheVariants as row
 use Rattle.snb_schema.specs.declared.table.Table.TheVariants as table
+use Rattle.snb_schema.specs.Nodes.{forum_named}
 
 -- 10|Ann|Lee|female|0|1000|1.1.1.1|Firefox
 abbrev pub ann : Person
@@ -44,7 +45,7 @@ before_place =
     (record { id = 1; kind = codes "university"; name = codes "Uni"; url = codes "u" })
     ∷ row.Person ann
     ∷ row.Person bob
-    ∷ row.Forum (record { id = 20; title = codes "Wall"; creation_date = 4000 })
+    ∷ row.Forum (forum_named 20 (codes "Wall") 4000)
     ∷ row.Post
     (record {
       id = 30;

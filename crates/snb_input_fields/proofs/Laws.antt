@@ -10,8 +10,8 @@ use Rattle.snb_input_lines.specs.Records.{field_at}
 use Rattle.snb_input_fields.proofs.WideFacts.{wide_none, wide_some}
 use Rattle.snb_base.proofs.Laws.{number_found}
 pub use Rattle.snb_input_fields.proofs.Queries.{one_query, typed_query}
-pub use Rattle.snb_input_fields.proofs.Readings.{at, expects_all, moved, reads_spell, spelled, spells_from, stops_bad}
-pub use Rattle.snb_input_fields.proofs.TypedRows.{TypedRow, row_of, row_values}
+pub use Rattle.snb_input_fields.proofs.Readings.{at, expects_after, expects_all, expects_first, expects_second, moved, on_bad, reads_both, reads_spell, reads_to, spelled, spells_from, stops_bad, stops_first, stops_second, stops_within}
+pub use Rattle.snb_input_fields.proofs.TypedRows.{TypedRow, row_of, row_parts, row_values}
 
 -- fields that spell values are as many as their columns
 pub spelled_long : (cs : List Column) (fs : List (List ℕ)) (vs : List Value) → SpellsAll cs fs vs → length fs ≡ length cs

@@ -1,5 +1,5 @@
 -- Values by the columns that they stand in.
-use Rattle.std.proofs.Common.{◌≡◌, ℕ, List, [], ◌∷◌, Option, Some, None, refl}
+use Rattle.std.proofs.Common.{◌≡◌, ℕ, List, [], ◌∷◌, ◌++◌, Option, Some, None, refl}
 use Rattle.std.specs.Bool.{⊤}
 use Rattle.snb_schema.specs.declared.column.Column.{Column}
 use Rattle.snb_schema.specs.declared.column.Column.TheVariants.{Number, Small, OptionalId, Date, Day, Words, Word, TextList, IdList, PairList}
@@ -53,6 +53,11 @@ typed_of column x v s = absurd s
 abbrev pub TypedRow : List Column → Type 0
 TypedRow [] = ⊤
 TypedRow (c ∷ cs) = Typed c × TypedRow cs
+
+-- what columns in two parts hold
+abbrev pub row_parts : (cs ds : List Column) → TypedRow (cs ++ ds) → TypedRow cs × TypedRow ds
+row_parts [] ds row = (tt, row)
+row_parts (c ∷ cs) ds row = ((row.0, (row_parts cs ds row.1).0), (row_parts cs ds row.1).1)
 
 -- as values
 abbrev pub row_values : (cs : List Column) → TypedRow cs → List Value

@@ -10,7 +10,7 @@ ghost use Rattle.snb_schema.specs.Columns.{StopsAfter, no_id};
 ghost use Rattle.snb_schema.specs.Faults.{OnBadColumn};
 ghost use Rattle.snb_input_fields.specs.Reading.{IsBadIn, IsBadNext, IsNext, SpellsNext, at_first, optional_value, past, text_at};
 
-use crate::fields::Fields;
+use crate::fields::{Fields, LineFields};
 use crate::lists::{read_ids, read_pairs, read_texts, text_of};
 use crate::wide::COLUMNS_END;
 use snb_base::{Numbers, Pairs, Text, Texts, read_number};
@@ -310,5 +310,23 @@ impl<'a> Fields for FieldReader<'a> {
 
     fn text(&mut self) -> Result<Text, LineFault> {
         FieldReader::text(self)
+    }
+}
+
+impl<'a> LineFields for FieldReader<'a> {
+    fn day(&mut self) -> Result<u64, LineFault> {
+        FieldReader::day(self)
+    }
+
+    fn texts(&mut self) -> Result<Texts, LineFault> {
+        FieldReader::texts(self)
+    }
+
+    fn ids(&mut self) -> Result<Numbers, LineFault> {
+        FieldReader::ids(self)
+    }
+
+    fn pairs(&mut self) -> Result<Pairs, LineFault> {
+        FieldReader::pairs(self)
     }
 }

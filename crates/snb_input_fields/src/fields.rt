@@ -1,12 +1,12 @@
 //! Typed fields, read one after another.
 
 ghost use Rattle.std.specs.Prelude.{IfOk};
-ghost use Rattle.snb_schema.specs.declared.column.Column.TheVariants.{Date, Number, Small, Words};
-ghost use Rattle.snb_schema.specs.declared.column.Value.TheVariants.{Digits, Letters, SmallDigits};
+ghost use Rattle.snb_schema.specs.declared.column.Column.TheVariants.{Date, Day, IdList, Number, PairList, Small, TextList, Words};
+ghost use Rattle.snb_schema.specs.declared.column.Value.TheVariants.{Digits, Ids, Letters, Pairs as PairsOf, SmallDigits, Texts as TextsOf};
 ghost use Rattle.snb_schema.specs.Faults.{OnBadColumn};
 ghost use Rattle.snb_input_fields.specs.Fields.{FieldsMeaning};
 
-use snb_base::Text;
+use snb_base::{Numbers, Pairs, Text, Texts};
 use snb_schema::LineFault;
 
 /// Fields that are read one after another, each by a column that a read's parameter may have, straight
@@ -41,4 +41,31 @@ pub trait Fields {
         requires { meaning.expects self.old Words }
         ensures ok { IfOk result (λ text. meaning.reads self.old Words (Letters text) self.new) }
         ensures bad { OnBadColumn result (meaning.stops self.old Words) };
+}
+
+/// Fields of a line, which are read by further columns than a read's parameter may have.
+pub trait LineFields: Fields {
+    /// A day, in milliseconds since 1970-01-01 UTC.
+    fn day(&mut self) -> Result<u64, LineFault>
+        requires { Self.meaning.expects self.old Day }
+        ensures ok { IfOk result (λ n. Self.meaning.reads self.old Day (Digits n) self.new) }
+        ensures bad { OnBadColumn result (Self.meaning.stops self.old Day) };
+
+    /// Texts, each once.
+    fn texts(&mut self) -> Result<Texts, LineFault>
+        requires { Self.meaning.expects self.old TextList }
+        ensures ok { IfOk result (λ texts. Self.meaning.reads self.old TextList (TextsOf texts) self.new) }
+        ensures bad { OnBadColumn result (Self.meaning.stops self.old TextList) };
+
+    /// Ids, each once.
+    fn ids(&mut self) -> Result<Numbers, LineFault>
+        requires { Self.meaning.expects self.old IdList }
+        ensures ok { IfOk result (λ ids. Self.meaning.reads self.old IdList (Ids ids) self.new) }
+        ensures bad { OnBadColumn result (Self.meaning.stops self.old IdList) };
+
+    /// Ids with years, each id once.
+    fn pairs(&mut self) -> Result<Pairs, LineFault>
+        requires { Self.meaning.expects self.old PairList }
+        ensures ok { IfOk result (λ pairs. Self.meaning.reads self.old PairList (PairsOf pairs) self.new) }
+        ensures bad { OnBadColumn result (Self.meaning.stops self.old PairList) };
 }

@@ -11,7 +11,7 @@ mod wide;
 mod write;
 
 pub use field_reader::FieldReader;
-pub use fields::Fields;
+pub use fields::{Fields, LineFields};
 pub use law::{one_value, spelled_or_not};
 pub use query::{parameters_of, read_query};
 pub use wide::{COLUMNS_END, is_wide};

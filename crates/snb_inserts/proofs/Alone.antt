@@ -3,19 +3,22 @@ use Rattle.std.proofs.Common.{◌≡◌, ◌∙◌, ◌++◌, ◌∷◌, ℕ, Li
 use Rattle.std.proofs.lemmas.List.Elements.{All-head}
 use Rattle.std.specs.List.{Contains}
 use Rattle.snb_schema.specs.declared.key.Key.TheVariants.{Node}
-use Rattle.snb_schema.specs.declared.op.Op.TheVariants as ops
 use Rattle.snb_schema.specs.declared.row.Row.{Row}
 use Rattle.snb_schema.specs.declared.row.Row.TheVariants as row
 use Rattle.snb_schema.specs.declared.table.Kind.{Kind}
 use Rattle.snb_schema.specs.declared.table.Kind.TheVariants as kinds
 use Rattle.snb_schema.specs.declared.table.Table.{Table}
+use Rattle.snb_schema.specs.Inserts.{addition_keys}
+use Rattle.snb_schema.specs.Nodes.{Addition, NewPerson, NewForum, NewPost, NewComment, NewPostLike, NewCommentLike, NewMember, NewFriends, addition}
 use Rattle.snb_schema.specs.References.{end_ref, from_kind, ref, to_kind}
 use Rattle.snb_schema.specs.RowKeys.{node_key}
 use Rattle.snb_graph.specs.Additions.{IsFirstAlone}
 use Rattle.snb_graph_adjacency.specs.Links.{message_of}
 use Rattle.snb_graph_model.specs.Graphs.{HasKey}
 use Rattle.snb_graph_model.specs.Soundness.{HoldsRefs}
+use Rattle.snb_inserts.specs.Applying.{IsAnyHeld}
 use Rattle.snb_inserts.specs.Laws.{MessagesAreAlone}
+use Rattle.snb_inserts.proofs.ListRows.{all_rows}
 use Rattle.snb_inserts.proofs.Owners.{IsHere}
 use Rattle.snb_inserts.proofs.TakenLemmas.{two_held}
 use Rattle.snb_base.proofs.Laws.{first_same}
@@ -34,14 +37,18 @@ new_message g first more k id date held is none r rest e j n d message t from to
 no_message : (g : List Row) (first : Row) (more : List Row) → message_of first ≡ None → IsFirstAlone g (first ∷ more)
 no_message g first more is r rest e j n d message t from to c = let same : None ≡ Some (j, n, d) = sym is ∙ ap message_of (first_same first r more rest e) ∙ message in absurd cc
 
+-- none of what it adds is held
+addition_alone : (g : List Row) (a : Addition) → HoldsRefs g → ¬ IsAnyHeld g (addition_keys a) → IsFirstAlone g (all_rows a)
+addition_alone g (NewPost post author forum country tags) held free =
+    new_message g _ _ kinds.Post post.id post.creation_date held refl (λ has. free ((two_held g (Node kinds.Post post.id) (Node kinds.Comment post.id)).1 (inl has)))
+addition_alone g (NewComment comment author country parent tags) held free =
+    new_message g _ _ kinds.Comment comment.id comment.creation_date held refl (λ has. free ((two_held g (Node kinds.Post comment.id) (Node kinds.Comment comment.id)).1 (inr has)))
+addition_alone g (NewPerson person city languages emails tags study work) held free = no_message g _ _ refl
+addition_alone g (NewPostLike person post date) held free = no_message g _ _ refl
+addition_alone g (NewCommentLike person comment date) held free = no_message g _ _ refl
+addition_alone g (NewForum forum moderator tags) held free = no_message g _ _ refl
+addition_alone g (NewMember person forum date) held free = no_message g _ _ refl
+addition_alone g (NewFriends one other date) held free = no_message g _ _ refl
+
 pub messages_alone : MessagesAreAlone
-messages_alone g (ops.AddPost id image date ip browser language content size author forum country tags) held welcome =
-    new_message g _ _ kinds.Post id date held refl (λ has. welcome.1 ((two_held g (Node kinds.Post id) (Node kinds.Comment id)).1 (inl has)))
-messages_alone g (ops.AddComment id date ip browser content size author country parent tags) held welcome =
-    new_message g _ _ kinds.Comment id date held refl (λ has. welcome.1 ((two_held g (Node kinds.Post id) (Node kinds.Comment id)).1 (inr has)))
-messages_alone g (ops.AddPerson id first last gender birthday created ip browser city languages emails tags study work) held welcome = no_message g _ _ refl
-messages_alone g (ops.LikePost person post date) held welcome = no_message g _ _ refl
-messages_alone g (ops.LikeComment person comment date) held welcome = no_message g _ _ refl
-messages_alone g (ops.AddForum id title date moderator tags) held welcome = no_message g _ _ refl
-messages_alone g (ops.AddMember person forum date) held welcome = no_message g _ _ refl
-messages_alone g (ops.AddFriend one other date) held welcome = no_message g _ _ refl
+messages_alone g op held welcome = addition_alone g (addition op) held welcome.1

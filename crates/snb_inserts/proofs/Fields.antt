@@ -1,5 +1,5 @@
 -- What the fields of an insert's line say of its values: each is within its bounds, and the items of a list differ.
-use Rattle.std.proofs.Common.{◌≡◌, ◌≢◌, ◌≤◌, ◌∙◌, [], ◌∷◌, ℕ, nat_eq, List, Bool, All, Decides, sym, subst}
+use Rattle.std.proofs.Common.{◌≡◌, ◌≢◌, ◌≤◌, ◌∙◌, [], ◌∷◌, ◌++◌, ℕ, nat_eq, List, Bool, All, Decides, length, refl, sym, subst, arith}
 use Rattle.std.proofs.lemmas.Bool.Decides.{Decides-and, Decides-eqb, Decides-like}
 use Rattle.std.proofs.lemmas.List.Elements.{All-head, All-tail, recursion_from_All}
 use Rattle.std.proofs.lemmas.Slice.Eq.{bytes_eq-Decides}
@@ -15,7 +15,8 @@ use Rattle.snb_schema.specs.declared.op.Op.{Op}
 use Rattle.snb_schema.specs.Columns.{Spells, SpellsAll}
 use Rattle.snb_schema.specs.Lines.{fields}
 use Rattle.snb_schema.specs.TableRows.{IsFieldText, IsInBounds}
-use Rattle.snb_schema.specs.InsertLines.{insert_columns, kind_of, line_columns, line_values, op_values}
+use Rattle.snb_schema.specs.InsertLines.{addition_kind, beside_columns, beside_values, kind_of, line_columns, line_values, node_columns, node_values}
+use Rattle.snb_schema.specs.Nodes.{Addition, NewPerson, addition}
 use Rattle.snb_columns.proofs.Laws.{listed_all}
 use Rattle.snb_columns.specs.Laws.{HasPlainFields}
 use Rattle.snb_inserts.specs.Applying.{HasLine}
@@ -78,9 +79,21 @@ all_proper [] [] [] f s = tt
 all_proper (c ∷ cs) (x ∷ xs) (v ∷ vs) f s = (proper c x v (All-head IsFieldText x xs f) s.0, all_proper cs xs vs (All-tail IsFieldText x xs f) s.1)
 all_proper cs xs vs f s = absurd s
 
+-- values in two parts are so in each
+proper_parts : (cs ds : List Column) (vs ws : List Value) → length cs ≡ length vs → AreProper (cs ++ ds) (vs ++ ws) → AreProper cs vs × AreProper ds ws
+proper_parts [] ds [] ws long all = (tt, all)
+proper_parts (c ∷ cs) ds (v ∷ vs) ws long all = let more = proper_parts cs ds vs ws (omega (arith, long)) all.1 in ((all.0, more.0), more.1)
+proper_parts cs ds vs ws long all = absurd cc
+
+-- a node has a value for each of its columns
+node_long : (a : Addition) → length (node_columns (addition_kind a)) ≡ length (node_values a)
+node_long (NewPerson person city languages emails tags study work) = refl
+node_long a = refl
+
 -- the values of an insert that has a line are so
-pub op_proper : ((line : List ℕ) → HasPlainFields line) → (op : Op) → HasLine op → AreProper (insert_columns (kind_of op)) (op_values op)
+pub op_proper : ((line : List ℕ) → HasPlainFields line) → (op : Op) → HasLine op → AreProper (node_columns (kind_of op)) (node_values (addition op)) × AreProper (beside_columns (kind_of op)) (beside_values (addition op))
 op_proper plain op (line, t, t_d, is) =
     let own = plain line in
     let texts : All IsFieldText (fields line) = λ k d l. record { utf8 = own.texts is.text k d l; no_bar = own.no_bars k d l; one_line = own.no_ends is.one_line k d l } in
+    proper_parts (node_columns (kind_of op)) (beside_columns (kind_of op)) (node_values (addition op)) (beside_values (addition op)) (node_long (addition op))
     (all_proper (line_columns (kind_of op)) (fields line) (line_values t t_d op) texts is.spelled).1.1.1

@@ -1,10 +1,11 @@
 -- Rows of the elements of an insert's lists.
-use Rattle.std.proofs.Common.{◌≡◌, ◌∙◌, ◌++◌, ◌∷◌, [], ℕ, List, map, ap, append_assoc, sym, take, drop}
-use Rattle.std.proofs.lemmas.List.{take-append-drop}
+use Rattle.std.proofs.Common.{◌≡◌, ◌∙◌, ◌++◌, ◌∷◌, [], ℕ, List, map, ap, append_assoc}
 use Rattle.snb_schema.specs.declared.row.Row.{Row}
 use Rattle.snb_schema.specs.declared.row.Row.TheVariants as row
 use Rattle.snb_schema.specs.declared.table.Table.{Table}
 use Rattle.snb_schema.specs.declared.table.Table.TheVariants as table
+use Rattle.snb_schema.specs.Inserts.{addition_edges, addition_row}
+use Rattle.snb_schema.specs.Nodes.{Addition}
 
 -- an edge from a node to each of these
 abbrev pub links : Table → ℕ → List ℕ → List Row
@@ -18,10 +19,14 @@ stays t from ends = map (λ to. row.Yeared t from to.0 to.1) ends
 abbrev pub words : Table → ℕ → List (List ℕ) → List Row
 words t person texts = map (row.Word t person) texts
 
+-- the rows of what an insert adds
+abbrev pub all_rows : Addition → List Row
+all_rows a = addition_row a ∷ addition_edges a
+
 -- the first of rows and then the others are appended: all of them are
-pub put_all : (old mid new : List Row) (r : Row) (all : List Row) → take 1 all ≡ r ∷ [] → mid ≡ old ++ r ∷ [] → new ≡ mid ++ drop 1 all → new ≡ old ++ all
-put_all old mid new r all first one more =
-    more ∙ ap (λ (xs : List Row). xs ++ drop 1 all) (one ∙ ap (λ (xs : List Row). old ++ xs) (sym first)) ∙ append_assoc old (take 1 all) (drop 1 all) ∙ ap (λ (xs : List Row). old ++ xs) (take-append-drop 1 all)
+pub put_all : (old mid new : List Row) (r : Row) (a : Addition) → r ≡ addition_row a → mid ≡ old ++ r ∷ [] → new ≡ mid ++ addition_edges a → new ≡ old ++ all_rows a
+put_all old mid new r a first one more =
+    more ∙ ap (λ (xs : List Row). xs ++ addition_edges a) (one ∙ ap (λ (x : Row). old ++ x ∷ []) first) ∙ append_assoc old (addition_row a ∷ []) (addition_edges a)
 
 -- the edges and words of a person
 abbrev pub edges : ℕ → ℕ → List (List ℕ) → List (List ℕ) → List ℕ → List (ℕ × ℕ) → List (ℕ × ℕ) → List Row

@@ -4,7 +4,7 @@ use Rattle.std.proofs.lemmas.Bool.{false≢true}
 use Rattle.std.proofs.lemmas.List.Elements.{All-weaker, recursion_from_All}
 use Rattle.std.specs.List.{AllByRecursion, Contains, flat_map}
 use Rattle.snb_schema.specs.declared.op.Op.{Op}
-use Rattle.snb_schema.specs.declared.op.Op.TheVariants as ops
+use Rattle.snb_schema.specs.Nodes.{Addition, NewPerson, NewForum, NewPost, NewComment, NewPostLike, NewCommentLike, NewMember, NewFriends, addition}
 use Rattle.snb_schema.specs.declared.op.Parent.{Parent}
 use Rattle.snb_schema.specs.declared.op.Parent.TheVariants as parents
 use Rattle.snb_schema.specs.declared.refusal.Missing.{Missing}
@@ -13,7 +13,7 @@ use Rattle.snb_schema.specs.declared.row.Row.TheVariants as row
 use Rattle.snb_schema.specs.declared.table.Kind.TheVariants as kinds
 use Rattle.snb_schema.specs.declared.table.Table.{Table}
 use Rattle.snb_schema.specs.declared.table.Table.TheVariants as table
-use Rattle.snb_schema.specs.References.{parent_ref, refs_of}
+use Rattle.snb_schema.specs.References.{addition_refs, parent_ref, refs_of}
 use Rattle.snb_schema.specs.RowKeys.{RowKey, node_key, row_key, slot, slot_of}
 use Rattle.snb_schema.specs.RowValues.{table_of}
 use Rattle.snb_schema.specs.TableOrder.{all_tables, same_table}
@@ -21,7 +21,7 @@ use Rattle.snb_graph_integrity.proofs.Laws.{fills_decides, in_flat_map}
 use Rattle.snb_graph_model.proofs.Laws.{of_each}
 use Rattle.snb_graph_model.specs.Graphs.{HasGained, HasKey, HasSlot, fills, rows}
 use Rattle.snb_schema.specs.Inserts.{parent_row, rows_of}
-use Rattle.snb_inserts.proofs.ListRows.{links, stays, words}
+use Rattle.snb_inserts.proofs.ListRows.{all_rows, links, stays, words}
 use Rattle.snb_graph_model.specs.Soundness.{HasNeededEdges, IsRooted, Need, Sound, edges_of, needs, needs_of}
 use Rattle.snb_inserts.specs.Applying.{IsThere, IsWelcome}
 use Rattle.snb_inserts.specs.Laws.{SoundIsKept}
@@ -72,63 +72,63 @@ parent_rooted g comment (parents.Comment parent) rooted c = let rest = rooted pa
 -- ---- the rows of an insert
 
 -- where a graph holds the rows of an insert, and the chain of a comment's parents to which it refers ends at a post, the rows are settled
-rows_settled : (g : List Row) (op : Op) → AllByRecursion (Contains g) (rows_of op) → AllByRecursion (λ ref. (comment : ℕ) → node_key ref.kind ref.id ≡ node_key kinds.Comment comment → IsRooted g comment) (refs_of op) → AllByRecursion (IsSettled g) (rows_of op)
-rows_settled g (ops.AddPerson id first last gender birthday created ip browser city languages emails tags study work) holds rooted = (
+rows_settled : (g : List Row) (a : Addition) → AllByRecursion (Contains g) (all_rows a) → AllByRecursion (λ ref. (comment : ℕ) → node_key ref.kind ref.id ≡ node_key kinds.Comment comment → IsRooted g comment) (addition_refs a) → AllByRecursion (IsSettled g) (all_rows a)
+rows_settled g (NewPerson person city languages emails tags study work) holds rooted = (
   record { edges = (filled g _ holds.1.0, tt); rooted = no_comment g _ refl },
   (
-    settled g (row.Link table.PersonIsLocatedInPlace id city) refl refl,
-    each_both (IsSettled g) _ (stays table.PersonWorkAtOrganisation id work)
-        (each_both (IsSettled g) _ (stays table.PersonStudyAtOrganisation id study)
-        (each_both (IsSettled g) _ (links table.PersonHasInterestTag id tags)
-        (each_both (IsSettled g) (words table.PersonEmailEmailAddress id emails) (words table.PersonSpeaksLanguage id languages)
-        (each_settled g (λ text. row.Word table.PersonEmailEmailAddress id text) (λ text. refl) (λ text. refl) emails)
-        (each_settled g (λ text. row.Word table.PersonSpeaksLanguage id text) (λ text. refl) (λ text. refl) languages))
-        (each_settled g (λ to. row.Link table.PersonHasInterestTag id to) (λ to. refl) (λ to. refl) tags))
-        (each_settled g (λ to. row.Yeared table.PersonStudyAtOrganisation id to.0 to.1) (λ to. refl) (λ to. refl) study))
-        (each_settled g (λ to. row.Yeared table.PersonWorkAtOrganisation id to.0 to.1) (λ to. refl) (λ to. refl) work),
+    settled g (row.Link table.PersonIsLocatedInPlace person.id city) refl refl,
+    each_both (IsSettled g) _ (stays table.PersonWorkAtOrganisation person.id work)
+        (each_both (IsSettled g) _ (stays table.PersonStudyAtOrganisation person.id study)
+        (each_both (IsSettled g) _ (links table.PersonHasInterestTag person.id tags)
+        (each_both (IsSettled g) (words table.PersonEmailEmailAddress person.id emails) (words table.PersonSpeaksLanguage person.id languages)
+        (each_settled g (λ text. row.Word table.PersonEmailEmailAddress person.id text) (λ text. refl) (λ text. refl) emails)
+        (each_settled g (λ text. row.Word table.PersonSpeaksLanguage person.id text) (λ text. refl) (λ text. refl) languages))
+        (each_settled g (λ to. row.Link table.PersonHasInterestTag person.id to) (λ to. refl) (λ to. refl) tags))
+        (each_settled g (λ to. row.Yeared table.PersonStudyAtOrganisation person.id to.0 to.1) (λ to. refl) (λ to. refl) study))
+        (each_settled g (λ to. row.Yeared table.PersonWorkAtOrganisation person.id to.0 to.1) (λ to. refl) (λ to. refl) work),
   ),
 )
-rows_settled g (ops.LikePost person post date) holds rooted = (settled g (row.Dated table.PersonLikesPost person post date) refl refl, tt)
-rows_settled g (ops.LikeComment person comment date) holds rooted = (settled g (row.Dated table.PersonLikesComment person comment date) refl refl, tt)
-rows_settled g (ops.AddForum id title date moderator tags) holds rooted = (
+rows_settled g (NewPostLike person post date) holds rooted = (settled g (row.Dated table.PersonLikesPost person post date) refl refl, tt)
+rows_settled g (NewCommentLike person comment date) holds rooted = (settled g (row.Dated table.PersonLikesComment person comment date) refl refl, tt)
+rows_settled g (NewForum forum moderator tags) holds rooted = (
   record { edges = (filled g _ holds.1.0, tt); rooted = no_comment g _ refl },
   (
-    settled g (row.Link table.ForumHasModeratorPerson id moderator) refl refl,
-    each_settled g (λ to. row.Link table.ForumHasTagTag id to) (λ to. refl) (λ to. refl) tags,
+    settled g (row.Link table.ForumHasModeratorPerson forum.id moderator) refl refl,
+    each_settled g (λ to. row.Link table.ForumHasTagTag forum.id to) (λ to. refl) (λ to. refl) tags,
   ),
 )
-rows_settled g (ops.AddMember person forum date) holds rooted = (settled g (row.Dated table.ForumHasMemberPerson forum person date) refl refl, tt)
-rows_settled g (ops.AddPost id image date ip browser language content size author forum country tags) holds rooted = (
+rows_settled g (NewMember person forum date) holds rooted = (settled g (row.Dated table.ForumHasMemberPerson forum person date) refl refl, tt)
+rows_settled g (NewPost post author forum country tags) holds rooted = (
   record { edges = (filled g _ holds.1.0, (filled g _ holds.1.1.0, (filled g _ holds.1.1.1.0, tt))); rooted = no_comment g _ refl },
   (
-    settled g (row.Link table.ForumContainerOfPost forum id) refl refl,
+    settled g (row.Link table.ForumContainerOfPost forum post.id) refl refl,
     (
-      settled g (row.Link table.PostHasCreatorPerson id author) refl refl,
+      settled g (row.Link table.PostHasCreatorPerson post.id author) refl refl,
       (
-        settled g (row.Link table.PostIsLocatedInPlace id country) refl refl,
-        each_settled g (λ to. row.Link table.PostHasTagTag id to) (λ to. refl) (λ to. refl) tags,
+        settled g (row.Link table.PostIsLocatedInPlace post.id country) refl refl,
+        each_settled g (λ to. row.Link table.PostHasTagTag post.id to) (λ to. refl) (λ to. refl) tags,
       ),
     ),
   ),
 )
-rows_settled g (ops.AddComment id date ip browser content size author country parent tags) holds rooted = (
+rows_settled g (NewComment comment author country parent tags) holds rooted = (
   record {
-    edges = (filled g _ holds.1.0, (filled g _ holds.1.1.0, (parent_filled g id parent holds.1.1.1.0, tt)));
-    rooted = λ comment is. subst (IsRooted g) (ap (λ (k : RowKey). k.1) is)
-        (parent_rooted g id parent (λ other e. rooted.1.1.0 other (ap (λ p. node_key (parent_ref p).kind (parent_ref p).id) e)) holds.1.1.1.0);
+    edges = (filled g _ holds.1.0, (filled g _ holds.1.1.0, (parent_filled g comment.id parent holds.1.1.1.0, tt)));
+    rooted = λ one is. subst (IsRooted g) (ap (λ (k : RowKey). k.1) is)
+        (parent_rooted g comment.id parent (λ other e. rooted.1.1.0 other (ap (λ p. node_key (parent_ref p).kind (parent_ref p).id) e)) holds.1.1.1.0);
   },
   (
-    settled g (row.Link table.CommentHasCreatorPerson id author) refl refl,
+    settled g (row.Link table.CommentHasCreatorPerson comment.id author) refl refl,
     (
-      settled g (row.Link table.CommentIsLocatedInPlace id country) refl refl,
+      settled g (row.Link table.CommentIsLocatedInPlace comment.id country) refl refl,
       (
-        parent_settled g id parent,
-        each_settled g (λ to. row.Link table.CommentHasTagTag id to) (λ to. refl) (λ to. refl) tags,
+        parent_settled g comment.id parent,
+        each_settled g (λ to. row.Link table.CommentHasTagTag comment.id to) (λ to. refl) (λ to. refl) tags,
       ),
     ),
   ),
 )
-rows_settled g (ops.AddFriend one other date) holds rooted = (settled g (row.Dated table.PersonKnowsPerson (min one other) (max one other) date) refl refl, tt)
+rows_settled g (NewFriends one other date) holds rooted = (settled g (row.Dated table.PersonKnowsPerson (min one other) (max one other) date) refl refl, tt)
 
 -- ---- the graph
 
@@ -148,7 +148,7 @@ module _ (g now : List Row) (op : Op) (sound : Sound g) (welcome : IsWelcome g o
 
   all_settled : AllByRecursion (IsSettled now) (rows_of op)
   all_settled =
-      rows_settled now op (more_held g (rows_of op) now gained)
+      rows_settled now (addition op) (more_held g (rows_of op) now gained)
       (recursion_from_All IsFromRooted (refs_of op) (All-weaker (IsThere g) IsFromRooted
       (λ ref has comment is. root_kept g now (old_held g (rows_of op) now gained) comment (sound.rooted comment (subst (HasKey g) is has))) (refs_of op) welcome.0))
 

@@ -3,14 +3,13 @@ use Rattle.std.proofs.Common.{◌≡◌, ◌↔◌, ◌⊎◌, ℕ, List, [], �
 use Rattle.std.specs.List.{Contains}
 use Rattle.snb_schema.specs.declared.key.Key.{Key}
 use Rattle.snb_schema.specs.declared.key.Key.TheVariants.{Node, Knows, LikesPost, LikesComment, Member}
-use Rattle.snb_schema.specs.declared.op.Op.{Op}
-use Rattle.snb_schema.specs.declared.op.Op.TheVariants as ops
+use Rattle.snb_schema.specs.Nodes.{Addition, NewPerson, NewForum, NewPost, NewComment, NewPostLike, NewCommentLike, NewMember, NewFriends}
 use Rattle.snb_schema.specs.declared.row.Row.{Row}
 use Rattle.snb_schema.specs.declared.table.Kind.TheVariants as kinds
 use Rattle.snb_schema.specs.declared.table.Table.{Table}
 use Rattle.snb_schema.specs.declared.table.Table.TheVariants as table
 use Rattle.snb_inserts.proofs.Keys.{key_of}
-use Rattle.snb_schema.specs.Inserts.{keys_of, message_keys}
+use Rattle.snb_schema.specs.Inserts.{addition_keys, message_keys}
 use Rattle.snb_schema.specs.RowKeys.{RowKey, named_key, row_key, sharing, slot}
 use Rattle.snb_graph_model.specs.Graphs.{HasKey, HasSlot, HoldsKey}
 use Rattle.snb_inserts.specs.Applying.{IsAnyHeld}
@@ -89,13 +88,13 @@ message_held g id has =
     ])
 
 -- where the slot of an insert's key is filled, a key that the insert takes is held
-pub filled_taken : (g : List Row) (op : Op) → IsKeyFilled g (key_of op) → IsAnyHeld g (keys_of op)
-filled_taken g (ops.AddPerson id first last gender birthday created ip browser city languages emails tags study work) has =
-    (one_held g (Node kinds.Person id)).1 (alone_key g table.Person id 0 [] person_alone has)
-filled_taken g (ops.LikePost person post date) has = (one_held g (LikesPost person post)).1 (alone_key g table.PersonLikesPost person post [] post_likes_alone has)
-filled_taken g (ops.LikeComment person comment date) has = (one_held g (LikesComment person comment)).1 (alone_key g table.PersonLikesComment person comment [] comment_likes_alone has)
-filled_taken g (ops.AddForum id title date moderator tags) has = (one_held g (Node kinds.Forum id)).1 (alone_key g table.Forum id 0 [] forum_alone has)
-filled_taken g (ops.AddMember person forum date) has = (one_held g (Member forum person)).1 (alone_key g table.ForumHasMemberPerson forum person [] members_alone has)
-filled_taken g (ops.AddPost id image date ip browser language content size author forum country tags) has = message_held g id has
-filled_taken g (ops.AddComment id date ip browser content size author country parent tags) has = message_held g id has
-filled_taken g (ops.AddFriend one other date) has = (one_held g (Knows (min one other) (max one other))).1 (alone_key g table.PersonKnowsPerson (min one other) (max one other) [] knows_alone has)
+pub filled_taken : (g : List Row) (a : Addition) → IsKeyFilled g (key_of a) → IsAnyHeld g (addition_keys a)
+filled_taken g (NewPerson person city languages emails tags study work) has =
+    (one_held g (Node kinds.Person person.id)).1 (alone_key g table.Person person.id 0 [] person_alone has)
+filled_taken g (NewPostLike person post date) has = (one_held g (LikesPost person post)).1 (alone_key g table.PersonLikesPost person post [] post_likes_alone has)
+filled_taken g (NewCommentLike person comment date) has = (one_held g (LikesComment person comment)).1 (alone_key g table.PersonLikesComment person comment [] comment_likes_alone has)
+filled_taken g (NewForum forum moderator tags) has = (one_held g (Node kinds.Forum forum.id)).1 (alone_key g table.Forum forum.id 0 [] forum_alone has)
+filled_taken g (NewMember person forum date) has = (one_held g (Member forum person)).1 (alone_key g table.ForumHasMemberPerson forum person [] members_alone has)
+filled_taken g (NewPost post author forum country tags) has = message_held g post.id has
+filled_taken g (NewComment comment author country parent tags) has = message_held g comment.id has
+filled_taken g (NewFriends one other date) has = (one_held g (Knows (min one other) (max one other))).1 (alone_key g table.PersonKnowsPerson (min one other) (max one other) [] knows_alone has)

@@ -1,12 +1,13 @@
 //! The rows that an insert adds.
 
-ghost use Rattle.std.specs.Prelude.{map, take, drop, ◌≡◌, ◌∷◌, ◌++◌, [], IfOk, OnOk, max, min};
+ghost use Rattle.std.specs.Prelude.{map, take, ◌≡◌, ◌∷◌, ◌++◌, [], IfOk, OnOk};
 ghost use Rattle.snb_schema.specs.declared.row.Row.TheVariants as row;
 ghost use Rattle.snb_schema.specs.declared.table.Table.TheVariants as table;
-ghost use Rattle.snb_schema.specs.Inserts.{parent_row, rows_of as rows_of_op};
+ghost use Rattle.snb_schema.specs.Inserts.{addition_edges, parent_row, rows_of as rows_of_op};
+ghost use Rattle.snb_schema.specs.Nodes.{addition};
 
 use snb_base::Text;
-use snb_schema::{Comment, Forum, Op, Parent, Person, Post, Row, Table};
+use snb_schema::{Op, Parent, Row, Table};
 use std::alloc::{AllocError, Global};
 
 // Appends a row.
@@ -79,42 +80,6 @@ fn put_words(
     Ok(())
 }
 
-// The row of a person.
-fn person_row(
-    id: u64,
-    first_name: &Text,
-    last_name: &Text,
-    gender: &Text,
-    birthday: u64,
-    creation_date: u64,
-    location_ip: &Text,
-    browser_used: &Text,
-) -> Result<Row, AllocError>
-    ensures { IfOk result (λ r. r ≡ row.Person (record {
-      id = id;
-      first_name = first_name.now;
-      last_name = last_name.now;
-      gender = gender.now;
-      birthday = birthday;
-      creation_date = creation_date;
-      location_ip = location_ip.now;
-      browser_used = browser_used.now;
-    })) }
-{
-    Ok(Row::Person {
-        person: Person {
-            id,
-            first_name: first_name.try_copy()?,
-            last_name: last_name.try_copy()?,
-            gender: gender.try_copy()?,
-            birthday,
-            creation_date,
-            location_ip: location_ip.try_copy()?,
-            browser_used: browser_used.try_copy()?,
-        },
-    })
-}
-
 // Appends the edges and words of a person.
 fn put_person(
     rows: &mut Vec<Row>,
@@ -142,19 +107,6 @@ fn put_person(
     put_stays(rows, Table::PersonWorkAtOrganisation, id, work)
 }
 
-// The row of a forum.
-fn forum_row(id: u64, title: &Text, creation_date: u64) -> Result<Row, AllocError>
-    ensures { IfOk result (λ r. r ≡ row.Forum (record { id = id; title = title.now; creation_date = creation_date })) }
-{
-    Ok(Row::Forum {
-        forum: Forum {
-            id,
-            title: title.try_copy()?,
-            creation_date,
-        },
-    })
-}
-
 // Appends the edges of a forum.
 fn put_forum(rows: &mut Vec<Row>, id: u64, moderator: u64, tags: &[u64]) -> Result<(), AllocError>
     ensures { OnOk result
@@ -163,42 +115,6 @@ fn put_forum(rows: &mut Vec<Row>, id: u64, moderator: u64, tags: &[u64]) -> Resu
 {
     put_link(rows, Table::ForumHasModeratorPerson, id, moderator)?;
     put_links(rows, Table::ForumHasTagTag, id, tags)
-}
-
-// The row of a post.
-fn post_row(
-    id: u64,
-    image_file: &Text,
-    creation_date: u64,
-    location_ip: &Text,
-    browser_used: &Text,
-    language: &Text,
-    content: &Text,
-    length: u32,
-) -> Result<Row, AllocError>
-    ensures { IfOk result (λ r. r ≡ row.Post (record {
-      id = id;
-      image_file = image_file.now;
-      creation_date = creation_date;
-      location_ip = location_ip.now;
-      browser_used = browser_used.now;
-      language = language.now;
-      content = content.now;
-      length = length;
-    })) }
-{
-    Ok(Row::Post {
-        post: Post {
-            id,
-            image_file: image_file.try_copy()?,
-            creation_date,
-            location_ip: location_ip.try_copy()?,
-            browser_used: browser_used.try_copy()?,
-            language: language.try_copy()?,
-            content: content.try_copy()?,
-            length,
-        },
-    })
 }
 
 // Appends the edges of a post.
@@ -219,36 +135,6 @@ fn put_post(
     put_link(rows, Table::PostHasCreatorPerson, id, author)?;
     put_link(rows, Table::PostIsLocatedInPlace, id, country)?;
     put_links(rows, Table::PostHasTagTag, id, tags)
-}
-
-// The row of a comment.
-fn comment_row(
-    id: u64,
-    creation_date: u64,
-    location_ip: &Text,
-    browser_used: &Text,
-    content: &Text,
-    length: u32,
-) -> Result<Row, AllocError>
-    ensures { IfOk result (λ r. r ≡ row.Comment (record {
-      id = id;
-      creation_date = creation_date;
-      location_ip = location_ip.now;
-      browser_used = browser_used.now;
-      content = content.now;
-      length = length;
-    })) }
-{
-    Ok(Row::Comment {
-        comment: Comment {
-            id,
-            creation_date,
-            location_ip: location_ip.try_copy()?,
-            browser_used: browser_used.try_copy()?,
-            content: content.try_copy()?,
-            length,
-        },
-    })
 }
 
 // Appends the edge from a comment to its parent.
@@ -280,128 +166,16 @@ fn put_comment(
     put_links(rows, Table::CommentHasTagTag, id, tags)
 }
 
-// An edge with a date.
-fn dated(table: Table, from: u64, to: u64, date: u64) -> Row
-    ensures { result ≡ row.Dated table from to date }
-{
-    Row::Dated {
-        table,
-        from,
-        to,
-        date,
-    }
-}
-
-// A friendship: the lower id comes first.
-fn friendship(one: u64, other: u64, date: u64) -> Row
-    ensures { result ≡ row.Dated table.PersonKnowsPerson (min one other) (max one other) date }
-{
-    dated(
-        Table::PersonKnowsPerson,
-        one.min(other),
-        one.max(other),
-        date,
-    )
-}
-
 /// The first row that the insert adds: its node, or its edge.
 pub fn first_row(op: &Op) -> Result<Row, AllocError>
     ensures { IfOk result (λ r. take 1 (rows_of_op op.now) ≡ r ∷ []) }
 {
-    match op {
-        Op::AddPerson {
-            person_id,
-            first_name,
-            last_name,
-            gender,
-            birthday,
-            creation_date,
-            location_ip,
-            browser_used,
-            ..
-        } => person_row(
-            *person_id,
-            first_name,
-            last_name,
-            gender,
-            *birthday,
-            *creation_date,
-            location_ip,
-            browser_used,
-        ),
-        Op::LikePost {
-            person_id,
-            post_id,
-            date,
-        } => Ok(dated(Table::PersonLikesPost, *person_id, *post_id, *date)),
-        Op::LikeComment {
-            person_id,
-            comment_id,
-            date,
-        } => Ok(dated(Table::PersonLikesComment, *person_id, *comment_id, *date)),
-        Op::AddForum {
-            forum_id,
-            title,
-            date,
-            ..
-        } => forum_row(*forum_id, title, *date),
-        Op::AddMember {
-            person_id,
-            forum_id,
-            join_date,
-        } => Ok(dated(
-            Table::ForumHasMemberPerson,
-            *forum_id,
-            *person_id,
-            *join_date,
-        )),
-        Op::AddPost {
-            post_id,
-            image_file,
-            date,
-            location_ip,
-            browser_used,
-            language,
-            content,
-            length,
-            ..
-        } => post_row(
-            *post_id,
-            image_file,
-            *date,
-            location_ip,
-            browser_used,
-            language,
-            content,
-            *length,
-        ),
-        Op::AddComment {
-            comment_id,
-            date,
-            location_ip,
-            browser_used,
-            content,
-            length,
-            ..
-        } => comment_row(
-            *comment_id,
-            *date,
-            location_ip,
-            browser_used,
-            content,
-            *length,
-        ),
-        Op::AddFriend {
-            person1_id,
-            person2_id,
-            date,
-        } => Ok(friendship(*person1_id, *person2_id, *date)),
-    }
+    op.added_row()
 }
 
 // Appends the rows that the insert adds but for the first: the edges and words of its node.
 fn put_rest(rows: &mut Vec<Row>, op: &Op) -> Result<(), AllocError>
-    ensures { OnOk result (rows.new.items ≡ rows.old.items ++ drop 1 (rows_of_op op.now)) }
+    ensures { OnOk result (rows.new.items ≡ rows.old.items ++ addition_edges (addition op.now)) }
 {
     match op {
         Op::AddPerson {
@@ -471,8 +245,7 @@ fn put_rest(rows: &mut Vec<Row>, op: &Op) -> Result<(), AllocError>
 fn put_rows(rows: &mut Vec<Row>, op: &Op) -> Result<(), AllocError>
     ensures { OnOk result (rows.new.items ≡ rows.old.items ++ rows_of_op op.now) }
 {
-    let first = first_row(op)?;
-    put(rows, first)?;
+    put(rows, op.added_row()?)?;
     put_rest(rows, op)
 }
 

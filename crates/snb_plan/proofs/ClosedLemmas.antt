@@ -8,13 +8,14 @@ use Rattle.snb_base.proofs.Laws.{all_at, contains_here, contains_there, push_spl
 use Rattle.snb_schema.specs.declared.key.Key.{Key}
 use Rattle.snb_schema.specs.declared.key.Key.TheVariants.{Node}
 use Rattle.snb_schema.specs.declared.op.Op.{Op}
-use Rattle.snb_schema.specs.declared.op.Op.TheVariants as ops
 use Rattle.snb_schema.specs.declared.refusal.Missing.{Missing}
 use Rattle.snb_schema.specs.declared.refusal.Refusal.{Refusal}
 use Rattle.snb_schema.specs.declared.table.Kind.TheVariants as kinds
-use Rattle.snb_schema.specs.Awaiting.{is_awaited, waits}
-use Rattle.snb_schema.specs.Inserts.{keys_of}
-use Rattle.snb_schema.specs.References.{added_node, ref, refs_of}
+use Rattle.snb_schema.specs.Awaiting.{is_awaited, kind_waits, waits}
+use Rattle.snb_schema.specs.InsertLines.{addition_kind}
+use Rattle.snb_schema.specs.Inserts.{addition_keys, keys_of, message_keys}
+use Rattle.snb_schema.specs.Nodes.{Addition, NewPerson, NewForum, NewPost, NewComment, NewPostLike, NewCommentLike, NewMember, NewFriends, addition}
+use Rattle.snb_schema.specs.References.{added_node, addition_node, addition_refs, ref, refs_of}
 use Rattle.snb_plan.specs.declared.added.Added.{Added}
 use Rattle.snb_plan.specs.declared.added.Mark.{Mark}
 use Rattle.snb_plan.specs.Closed.{Update, IsClosed, IsClosedAt, IsFirstUnmet, IsFirstWrong, DependsTooLate, IsMet, IsTaken, IsWrong, IsWrongBy}
@@ -39,21 +40,19 @@ pub record Stands (holds : Key → Type 0) (all before : List Update) (added : A
 -- ---- inserts
 
 -- an update takes the key of the node that it adds
-node_is_taken : (op : Op) (node : Missing) → added_node op ≡ Some node → Contains (keys_of op) (Node node.kind node.id)
-node_is_taken (ops.AddPerson id first last gender birthday created ip browser city languages emails tags study work) node e =
-    subst (λ (n : Missing). Contains (Node kinds.Person id ∷ []) (Node n.kind n.id)) (let same : ref kinds.Person id ≡ node = cc in same) (contains_here (Node kinds.Person id) [])
-node_is_taken (ops.AddForum id title date moderator tags) node e =
-    subst (λ (n : Missing). Contains (Node kinds.Forum id ∷ []) (Node n.kind n.id)) (let same : ref kinds.Forum id ≡ node = cc in same) (contains_here (Node kinds.Forum id) [])
-node_is_taken (ops.AddPost id image date ip browser language content size author forum country tags) node e =
-    subst (λ (n : Missing). Contains (Node kinds.Post id ∷ Node kinds.Comment id ∷ []) (Node n.kind n.id)) (let same : ref kinds.Post id ≡ node = cc in same)
-    (contains_here (Node kinds.Post id) (Node kinds.Comment id ∷ []))
-node_is_taken (ops.AddComment id date ip browser content size author country parent tags) node e =
-    subst (λ (n : Missing). Contains (Node kinds.Post id ∷ Node kinds.Comment id ∷ []) (Node n.kind n.id)) (let same : ref kinds.Comment id ≡ node = cc in same)
-    (contains_there (Node kinds.Post id) (Node kinds.Comment id ∷ []) (Node kinds.Comment id) (contains_here (Node kinds.Comment id) []))
-node_is_taken (ops.LikePost person post date) node e = absurd cc
-node_is_taken (ops.LikeComment person comment date) node e = absurd cc
-node_is_taken (ops.AddMember person forum date) node e = absurd cc
-node_is_taken (ops.AddFriend one other date) node e = absurd cc
+node_is_taken : (a : Addition) (node : Missing) → addition_node a ≡ Some node → Contains (addition_keys a) (Node node.kind node.id)
+node_is_taken (NewPerson person city languages emails tags study work) node e =
+    subst (λ (n : Missing). Contains (Node kinds.Person person.id ∷ []) (Node n.kind n.id)) (let same : ref kinds.Person person.id ≡ node = cc in same) (contains_here (Node kinds.Person person.id) [])
+node_is_taken (NewForum forum moderator tags) node e =
+    subst (λ (n : Missing). Contains (Node kinds.Forum forum.id ∷ []) (Node n.kind n.id)) (let same : ref kinds.Forum forum.id ≡ node = cc in same) (contains_here (Node kinds.Forum forum.id) [])
+node_is_taken (NewPost post author forum country tags) node e =
+    subst (λ (n : Missing). Contains (message_keys post.id) (Node n.kind n.id)) (let same : ref kinds.Post post.id ≡ node = cc in same)
+    (contains_here (Node kinds.Post post.id) (Node kinds.Comment post.id ∷ []))
+node_is_taken (NewComment comment author country parent tags) node e =
+    subst (λ (n : Missing). Contains (message_keys comment.id) (Node n.kind n.id)) (let same : ref kinds.Comment comment.id ≡ node = cc in same)
+    (contains_there (Node kinds.Post comment.id) (Node kinds.Comment comment.id ∷ []) (Node kinds.Comment comment.id) (contains_here (Node kinds.Comment comment.id) []))
+node_is_taken (NewPostLike person post date) node e = absurd cc
+node_is_taken a node e = absurd cc
 
 -- the references are of kinds that aren't awaited
 AreFree : List Missing → Type 0
@@ -77,13 +76,13 @@ unfolding AreFree
 free_cons node refs one rest = All-cons (λ (n : Missing). is_awaited n.kind ≡ false) node refs one rest
 
 -- an insert that refers to a node of an awaited kind waits
-refers_waits : (op : Op) (node : Missing) → Contains (refs_of op) node → is_awaited node.kind ≡ true → waits op ≡ true
-refers_waits (ops.AddPerson id first last gender birthday created ip browser city languages emails tags study work) node at awaited =
+refers_waits : (a : Addition) (node : Missing) → Contains (addition_refs a) node → is_awaited node.kind ≡ true → kind_waits (addition_kind a) ≡ true
+refers_waits (NewPerson person city languages emails tags study work) node at awaited =
     let tagged = free_append (map (ref kinds.Tag) tags) (map (λ s. ref kinds.Organisation s.0) study)
     (free_map (ref kinds.Tag) (λ _. refl) tags) (free_map (λ s. ref kinds.Organisation s.0) (λ _. refl) study) in
     let rest = free_append (map (ref kinds.Tag) tags ++ map (λ s. ref kinds.Organisation s.0) study) (map (λ w. ref kinds.Organisation w.0) work)
     tagged (free_map (λ w. ref kinds.Organisation w.0) (λ _. refl) work) in
-    let free = free_at (refs_of (ops.AddPerson id first last gender birthday created ip browser city languages emails tags study work)) node
+    let free = free_at (addition_refs (NewPerson person city languages emails tags study work)) node
     (free_cons (ref kinds.Place city) (map (ref kinds.Tag) tags ++ map (λ s. ref kinds.Organisation s.0) study ++ map (λ w. ref kinds.Organisation w.0) work) refl rest) at in
     absurd (let same : true ≡ false = sym awaited ∙ free in cc)
 refers_waits _ node at awaited = refl
@@ -143,9 +142,9 @@ met_by holds all i u node added rises lt is timely s (inr (inl (awaited, v))) =
     let below = timely awaited in
     let le = v.3 in
     let before = before_by_t all i u v.0 rises lt is v.1 (omega (arith, le, below)) in
-    inr (mark v.0, s.has v.0 (Node node.kind node.id) before (node_is_taken v.0.line.op node v.2), (v.2, inl (awaited, le)))
+    inr (mark v.0, s.has v.0 (Node node.kind node.id) before (node_is_taken (addition v.0.line.op) node v.2), (v.2, inl (awaited, le)))
 met_by holds all i u node added rises lt is timely s (inr (inr (kind, v))) =
-    inr (mark v.0, s.has v.0 (Node node.kind node.id) v.1 (node_is_taken v.0.line.op node v.3), (v.3, inr (kind, v.2)))
+    inr (mark v.0, s.has v.0 (Node node.kind node.id) v.1 (node_is_taken (addition v.0.line.op) node v.3), (v.3, inr (kind, v.2)))
 
 -- what isn't late is in time
 timely_from : (u : Update) → (DependsTooLate u → ⊥) → waits u.line.op ≡ true → u.line.t_d < u.line.t
@@ -251,7 +250,7 @@ first_wrong holds all i u added r rises lt is s wrong = record {
               rest = first.rest;
               splits = first.splits;
               before = λ k d l. by_met holds all i u (get_or first.front k d) added s (first.before k d l);
-              unmet = λ met. first.unmet (met_by holds all i u node added rises lt is (λ awaited. timely_from u unmet.0 (refers_waits u.line.op node at awaited)) s met);
+              unmet = λ met. first.unmet (met_by holds all i u node added rises lt is (λ awaited. timely_from u unmet.0 (refers_waits (addition u.line.op) node at awaited)) s met);
             },
             unmet.2.2,
           ),

@@ -4,6 +4,7 @@ pub mod FileNames
 pub mod Frequencies
 pub mod FrequencyPieces
 pub mod Layouts
+pub mod Nodes
 pub mod TableColumns
 pub mod CodeLayouts
 pub mod Limits

@@ -15,7 +15,7 @@ use Rattle.snb_schema.specs.declared.query.ReadKind.{ReadKind}
 use Rattle.snb_schema.specs.declared.query.ReadKind.TheVariants.{Is1, Is2, Is3, Is4, Is5, Is6, Is7, Ic1, Ic2, Ic7, Ic8, Ic9, Ic11, Ic13}
 use Rattle.snb_schema.specs.declared.query.TargetColumn.{TargetColumn}
 use Rattle.snb_schema.specs.declared.query.TargetColumn.TheVariants.{PersonAt, MessageAt}
-use Rattle.snb_schema.specs.TableColumns.{id_column}
+use Rattle.snb_schema.specs.Nodes.{id_column}
 
 -- what is fixed of a kind of read
 pub record ReadLayout : Type 0 where

@@ -2,7 +2,6 @@
 use Rattle.std.specs.Prelude.{ℕ, Bool, true, false, Option, Some, None, List, [], ◌∷◌, ◌++◌, filter, map}
 use Rattle.std.specs.List.{flat_map}
 use Rattle.snb_schema.specs.declared.op.Op.{Op}
-use Rattle.snb_schema.specs.declared.op.Op.TheVariants as ops
 use Rattle.snb_schema.specs.declared.op.Parent.{Parent}
 use Rattle.snb_schema.specs.declared.op.Parent.TheVariants as parents
 use Rattle.snb_schema.specs.declared.refusal.Missing.{Missing}
@@ -12,6 +11,7 @@ use Rattle.snb_schema.specs.declared.table.Kind.{Kind}
 use Rattle.snb_schema.specs.declared.table.Kind.TheVariants as kinds
 use Rattle.snb_schema.specs.declared.table.Table.{Table}
 use Rattle.snb_schema.specs.Layouts.{layout}
+use Rattle.snb_schema.specs.Nodes.{Addition, NewPerson, NewForum, NewPost, NewComment, NewPostLike, NewCommentLike, NewMember, NewFriends, addition}
 use Rattle.snb_schema.specs.RowKeys.{kind_table}
 use Rattle.snb_schema.specs.TableOrder.{all_tables, same_table}
 
@@ -56,37 +56,40 @@ parent_ref (parents.Comment n) = ref kinds.Comment n
 abbrev pub organisation_refs : List (ℕ × ℕ) → List Missing
 organisation_refs stays = map (λ s. ref kinds.Organisation s.0) stays
 
--- what an insert refers to, in the order in which it is checked
-abbrev pub refs_of : Op → List Missing
-refs_of (ops.AddPerson person first last gender birthday created ip browser city languages emails
-    tags study work) =
+-- what it refers to
+abbrev pub addition_refs : Addition → List Missing
+addition_refs (NewPerson person city languages emails tags study work) =
     ref kinds.Place city ∷ map (ref kinds.Tag) tags ++ organisation_refs study
     ++ organisation_refs work
-refs_of (ops.LikePost person post date) = ref kinds.Person person ∷ ref kinds.Post post ∷ []
-refs_of (ops.LikeComment person comment date) =
+addition_refs (NewPostLike person post date) = ref kinds.Person person ∷ ref kinds.Post post ∷ []
+addition_refs (NewCommentLike person comment date) =
     ref kinds.Person person ∷ ref kinds.Comment comment ∷ []
-refs_of (ops.AddForum forum title date moderator tags) =
+addition_refs (NewForum forum moderator tags) =
     ref kinds.Person moderator ∷ map (ref kinds.Tag) tags
-refs_of (ops.AddMember person forum date) = ref kinds.Person person ∷ ref kinds.Forum forum ∷ []
-refs_of (ops.AddPost post image date ip browser language content size author forum country tags) =
+addition_refs (NewMember person forum date) = ref kinds.Person person ∷ ref kinds.Forum forum ∷ []
+addition_refs (NewPost post author forum country tags) =
     ref kinds.Person author ∷ ref kinds.Forum forum ∷ ref kinds.Place country
     ∷ map (ref kinds.Tag) tags
-refs_of (ops.AddComment comment date ip browser content size author country parent tags) =
+addition_refs (NewComment comment author country parent tags) =
     ref kinds.Person author ∷ ref kinds.Place country ∷ parent_ref parent ∷ map (ref kinds.Tag) tags
-refs_of (ops.AddFriend one other date) = ref kinds.Person one ∷ ref kinds.Person other ∷ []
+addition_refs (NewFriends one other date) = ref kinds.Person one ∷ ref kinds.Person other ∷ []
+
+-- what an insert refers to, in the order in which it is checked
+abbrev pub refs_of : Op → List Missing
+refs_of op = addition_refs (addition op)
+
+-- the node that is added, if it is one
+abbrev pub addition_node : Addition → Option Missing
+addition_node (NewPerson person city languages emails tags study work) =
+    Some (ref kinds.Person person.id)
+addition_node (NewForum forum moderator tags) = Some (ref kinds.Forum forum.id)
+addition_node (NewPost post author forum country tags) = Some (ref kinds.Post post.id)
+addition_node (NewComment comment author country parent tags) = Some (ref kinds.Comment comment.id)
+addition_node _ = None
 
 -- the node that an insert adds, if it adds one
 abbrev pub added_node : Op → Option Missing
-added_node
-    (ops.AddPerson person first last gender birthday created ip browser city languages emails tags
-    study work) = Some (ref kinds.Person person)
-added_node (ops.AddForum forum title date moderator tags) = Some (ref kinds.Forum forum)
-added_node
-    (ops.AddPost post image date ip browser language content size author forum country tags) =
-    Some (ref kinds.Post post)
-added_node (ops.AddComment comment date ip browser content size author country parent tags) =
-    Some (ref kinds.Comment comment)
-added_node _ = None
+added_node op = addition_node (addition op)
 
 -- the table is that of the nodes of this kind, if it is a kind
 abbrev pub is_table_of : Option Kind → Table → Bool

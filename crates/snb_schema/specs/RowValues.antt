@@ -8,6 +8,7 @@ use Rattle.snb_schema.specs.declared.row.Row.{Row}
 use Rattle.snb_schema.specs.declared.row.Row.TheVariants as row
 use Rattle.snb_schema.specs.declared.table.Table.{Table}
 use Rattle.snb_schema.specs.declared.table.Table.TheVariants as table
+use Rattle.snb_schema.specs.Nodes.{person_values, forum_values, post_values, comment_values}
 
 -- the table that a row stands in
 abbrev pub table_of : Row → Table
@@ -45,18 +46,10 @@ values (row.Place p) = Digits p.id ∷ Letters p.name ∷ Letters p.url ∷ Lett
 values (row.TagClass c) = Digits c.id ∷ Letters c.name ∷ Letters c.url ∷ []
 values (row.Tag g) = Digits g.id ∷ Letters g.name ∷ Letters g.url ∷ []
 values (row.Organisation o) = Digits o.id ∷ Letters o.kind ∷ Letters o.name ∷ Letters o.url ∷ []
-values (row.Person p) =
-    Digits p.id ∷ Letters p.first_name ∷ Letters p.last_name ∷ Letters p.gender ∷ Digits p.birthday
-    ∷ Digits p.creation_date
-    ∷ Letters p.location_ip ∷ Letters p.browser_used ∷ []
-values (row.Forum f) = Digits f.id ∷ Letters f.title ∷ Digits f.creation_date ∷ []
-values (row.Post p) =
-    Digits p.id ∷ Letters p.image_file ∷ Digits p.creation_date ∷ Letters p.location_ip
-    ∷ Letters p.browser_used ∷ Letters p.language
-    ∷ Letters p.content ∷ SmallDigits p.length ∷ []
-values (row.Comment c) =
-    Digits c.id ∷ Digits c.creation_date ∷ Letters c.location_ip ∷ Letters c.browser_used
-    ∷ Letters c.content ∷ SmallDigits c.length ∷ []
+values (row.Person p) = person_values p
+values (row.Forum f) = forum_values f
+values (row.Post p) = post_values p
+values (row.Comment c) = comment_values c
 values (row.Link t from to) = Digits from ∷ Digits to ∷ []
 values (row.Dated t from to date) = Digits from ∷ Digits to ∷ Digits date ∷ []
 values (row.Yeared t from to year) = Digits from ∷ Digits to ∷ SmallDigits year ∷ []

@@ -1,31 +1,26 @@
 -- The columns of the tables.
 use Rattle.std.specs.Prelude.{List, [], ◌∷◌}
 use Rattle.snb_schema.specs.declared.column.Column.{Column}
-use Rattle.snb_schema.specs.declared.column.Column.TheVariants.{Number, Small, Date, Day, Words}
+use Rattle.snb_schema.specs.declared.column.Column.TheVariants.{Small, Date, Words}
 use Rattle.snb_schema.specs.declared.column.Column.TheVariants as column
 use Rattle.snb_schema.specs.declared.layout.Shape.{Shape}
 use Rattle.snb_schema.specs.declared.layout.Shape.TheVariants.{Link, Dated, Yeared, Word}
 use Rattle.snb_schema.specs.declared.layout.Shape.TheVariants as shapes
-use Rattle.snb_schema.specs.declared.limits.TheConstants.{MAX_ID, MAX_LENGTH, MAX_YEAR}
+use Rattle.snb_schema.specs.declared.limits.TheConstants.{MAX_YEAR}
 use Rattle.snb_schema.specs.declared.table.Table.{Table}
 use Rattle.snb_schema.specs.Layouts.{shape}
+use Rattle.snb_schema.specs.Nodes.{id_column, person_columns, forum_columns, post_columns, comment_columns}
 
--- a column of ids
-abbrev pub id_column : Column
-id_column = Number MAX_ID
-
--- the columns of each shape: post has id, imageFile, creationDate, locationIP, browserUsed,
--- language, content and length, and so on
+-- the columns of each shape
 abbrev pub shape_columns : Shape → List Column
 shape_columns shapes.Place = id_column ∷ Words ∷ Words ∷ Words ∷ []
 shape_columns shapes.TagClass = id_column ∷ Words ∷ Words ∷ []
 shape_columns shapes.Tag = id_column ∷ Words ∷ Words ∷ []
 shape_columns shapes.Organisation = id_column ∷ Words ∷ Words ∷ Words ∷ []
-shape_columns shapes.Person = id_column ∷ Words ∷ Words ∷ Words ∷ Day ∷ Date ∷ Words ∷ Words ∷ []
-shape_columns shapes.Forum = id_column ∷ Words ∷ Date ∷ []
-shape_columns shapes.Post =
-    id_column ∷ Words ∷ Date ∷ Words ∷ Words ∷ Words ∷ Words ∷ Small MAX_LENGTH ∷ []
-shape_columns shapes.Comment = id_column ∷ Date ∷ Words ∷ Words ∷ Words ∷ Small MAX_LENGTH ∷ []
+shape_columns shapes.Person = person_columns
+shape_columns shapes.Forum = forum_columns
+shape_columns shapes.Post = post_columns
+shape_columns shapes.Comment = comment_columns
 shape_columns shapes.Link = id_column ∷ id_column ∷ []
 shape_columns shapes.Dated = id_column ∷ id_column ∷ Date ∷ []
 shape_columns shapes.Yeared = id_column ∷ id_column ∷ Small MAX_YEAR ∷ []

@@ -7,17 +7,20 @@ use Rattle.snb_base.specs.Spellings.{Num, SpellsId}
 use Rattle.snb_schema.specs.declared.column.Column.TheVariants.{Number}
 use Rattle.snb_schema.specs.declared.limits.TheConstants.{MAX_TIME}
 use Rattle.snb_schema.specs.declared.op.Op.{Op}
-use Rattle.snb_schema.specs.declared.op.Op.TheVariants.{AddFriend}
 use Rattle.snb_schema.specs.declared.op.InsertKind.{InsertKind}
 use Rattle.snb_schema.specs.declared.op.InsertKind.TheVariants as kinds
 use Rattle.snb_schema.specs.Columns.{SpellsAll, StopsAfter, canonical_field, no_id}
 use Rattle.snb_schema.specs.Lines.{HasNoEnd, fields, begins_with_mark}
 use Rattle.snb_schema.specs.InsertLines.{kind_number, kind_of, line_columns, line_values}
+use Rattle.snb_schema.specs.Nodes.{Addition, NewFriends, addition}
 
 -- the two persons of a friendship differ
+abbrev pub AreTwo : Addition → Type 0
+AreTwo (NewFriends one other date) = one ≢ other
+AreTwo _ = Unit {0}
+
 abbrev pub IsOfTwo : Op → Type 0
-IsOfTwo (AddFriend one other date) = one ≢ other
-IsOfTwo _ = Unit {0}
+IsOfTwo op = AreTwo (addition op)
 
 -- the line is `t|t_d|opId|` and the fields of the insert, and a friendship isn't with oneself
 pub record IsLine (line : List ℕ) (t t_d : ℕ) (op : Op) : Type 0 where

@@ -1,6 +1,10 @@
 //! The nodes of the social network other than persons.
 
-use snb_base::Text;
+ghost use Rattle.std.specs.Prelude.{◌≡◌};
+ghost use Rattle.snb_schema.specs.Nodes.{NewComment, NewForum, NewPost, adding, forum_named};
+
+use crate::op::{Op, Parent};
+use snb_base::{Numbers, Text};
 
 /// A row of the table place: a city, a country or a continent, as its kind says.
 #[derive(Clone, PartialEq, Eq)]
@@ -73,6 +77,37 @@ pub struct Forum {
     pub creation_date: u64,
 }
 
+impl Forum {
+    /// The insert of a forum, with its moderator and tags.
+    pub fn into_op(self, moderator_id: u64, tag_ids: Numbers) -> Op
+        ensures { result ≡ adding (NewForum self moderator_id tag_ids) }
+    {
+        let Forum {
+            id,
+            title,
+            creation_date,
+        } = self;
+        Op::AddForum {
+            forum_id: id,
+            title,
+            date: creation_date,
+            moderator_id,
+            tag_ids,
+        }
+    }
+
+    /// A forum of which no more is told.
+    pub fn named(id: u64, title: Text, creation_date: u64) -> Forum
+        ensures { result ≡ forum_named id title creation_date }
+    {
+        Forum {
+            id,
+            title,
+            creation_date,
+        }
+    }
+}
+
 impl Drop for Forum {
     fn drop(self) {
         let Forum {
@@ -99,6 +134,38 @@ pub struct Post {
     pub content: Text,
     /// How long the content is, as its writer says.
     pub length: u32,
+}
+
+impl Post {
+    /// The insert of a post, with its author, forum, country and tags.
+    pub fn into_op(self, author_id: u64, forum_id: u64, country_id: u64, tag_ids: Numbers) -> Op
+        ensures { result ≡ adding (NewPost self author_id forum_id country_id tag_ids) }
+    {
+        let Post {
+            id,
+            image_file,
+            creation_date,
+            location_ip,
+            browser_used,
+            language,
+            content,
+            length,
+        } = self;
+        Op::AddPost {
+            post_id: id,
+            image_file,
+            date: creation_date,
+            location_ip,
+            browser_used,
+            language,
+            content,
+            length,
+            author_id,
+            forum_id,
+            country_id,
+            tag_ids,
+        }
+    }
 }
 
 impl Drop for Post {
@@ -128,6 +195,34 @@ pub struct Comment {
     pub content: Text,
     /// How long the content is, as its writer says.
     pub length: u32,
+}
+
+impl Comment {
+    /// The insert of a comment, with its author, country, parent and tags.
+    pub fn into_op(self, author_id: u64, country_id: u64, parent: Parent, tag_ids: Numbers) -> Op
+        ensures { result ≡ adding (NewComment self author_id country_id parent tag_ids) }
+    {
+        let Comment {
+            id,
+            creation_date,
+            location_ip,
+            browser_used,
+            content,
+            length,
+        } = self;
+        Op::AddComment {
+            comment_id: id,
+            date: creation_date,
+            location_ip,
+            browser_used,
+            content,
+            length,
+            author_id,
+            country_id,
+            parent,
+            tag_ids,
+        }
+    }
 }
 
 impl Drop for Comment {

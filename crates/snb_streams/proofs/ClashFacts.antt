@@ -10,7 +10,7 @@ use Rattle.snb_schema.specs.declared.column.Value.TheVariants.{Digits, NoId}
 use Rattle.snb_schema.specs.declared.op.InsertKind.{InsertKind}
 use Rattle.snb_schema.specs.declared.op.InsertKind.TheVariants as kinds
 use Rattle.snb_schema.specs.Columns.{Spells, StopsAfter, no_id}
-use Rattle.snb_schema.specs.TableColumns.{id_column}
+use Rattle.snb_schema.specs.Nodes.{id_column}
 use Rattle.snb_schema.specs.UpdateLines.{Clashes, field}
 use Rattle.snb_schema.specs.InsertLines.{line_columns}
 use Rattle.snb_streams.proofs.PlaceFacts.{stop_from}

@@ -1,24 +1,24 @@
 -- The insert that the fields of a line spell.
-use Rattle.std.proofs.Common.{◌≡◌, ◌∙◌, ℕ, Option, Some, None, List, [], ◌∷◌, get_or, refl, sym, ap, subst, inl, inr, arith}
+use Rattle.std.proofs.Common.{◌≡◌, ◌∙◌, ◌++◌, ℕ, Option, Some, None, List, [], ◌∷◌, drop, get_or, length, take, refl, sym, ap, subst, inl, inr, arith}
 use Rattle.snb_base.specs.Spellings.{Num, SpellsId, last_id}
 use Rattle.snb_schema.specs.declared.column.Column.TheVariants.{OptionalId}
 use Rattle.snb_schema.specs.declared.column.Value.{Value}
-use Rattle.snb_schema.specs.declared.column.Value.TheVariants.{Digits, NoId}
+use Rattle.snb_schema.specs.declared.column.Value.TheVariants.{Digits, Ids, NoId, Pairs, Texts}
 use Rattle.snb_schema.specs.declared.op.Op.{Op}
-use Rattle.snb_schema.specs.declared.op.Op.TheVariants.{AddPerson, LikePost, LikeComment, AddForum, AddMember, AddPost, AddComment, AddFriend}
+use Rattle.snb_schema.specs.declared.op.Op.TheVariants.{LikePost}
 use Rattle.snb_schema.specs.declared.op.InsertKind.{InsertKind}
 use Rattle.snb_schema.specs.declared.op.InsertKind.TheVariants as kinds
 use Rattle.snb_schema.specs.declared.op.Parent.{Parent}
 use Rattle.snb_schema.specs.declared.op.Parent.TheVariants as parents
 use Rattle.snb_schema.specs.Columns.{Spells, SpellsAll}
-use Rattle.snb_schema.specs.TableColumns.{id_column}
+use Rattle.snb_schema.specs.Nodes.{Addition, NewComment, NewCommentLike, NewForum, NewFriends, NewMember, NewPerson, NewPost, NewPostLike, adding, addition, comment_by, comment_columns, forum_by, id_column, person_by, post_by}
 use Rattle.std.specs.List.{Contains}
-use Rattle.snb_schema.specs.UpdateLines.{Clashes, IsOfTwo, NamesInsert, field}
+use Rattle.snb_schema.specs.UpdateLines.{AreTwo, Clashes, IsOfTwo, NamesInsert, field}
 use Rattle.snb_streams.specs.Spelled.{SpellsInsert}
 use Rattle.snb_streams.proofs.KindFacts.{third_names}
-use Rattle.snb_schema.specs.InsertLines.{insert_columns, kind_number, kind_of, line_columns, line_values, op_values, parent_comment, parent_post}
+use Rattle.snb_schema.specs.InsertLines.{addition_kind, beside_columns, beside_values, insert_columns, kind_number, kind_of, line_columns, line_values, node_columns, node_values, op_values, parent_comment, parent_post}
 use Rattle.snb_input_fields.specs.Reading.{optional_value}
-use Rattle.snb_input_fields.proofs.Laws.{TypedRow, row_of, row_values}
+use Rattle.snb_input_fields.proofs.Laws.{TypedRow, row_of, row_parts, row_values}
 use Rattle.snb_columns.proofs.Laws.{number_some}
 use Rattle.snb_streams.proofs.ClashFacts.{NoneOrBoth}
 use Rattle.snb_streams.proofs.PlaceFacts.{spells_at}
@@ -34,43 +34,61 @@ one_parent x y (parents.Post id) s (inr both) = number_some y both.1 last_id bot
 one_parent x y (parents.Comment id) s (inl none) = number_some y id last_id s.1 none.1
 one_parent x y (parents.Comment id) s (inr both) = number_some x both.0 last_id both.2 s.0
 
+-- the values of a line with an insert that adds this
+abbrev added_line : ℕ → ℕ → Addition → List Value
+added_line t t_d a = Digits t ∷ Digits t_d ∷ Digits (kind_number (addition_kind a)) ∷ node_values a ++ beside_values a
+
+apart : (fs : List (List ℕ)) (t t_d : ℕ) (a : Addition) → AreTwo a → SpellsAll (line_columns (addition_kind a)) fs (added_line t t_d a) → (c : ℕ) → ¬ Clashes (addition_kind a) fs c
+apart fs t t_d (NewFriends one other date) two s c h =
+    let vs = added_line t t_d (NewFriends one other date) in
+    let a : SpellsId (field 3 fs) one = spells_at 3 id_column NoId (line_columns kinds.AddFriend) fs vs s (omega arith) in
+    let b : SpellsId (field 4 fs) other = spells_at 4 id_column NoId (line_columns kinds.AddFriend) fs vs s (omega arith) in
+    two (a.value ∙ sym h.1.1.value ∙ h.1.2.value ∙ sym b.value)
+apart fs t t_d (NewComment comment author country parent tags) two s c h =
+    let vs = added_line t t_d (NewComment comment author country parent tags) in
+    one_parent (field 11 fs) (field 12 fs) parent (spells_at 11 id_column NoId (line_columns kinds.AddComment) fs vs s (omega arith), spells_at 12 id_column NoId (line_columns kinds.AddComment) fs vs s (omega arith)) h.1
+apart fs t t_d a two s c h = h
+
 -- the fields of an insert don't clash, where a friendship is of two
 pub own_apart : (fs : List (List ℕ)) (t t_d : ℕ) (op : Op) → IsOfTwo op → SpellsAll (line_columns (kind_of op)) fs (line_values t t_d op) → (c : ℕ) → ¬ Clashes (kind_of op) fs c
-own_apart fs t t_d (AddFriend one other date) two s c h =
-    let a : SpellsId (field 3 fs) one = spells_at 3 id_column NoId (line_columns kinds.AddFriend) fs (line_values t t_d (AddFriend one other date)) s (omega arith) in
-    let b : SpellsId (field 4 fs) other = spells_at 4 id_column NoId (line_columns kinds.AddFriend) fs (line_values t t_d (AddFriend one other date)) s (omega arith) in
-    two (a.value ∙ sym h.1.1.value ∙ h.1.2.value ∙ sym b.value)
-own_apart fs t t_d (AddComment id date ip browser content size author country parent tags) two s c h =
-    let vs = line_values t t_d (AddComment id date ip browser content size author country parent tags) in
-    one_parent (field 11 fs) (field 12 fs) parent (spells_at 11 id_column NoId (line_columns kinds.AddComment) fs vs s (omega arith), spells_at 12 id_column NoId (line_columns kinds.AddComment) fs vs s (omega arith)) h.1
-own_apart fs t t_d op two s c h = h
+own_apart fs t t_d op two s c h = apart fs t t_d (addition op) two s c h
 
--- the parent that a post and a comment are, of which there is one
-abbrev parent_by : Option ℕ → Option ℕ → Parent
-parent_by (Some post) comment = parents.Post post
-parent_by None (Some comment) = parents.Comment comment
-parent_by None None = parents.Post 0
+-- the parent that has these values
+abbrev parent_by : Value → Value → Parent
+parent_by (Digits post) comment = parents.Post post
+parent_by post (Digits comment) = parents.Comment comment
+parent_by post comment = parents.Post 0
 
 parent_kept : (x y : List ℕ) (post comment : Option ℕ) → Spells OptionalId x (optional_value post) → Spells OptionalId y (optional_value comment) → ¬ NoneOrBoth x y
-    → (parent_post (parent_by post comment) ≡ optional_value post) × (parent_comment (parent_by post comment) ≡ optional_value comment)
+    → (parent_post (parent_by (optional_value post) (optional_value comment)) ≡ optional_value post) × (parent_comment (parent_by (optional_value post) (optional_value comment)) ≡ optional_value comment)
 parent_kept x y (Some post) None s t one = (refl, refl)
 parent_kept x y None (Some comment) s t one = (refl, refl)
 parent_kept x y (Some post) (Some comment) s t one = absurd (one (inr (post, comment, s, t)))
 parent_kept x y None None s t one = absurd (one (inl (s, t)))
 
+-- what an insert of this kind adds, of the values of its node and those beside them
+abbrev added_by : InsertKind → List Value → List Value → Addition
+added_by kinds.AddPerson node (Digits city ∷ Texts languages ∷ Texts emails ∷ Ids tags ∷ Pairs study ∷ Pairs work ∷ []) =
+    NewPerson (person_by node) city languages emails tags study work
+added_by kinds.LikePost node (Digits person ∷ Digits post ∷ Digits date ∷ []) = NewPostLike person post date
+added_by kinds.LikeComment node (Digits person ∷ Digits comment ∷ Digits date ∷ []) = NewCommentLike person comment date
+added_by kinds.AddForum node (Digits moderator ∷ Ids tags ∷ []) = NewForum (forum_by node) moderator tags
+added_by kinds.AddMember node (Digits person ∷ Digits forum ∷ Digits date ∷ []) = NewMember person forum date
+added_by kinds.AddPost node (Digits author ∷ Digits forum ∷ Digits country ∷ Ids tags ∷ []) = NewPost (post_by node) author forum country tags
+added_by kinds.AddComment node (Digits author ∷ Digits country ∷ post ∷ comment ∷ Ids tags ∷ []) =
+    NewComment (comment_by node) author country (parent_by post comment) tags
+added_by kind node (Digits one ∷ Digits other ∷ Digits date ∷ []) = NewFriends one other date
+added_by kind node beside = NewFriends 0 0 0
+
+-- the insert of this kind that has these values
+abbrev op_by : InsertKind → List Value → Op
+op_by kind vs =
+    let size = length (node_columns kind) in
+    adding (added_by kind (take size vs) (drop size vs))
+
 -- the insert of what the columns hold
 abbrev pub op_of : (kind : InsertKind) → TypedRow (insert_columns kind) → Op
-op_of kinds.AddPerson (id, (first, (last, (gender, (birthday, (created, (ip, (browser, (city, (languages, (emails, (tags, (study, (work, none)))))))))))))) =
-    AddPerson id first last gender birthday created ip browser city languages emails tags study work
-op_of kinds.LikePost (person, (post, (date, none))) = LikePost person post date
-op_of kinds.LikeComment (person, (comment, (date, none))) = LikeComment person comment date
-op_of kinds.AddForum (id, (title, (date, (moderator, (tags, none))))) = AddForum id title date moderator tags
-op_of kinds.AddMember (person, (forum, (date, none))) = AddMember person forum date
-op_of kinds.AddPost (id, (image, (date, (ip, (browser, (language, (content, (size, (author, (forum, (country, (tags, none)))))))))))) =
-    AddPost id image date ip browser language content size author forum country tags
-op_of kinds.AddComment (id, (date, (ip, (browser, (content, (size, (author, (country, (post, (comment, (tags, none))))))))))) =
-    AddComment id date ip browser content size author country (parent_by post comment) tags
-op_of kinds.AddFriend (one, (other, (date, none))) = AddFriend one other date
+op_of kind row = op_by kind (row_values (insert_columns kind) row)
 
 -- it is of this kind
 op_kind : (kind : InsertKind) (row : TypedRow (insert_columns kind)) → kind_of (op_of kind row) ≡ kind
@@ -83,8 +101,11 @@ LineRow kind = TypedRow (line_columns kind)
 
 op_kept : (kind : InsertKind) (fs : List (List ℕ)) (row : LineRow kind) → SpellsAll (line_columns kind) fs (row_values (line_columns kind) row) → ((c : ℕ) → ¬ Clashes kind fs c)
     → (op_values (op_of kind row.1.1.1) ≡ row_values (insert_columns kind) row.1.1.1) × IsOfTwo (op_of kind row.1.1.1)
-op_kept kinds.AddComment fs (t, (t_d, (n, (id, (date, (ip, (browser, (content, (size, (author, (country, (post, (comment, (tags, none)))))))))))))) s never =
-    let vs = row_values (line_columns kinds.AddComment) (t, (t_d, (n, (id, (date, (ip, (browser, (content, (size, (author, (country, (post, (comment, (tags, none)))))))))))))) in
+op_kept kinds.AddComment fs row s never =
+    let vs = row_values (line_columns kinds.AddComment) row in
+    let parts = row_parts comment_columns (beside_columns kinds.AddComment) row.1.1.1 in
+    let post = parts.1.1.1.0 in
+    let comment = parts.1.1.1.1.0 in
     let kept = parent_kept (field 11 fs) (field 12 fs) post comment (spells_at 11 id_column NoId (line_columns kinds.AddComment) fs vs s (omega arith)) (spells_at 12 id_column NoId (line_columns kinds.AddComment) fs vs s (omega arith)) (λ two. never 13 (refl, two)) in
     (simp (kept.0, kept.1) refl, tt)
 op_kept kinds.AddFriend fs (t, (t_d, (n, (one, (other, (date, none)))))) s never =
@@ -106,28 +127,20 @@ op_spelled kind fs vs third s never =
     let same : row.1.1.0 ≡ kind_number (kind_of (op_of kind row.1.1.1)) = number.value ∙ sym third.value ∙ ap kind_number (sym of) in
     (row.0, row.1.0, op_of kind row.1.1.1, of, is ∙ (λ i. Digits row.0 ∷ Digits row.1.0 ∷ Digits (same i) ∷ sym kept.0 i), kept.1)
 
--- a parent is told by its two values
-one_parent_of : (a b : Parent) → parent_post a ≡ parent_post b → parent_comment a ≡ parent_comment b → a ≡ b
-one_parent_of (parents.Post n) (parents.Post m) post comment = cc
-one_parent_of (parents.Comment n) (parents.Comment m) post comment = cc
-one_parent_of (parents.Post n) (parents.Comment m) post comment = absurd cc
-one_parent_of (parents.Comment n) (parents.Post m) post comment = absurd cc
+-- an insert is made again of its kind and values
+added_again : (a : Addition) → op_by (addition_kind a) (node_values a ++ beside_values a) ≡ adding a
+added_again (NewComment comment author country (parents.Post post) tags) = refl
+added_again (NewComment comment author country (parents.Comment parent) tags) = refl
+added_again a = refl
 
--- two inserts of one kind and with the same values are one
+op_again : (op : Op) → adding (addition op) ≡ op
+op_again (LikePost person post date) = refl
+op_again op = refl
+
+-- so two inserts of one kind and with the same values are one
 pub one_op : (a b : Op) → kind_of a ≡ kind_of b → op_values a ≡ op_values b → a ≡ b
-one_op (AddPerson a₁ a₂ a₃ a₄ a₅ a₆ a₇ a₈ a₉ a₁₀ a₁₁ a₁₂ a₁₃ a₁₄) (AddPerson b₁ b₂ b₃ b₄ b₅ b₆ b₇ b₈ b₉ b₁₀ b₁₁ b₁₂ b₁₃ b₁₄) kind e = cc
-one_op (LikePost a₁ a₂ a₃) (LikePost b₁ b₂ b₃) kind e = cc
-one_op (LikeComment a₁ a₂ a₃) (LikeComment b₁ b₂ b₃) kind e = cc
-one_op (AddForum a₁ a₂ a₃ a₄ a₅) (AddForum b₁ b₂ b₃ b₄ b₅) kind e = cc
-one_op (AddMember a₁ a₂ a₃) (AddMember b₁ b₂ b₃) kind e = cc
-one_op (AddPost a₁ a₂ a₃ a₄ a₅ a₆ a₇ a₈ a₉ a₁₀ a₁₁ a₁₂) (AddPost b₁ b₂ b₃ b₄ b₅ b₆ b₇ b₈ b₉ b₁₀ b₁₁ b₁₂) kind e = cc
-one_op (AddComment a₁ a₂ a₃ a₄ a₅ a₆ a₇ a₈ p a₉) (AddComment b₁ b₂ b₃ b₄ b₅ b₆ b₇ b₈ q b₉) kind e =
-    let post : parent_post p ≡ parent_post q = cc in
-    let comment : parent_comment p ≡ parent_comment q = cc in
-    let parent = one_parent_of p q post comment in
-    cc
-one_op (AddFriend a₁ a₂ a₃) (AddFriend b₁ b₂ b₃) kind e = cc
-one_op a b kind e = absurd cc
+one_op a b kind values =
+    sym (op_again a) ∙ sym (added_again (addition a)) ∙ (λ i. op_by (kind i) (values i)) ∙ added_again (addition b) ∙ op_again b
 
 -- an insert of these kinds whose values the fields spell
 pub spells_insert : (allowed : List InsertKind) (kind : InsertKind) (fs : List (List ℕ)) (t t_d : ℕ) (op : Op) → NamesInsert allowed fs kind → kind_of op ≡ kind → SpellsAll (line_columns kind) fs (line_values t t_d op) → IsOfTwo op → SpellsInsert allowed fs t t_d op

@@ -2,6 +2,7 @@
 #![tactic(auto)]
 
 mod files_law;
+mod insert_lines;
 mod kinds;
 mod law;
 mod line;
@@ -11,9 +12,9 @@ mod order;
 mod params;
 mod text;
 mod updates;
-mod write;
 
 pub use files_law::{one_params_reading, one_stream_reading, params_files, stream_files};
+pub use insert_lines::write_line;
 pub use law::{one_bad_line, one_fault, one_insert, one_insert_of_fields, one_query, own_line};
 pub use line::{ALL_INSERTS, FORUM_INSERTS, PERSON_INSERTS, read_insert, read_line};
 pub use lines::StreamLines;
@@ -21,4 +22,3 @@ pub use order::InOrder;
 pub use params::{Params, QueryLines, columns_of, read_parameters};
 pub use text::fields_in;
 pub use updates::{Updates, inserts_of};
-pub use write::write_line;

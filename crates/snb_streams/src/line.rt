@@ -8,7 +8,8 @@ ghost use Rattle.snb_schema.specs.UpdateLines.{IsBadInsert, IsBadLine, IsLine, N
 ghost use Rattle.snb_schema.specs.InsertLines.{kind_number};
 ghost use Rattle.snb_streams.specs.Spelled.{SpellsInsert};
 
-use crate::kinds::{TIMES, columns_of, kind_of_number};
+use crate::insert_lines::{TIMES, columns_of};
+use crate::kinds::kind_of_number;
 use crate::make::make_line;
 use crate::text::fields_in;
 use snb_base::read_number;

@@ -1,108 +1,142 @@
 //! Inserts out of the fields of a line.
 
-ghost use Rattle.std.specs.Prelude.{◌≡◌, ℕ, IfOk, OnOk, length, take};
+ghost use Rattle.std.specs.Prelude.{◌≡◌, ◌∷◌, [], ℕ, IfOk, OnOk, length};
+ghost use Rattle.snb_schema.specs.declared.column.Column.TheVariants.{Date};
+ghost use Rattle.snb_schema.specs.declared.column.Value.TheVariants.{Digits};
 ghost use Rattle.snb_schema.specs.declared.op.InsertKind.TheVariants as kinds;
 ghost use Rattle.snb_schema.specs.Faults.{OnBadColumn};
-ghost use Rattle.snb_schema.specs.InsertLines.{insert_columns, line_columns};
+ghost use Rattle.snb_schema.specs.InsertLines.{beside_columns, line_columns};
+ghost use Rattle.snb_schema.specs.Nodes.{comment_values, forum_values, id_column, person_values, post_values};
 ghost use Rattle.snb_schema.specs.UpdateLines.{Clashes, IsFirstBad};
-ghost use Rattle.snb_input_fields.specs.Reading.{IsBadIn, SpellsFrom, at_first};
-ghost use Rattle.snb_streams.specs.Make.{IsMade, IsMadeLine, IsParent, IsThird, at_field, head_values};
+ghost use Rattle.snb_input_fields.specs.Fields.{Expects, ReadsAll, StopsIn};
+ghost use Rattle.snb_input_fields.specs.Reading.{at_first};
+ghost use Rattle.snb_streams.specs.Make.{HasRead, HasSpelled, IsMade, IsMadeLine, IsParent, IsThird, at_field};
 
-use snb_base::Text;
-use snb_input_fields::FieldReader;
-use snb_schema::{InsertKind, Line, LineFault, MAX_ID, MAX_LENGTH, MAX_TIME, Op, Parent};
+use snb_input_fields::{FieldReader, LineFields};
+use snb_node_fields::{read_comment, read_forum, read_person, read_post};
+use snb_schema::{
+    Comment, Forum, InsertKind, Line, LineFault, MAX_ID, MAX_TIME, Op, Parent, Person, Post,
+};
 
+// The insert of a person, with what the next fields have beside it.
+fn add_person<F: LineFields>(person: Person, fields: &mut F) -> Result<Op, LineFault>
+    requires { Expects F.meaning fields.old (beside_columns kinds.AddPerson) }
+    ensures ok { IfOk result (HasRead F.meaning kinds.AddPerson (person_values person) fields.old fields.new) }
+    ensures bad { OnBadColumn result (StopsIn F.meaning fields.old (beside_columns kinds.AddPerson)) }
+{
+    let city_id = fields.number(MAX_ID)?;
+    let languages = fields.texts()?;
+    let emails = fields.texts()?;
+    let tag_ids = fields.ids()?;
+    let study_at = fields.pairs()?;
+    let work_at = fields.pairs()?;
+    Ok(person.into_op(city_id, languages, emails, tag_ids, study_at, work_at))
+}
+
+// The insert of a forum, with what the next fields have beside it.
+fn add_forum<F: LineFields>(forum: Forum, fields: &mut F) -> Result<Op, LineFault>
+    requires { Expects F.meaning fields.old (beside_columns kinds.AddForum) }
+    ensures ok { IfOk result (HasRead F.meaning kinds.AddForum (forum_values forum) fields.old fields.new) }
+    ensures bad { OnBadColumn result (StopsIn F.meaning fields.old (beside_columns kinds.AddForum)) }
+{
+    let moderator_id = fields.number(MAX_ID)?;
+    let tag_ids = fields.ids()?;
+    Ok(forum.into_op(moderator_id, tag_ids))
+}
+
+// The insert of a post, with what the next fields have beside it.
+fn add_post<F: LineFields>(post: Post, fields: &mut F) -> Result<Op, LineFault>
+    requires { Expects F.meaning fields.old (beside_columns kinds.AddPost) }
+    ensures ok { IfOk result (HasRead F.meaning kinds.AddPost (post_values post) fields.old fields.new) }
+    ensures bad { OnBadColumn result (StopsIn F.meaning fields.old (beside_columns kinds.AddPost)) }
+{
+    let author_id = fields.number(MAX_ID)?;
+    let forum_id = fields.number(MAX_ID)?;
+    let country_id = fields.number(MAX_ID)?;
+    let tag_ids = fields.ids()?;
+    Ok(post.into_op(author_id, forum_id, country_id, tag_ids))
+}
+
+// The insert of a person.
 fn person(fields: &mut FieldReader<'_>) -> Result<Op, LineFault>
     requires { fields.old ≡ at_field kinds.AddPerson fields.old.fields 3 }
     ensures ok { IfOk result (IsMade kinds.AddPerson fields.old.fields) }
-    ensures bad { OnBadColumn result (IsBadIn (line_columns kinds.AddPerson) fields.old.fields) }
+    ensures bad { OnBadColumn result (IsFirstBad kinds.AddPerson fields.old.fields) }
 {
-    Ok(Op::AddPerson {
-        person_id: fields.number(MAX_ID)?,
-        first_name: fields.text()?,
-        last_name: fields.text()?,
-        gender: fields.text()?,
-        birthday: fields.day()?,
-        creation_date: fields.date()?,
-        location_ip: fields.text()?,
-        browser_used: fields.text()?,
-        city_id: fields.number(MAX_ID)?,
-        languages: fields.texts()?,
-        emails: fields.texts()?,
-        tag_ids: fields.ids()?,
-        study_at: fields.pairs()?,
-        work_at: fields.pairs()?,
-    })
+    let person = read_person(fields)?;
+    add_person(person, fields)
+}
+
+// The insert of a forum.
+fn forum(fields: &mut FieldReader<'_>) -> Result<Op, LineFault>
+    requires { fields.old ≡ at_field kinds.AddForum fields.old.fields 3 }
+    ensures ok { IfOk result (IsMade kinds.AddForum fields.old.fields) }
+    ensures bad { OnBadColumn result (IsFirstBad kinds.AddForum fields.old.fields) }
+{
+    let forum = read_forum(fields)?;
+    add_forum(forum, fields)
+}
+
+// The insert of a post.
+fn post(fields: &mut FieldReader<'_>) -> Result<Op, LineFault>
+    requires { fields.old ≡ at_field kinds.AddPost fields.old.fields 3 }
+    ensures ok { IfOk result (IsMade kinds.AddPost fields.old.fields) }
+    ensures bad { OnBadColumn result (IsFirstBad kinds.AddPost fields.old.fields) }
+{
+    let post = read_post(fields)?;
+    add_post(post, fields)
+}
+
+// Two ids and a date.
+fn edge<F: LineFields>(fields: &mut F) -> Result<(u64, u64, u64), LineFault>
+    requires { Expects F.meaning fields.old (id_column ∷ id_column ∷ Date ∷ []) }
+    ensures ok { IfOk result (λ edge. ReadsAll F.meaning fields.old (id_column ∷ id_column ∷ Date ∷ [])
+        (Digits edge.0 ∷ Digits edge.1 ∷ Digits edge.2 ∷ []) fields.new) }
+    ensures bad { OnBadColumn result (StopsIn F.meaning fields.old (id_column ∷ id_column ∷ Date ∷ [])) }
+{
+    Ok((
+        fields.number(MAX_ID)?,
+        fields.number(MAX_ID)?,
+        fields.date()?,
+    ))
 }
 
 fn post_like(fields: &mut FieldReader<'_>) -> Result<Op, LineFault>
     requires { fields.old ≡ at_field kinds.LikePost fields.old.fields 3 }
     ensures ok { IfOk result (IsMade kinds.LikePost fields.old.fields) }
-    ensures bad { OnBadColumn result (IsBadIn (line_columns kinds.LikePost) fields.old.fields) }
+    ensures bad { OnBadColumn result (IsFirstBad kinds.LikePost fields.old.fields) }
 {
+    let ends = edge(fields)?;
     Ok(Op::LikePost {
-        person_id: fields.number(MAX_ID)?,
-        post_id: fields.number(MAX_ID)?,
-        date: fields.date()?,
+        person_id: ends.0,
+        post_id: ends.1,
+        date: ends.2,
     })
 }
 
 fn comment_like(fields: &mut FieldReader<'_>) -> Result<Op, LineFault>
     requires { fields.old ≡ at_field kinds.LikeComment fields.old.fields 3 }
     ensures ok { IfOk result (IsMade kinds.LikeComment fields.old.fields) }
-    ensures bad { OnBadColumn result (IsBadIn (line_columns kinds.LikeComment) fields.old.fields) }
+    ensures bad { OnBadColumn result (IsFirstBad kinds.LikeComment fields.old.fields) }
 {
+    let ends = edge(fields)?;
     Ok(Op::LikeComment {
-        person_id: fields.number(MAX_ID)?,
-        comment_id: fields.number(MAX_ID)?,
-        date: fields.date()?,
-    })
-}
-
-fn forum(fields: &mut FieldReader<'_>) -> Result<Op, LineFault>
-    requires { fields.old ≡ at_field kinds.AddForum fields.old.fields 3 }
-    ensures ok { IfOk result (IsMade kinds.AddForum fields.old.fields) }
-    ensures bad { OnBadColumn result (IsBadIn (line_columns kinds.AddForum) fields.old.fields) }
-{
-    Ok(Op::AddForum {
-        forum_id: fields.number(MAX_ID)?,
-        title: fields.text()?,
-        date: fields.date()?,
-        moderator_id: fields.number(MAX_ID)?,
-        tag_ids: fields.ids()?,
+        person_id: ends.0,
+        comment_id: ends.1,
+        date: ends.2,
     })
 }
 
 fn member(fields: &mut FieldReader<'_>) -> Result<Op, LineFault>
     requires { fields.old ≡ at_field kinds.AddMember fields.old.fields 3 }
     ensures ok { IfOk result (IsMade kinds.AddMember fields.old.fields) }
-    ensures bad { OnBadColumn result (IsBadIn (line_columns kinds.AddMember) fields.old.fields) }
+    ensures bad { OnBadColumn result (IsFirstBad kinds.AddMember fields.old.fields) }
 {
+    let ends = edge(fields)?;
     Ok(Op::AddMember {
-        person_id: fields.number(MAX_ID)?,
-        forum_id: fields.number(MAX_ID)?,
-        join_date: fields.date()?,
-    })
-}
-
-fn post(fields: &mut FieldReader<'_>) -> Result<Op, LineFault>
-    requires { fields.old ≡ at_field kinds.AddPost fields.old.fields 3 }
-    ensures ok { IfOk result (IsMade kinds.AddPost fields.old.fields) }
-    ensures bad { OnBadColumn result (IsBadIn (line_columns kinds.AddPost) fields.old.fields) }
-{
-    Ok(Op::AddPost {
-        post_id: fields.number(MAX_ID)?,
-        image_file: fields.text()?,
-        date: fields.date()?,
-        location_ip: fields.text()?,
-        browser_used: fields.text()?,
-        language: fields.text()?,
-        content: fields.text()?,
-        length: fields.small(MAX_LENGTH)?,
-        author_id: fields.number(MAX_ID)?,
-        forum_id: fields.number(MAX_ID)?,
-        country_id: fields.number(MAX_ID)?,
-        tag_ids: fields.ids()?,
+        person_id: ends.0,
+        forum_id: ends.1,
+        join_date: ends.2,
     })
 }
 
@@ -124,58 +158,27 @@ fn parent(fields: &mut FieldReader<'_>) -> Result<Parent, LineFault>
     }
 }
 
-// What a line with a comment has before the two parents.
-#[derive(Drop)]
-struct CommentHead {
-    comment_id: u64,
-    date: u64,
-    location_ip: Text,
-    browser_used: Text,
-    content: Text,
-    length: u32,
-    author_id: u64,
-    country_id: u64,
-}
-
-fn comment_head(fields: &mut FieldReader<'_>) -> Result<CommentHead, LineFault>
-    requires { fields.old ≡ at_field kinds.AddComment fields.old.fields 3 }
-    ensures ok { IfOk result (λ head. SpellsFrom 3 (take 8 (insert_columns kinds.AddComment)) fields.old.fields
-        (head_values head)) }
-    ensures past { OnOk result (fields.new ≡ at_field kinds.AddComment fields.old.fields 11) }
+// The insert of a comment, with what the next fields have beside it.
+fn add_comment(comment: Comment, fields: &mut FieldReader<'_>) -> Result<Op, LineFault>
+    requires { fields.old ≡ at_field kinds.AddComment fields.old.fields 9 }
+    ensures ok { IfOk result (HasSpelled kinds.AddComment (comment_values comment) 9 fields.old.fields) }
     ensures bad { OnBadColumn result (IsFirstBad kinds.AddComment fields.old.fields) }
 {
-    Ok(CommentHead {
-        comment_id: fields.number(MAX_ID)?,
-        date: fields.date()?,
-        location_ip: fields.text()?,
-        browser_used: fields.text()?,
-        content: fields.text()?,
-        length: fields.small(MAX_LENGTH)?,
-        author_id: fields.number(MAX_ID)?,
-        country_id: fields.number(MAX_ID)?,
-    })
+    let author_id = fields.number(MAX_ID)?;
+    let country_id = fields.number(MAX_ID)?;
+    let parent = parent(fields)?;
+    let tag_ids = fields.ids()?;
+    Ok(comment.into_op(author_id, country_id, parent, tag_ids))
 }
 
+// The insert of a comment.
 fn comment(fields: &mut FieldReader<'_>) -> Result<Op, LineFault>
     requires { fields.old ≡ at_field kinds.AddComment fields.old.fields 3 }
     ensures ok { IfOk result (IsMade kinds.AddComment fields.old.fields) }
     ensures bad { OnBadColumn result (IsFirstBad kinds.AddComment fields.old.fields) }
 {
-    let head = comment_head(fields)?;
-    let parent = parent(fields)?;
-    let tag_ids = fields.ids()?;
-    Ok(Op::AddComment {
-        comment_id: head.comment_id,
-        date: head.date,
-        location_ip: head.location_ip,
-        browser_used: head.browser_used,
-        content: head.content,
-        length: head.length,
-        author_id: head.author_id,
-        country_id: head.country_id,
-        parent,
-        tag_ids,
-    })
+    let comment = read_comment(fields)?;
+    add_comment(comment, fields)
 }
 
 fn friend(fields: &mut FieldReader<'_>) -> Result<Op, LineFault>

@@ -52,11 +52,7 @@ fn forum(alloc: Global, rest: &str) -> Result<Row, Flaw>
         return Err(Flaw::OtherValue);
     }
     Ok(Row::Forum {
-        forum: Forum {
-            id,
-            title: Text::new(alloc),
-            creation_date,
-        },
+        forum: Forum::named(id, Text::new(alloc), creation_date),
     })
 }
 

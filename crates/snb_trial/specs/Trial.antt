@@ -4,7 +4,7 @@ use Rattle.std.specs.List.{enumerate_from, flat_map, range_with_len}
 use Rattle.snb_schema.specs.declared.limits.TheConstants.{MAX_TIME}
 use Rattle.snb_schema.specs.declared.op.Line.{Line}
 use Rattle.snb_schema.specs.declared.op.Op.{Op}
-use Rattle.snb_schema.specs.declared.op.Op.TheVariants.{AddPerson, LikePost, AddForum, AddMember, AddPost, AddComment, AddFriend}
+use Rattle.snb_schema.specs.declared.op.Op.TheVariants.{AddPerson, LikePost, AddMember, AddPost, AddComment, AddFriend}
 use Rattle.snb_schema.specs.declared.op.Parent.TheVariants as parents
 use Rattle.snb_schema.specs.declared.query.Query.{Query}
 use Rattle.snb_schema.specs.declared.query.Query.TheVariants.{Ic2, Ic13}
@@ -14,6 +14,7 @@ use Rattle.snb_schema.specs.declared.row.Row.TheVariants as row
 use Rattle.snb_schema.specs.declared.table.Table.TheVariants as table
 use Rattle.snb_schema.specs.Frequencies.{FrequencyTable}
 use Rattle.snb_schema.specs.LineLanes.{LineLanes}
+use Rattle.snb_schema.specs.Nodes.{NewForum, adding, forum_named}
 use Rattle.snb_schema.specs.Queries.{complex_queries}
 use Rattle.snb_schema.specs.QueryPlaces.{values_of}
 use Rattle.snb_schema.specs.QueryLists.{QueryLists}
@@ -80,7 +81,7 @@ friendship i = after i 500 (AddFriend i (half i))
 
 -- forum i, whose moderator is i
 abbrev pub forum : ℕ → TrialInsert
-forum i = after i 600 (λ t. AddForum i (codes "T") t i [])
+forum i = after i 600 (λ t. adding (NewForum (forum_named i (codes "T") t) i []))
 
 -- the membership of the half in forum i
 abbrev pub membership : ℕ → TrialInsert

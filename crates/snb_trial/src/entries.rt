@@ -5,7 +5,7 @@ ghost use Rattle.snb_schema.specs.declared.limits.TheConstants.{MAX_TRIAL};
 ghost use Rattle.snb_trial.specs.Trial.{comment, forum, friendship, like, trial_line, membership, person, post};
 
 use snb_base::{Numbers, Pairs, Text, Texts};
-use snb_schema::{Line, Op, Parent};
+use snb_schema::{Forum, Line, Op, Parent};
 use std::alloc::{AllocError, Global};
 
 /// Person i.
@@ -61,13 +61,8 @@ pub fn forum_line(alloc: Global, i: u64, number: u32) -> Result<Line, AllocError
     ensures { IfOk result (λ line. line ≡ trial_line (number, forum i)) }
 {
     let t = 1000 * i + 600;
-    let op = Op::AddForum {
-        forum_id: i,
-        title: Text::from_str(alloc, "T")?,
-        date: t,
-        moderator_id: i,
-        tag_ids: Numbers::new(alloc),
-    };
+    let forum = Forum::named(i, Text::from_str(alloc, "T")?, t);
+    let op = forum.into_op(i, Numbers::new(alloc));
     Ok(Line {
         t,
         t_d: 1000 * i,

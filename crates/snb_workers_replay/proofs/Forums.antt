@@ -7,18 +7,18 @@ use Rattle.std.proofs.lemmas.List.Elements.{All-contains}
 use Rattle.std.proofs.lemmas.Option.{same_Some}
 use Rattle.snb_schema.specs.declared.op.Line.{Line}
 use Rattle.snb_schema.specs.declared.op.Op.{Op}
-use Rattle.snb_schema.specs.declared.op.Op.TheVariants as ops
 use Rattle.snb_schema.specs.declared.op.InsertKind.TheVariants as inserts
 use Rattle.snb_schema.specs.declared.refusal.Missing.{Missing}
 use Rattle.snb_history.specs.declared.step.LaneKind.{LaneKind}
 use Rattle.snb_history.specs.declared.step.LaneKind.TheVariants as lane_kinds
 use Rattle.snb_schema.specs.declared.table.Kind.TheVariants as kinds
-use Rattle.snb_schema.specs.Awaiting.{adds_awaited, is_awaited}
+use Rattle.snb_schema.specs.Awaiting.{added_kind, adds_awaited, is_awaited, is_awaited_node}
 use Rattle.snb_schema.specs.LineLanes.{LineLanes}
-use Rattle.snb_schema.specs.References.{added_node, ref}
+use Rattle.snb_schema.specs.References.{added_node, addition_node, ref}
 use Rattle.snb_schema.specs.StreamLines.{AreOfStream, AreOfStreams}
 use Rattle.snb_schema.specs.UpdateLines.{person_inserts}
-use Rattle.snb_schema.specs.InsertLines.{kind_of}
+use Rattle.snb_schema.specs.InsertLines.{addition_kind, kind_of}
+use Rattle.snb_schema.specs.Nodes.{Addition, NewPerson, NewForum, NewPost, NewComment, NewPostLike, NewCommentLike, NewMember, NewFriends, addition}
 use Rattle.snb_plan.specs.Closed.{is_in_lane}
 use Rattle.snb_plan.specs.Merging.{kinds_of, lane_of, numbered_lanes}
 use Rattle.snb_base.proofs.Laws.{at_contains, contains_cases, none_in}
@@ -31,26 +31,29 @@ awaited_one own node e = ap (λ (n : Missing). is_awaited n.kind) (same_Some own
 
 -- an insert that adds what is awaited is a dependency
 pub adds_for : (op : Op) (node : Missing) → added_node op ≡ Some node → is_awaited node.kind ≡ true → adds_awaited op ≡ true
-adds_for (ops.AddPerson person first last gender birthday created ip browser city languages emails tags study work) node e a = refl
-adds_for (ops.AddForum forum title date moderator tags) node e a = awaited_one (ref kinds.Forum forum) node e ∙ a
-adds_for (ops.AddPost post image date ip browser language content size author forum country tags) node e a = awaited_one (ref kinds.Post post) node e ∙ a
-adds_for (ops.AddComment comment date ip browser content size author country parent tags) node e a = awaited_one (ref kinds.Comment comment) node e ∙ a
-adds_for op node e a = absurd cc
+adds_for op node e a = by (addition op) e
+  where
+    by : (x : Addition) → addition_node x ≡ Some node → is_awaited_node (added_kind (addition_kind x)) ≡ true
+    by (NewPerson person city languages emails tags study work) e = refl
+    by (NewForum forum moderator tags) e = awaited_one (ref kinds.Forum forum.id) node e ∙ a
+    by (NewPost post author forum country tags) e = awaited_one (ref kinds.Post post.id) node e ∙ a
+    by (NewComment comment author country parent tags) e = awaited_one (ref kinds.Comment comment.id) node e ∙ a
+    by x e = absurd cc
 
 -- an insert of a stream of persons adds no forum and no message
 adds_none : (op : Op) (node : Missing) → Contains person_inserts (kind_of op) → added_node op ≡ Some node → is_in_lane node.kind ≡ true → ⊥
 adds_none op node c e a = elim (contains_cases inserts.AddPerson (inserts.AddFriend ∷ []) (kind_of op) c) [
-  | inl first ↦ by_kind op first e
-  | inr rest ↦ elim (contains_cases inserts.AddFriend [] (kind_of op) rest) [ inl second ↦ by_other op second e | inr none ↦ none_in (kind_of op) none ]
+  | inl first ↦ by_kind (addition op) first e
+  | inr rest ↦ elim (contains_cases inserts.AddFriend [] (kind_of op) rest) [ inl second ↦ by_other (addition op) second e | inr none ↦ none_in (kind_of op) none ]
 ]
   where
-    by_kind : (x : Op) → inserts.AddPerson ≡ kind_of x → added_node x ≡ Some node → ⊥
-    by_kind (ops.AddPerson person first last gender birthday created ip browser city languages emails tags study work) k q =
-        (let z = ap (λ (n : Missing). is_in_lane n.kind) (same_Some (ref kinds.Person person) node q) in cc)
+    by_kind : (x : Addition) → inserts.AddPerson ≡ addition_kind x → addition_node x ≡ Some node → ⊥
+    by_kind (NewPerson person city languages emails tags study work) k q =
+        (let z = ap (λ (n : Missing). is_in_lane n.kind) (same_Some (ref kinds.Person person.id) node q) in cc)
     by_kind x k q = absurd cc
 
-    by_other : (x : Op) → inserts.AddFriend ≡ kind_of x → added_node x ≡ Some node → ⊥
-    by_other (ops.AddFriend one other date) k q = cc
+    by_other : (x : Addition) → inserts.AddFriend ≡ addition_kind x → addition_node x ≡ Some node → ⊥
+    by_other (NewFriends one other date) k q = cc
     by_other x k q = absurd cc
 
 -- ---- lanes

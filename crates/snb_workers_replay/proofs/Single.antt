@@ -6,7 +6,6 @@ use Rattle.std.proofs.lemmas.List.Elements.{All-append, All-cons, All-contains, 
 use Rattle.snb_schema.specs.declared.key.Key.{Key}
 use Rattle.snb_schema.specs.declared.key.Key.TheVariants.{Node, Knows, LikesPost, LikesComment, Member}
 use Rattle.snb_schema.specs.declared.op.Op.{Op}
-use Rattle.snb_schema.specs.declared.op.Op.TheVariants as ops
 use Rattle.snb_schema.specs.declared.op.Parent.{Parent}
 use Rattle.snb_schema.specs.declared.op.Parent.TheVariants as parents
 use Rattle.snb_schema.specs.declared.refusal.Missing.{Missing}
@@ -15,10 +14,12 @@ use Rattle.snb_schema.specs.declared.row.Row.TheVariants as row
 use Rattle.snb_schema.specs.declared.table.Kind.TheVariants as kinds
 use Rattle.snb_schema.specs.declared.table.Table.{Table}
 use Rattle.snb_schema.specs.declared.table.Table.TheVariants as table
-use Rattle.snb_schema.specs.Awaiting.{is_awaited}
+use Rattle.snb_schema.specs.Awaiting.{is_awaited, kind_waits}
 use Rattle.snb_schema.specs.Awaiting.{waits as waits_op}
-use Rattle.snb_schema.specs.Inserts.{keys_of, parent_row, rows_of}
-use Rattle.snb_schema.specs.References.{added_node, ref, refs_of}
+use Rattle.snb_schema.specs.InsertLines.{addition_kind}
+use Rattle.snb_schema.specs.Inserts.{addition_edges, addition_keys, addition_row, keys_of, parent_row, rows_of}
+use Rattle.snb_schema.specs.Nodes.{Addition, NewPerson, NewForum, NewPost, NewComment, NewPostLike, NewCommentLike, NewMember, NewFriends, addition}
+use Rattle.snb_schema.specs.References.{added_node, addition_node, addition_refs, ref, refs_of}
 use Rattle.snb_schema.specs.RowKeys.{RowKey, named_key, node_key, row_key}
 use Rattle.snb_base.proofs.Laws.{contains_cases, contains_here, contains_there}
 use Rattle.snb_graph_model.specs.Graphs.{HasKey, HoldsKey}
@@ -51,11 +52,14 @@ first_row r rest own node keyed e =
 
 -- an insert that adds a node has a row of it
 pub adds_node : (op : Op) (node : Missing) → added_node op ≡ Some node → HasKey (rows_of op) (node_key node.kind node.id)
-adds_node (ops.AddPerson person first last gender birthday created ip browser city languages emails tags study work) node e = first_row _ _ (ref kinds.Person person) node refl e
-adds_node (ops.AddForum forum title date moderator tags) node e = first_row _ _ (ref kinds.Forum forum) node refl e
-adds_node (ops.AddPost post image date ip browser language content size author forum country tags) node e = first_row _ _ (ref kinds.Post post) node refl e
-adds_node (ops.AddComment comment date ip browser content size author country parent tags) node e = first_row _ _ (ref kinds.Comment comment) node refl e
-adds_node op node e = absurd cc
+adds_node op node e = by (addition op) e
+  where
+    by : (a : Addition) → addition_node a ≡ Some node → HasKey (addition_row a ∷ addition_edges a) (node_key node.kind node.id)
+    by (NewPerson person city languages emails tags study work) e = first_row _ _ (ref kinds.Person person.id) node refl e
+    by (NewForum forum moderator tags) e = first_row _ _ (ref kinds.Forum forum.id) node refl e
+    by (NewPost post author forum country tags) e = first_row _ _ (ref kinds.Post post.id) node refl e
+    by (NewComment comment author country parent tags) e = first_row _ _ (ref kinds.Comment comment.id) node refl e
+    by a e = absurd cc
 
 -- ---- the keys that are taken
 
@@ -137,27 +141,31 @@ of_first {r} {rest} own key h is others = elim (contains_cases r rest h.it h.hel
 takes : {r : Row} {rest : List Row} (own key : Key) (others : List Key) → HoldsKey (r ∷ rest) key → row_key r ≡ named_key own → Each IsUnnamed rest → Contains (own ∷ others) key
 takes own key others h is unnamed = subst (Contains (own ∷ others)) (of_first own key h is unnamed) (contains_here own others)
 
--- a key that is held among the rows of an insert is one that the insert takes
-pub names_own : (op : Op) (key : Key) → HoldsKey (rows_of op) key → Contains (keys_of op) key
-names_own (ops.AddPerson person first last gender birthday created ip browser city languages emails tags study work) key h =
-    takes (Node kinds.Person person) key [] h refl
+-- a key that is held among the rows of what is added is one that the insert takes
+added_own : (a : Addition) (key : Key) → HoldsKey (addition_row a ∷ addition_edges a) key → Contains (addition_keys a) key
+added_own (NewPerson person city languages emails tags study work) key h =
+    takes (Node kinds.Person person.id) key [] h refl
     (one refl
     (joined (joined (joined (joined
-    (made (row.Word table.PersonEmailEmailAddress person) emails (λ x. refl))
-    (made (row.Word table.PersonSpeaksLanguage person) languages (λ x. refl)))
-    (made (row.Link table.PersonHasInterestTag person) tags (λ x. refl)))
-    (made (λ s. row.Yeared table.PersonStudyAtOrganisation person s.0 s.1) study (λ x. refl)))
-    (made (λ w. row.Yeared table.PersonWorkAtOrganisation person w.0 w.1) work (λ x. refl))))
-names_own (ops.LikePost person post date) key h = takes (LikesPost person post) key [] h refl none
-names_own (ops.LikeComment person comment date) key h = takes (LikesComment person comment) key [] h refl none
-names_own (ops.AddForum forum title date moderator tags) key h = takes (Node kinds.Forum forum) key [] h refl (one refl (made (row.Link table.ForumHasTagTag forum) tags (λ x. refl)))
-names_own (ops.AddMember person forum date) key h = takes (Member forum person) key [] h refl none
-names_own (ops.AddPost post image date ip browser language content size author forum country tags) key h =
-    takes (Node kinds.Post post) key (Node kinds.Comment post ∷ []) h refl (one refl (one refl (one refl (made (row.Link table.PostHasTagTag post) tags (λ x. refl)))))
-names_own (ops.AddComment comment date ip browser content size author country parent tags) key h =
-    contains_there (Node kinds.Post comment) (Node kinds.Comment comment ∷ []) key
-    (takes (Node kinds.Comment comment) key [] h refl (one refl (one refl (one (parent_unnamed comment parent) (made (row.Link table.CommentHasTagTag comment) tags (λ x. refl))))))
-names_own (ops.AddFriend one_end other date) key h = takes (Knows (min one_end other) (max one_end other)) key [] h refl none
+    (made (row.Word table.PersonEmailEmailAddress person.id) emails (λ x. refl))
+    (made (row.Word table.PersonSpeaksLanguage person.id) languages (λ x. refl)))
+    (made (row.Link table.PersonHasInterestTag person.id) tags (λ x. refl)))
+    (made (λ s. row.Yeared table.PersonStudyAtOrganisation person.id s.0 s.1) study (λ x. refl)))
+    (made (λ w. row.Yeared table.PersonWorkAtOrganisation person.id w.0 w.1) work (λ x. refl))))
+added_own (NewPostLike person post date) key h = takes (LikesPost person post) key [] h refl none
+added_own (NewCommentLike person comment date) key h = takes (LikesComment person comment) key [] h refl none
+added_own (NewForum forum moderator tags) key h =
+    takes (Node kinds.Forum forum.id) key [] h refl (one refl (made (row.Link table.ForumHasTagTag forum.id) tags (λ x. refl)))
+added_own (NewMember person forum date) key h = takes (Member forum person) key [] h refl none
+added_own (NewPost post author forum country tags) key h =
+    takes (Node kinds.Post post.id) key (Node kinds.Comment post.id ∷ []) h refl (one refl (one refl (one refl (made (row.Link table.PostHasTagTag post.id) tags (λ x. refl)))))
+added_own (NewComment comment author country parent tags) key h =
+    contains_there (Node kinds.Post comment.id) (Node kinds.Comment comment.id ∷ []) key
+    (takes (Node kinds.Comment comment.id) key [] h refl (one refl (one refl (one (parent_unnamed comment.id parent) (made (row.Link table.CommentHasTagTag comment.id) tags (λ x. refl))))))
+added_own (NewFriends one_end other date) key h = takes (Knows (min one_end other) (max one_end other)) key [] h refl none
+
+pub names_own : (op : Op) (key : Key) → HoldsKey (rows_of op) key → Contains (keys_of op) key
+names_own op key h = added_own (addition op) key h
 
 -- ---- what is awaited
 
@@ -171,8 +179,11 @@ not_given {refs} node c e given = let none : is_awaited node.kind ≡ false = Al
 
 -- an insert that refers to what is awaited waits
 pub waits_for : (op : Op) (node : Missing) → Contains (refs_of op) node → is_awaited node.kind ≡ true → waits_op op ≡ true
-waits_for (ops.AddPerson person first last gender birthday created ip browser city languages emails tags study work) node c e =
-    let given : Each IsGiven (refs_of (ops.AddPerson person first last gender birthday created ip browser city languages emails tags study work)) =
-    one refl (joined (joined (made (ref kinds.Tag) tags (λ x. refl)) (made (λ s. ref kinds.Organisation s.0) study (λ x. refl))) (made (λ w. ref kinds.Organisation w.0) work (λ x. refl))) in
-    absurd (not_given node c e given)
-waits_for op node c e = refl
+waits_for op node c e = by (addition op) c
+  where
+    by : (a : Addition) → Contains (addition_refs a) node → kind_waits (addition_kind a) ≡ true
+    by (NewPerson person city languages emails tags study work) c =
+        let given : Each IsGiven (addition_refs (NewPerson person city languages emails tags study work)) =
+        one refl (joined (joined (made (ref kinds.Tag) tags (λ x. refl)) (made (λ s. ref kinds.Organisation s.0) study (λ x. refl))) (made (λ w. ref kinds.Organisation w.0) work (λ x. refl))) in
+        absurd (not_given node c e given)
+    by a c = refl

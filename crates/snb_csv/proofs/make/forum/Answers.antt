@@ -1,16 +1,14 @@
 use Rattle.std.proofs.Common.{refl}
-use Rattle.snb_schema.specs.declared.column.Column.TheVariants as columns
-use Rattle.snb_schema.specs.declared.column.Value.TheVariants.{Digits, Letters}
-use Rattle.snb_schema.specs.declared.limits.TheConstants.{MAX_ID}
-use Rattle.snb_input_fields.proofs.Laws.{moved, spelled}
+use Rattle.snb_schema.specs.declared.layout.Shape.TheVariants as shapes
+use Rattle.snb_schema.specs.declared.row.Row.TheVariants as row
+use Rattle.snb_schema.specs.Nodes.{forum_columns}
+use Rattle.snb_input_fields.proofs.Laws.{expects_all}
+use Rattle.snb_csv.proofs.MadeFacts.{made}
 use Rattle.snb_csv.proofs.make.forum.Goals as goal
+
+pub read_forum-requires : goal.read_forum-requires
+read_forum-requires c = expects_all forum_columns c.args.fields.now.fields c.args.fields.now c.requires
 
 pub returns-clause-ok : goal.returns-clause-ok
 returns-clause-ok c =
-    let e1 = moved c.in_ok-number.ensures.past c.requires in
-    let e2 = moved c.in_ok-text.ensures.past e1 in
-    record {
-      table = refl;
-      shaped = refl;
-      spelled = (spelled 0 (columns.Number MAX_ID) (Digits c.in_ok-number.field-0) c.requires c.in_ok-number.ensures.ok, (spelled 1 columns.Words (Letters c.in_ok-text.field-0) e1 c.in_ok-text.ensures.ok, (spelled 2 columns.Date (Digits c.in_ok-date.field-0) e2 c.in_ok-date.ensures.ok, tt)));
-    }
+    made shapes.Forum c.args.table c.args.fields.now.fields c.args.fields.now c.read_forum.new.fields (row.Forum c.in_ok-read_forum.field-0) c.requires refl refl c.in_ok-read_forum.ensures.ok

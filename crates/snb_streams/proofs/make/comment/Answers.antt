@@ -1,31 +1,30 @@
-use Rattle.std.proofs.Common.{[], ◌∷◌, refl, rules, take}
-use Rattle.snb_schema.specs.declared.column.Column.TheVariants.{IdList, OptionalId}
-use Rattle.snb_schema.specs.declared.column.Value.TheVariants.{Ids}
+use Rattle.std.proofs.Common.{◌∙◌, ◌+◌, ℕ, List, arith, ap, refl, rules, subst}
+use Rattle.std.specs.Prelude.{IfOk}
 use Rattle.snb_schema.specs.declared.op.InsertKind.TheVariants as kinds
-use Rattle.snb_schema.specs.InsertLines.{insert_columns, parent_comment, parent_post}
+use Rattle.snb_schema.specs.Nodes.{comment_columns, comment_values}
 use Rattle.snb_schema.specs.UpdateLines.{IsFirstBad}
-use Rattle.snb_input_fields.specs.Reading.{IsBadNext}
-use Rattle.snb_input_fields.proofs.Laws.{spelled}
-use Rattle.snb_streams.specs.Make.{head_values}
-use Rattle.snb_streams.proofs.MakeFacts.{next_bad, on_bad, spells_both}
+use Rattle.snb_input_fields.specs.Fields.{StopsIn}
+use Rattle.snb_input_fields.specs.Reading.{Reading, line_meaning}
+use Rattle.snb_input_fields.proofs.Laws.{at, reads_to}
+use Rattle.snb_streams.proofs.MakeFacts.{at_own, expects_node, if_spelled, node_first, on_bad}
+use Rattle.snb_streams.specs.Make.{HasSpelled}
 use Rattle.snb_streams.proofs.make.comment.Goals as goal
 
-pub returns-in_err-tag_ids-clause-bad : goal.returns-in_err-tag_ids-clause-bad
-returns-in_err-tag_ids-clause-bad c =
-    let fs = c.args.fields.now.fields in
-    let e = rw c.in_ok-head.ensures.past at c.in_ok-parent.ensures.past in
-    on_bad c.from_residual-in_err-tag_ids.result (IsBadNext c.parent.new.fields) (IsFirstBad kinds.AddComment fs) (next_bad kinds.AddComment fs 13 c.parent.new.fields e (λ column clash. absurd ((rw c.in_ok-head.ensures.past at c.in_ok-parent.ensures.one) column clash))) (search rules)
+pub read_comment-requires : goal.read_comment-requires
+read_comment-requires c = expects_node kinds.AddComment c.args.fields.now.fields c.args.fields.now c.requires
+
+pub add_comment-requires : goal.add_comment-requires
+add_comment-requires c =
+    at_own kinds.AddComment c.args.fields.now.fields 9 c.read_comment.new.fields
+    (reads_to comment_columns (comment_values c.in_ok-comment.comment) c.args.fields.now c.read_comment.new.fields c.in_ok-comment.ensures.ok ∙ ap (λ (r : Reading). at r.columns r.fields (r.read + 6)) c.requires)
+
+pub returns-in_err-comment-clause-bad : goal.returns-in_err-comment-clause-bad
+returns-in_err-comment-clause-bad c =
+    on_bad c.from_residual.result (StopsIn line_meaning c.args.fields.now comment_columns) (IsFirstBad kinds.AddComment c.args.fields.now.fields)
+    (node_first kinds.AddComment c.args.fields.now.fields c.args.fields.now c.requires 9 refl (λ column clash. (let at = clash.0 in omega (arith, at)))) (search rules)
 
 pub returns-clause-ok : goal.returns-clause-ok
 returns-clause-ok c =
-    let fs = c.args.fields.now.fields in
-    let h = c.in_ok-head.head in
-    let p = c.in_ok-parent.parent in
-    let e = rw c.in_ok-head.ensures.past at c.in_ok-parent.ensures.past in
-    let two = rw c.in_ok-head.ensures.past at c.in_ok-parent.ensures.ok in
-    record {
-      kind_is = refl;
-      spelled = spells_both 3 (take 8 (insert_columns kinds.AddComment)) (head_values h) (OptionalId ∷ OptionalId ∷ IdList ∷ []) (parent_post p ∷ parent_comment p ∷ Ids c.in_ok-tag_ids.tag_ids ∷ []) fs c.in_ok-head.ensures.ok
-          (two.0, (two.1.0, (spelled 13 IdList (Ids c.in_ok-tag_ids.tag_ids) e c.in_ok-tag_ids.ensures.ok, tt)));
-      of_two = tt;
-    }
+    let same = ap (λ (r : Reading). r.fields) (reads_to comment_columns (comment_values c.in_ok-comment.comment) c.args.fields.now c.read_comment.new.fields c.in_ok-comment.ensures.ok) in
+    if_spelled kinds.AddComment c.args.fields.now.fields c.args.fields.now c.requires (comment_values c.in_ok-comment.comment) c.read_comment.new.fields c.add_comment.result (λ friend. cc) c.in_ok-comment.ensures.ok
+    (subst (λ (xs : List (List ℕ)). IfOk c.add_comment.result (HasSpelled kinds.AddComment (comment_values c.in_ok-comment.comment) 9 xs)) same c.add_comment.ensures.ok)

@@ -1,18 +1,29 @@
-use Rattle.std.proofs.Common.{refl}
-use Rattle.snb_schema.specs.declared.column.Column.TheVariants as columns
-use Rattle.snb_schema.specs.declared.column.Value.TheVariants.{Digits, Ids, Letters}
-use Rattle.snb_schema.specs.declared.limits.TheConstants.{MAX_ID}
-use Rattle.snb_input_fields.proofs.Laws.{moved, spelled}
+use Rattle.std.proofs.Common.{rules}
+use Rattle.snb_schema.specs.declared.op.InsertKind.TheVariants as kinds
+use Rattle.snb_schema.specs.InsertLines.{beside_columns}
+use Rattle.snb_schema.specs.Nodes.{forum_columns, forum_values}
+use Rattle.snb_schema.specs.UpdateLines.{IsFirstBad}
+use Rattle.snb_input_fields.specs.Fields.{StopsIn}
+use Rattle.snb_input_fields.specs.Reading.{line_meaning}
+use Rattle.snb_streams.proofs.MakeFacts.{beside_bad, expects_beside, expects_node, if_made, node_bad, on_bad}
 use Rattle.snb_streams.proofs.make.forum.Goals as goal
+
+pub read_forum-requires : goal.read_forum-requires
+read_forum-requires c = expects_node kinds.AddForum c.args.fields.now.fields c.args.fields.now c.requires
+
+pub add_forum-requires : goal.add_forum-requires
+add_forum-requires c = expects_beside kinds.AddForum c.args.fields.now.fields c.args.fields.now c.requires (forum_values c.in_ok-forum.forum) c.read_forum.new.fields c.in_ok-forum.ensures.ok
+
+pub returns-in_err-forum-clause-bad : goal.returns-in_err-forum-clause-bad
+returns-in_err-forum-clause-bad c =
+    on_bad c.from_residual.result (StopsIn line_meaning c.args.fields.now forum_columns) (IsFirstBad kinds.AddForum c.args.fields.now.fields)
+    (node_bad kinds.AddForum c.args.fields.now.fields c.args.fields.now c.requires (λ c h. h)) (search rules)
 
 pub returns-clause-ok : goal.returns-clause-ok
 returns-clause-ok c =
-    let e1 = moved c.in_ok-number.ensures.past c.requires in
-    let e2 = moved c.in_ok-text.ensures.past e1 in
-    let e3 = moved c.in_ok-date.ensures.past e2 in
-    let e4 = moved c.in_ok-number-2.ensures.past e3 in
-    record {
-      kind_is = refl;
-      spelled = (spelled 3 (columns.Number MAX_ID) (Digits c.in_ok-number.field-0) c.requires c.in_ok-number.ensures.ok, (spelled 4 columns.Words (Letters c.in_ok-text.field-0) e1 c.in_ok-text.ensures.ok, (spelled 5 columns.Date (Digits c.in_ok-date.field-0) e2 c.in_ok-date.ensures.ok, (spelled 6 (columns.Number MAX_ID) (Digits c.in_ok-number-2.field-0) e3 c.in_ok-number-2.ensures.ok, (spelled 7 columns.IdList (Ids c.in_ok-ids.field-0) e4 c.in_ok-ids.ensures.ok, tt)))));
-      of_two = tt;
-    }
+    if_made kinds.AddForum c.args.fields.now.fields c.args.fields.now c.requires (forum_values c.in_ok-forum.forum) c.read_forum.new.fields c.add_forum.new.fields c.add_forum.result (λ friend. cc) c.in_ok-forum.ensures.ok c.add_forum.ensures.ok
+
+pub returns-clause-bad : goal.returns-clause-bad
+returns-clause-bad c =
+    on_bad c.add_forum.result (StopsIn line_meaning c.read_forum.new.fields (beside_columns kinds.AddForum)) (IsFirstBad kinds.AddForum c.args.fields.now.fields)
+    (beside_bad kinds.AddForum c.args.fields.now.fields c.args.fields.now c.requires (λ c h. h) (forum_values c.in_ok-forum.forum) c.read_forum.new.fields c.in_ok-forum.ensures.ok) c.add_forum.ensures.bad

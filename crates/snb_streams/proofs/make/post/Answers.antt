@@ -1,28 +1,29 @@
-use Rattle.std.proofs.Common.{refl}
-use Rattle.snb_schema.specs.declared.column.Column.TheVariants as columns
-use Rattle.snb_schema.specs.declared.column.Value.TheVariants.{Digits, Ids, Letters, SmallDigits}
-use Rattle.snb_schema.specs.declared.limits.TheConstants.{MAX_ID, MAX_LENGTH}
-use Rattle.snb_input_fields.proofs.Laws.{moved, spelled}
+use Rattle.std.proofs.Common.{rules}
+use Rattle.snb_schema.specs.declared.op.InsertKind.TheVariants as kinds
+use Rattle.snb_schema.specs.InsertLines.{beside_columns}
+use Rattle.snb_schema.specs.Nodes.{post_columns, post_values}
+use Rattle.snb_schema.specs.UpdateLines.{IsFirstBad}
+use Rattle.snb_input_fields.specs.Fields.{StopsIn}
+use Rattle.snb_input_fields.specs.Reading.{line_meaning}
+use Rattle.snb_streams.proofs.MakeFacts.{beside_bad, expects_beside, expects_node, if_made, node_bad, on_bad}
 use Rattle.snb_streams.proofs.make.post.Goals as goal
+
+pub read_post-requires : goal.read_post-requires
+read_post-requires c = expects_node kinds.AddPost c.args.fields.now.fields c.args.fields.now c.requires
+
+pub add_post-requires : goal.add_post-requires
+add_post-requires c = expects_beside kinds.AddPost c.args.fields.now.fields c.args.fields.now c.requires (post_values c.in_ok-post.post) c.read_post.new.fields c.in_ok-post.ensures.ok
+
+pub returns-in_err-post-clause-bad : goal.returns-in_err-post-clause-bad
+returns-in_err-post-clause-bad c =
+    on_bad c.from_residual.result (StopsIn line_meaning c.args.fields.now post_columns) (IsFirstBad kinds.AddPost c.args.fields.now.fields)
+    (node_bad kinds.AddPost c.args.fields.now.fields c.args.fields.now c.requires (λ c h. h)) (search rules)
 
 pub returns-clause-ok : goal.returns-clause-ok
 returns-clause-ok c =
-    let e1 = moved c.in_ok-number.ensures.past c.requires in
-    let e2 = moved c.in_ok-text.ensures.past e1 in
-    let e3 = moved c.in_ok-date.ensures.past e2 in
-    let e4 = moved c.in_ok-text-2.ensures.past e3 in
-    let e5 = moved c.in_ok-text-3.ensures.past e4 in
-    let e6 = moved c.in_ok-text-4.ensures.past e5 in
-    let e7 = moved c.in_ok-text-5.ensures.past e6 in
-    let e8 = moved c.in_ok-small.ensures.past e7 in
-    let e9 = moved c.in_ok-number-2.ensures.past e8 in
-    let e10 = moved c.in_ok-number-3.ensures.past e9 in
-    let e11 = moved c.in_ok-number-4.ensures.past e10 in
-    record {
-      kind_is = refl;
-      spelled = (spelled 3 (columns.Number MAX_ID) (Digits c.in_ok-number.field-0) c.requires c.in_ok-number.ensures.ok, (spelled 4 columns.Words (Letters c.in_ok-text.field-0) e1 c.in_ok-text.ensures.ok, (spelled 5 columns.Date (Digits c.in_ok-date.field-0) e2 c.in_ok-date.ensures.ok, (spelled 6 columns.Words (Letters c.in_ok-text-2.field-0) e3 c.in_ok-text-2.ensures.ok, (spelled 7 columns.Words (Letters c.in_ok-text-3.field-0) e4 c.in_ok-text-3.ensures.ok, (spelled 8 columns.Words (Letters c.in_ok-text-4.field-0) e5 c.in_ok-text-4.ensures.ok, (spelled 9 columns.Words (Letters c.in_ok-text-5.field-0) e6 c.in_ok-text-5.ensures.ok, (spelled 10 (columns.Small MAX_LENGTH) (SmallDigits c.in_ok-small.field-0) e7 c.in_ok-small.ensures.ok, (spelled 11 (columns.Number MAX_ID) (Digits c.in_ok-number-2.field-0) e8 c.in_ok-number-2.ensures.ok, (spelled 12 (columns.Number MAX_ID) (Digits c.in_ok-number-3.field-0) e9 c.in_ok-number-3.ensures.ok, (spelled 13 (columns.Number MAX_ID) (Digits c.in_ok-number-4.field-0) e10 c.in_ok-number-4.ensures.ok, (spelled 14 columns.IdList (Ids c.in_ok-ids.field-0) e11 c.in_ok-ids.ensures.ok, tt))))))))))));
-      of_two = tt;
-    }
+    if_made kinds.AddPost c.args.fields.now.fields c.args.fields.now c.requires (post_values c.in_ok-post.post) c.read_post.new.fields c.add_post.new.fields c.add_post.result (λ friend. cc) c.in_ok-post.ensures.ok c.add_post.ensures.ok
 
-pub ids-requires : goal.ids-requires
-ids-requires c = record { next = rw (moved c.in_ok-number-4.ensures.past (moved c.in_ok-number-3.ensures.past (moved c.in_ok-number-2.ensures.past (moved c.in_ok-small.ensures.past (moved c.in_ok-text-5.ensures.past (moved c.in_ok-text-4.ensures.past (moved c.in_ok-text-3.ensures.past (moved c.in_ok-text-2.ensures.past (moved c.in_ok-date.ensures.past (moved c.in_ok-text.ensures.past (moved c.in_ok-number.ensures.past c.requires))))))))))) refl }
+pub returns-clause-bad : goal.returns-clause-bad
+returns-clause-bad c =
+    on_bad c.add_post.result (StopsIn line_meaning c.read_post.new.fields (beside_columns kinds.AddPost)) (IsFirstBad kinds.AddPost c.args.fields.now.fields)
+    (beside_bad kinds.AddPost c.args.fields.now.fields c.args.fields.now c.requires (λ c h. h) (post_values c.in_ok-post.post) c.read_post.new.fields c.in_ok-post.ensures.ok) c.add_post.ensures.bad

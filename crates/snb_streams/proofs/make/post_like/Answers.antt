@@ -1,16 +1,20 @@
-use Rattle.std.proofs.Common.{refl}
-use Rattle.snb_schema.specs.declared.column.Column.TheVariants as columns
-use Rattle.snb_schema.specs.declared.column.Value.TheVariants.{Digits}
-use Rattle.snb_schema.specs.declared.limits.TheConstants.{MAX_ID}
-use Rattle.snb_input_fields.proofs.Laws.{moved, spelled}
+use Rattle.std.proofs.Common.{[], refl, rules}
+use Rattle.snb_schema.specs.declared.op.InsertKind.TheVariants as kinds
+use Rattle.snb_schema.specs.InsertLines.{beside_columns}
+use Rattle.snb_schema.specs.UpdateLines.{IsFirstBad}
+use Rattle.snb_input_fields.specs.Fields.{StopsIn}
+use Rattle.snb_input_fields.specs.Reading.{line_meaning}
+use Rattle.snb_streams.proofs.MakeFacts.{expects_insert, made_of, on_bad, stop_bad}
 use Rattle.snb_streams.proofs.make.post_like.Goals as goal
+
+pub edge-requires : goal.edge-requires
+edge-requires c = expects_insert kinds.LikePost c.args.fields.now.fields c.args.fields.now c.requires
+
+pub returns-in_err-ends-clause-bad : goal.returns-in_err-ends-clause-bad
+returns-in_err-ends-clause-bad c =
+    on_bad c.from_residual.result (StopsIn line_meaning c.args.fields.now (beside_columns kinds.LikePost)) (IsFirstBad kinds.LikePost c.args.fields.now.fields)
+    (stop_bad kinds.LikePost c.args.fields.now.fields c.args.fields.now c.requires (λ c h. h)) (search rules)
 
 pub returns-clause-ok : goal.returns-clause-ok
 returns-clause-ok c =
-    let e1 = moved c.in_ok-number.ensures.past c.requires in
-    let e2 = moved c.in_ok-number-2.ensures.past e1 in
-    record {
-      kind_is = refl;
-      spelled = (spelled 3 (columns.Number MAX_ID) (Digits c.in_ok-number.field-0) c.requires c.in_ok-number.ensures.ok, (spelled 4 (columns.Number MAX_ID) (Digits c.in_ok-number-2.field-0) e1 c.in_ok-number-2.ensures.ok, (spelled 5 columns.Date (Digits c.in_ok-date.field-0) e2 c.in_ok-date.ensures.ok, tt)));
-      of_two = tt;
-    }
+    made_of kinds.LikePost c.args.fields.now.fields c.args.fields.now c.requires [] c.args.fields.now c.edge.new.fields _ (λ friend. cc) refl (record { kind_is = refl; node_is = refl; beside = c.in_ok-ends.ensures.ok })

@@ -1,4 +1,4 @@
-//! Inserts as lines.
+//! The lines of the eight inserts: their columns, and an insert as a line.
 
 ghost use Rattle.std.specs.Prelude.{◌≡◌, ◌++◌, ◌∷◌, [], OnOk, OnErr, map};
 ghost use Rattle.std.specs.List.{join_with_byte};
@@ -6,12 +6,111 @@ ghost use Rattle.snb_schema.specs.declared.column.Value.TheVariants.{Digits};
 ghost use Rattle.snb_schema.specs.declared.op.InsertKind.TheVariants as kinds;
 ghost use Rattle.snb_schema.specs.Columns.{canonical_field};
 ghost use Rattle.snb_schema.specs.UpdateLines.{canonical_line};
-ghost use Rattle.snb_schema.specs.InsertLines.{kind_of, parent_comment, parent_post};
+ghost use Rattle.snb_schema.specs.InsertLines.{kind_of, line_columns, parent_comment, parent_post};
 ghost use Rattle.snb_input_fields.specs.Cells.{value_of};
 
 use snb_input_fields::{Cell, put_fields};
-use snb_schema::{Line, Op, Parent};
+use snb_schema::{Column, InsertKind, Line, MAX_ID, MAX_LENGTH, MAX_TIME, Op, Parent};
 use std::alloc::AllocError;
+
+const TIME: Column = Column::Number { most: MAX_TIME };
+
+const ID: Column = Column::Number { most: MAX_ID };
+
+const LENGTH: Column = Column::Small { most: MAX_LENGTH };
+
+/// The columns before the number of an insert.
+pub const TIMES: [Column; 2] = [TIME, TIME];
+
+const PERSON: [Column; 17] = [
+    TIME,
+    TIME,
+    Column::Number { most: 1 },
+    ID,
+    Column::Words,
+    Column::Words,
+    Column::Words,
+    Column::Day,
+    Column::Date,
+    Column::Words,
+    Column::Words,
+    ID,
+    Column::TextList,
+    Column::TextList,
+    Column::IdList,
+    Column::PairList,
+    Column::PairList,
+];
+
+const POST_LIKE: [Column; 6] = [TIME, TIME, Column::Number { most: 2 }, ID, ID, Column::Date];
+
+const COMMENT_LIKE: [Column; 6] = [TIME, TIME, Column::Number { most: 3 }, ID, ID, Column::Date];
+
+const FORUM: [Column; 8] = [
+    TIME,
+    TIME,
+    Column::Number { most: 4 },
+    ID,
+    Column::Words,
+    Column::Date,
+    ID,
+    Column::IdList,
+];
+
+const MEMBER: [Column; 6] = [TIME, TIME, Column::Number { most: 5 }, ID, ID, Column::Date];
+
+const POST: [Column; 15] = [
+    TIME,
+    TIME,
+    Column::Number { most: 6 },
+    ID,
+    Column::Words,
+    Column::Date,
+    Column::Words,
+    Column::Words,
+    Column::Words,
+    Column::Words,
+    LENGTH,
+    ID,
+    ID,
+    ID,
+    Column::IdList,
+];
+
+const COMMENT: [Column; 14] = [
+    TIME,
+    TIME,
+    Column::Number { most: 7 },
+    ID,
+    Column::Date,
+    Column::Words,
+    Column::Words,
+    Column::Words,
+    LENGTH,
+    ID,
+    ID,
+    Column::OptionalId,
+    Column::OptionalId,
+    Column::IdList,
+];
+
+const FRIEND: [Column; 6] = [TIME, TIME, Column::Number { most: 8 }, ID, ID, Column::Date];
+
+/// The columns of a line with the insert, its two times and its number included.
+pub fn columns_of(kind: InsertKind) -> &'static [Column]
+    ensures { result.now ≡ line_columns kind }
+{
+    match kind {
+        InsertKind::AddPerson => &PERSON,
+        InsertKind::LikePost => &POST_LIKE,
+        InsertKind::LikeComment => &COMMENT_LIKE,
+        InsertKind::AddForum => &FORUM,
+        InsertKind::AddMember => &MEMBER,
+        InsertKind::AddPost => &POST,
+        InsertKind::AddComment => &COMMENT,
+        InsertKind::AddFriend => &FRIEND,
+    }
+}
 
 // The cell of the post that is replied to, where it is one.
 fn post_cell(parent: Parent) -> Cell<'static>

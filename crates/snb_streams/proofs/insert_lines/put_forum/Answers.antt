@@ -1,7 +1,7 @@
 use Rattle.std.proofs.Common.{◌≡◌, ◌++◌, OnOk, subst, sym}
 use Rattle.snb_schema.specs.declared.op.Op.{Op}
 use Rattle.snb_schema.specs.UpdateLines.{canonical_line}
-use Rattle.snb_streams.proofs.write.put_forum.Goals as goal
+use Rattle.snb_streams.proofs.insert_lines.put_forum.Goals as goal
 
 pub returns-clause-ok : goal.returns-clause-ok
 returns-clause-ok c =
